@@ -383,7 +383,7 @@ class Client:
         raise Moving(f"{tries} times a step was closed between two looks")
 
     def move(self, look: Look, rule: Rule | None = None, partner: int | None = None) -> Move:
-        """Asks for a move by the enabled rule of a look, or by `rule`. A marriage is with `partner`, or else with the highest suitor in the look."""
+        """Asks for a move by the enabled rule of a look, or by `rule`. A marriage is with `partner`, or else the highest node that points here."""
         if rule is None and look.rule is None:
             raise Malformed(f"by this look no rule is enabled at node {look.node}: there is nothing to ask for")
         request: dict[str, object] = {"do": "move", "node": look.node, "at": look.at, "rule": rule or look.rule}

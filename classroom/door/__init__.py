@@ -1,1 +1,1 @@
-"""The door: lets students in from elsewhere, by TLS and without root, to the networks of one class."""
+"""The door: a port at which students on other machines connect by TLS, without root, to the networks of one class."""

@@ -1,4 +1,5 @@
-"""Requests for pages at a door. Only the head is read, and a new head is written for the page's server."""
+"""Requests for pages at a door, the port at which students on other machines connect. Only the head of a request is read, and a new head is written for the
+server of the page, which answers on this machine only."""
 from __future__ import annotations
 
 import re
@@ -13,14 +14,15 @@ TEXT = "text/plain; charset=utf-8"
 
 
 class BadRequest(Exception):
-    """A request that the door answers itself, with a status and a line."""
+    """A request that isn't passed to a page. The door answers it with a status and a line."""
 
     def __init__(self, status: str, text: str) -> None:
+        """`status` is the HTTP status with its name, and `text` the line that the other end is shown."""
         super().__init__(text)
         self.status, self.text = status, text
 
     def answer(self) -> bytes:
-        """Returns the HTTP answer."""
+        """Returns the bytes of the HTTP answer."""
         body = f"{self.text}\n".encode()
         head = [f"HTTP/1.0 {self.status}", f"Content-Type: {TEXT}", f"Content-Length: {len(body)}", "Cache-Control: no-store",
                 "X-Content-Type-Options: nosniff", "Connection: close", "", ""]
@@ -28,19 +30,20 @@ class BadRequest(Exception):
 
 
 class Redirect(BadRequest):
-    """A request whose path has to end with a slash."""
+    """A request whose path lacks the slash at its end."""
 
     def __init__(self, path: str) -> None:
+        """`path` is the path with the slash."""
         super().__init__("308 Permanent Redirect", path)
 
     def answer(self) -> bytes:
-        """Returns the HTTP answer with the right path."""
+        """Returns the bytes of the HTTP answer, which names the path with the slash."""
         return f"HTTP/1.0 308 Permanent Redirect\r\nLocation: {self.text}\r\nContent-Length: 0\r\nConnection: close\r\n\r\n".encode()
 
 
 @dataclass(frozen=True)
 class Asked:
-    """The head of a request."""
+    """The head of a request: its method, its path, and its header fields by their names in lower case."""
 
     method: str
     path: str
@@ -48,7 +51,7 @@ class Asked:
 
     @staticmethod
     def read(head: bytes) -> Asked:
-        """Returns the parsed head. Raises `BadRequest` if it isn't understood."""
+        """Returns the parsed head of a request. Raises `BadRequest` if the head can't be parsed or has another method than METHODS."""
         first, *rest = head.decode("latin-1").removesuffix("\r\n\r\n").split("\r\n")
         words = first.split(" ")
         if len(words) != 3 or not words[2].startswith("HTTP/1.") or not re.fullmatch(r"/[!-~]*", words[1]):
@@ -64,20 +67,21 @@ class Asked:
         return Asked(words[0], words[1], heads)
 
     def body_size(self) -> int:
-        """Returns the number of bytes after the head. Raises `BadRequest` if they are too many."""
+        """Returns the number of bytes that follow the head. Raises `BadRequest` if they are more than MOST_BODY."""
         size = self.heads.get("content-length", "0")
         if not re.fullmatch(r"\d{1,6}", size) or int(size) > MOST_BODY:
             raise BadRequest("413 Content Too Large", "the request is too large")
         return int(size)
 
     def require_host(self, hosts: set[str], port: int) -> None:
-        """Raises `BadRequest` unless the head names one of this door's hosts, and its port."""
+        """Raises `BadRequest` unless the head names one of these hosts, with this port."""
         host = self.heads.get("host", "").lower()
         if host not in {f"{each.lower()}:{port}" for each in hosts}:
             raise BadRequest("421 Misdirected Request", f"{host!r} isn't an address of this door: open the address of your slip")
 
     def network(self) -> tuple[str, str]:
-        """Returns the network's name at the beginning of the path, and the path below it."""
+        """Returns the network's name, which is the first part of the path, and the path below it. Raises `BadRequest` if there is no such name, and `Redirect`
+        if the slash after the name is missing."""
         found = re.fullmatch(r"/([a-z][a-z0-9-]*)(/.*)?", self.path)
         if found is None:
             raise BadRequest("404 Not Found", "open the address of your slip, which has the network's name")
@@ -86,7 +90,7 @@ class Asked:
         return found[1], found[2]
 
     def head_for_page(self, port: int, path: str) -> bytes:
-        """Returns the head for the server of a page, with its port and its own path."""
+        """Returns the bytes of the head to send to the server of a page, which has this port and this path."""
         own = [f"{self.method} {path} HTTP/1.0", f"Host: 127.0.0.1:{port}", "Connection: close"]
         kept = [f"{name}: {self.heads[name]}" for name in KEPT if name in self.heads]
         size = [f"Content-Length: {self.body_size()}"] if self.method == "POST" else []
@@ -94,8 +98,9 @@ class Asked:
 
 
 def page_of(asked: Asked, path: str, record: Record) -> tuple[int, str]:
-    """Returns the port of the page that is asked for, and the path there. A path with `look` and the right token
-    leads to the page to look at, and any other path to the page to play. No path leads to a page on which the teacher acts."""
+    """Returns the port of the page that is asked for, and the path there. `path` is the path below the network's name, and `record` has the ports of the
+    network's pages. A path with `look` and the right token leads to the page to look at, and any other path to the page to play. No path leads to a page on
+    which the teacher acts. Raises `BadRequest` if there is no such page."""
     looks = re.fullmatch(r"/look(/[A-Za-z0-9_-]+/[a-z]*)", path)
     if looks is not None:
         is_known = record.page is not None and record.looks and looks[1].split("/")[1] == record.looks

@@ -1,4 +1,8 @@
-"""The limits of a door, for each address and for all together: connections, handshakes, and bytes per second."""
+"""The limits of a door, the port at which students on other machines connect: for each address and for all together,
+connections, TLS handshakes, and bytes per second.
+
+The *origin* of a connection is the text by which it is counted: an IPv4 address, or the network of an IPv6 address.
+"""
 from __future__ import annotations
 
 import asyncio
@@ -16,8 +20,7 @@ PREFIX = 64  # bits of an IPv6 address by which whoever has many of them is know
 
 
 def origin(address: str) -> str:
-    """Returns the address by which connections are counted: an IPv4 address itself, or the network of an IPv6
-    address."""
+    """Returns the origin of connections from an address."""
     try:
         it = ipaddress.ip_address(address.partition("%")[0])
     except ValueError:
@@ -28,14 +31,15 @@ def origin(address: str) -> str:
 
 
 class Meter:
-    """A rate limit for bytes. Unused rate is saved up to a limit."""
+    """A rate limit for bytes. Up to BURST seconds of unused rate are saved."""
 
     def __init__(self, rate: float, now: Callable[[], float] = time.monotonic) -> None:
+        """`rate` is the number of bytes per second, and `now` returns the time in seconds."""
         self.rate, self.now = rate, now
         self.left, self.at = rate * BURST, now()
 
     def spend(self, count: int) -> float:
-        """Counts so many bytes. Returns the seconds to wait before more are read."""
+        """Counts so many bytes of traffic. Returns the seconds to wait before more bytes are passed on."""
         now = self.now()
         self.left = min(self.rate * BURST, self.left + (now - self.at) * self.rate) - count
         self.at = now
@@ -51,7 +55,7 @@ class Handshake:
 
 
 class Bounds:
-    """Counts connections and handshakes by address."""
+    """Counts connections and handshakes, for each origin and in all."""
 
     def __init__(self) -> None:
         self.connections: Counter[str] = Counter()
@@ -60,7 +64,7 @@ class Bounds:
         self.meters: dict[str, Meter] = {}
 
     def enter(self, origin: str) -> bool:
-        """Counts a connection if there is room for it. Returns whether there is."""
+        """Counts a connection of an origin if the limits have room for it. Returns whether they have."""
         if self.connections.total() >= CONNECTIONS or self.connections[origin] >= CONNECTIONS_EACH:
             return False
         self.connections[origin] += 1
@@ -68,14 +72,14 @@ class Bounds:
         return True
 
     def leave(self, origin: str) -> None:
-        """Stops counting a connection."""
+        """Stops counting a connection of an origin."""
         self.connections[origin] -= 1
         if not self.connections[origin]:
             del self.connections[origin], self.meters[origin]
 
     def begin(self, it: Handshake) -> None:
-        """Adds a handshake. If there are too many, ends the oldest one of its address, or of the address with the
-        most."""
+        """Adds a handshake that begins. If its origin has too many, ends the oldest one of that origin. If there are
+        too many in all, ends the oldest one of the origin with the most."""
         counts = Counter(each.origin for each in self.handshakes)
         if counts[it.origin] >= HANDSHAKES_EACH:
             self.drop(it.origin)
@@ -84,18 +88,18 @@ class Bounds:
         self.handshakes.append(it)
 
     def drop(self, origin: str) -> None:
-        """Ends the oldest handshake of an address."""
+        """Ends the oldest handshake of an origin."""
         oldest = next(each for each in self.handshakes if each.origin == origin)
         self.handshakes.remove(oldest)
         oldest.end()
 
     def finish(self, it: Handshake) -> None:
-        """Removes a handshake that is over, whether or not it succeeded."""
+        """Removes a handshake that is over, whether it succeeded or not."""
         if it in self.handshakes:
             self.handshakes.remove(it)
 
     async def wait_for_rate(self, origin: str, count: int) -> None:
-        """Counts so many bytes of an address, and waits as long as the rate limits require."""
+        """Counts so many bytes of an origin, and waits as long as its rate limit and the common one require."""
         wait = max(self.all.spend(count), self.meters[origin].spend(count))
         if wait > 0:
             await asyncio.sleep(wait)

@@ -1,4 +1,5 @@
-"""The door's certificate. `openssl` makes it if there is none. Slips identify it by its fingerprint."""
+"""The certificate of a door, the TLS port for students on other machines. `openssl` makes the certificate if there is
+none. Slips, the files with a student's data, identify it by its fingerprint."""
 from __future__ import annotations
 
 import hashlib
@@ -21,12 +22,12 @@ BLOCK = re.compile(r"-----BEGIN CERTIFICATE-----.*?-----END CERTIFICATE-----", r
 
 
 def beside(lab: Path) -> Path:
-    """Returns the path of the certificate that the labs of a folder share."""
+    """Returns the path of the certificate beside a lab, which all labs of the folder share."""
     return lab.with_name(FILE)
 
 
 def subject(name: str) -> str:
-    """Returns a host's name or address in the form of a certificate's list of names."""
+    """Returns a host's name or address as an entry of a certificate's list of names."""
     try:
         return f"IP:{ipaddress.ip_address(name)}"
     except ValueError:
@@ -34,14 +35,16 @@ def subject(name: str) -> str:
 
 
 def make_if_missing(file: Path, name: str) -> str:
-    """Makes a certificate for a host's name if the file doesn't exist. Returns the certificate's fingerprint."""
+    """Makes a certificate for a host's name if the file doesn't exist. Returns the fingerprint of the file's
+    certificate. Raises `Fault` if that isn't possible."""
     if not os.path.lexists(file):
         make(file, name)
     return fingerprint(file)
 
 
 def make(file: Path, name: str) -> None:
-    """Makes a file with a key and a certificate, which only its owner can read."""
+    """Makes a file with a new key and a certificate for a host's name. Only its owner can read the file. Raises `Fault`
+    if that isn't possible."""
     if shutil.which("openssl") is None:
         raise Fault(f"{file}: there is no certificate, and no `openssl` to make one: install it, or --certificate FILE names "
                     "a file with a key and its certificate", FAILED)
@@ -57,7 +60,8 @@ def make(file: Path, name: str) -> None:
 
 
 def fingerprint(file: Path) -> str:
-    """Returns the SHA-256 of the first certificate in a file, as 64 hexadecimal digits."""
+    """Returns the SHA-256 of the first certificate in a file, as 64 hexadecimal digits. Raises `Fault` if there is
+    none."""
     try:
         found = BLOCK.search(file.read_text(encoding="utf-8", errors="replace"))
     except OSError as error:
@@ -71,7 +75,8 @@ def fingerprint(file: Path) -> str:
 
 
 def context(file: Path) -> ssl.SSLContext:
-    """Returns the TLS settings of a door with the key and the certificate in a file."""
+    """Returns the TLS settings of a door with the key and the certificate in a file. Raises `Fault` if the file has
+    none."""
     it = ssl.SSLContext(ssl.PROTOCOL_TLS_SERVER)
     it.minimum_version = ssl.TLSVersion.TLSv1_2
     it.options |= ssl.OP_NO_RENEGOTIATION | ssl.OP_NO_COMPRESSION

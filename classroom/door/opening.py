@@ -1,4 +1,5 @@
-"""Opens a door for the runs of a class, and restarts its process if it ends too early."""
+"""Opens a door for the runs of a class, and restarts its process if it ends too early. A *door* is a TLS port at which students on other machines connect, and
+has a folder with its data. *Slips* are files with the data of a student."""
 from __future__ import annotations
 
 import argparse
@@ -25,15 +26,15 @@ FOLDER = ".door-{}"  # of the port, in the folder of the runs' folders
 
 @dataclass(frozen=True)
 class Place:
-    """The address of a door: a port of an address or name, or of all addresses of this machine."""
+    """The address at which a door listens: a port of an address or name, or of all addresses of this machine."""
 
     address: str
     port: int
 
     @staticmethod
     def of(word: str) -> Place:
-        """Returns the address in an argument such as `4700` or `class.example:4700`. Without a host the address is empty:
-        the door then listens at all addresses of this machine."""
+        """Returns the address in an argument such as `4700` or `class.example:4700`. Without a host the address is empty, and the door then listens at all
+        addresses of this machine. Raises `ArgumentTypeError` for any other argument."""
         address, _, port = word.rpartition(":")
         try:
             return Place(*door_of(word)) if address else Place("", door_of(f"any:{port}")[1])
@@ -41,18 +42,18 @@ class Place:
             raise argparse.ArgumentTypeError(f"{word} isn't the address of a door: write [ADDRESS:]PORT") from None
 
     def told(self) -> str:
-        """Returns the address as it is written."""
+        """Returns the address as it is written in arguments and on slips."""
         return f"{f'[{self.address}]' if ':' in self.address else self.address}:{self.port}"
 
 
 def own_host_name() -> str:
-    """Returns the name of this machine in its network, as far as it is known."""
+    """Returns the name of this machine in its network, or what comes closest to it if that isn't known."""
     name = socket.getfqdn()
     return socket.gethostname() if name.startswith("localhost") else name
 
 
 def listen(place: Place) -> socket.socket:
-    """Returns a socket that listens at an address. Raises `Fault` if that isn't possible."""
+    """Returns a socket that listens at an address. Raises `Fault` if the address can't be used."""
     try:
         if not place.address and socket.has_dualstack_ipv6():
             return socket.create_server(("", place.port), family=socket.AF_INET6, dualstack_ipv6=True, backlog=BACKLOG)
@@ -67,6 +68,7 @@ class OpenDoor:
     """A door that this process has opened."""
 
     def __init__(self, folder: Path, listener: socket.socket, tell: Callable[[str], None]) -> None:
+        """Starts the process that serves the door in `folder`. `listener` is its listening socket, and `tell` prints a line."""
         self.folder, self.listener, self.tell = folder, listener, tell
         self.port: int = listener.getsockname()[1]
         self.closes = threading.Event()
@@ -74,7 +76,7 @@ class OpenDoor:
         threading.Thread(target=self.watch, daemon=True).start()
 
     def start_process(self) -> subprocess.Popen[bytes]:
-        """Starts the process that serves the door, and returns it."""
+        """Starts the process that serves the door, and returns it. The process inherits the listening socket."""
         number = self.listener.fileno()
         words = [sys.executable, "-m", "classroom.door.serving", str(self.folder), str(number)]
         with (self.folder / "door.txt").open("ab") as prints:
@@ -82,7 +84,7 @@ class OpenDoor:
                                     pass_fds=[number], start_new_session=True)
 
     def watch(self) -> None:
-        """Restarts the door's process if it ends by itself, a few times."""
+        """Waits for the end of the door's process, and restarts it if it ends by itself, at most TIMES times. Prints a line each time."""
         for _ in range(TIMES):
             if self.child.wait() == 0 or self.closes.is_set():
                 return self.listener.close()
@@ -92,7 +94,7 @@ class OpenDoor:
         self.tell(f"the door is closed: its process ends again and again: {self.folder / 'door.txt'}")
 
     def close(self) -> None:
-        """Makes the door end with the last of its networks."""
+        """Closes the door once the runs of all its networks have ended. Doesn't wait for that."""
         self.closes.set()
         self.listener.close()
         if self.child.poll() is None:
@@ -100,7 +102,8 @@ class OpenDoor:
 
 
 def open_door(place: Place, into: Path, file: Path, tell: Callable[[str], None]) -> OpenDoor:
-    """Opens a door with the certificate in a file. Its folder is made in the folder of the runs."""
+    """Opens a door at `place` with the certificate in `file`. The door's folder is made in `into`, the folder of the runs. `tell` prints a line. Raises `Fault`
+    if that isn't possible."""
     certificate.context(file)
     listener = listen(place)
     folder = (into / FOLDER.format(listener.getsockname()[1])).resolve()
@@ -115,7 +118,8 @@ def open_door(place: Place, into: Path, file: Path, tell: Callable[[str], None])
 
 
 def reopen(folder: Path, tell: Callable[[str], None]) -> OpenDoor | None:
-    """Opens the door of a folder again. Returns None if it is still open."""
+    """Opens the door of a folder again, at its earlier address. Returns None if the door is still open. Raises `Fault` if the folder has no door or the address
+    can't be used."""
     kept = Kept.read(folder)
     if kept is None:
         raise Fault(f"{folder}: this run had no door: open one by --door [ADDRESS:]PORT", FAILED)
@@ -126,7 +130,7 @@ def reopen(folder: Path, tell: Callable[[str], None]) -> OpenDoor | None:
 
 
 def slips_of(lab: Path) -> list[Slip]:
-    """Returns the readable slips beside a lab."""
+    """Returns the slips beside a lab. Leaves out files that can't be read."""
     found = []
     for file in sorted(lab.with_name(f"{lab.stem}-slips").glob("*.slip")):
         try:
@@ -137,17 +141,17 @@ def slips_of(lab: Path) -> list[Slip]:
 
 
 def route_to(folder: Path, lab: Path, run: Path) -> None:
-    """Makes a door lead to a run, under the host names in the slips beside its lab."""
+    """Makes a door forward connections for a lab's network to a run. The slips beside the lab name the host names by which students come."""
     hosts = {door_of(slip.door)[0] for slip in slips_of(lab) if slip.door}
     announce(folder, network(lab), run, sorted(hosts))
 
 
 def misled_labs(labs: Iterable[Path], file: Path, port: int) -> list[str]:
-    """Returns the labs with slips that don't lead to a door with this port and this certificate."""
+    """Returns the labs with a slip that doesn't lead to a door with the certificate in `file` and this port."""
     known = certificate.fingerprint(file)
 
     def leads(slip: Slip, lab: Path) -> bool:
-        """Returns whether a slip leads to the door."""
+        """Returns whether a slip of a lab leads to the door."""
         return bool(slip.door) and (door_of(slip.door)[1], slip.network, slip.fingerprint) == (port, network(lab), known)
 
     return [str(lab) for lab in labs if not all(leads(slip, lab) for slip in slips_of(lab))]

@@ -1,4 +1,6 @@
-"""One connection at a door, from its handshake to its end."""
+"""One connection at a door, from its TLS handshake to its end. The *door* is the port at which students on other
+machines connect. It forwards the bytes of a program to the students' port of a network, and a browser's request to the
+server of a page. An *origin* is the address by which connections are counted."""
 from __future__ import annotations
 
 import asyncio
@@ -20,7 +22,8 @@ BROKEN = (OSError, EOFError, TimeoutError, asyncio.LimitOverrunError)
 
 @dataclass
 class Door:
-    """The objects that all connections of a door share."""
+    """The objects that all connections of a door share. `hosts` are the names under which requests for pages may
+    come."""
 
     routes: Routes
     bounds: Bounds
@@ -30,7 +33,8 @@ class Door:
 
 
 async def secure(sock: socket.socket, door: Door) -> Secured:
-    """Returns a connection after its handshake. Raises an error if the handshake fails or takes too long."""
+    """Returns the TLS connection over a socket after its handshake. Raises one of the errors in BROKEN if the handshake
+    fails or takes too long."""
     it = await Secured.over(sock, door.context)
     try:
         async with asyncio.timeout(HANDSHAKE):
@@ -42,7 +46,7 @@ async def secure(sock: socket.socket, door: Door) -> Secured:
 
 
 def shut_down(sock: socket.socket) -> None:
-    """Shuts a connection down, so that nothing waits for it any longer."""
+    """Shuts a socket down in both directions, so that no task waits for its bytes any longer."""
     try:
         sock.shutdown(socket.SHUT_RDWR)
     except OSError:  # It has ended.
@@ -50,8 +54,8 @@ def shut_down(sock: socket.socket) -> None:
 
 
 async def secure_counted(sock: socket.socket, origin: str, door: Door) -> Secured | None:
-    """Returns a connection after its handshake. Returns None if the handshake fails, takes too long, or is ended
-    because there are too many."""
+    """Returns the TLS connection over a socket after its handshake, which is counted for the origin. Returns None if
+    the handshake fails, takes too long, or is ended because there are too many."""
     task = asyncio.ensure_future(secure(sock, door))
     it = Handshake(origin, lambda: shut_down(sock))
     door.bounds.begin(it)
@@ -65,18 +69,19 @@ async def secure_counted(sock: socket.socket, origin: str, door: Door) -> Secure
 
 @dataclass
 class Passing:
-    """A connection after its handshake."""
+    """A connection after its handshake, with its origin."""
 
     it: Secured
     origin: str
     door: Door
 
     async def wait_for_rate(self, count: int) -> None:
-        """Counts so many bytes, and waits as long as the rate limits require."""
+        """Counts so many bytes of the connection, and waits as long as the rate limits require."""
         await self.door.bounds.wait_for_rate(self.origin, count)
 
     async def first_bytes(self) -> bytes:
-        """Returns the first bytes. If none come in time, sends the line `late` and returns none."""
+        """Returns the first bytes of the connection. If none come in time, sends the line `late` and returns no
+        bytes."""
         try:
             async with asyncio.timeout(FIRST):
                 return await self.it.read()
@@ -85,8 +90,8 @@ class Passing:
             return b""
 
     async def serve(self) -> None:
-        """Passes the connection to a page if its first byte is that of an HTTP method, and otherwise to the students'
-        port of a network."""
+        """Forwards the connection to its end: to a page if its first byte is that of an HTTP method, and otherwise to
+        the students' port of the network that the handshake named."""
         first = await self.first_bytes()
         if not first:
             return
@@ -102,7 +107,8 @@ class Passing:
             await self.forward(record.port, first)
 
     async def serve_page(self, first: bytes) -> None:
-        """Reads a request, and passes it to the server of its page."""
+        """Reads a request that begins with these bytes, and forwards it to the server of its page. Raises `BadRequest`
+        if there is no such page."""
         async with asyncio.timeout(ASKING):
             head, rest = await self.head(first)
             asked = Asked.read(head)
@@ -117,7 +123,8 @@ class Passing:
         await self.forward(port, asked.head_for_page(port, below) + body, is_one=True)
 
     async def head(self, first: bytes) -> tuple[bytes, bytes]:
-        """Returns the head of a request, and the bytes that came after it."""
+        """Returns the head of a request that begins with the bytes `first`, and the bytes after the head that have come
+        already. Raises `BadRequest` if the head is too large."""
         while b"\r\n\r\n" not in first and len(first) < MOST_HEAD:
             first += await self.more()
         head, end, rest = first.partition(b"\r\n\r\n")
@@ -126,22 +133,22 @@ class Passing:
         return head + end, rest
 
     async def body(self, rest: bytes, size: int) -> bytes:
-        """Returns `size` bytes after the head, of which `rest` has come already."""
+        """Returns the `size` bytes after the head of a request. `rest` has those that have come already."""
         while len(rest) < size:
             rest += await self.more()
         return rest[:size]
 
     async def more(self) -> bytes:
-        """Returns the next bytes of a request that isn't complete yet."""
+        """Returns the next bytes of an incomplete request. Raises `EOFError` if the other end sends no more."""
         more = await self.it.read()
         if not more:
             raise EOFError
         return more
 
     async def forward(self, port: int, first: bytes, is_one: bool = False) -> None:
-        """Forwards bytes in both directions between the connection and a local port, until the port has sent all
-        its answers. If `is_one` is set, only one request is forwarded, and the connection is over when the other
-        end closes it."""
+        """Forwards bytes in both directions between the connection and a local port, until the port has sent all its
+        answers. `first` has the bytes for the port that have come already. If `is_one` is set, forwards only these
+        bytes as one request, and ends if the other end closes the connection."""
         far, near = await asyncio.open_connection("127.0.0.1", port, limit=CHUNK)
         near.transport.set_write_buffer_limits(WAITING)
         try:
@@ -158,32 +165,33 @@ class Passing:
             near.close()
 
     async def send_to_port(self, near: asyncio.StreamWriter, content: bytes) -> None:
-        """Sends bytes to a local port. Raises an error if they aren't taken in time."""
+        """Sends bytes to a local port. Raises `TimeoutError` if the port doesn't take them in time."""
         near.write(content)
         async with asyncio.timeout(TAKING):
             await near.drain()
 
     async def forward_requests(self, near: asyncio.StreamWriter) -> None:
-        """Forwards all that the other end sends, and then the end of it."""
+        """Forwards all that the other end sends to a local port, and then tells the port that no more comes."""
         while more := await self.it.read():
             await self.wait_for_rate(len(more))
             await self.send_to_port(near, more)
         near.write_eof()
 
     async def forward_answers(self, far: asyncio.StreamReader) -> None:
-        """Forwards all that the local port sends."""
+        """Forwards all that a local port sends to the other end."""
         while more := await far.read(CHUNK):
             await self.wait_for_rate(len(more))
             await self.it.send(more)
 
     async def until_gone(self) -> None:
-        """Waits until the other end closes the connection. Drops what it sends until then."""
+        """Waits until the other end closes the connection. Drops the bytes that it sends until then."""
         while more := await self.it.read():
             await self.wait_for_rate(len(more))
 
 
 async def serve_connection(sock: socket.socket, origin: str, door: Door) -> None:
-    """Serves one connection to its end."""
+    """Serves the connection over a socket to its end, with its handshake. `origin` is the address by which it is
+    counted."""
     secured = await secure_counted(sock, origin, door)
     if secured is None:
         return

@@ -1,4 +1,6 @@
-"""The networks that a door leads to, with the ports in the folders of their runs."""
+"""The networks of a class that a door forwards connections to, and the ports of each, which are in the folder of its
+run. A *door* is the port at which students on other machines connect. Its folder has a file for each network, a
+*route*."""
 from __future__ import annotations
 
 import json
@@ -21,7 +23,7 @@ NAME = re.compile(r"[a-z][a-z0-9-]{0,31}")
 
 
 def network(lab: Path) -> str:
-    """Returns the name of a lab's network at a door: the name of its file, in the form of a host's name."""
+    """Returns the name of a lab's network at a door: the name of the lab's file, in the form of a host's name."""
     plain_form = unicodedata.normalize("NFKD", lab.stem).lower()
     name = re.sub("[^a-z0-9]+", "-", "".join(char for char in plain_form if not unicodedata.combining(char))).strip("-")
     return (name if name[:1].isalpha() else f"n-{name}")[:MOST_NAME].rstrip("-")
@@ -29,7 +31,7 @@ def network(lab: Path) -> str:
 
 @dataclass(frozen=True)
 class Network:
-    """The run of a network, and the host names by which its slips lead to the door."""
+    """A route: the run of a network, and the host names that the network's slips have for the door."""
 
     name: str
     folder: Path
@@ -38,7 +40,7 @@ class Network:
 
     @staticmethod
     def read(file: Path) -> Network | None:
-        """Returns the network in a file, or None if the file isn't complete."""
+        """Returns the network in a route's file, or None if the file isn't complete."""
         try:
             it = json.loads(plain.read(file, plain.MOST_KEPT))
             hosts = tuple(map(str, it["hosts"]))
@@ -49,7 +51,7 @@ class Network:
 
 @dataclass(frozen=True)
 class Kept:
-    """The data of a door in its folder."""
+    """The data of a door, as they are in its folder: its address, its certificate and its process."""
 
     address: str
     port: int
@@ -58,7 +60,7 @@ class Kept:
 
     @staticmethod
     def read(folder: Path) -> Kept | None:
-        """Returns the data in a folder, or None if they aren't complete."""
+        """Returns the data of the door in a folder, or None if they aren't complete."""
         try:
             it = json.loads(plain.read(folder / DOOR, plain.MOST_KEPT))
             return Kept(str(it["address"]), int(it["port"]), str(it["certificate"]), Process(**it["process"]))
@@ -66,30 +68,32 @@ class Kept:
             return None
 
     def write(self, folder: Path) -> None:
-        """Writes the data into the folder."""
+        """Writes the data into the folder of the door."""
         write_json(folder / DOOR, asdict(self))
 
 
 def write_json(file: Path, value: object) -> None:
-    """Writes a JSON file. Its readers see either the old or the new content, never a part."""
+    """Replaces a file by one with a value as JSON. Readers see either the old or the new content, never a part."""
     new = file.with_name(f"{file.name}.new")
     new.write_text(json.dumps(value) + "\n", encoding="utf-8")
     new.replace(file)
 
 
 def announce(folder: Path, name: str, run: Path, hosts: list[str]) -> None:
-    """Makes a door lead to the run in a folder, by the name of its network."""
+    """Makes the door in `folder` forward connections for the network `name` to the run in the folder `run`. `hosts` are
+    the host names that the network's slips have for the door."""
     write_json(folder / f"{name}{NETWORK}", {"folder": str(run.resolve()), "hosts": hosts})
 
 
 def announce_all(folder: Path, port: int, looks: str) -> None:
-    """Makes a door lead to the page for all networks. This process serves it, and its address to look at has the
-    token `looks`."""
+    """Makes the door in `folder` forward requests for the page for all networks, which this process serves at `port`.
+    `looks` is the token in its address to look at."""
     write_json(folder / HALL, {"port": port, "looks": looks, "process": asdict(Process.of(os.getpid()))})
 
 
 def page_for_all(folder: Path) -> Record | None:
-    """Returns a record that has only the page for all networks, or None if no process serves it."""
+    """Returns a record of a run that has only the page for all networks, from the door's folder. Returns None if no
+    process serves that page."""
     try:
         it = json.loads(plain.read(folder / HALL, plain.MOST_KEPT))
         desk = Process(**it["process"])
@@ -100,26 +104,27 @@ def page_for_all(folder: Path) -> Record | None:
 
 
 def forget(folder: Path) -> None:
-    """Removes all routes of a door."""
+    """Removes all routes from the folder of a door."""
     for file in (*folder.glob(f"*{NETWORK}"), folder / HALL):
         file.unlink(missing_ok=True)
 
 
 @dataclass
 class Routes:
-    """The networks in a door's folder. A file is read again when it has changed."""
+    """The networks in a door's folder. The file of a run is read again only if it has changed."""
 
     folder: Path
     networks: dict[str, Network] = field(default_factory=dict)
     records: dict[str, tuple[tuple[int, int], Record | None]] = field(default_factory=dict)
 
     def reload(self) -> None:
-        """Reads the list of networks again."""
+        """Reads the files of the routes again."""
         found = [Network.read(file) for file in sorted(self.folder.glob(f"*{NETWORK}"))]
         self.networks = {it.name: it for it in found if it is not None and NAME.fullmatch(it.name)}
 
     def record(self, name: str) -> Record | None:
-        """Returns the record of a network if its run continues, or the record of the page for all networks."""
+        """Returns the record of a network's run, with its ports, or that of the page for all networks. Returns None if
+        there is none, or if the run has ended."""
         if name not in self.networks:
             self.reload()
         network = self.networks.get(name)
@@ -137,9 +142,9 @@ class Routes:
         return record if record is not None and not record.ended and record.goes_on() else None
 
     def named(self, name: str | None) -> str:
-        """Returns the network with a name. A host's name, or no name, leads to the only network if there is just
-        one. An unknown network's name leads nowhere, because that network may be about to start. Then an empty
-        text is returned."""
+        """Returns the name of the network that a client asks for by `name`. If that is a host's name or None, the only
+        network is returned, if there is just one. Otherwise returns an empty text, also for an unknown network, because
+        that network may be about to begin."""
         if name not in self.networks:
             self.reload()
         if name in self.networks:
@@ -148,11 +153,11 @@ class Routes:
         return next(iter(self.networks)) if is_host and len(self.networks) == 1 else ""
 
     def hosts(self) -> set[str]:
-        """Returns the host names in the slips of all networks."""
+        """Returns the host names that the slips of all networks have for the door."""
         return {host for network in self.networks.values() for host in network.hosts}
 
     def is_about_to_begin(self, network: Network) -> bool:
-        """Returns whether a network was announced a moment ago, and its run hasn't written its ports yet."""
+        """Returns whether a network's route is less than NEW seconds old, and its run hasn't written its ports yet."""
         try:
             has_told = (network.folder / RECORD).stat().st_mtime >= network.announced
         except OSError:
@@ -160,6 +165,6 @@ class Routes:
         return not has_told and time.time() - network.announced < NEW
 
     def has_networks(self) -> bool:
-        """Returns whether a network's run continues or is about to begin."""
+        """Returns whether the run of any network continues or is about to begin."""
         self.reload()
         return any(self.record(name) is not None or self.is_about_to_begin(it) for name, it in self.networks.items())

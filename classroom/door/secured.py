@@ -16,16 +16,17 @@ LEAVING = 5.0  # seconds in which the other end has to close a connection that i
 
 
 class Secured:
-    """The door's end of a TLS connection."""
+    """The server's side of a TLS connection."""
 
     def __init__(self, reader: asyncio.StreamReader, writer: asyncio.StreamWriter, context: ssl.SSLContext) -> None:
+        """Begins before the handshake. `reader` and `writer` are those of the encrypted bytes."""
         self.reader, self.writer = reader, writer
         self.incoming, self.outgoing = ssl.MemoryBIO(), ssl.MemoryBIO()
         self.tls = context.wrap_bio(self.incoming, self.outgoing, server_side=True)
 
     @staticmethod
     async def over(sock: socket.socket, context: ssl.SSLContext) -> Secured:
-        """Returns the connection over a socket, before its handshake."""
+        """Returns the connection over an accepted socket, before its handshake."""
         loop = asyncio.get_running_loop()
         reader = asyncio.StreamReader(CHUNK, loop)
         protocol = asyncio.StreamReaderProtocol(reader, loop=loop)
@@ -35,16 +36,16 @@ class Secured:
 
     @property
     def network(self) -> str | None:
-        """Returns the server name in the handshake, or None if it had none."""
+        """Returns the server name that the client sent in the handshake, or None if it sent none."""
         return getattr(self.tls, "network", None)
 
     @property
     def address(self) -> str:
-        """Returns the local address of the connection."""
+        """Returns the IP address of this machine at which the client came in."""
         return str(self.writer.get_extra_info("sockname")[0]).removeprefix("::ffff:")
 
     async def shake_hands(self) -> None:
-        """Does the handshake. Raises an `OSError` if it fails."""
+        """Does the TLS handshake. Raises an `OSError` if it fails."""
         while True:
             try:
                 self.tls.do_handshake()
@@ -56,7 +57,7 @@ class Secured:
             await self.receive()
 
     async def receive(self) -> None:
-        """Reads the next encrypted bytes, or their end, into the TLS object."""
+        """Reads the next encrypted bytes from the network into the TLS object, or notes there that no more come."""
         content = await self.reader.read(CHUNK)
         if content:
             self.incoming.write(content)
@@ -64,12 +65,12 @@ class Secured:
             self.incoming.write_eof()
 
     def flush(self) -> None:
-        """Writes the encrypted bytes of the TLS object to the network."""
+        """Writes the encrypted bytes that the TLS object has ready to the network."""
         if self.outgoing.pending:
             self.writer.write(self.outgoing.read())
 
     async def read(self) -> bytes:
-        """Returns the next bytes, or no bytes after the other end has ended its direction."""
+        """Returns the next decrypted bytes, or no bytes after the client has ended its direction."""
         while True:
             try:
                 return self.tls.read(CHUNK)
@@ -80,15 +81,15 @@ class Secured:
                 return b""
 
     async def send(self, content: bytes) -> None:
-        """Sends bytes. Raises an error if they aren't taken in time."""
+        """Encrypts bytes and sends them. Raises `TimeoutError` if the client doesn't take them in time."""
         self.tls.write(content)
         self.flush()
         async with asyncio.timeout(TAKING):
             await self.writer.drain()
 
     async def end(self, passes: Callable[[int], Awaitable[None]]) -> None:
-        """Ends this direction, and closes the connection after the other end has closed it or is late. Drops the
-        bytes that still come, and awaits `passes` for their count."""
+        """Ends this direction, and closes the connection after the client has closed it or is late. Drops the bytes
+        that the client still sends, and awaits `passes` with their number."""
         try:
             self.tls.unwrap()
         except ssl.SSLError:  # The other end hasn't said so yet.
@@ -104,5 +105,5 @@ class Secured:
         self.writer.transport.abort()
 
     def drop(self) -> None:
-        """Closes a connection whose handshake failed."""
+        """Closes the connection if its handshake has failed."""
         self.writer.close()

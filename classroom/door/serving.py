@@ -1,8 +1,9 @@
-"""The process of a door: accepts connections, and ends after the last of its networks.
+"""The process of a door: accepts connections, and ends after the runs of all its networks have ended.
 
     python3 -m classroom.door.serving FOLDER LISTENER
 
-FOLDER is the folder of the door's routes, and LISTENER the file descriptor of the listening socket.
+A *door* is the port at which students on other machines connect. FOLDER is the folder of the door's data, and LISTENER
+the file descriptor of the listening socket.
 """
 from __future__ import annotations
 
@@ -36,7 +37,8 @@ def note_network(it: ssl.SSLObject, name: str | None, _: ssl.SSLContext) -> None
 
 @dataclass
 class Serving:
-    """A door that serves, with a task for each connection, and the time that it stays open without networks."""
+    """A door that serves, with a task for each connection. `patience` is how many seconds it stays open after the last
+    run has ended."""
 
     listener: socket.socket
     door: Door
@@ -44,7 +46,8 @@ class Serving:
     patience: float = PATIENCE
 
     async def accept(self) -> None:
-        """Accepts connections, and serves each in a task. Closes a connection if there is no room for it."""
+        """Accepts connections for ever, and serves each in a task of its own. Closes a connection at once if the limits
+        have no room for it."""
         loop = asyncio.get_running_loop()
         while True:
             try:
@@ -61,18 +64,18 @@ class Serving:
             task.add_done_callback(self.tasks.discard)
 
     async def serve_one(self, sock: socket.socket, of: str) -> None:
-        """Serves a connection of an address, and stops counting it at the end."""
+        """Serves a connection that is counted for the address `of`, and stops counting it at the end."""
         try:
             await serve_connection(sock, of, self.door)
         finally:
             self.door.bounds.leave(of)
 
     def hurry(self) -> None:
-        """Makes the door end as soon as no network's run continues."""
+        """Makes the door end at once when no network's run continues."""
         self.patience = 0.0
 
     async def run(self) -> None:
-        """Serves until no network's run continues, and then waits a moment for the last lines."""
+        """Serves until no network's run has continued for `patience` seconds, and then lets connections end."""
         asyncio.get_running_loop().add_signal_handler(signal.SIGTERM, self.hurry)
         accepting = asyncio.ensure_future(self.accept())
         silent = 0.0
@@ -86,12 +89,12 @@ class Serving:
 
 
 def own_names() -> set[str]:
-    """Returns the names by which this machine calls itself."""
+    """Returns the names and addresses by which this machine calls itself."""
     return {"localhost", "127.0.0.1", "::1", socket.gethostname(), socket.getfqdn()}
 
 
 def serve(folder: Path, listener: socket.socket) -> None:
-    """Serves the door of a folder to its end."""
+    """Serves the door in a folder to its end. Writes the process into the folder. Exits if the folder has no door."""
     kept = Kept.read(folder)
     if kept is None:
         raise SystemExit(f"{folder / DOOR}: no door")

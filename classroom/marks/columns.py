@@ -1,4 +1,5 @@
-"""The columns of the marks, each with one line that explains it, and their values for a rule."""
+"""The columns of the table of marks, each with one line that explains it, and their values for a *rule*, a teacher's
+file that computes grades from columns."""
 from __future__ import annotations
 
 from collections.abc import Mapping, Sequence
@@ -43,20 +44,22 @@ ONLY_TOTALS = ("runs", "recorded")
 
 
 def listing() -> str:
-    """Returns one line for each column, and for each other name that rules can use."""
+    """Returns the text of `mark --columns`: one line for each column, and for each other name that rules can use."""
     wide = max(map(len, [*COLUMNS, *FOR_RULES]))
     columns = "\n".join(f"{name:{wide}}  {what}" for name, what in COLUMNS.items())
     return f"{columns}\nIn rules (mark --rule FILE) also:\n" + "\n".join(f"{name:{wide}}  {what}" for name, what in FOR_RULES.items()) + "\n"
 
 
 def for_rules(is_total: bool) -> list[str]:
-    """Returns the names that a rule over runs, or over totals, can use."""
+    """Returns the names that a rule can use: those of totals over runs if `is_total` is set, and otherwise those of a
+    single run."""
     left_out = {"journal", *(ONLY_RUNS if is_total else ONLY_TOTALS)}
     return [name for name in [*COLUMNS, *FOR_RULES] if name not in left_out]
 
 
 def row(marks: Marks, lab: Lab, name: str, network: str, denied: Sequence[int | None], is_whole: bool) -> dict[str, Value]:
-    """Returns the values of a student's columns in one run."""
+    """Returns the values of a student's columns in one run, by their names. `denied` has the number of lines that each
+    clause denied, and `is_whole` says whether the record has all lines of the student."""
     first = {"student": name, "network": network, "first": known(marks.first), "last": known(marks.last), "whole": is_whole}
     counts = {"granted": marks.granted.total(), "applied": marks.applied.total(), **{rule: marks.applied[rule] for rule in RULES},
               "steps": marks.steps, "shared": marks.shared, "nodes": len(lab.nodes_of(name))}
@@ -64,7 +67,8 @@ def row(marks: Marks, lab: Lab, name: str, network: str, denied: Sequence[int | 
 
 
 def with_more(first: dict[str, Value], counts: Mapping[str, int], denied: Mapping[str, int | None]) -> dict[str, Value]:
-    """Returns the values of all columns, and of the other names that rules can use."""
+    """Returns the values in `first`, these counts, and the values that are computed from them, by their names. A value
+    is None if it isn't known."""
     each = {name: known(count) for name, count in denied.items()}
     clauses = [denied[clause] for clause in CLAUSES]
     sums = {"denials": None if None in clauses else Fraction(sum(clause or 0 for clause in clauses))}
@@ -75,5 +79,5 @@ def with_more(first: dict[str, Value], counts: Mapping[str, int], denied: Mappin
 
 
 def known(count: int | None) -> Fraction | None:
-    """Returns a count as a value of a rule."""
+    """Returns a count as a value of a rule. None, which stands for unknown, stays None."""
     return None if count is None else Fraction(count)

@@ -1,7 +1,10 @@
-"""The recoveries of a class: the counts from each fault, link or cut to the next stable configuration.
+"""The recoveries of a class: the counts from each fault, link or cut to the next stable configuration, in which no node
+is privileged.
 
-In the marks the program counts, by its tally of the journal up to that configuration. While a run goes on, `Comeback`
-counts along its reports."""
+The marks have the counts of the proved program, by its tally of the journal up to that configuration. While a run goes
+on, `Comeback` counts along its reports, which list the privileged nodes. An *edit* is a fault, a link or a cut, and a
+*close* applies the chosen moves.
+"""
 from __future__ import annotations
 
 from collections.abc import Callable, Collection
@@ -18,30 +21,30 @@ MOST_COUNTED = 50  # faults, links and cuts of a run for which it prints how the
 
 
 class Comeback:
-    """Counts recoveries along the events of a run. For each event it gets the privileged nodes from the program's
-    reports."""
+    """Counts recoveries event by event."""
 
     def __init__(self, lab: labs.Lab) -> None:
+        """Begins with the network of a lab, as it is before the first event."""
         self.nodes = len(lab.nodes)
         self.links = {frozenset(link) for link in lab.links}
         self.recovery: Recovery | None = None
         self.hurt = self.missed = False
 
     def edit(self, event: Event) -> None:
-        """Takes a fault, a link or a cut: changes the network, and begins to count anew."""
+        """Changes the network by an edit, and begins to count a new recovery."""
         if event.links:
             change = self.links.add if event.links > 0 else self.links.discard
             change(frozenset(event.nodes))
         self.recovery, self.hurt, self.missed = None, True, False
 
     def miss(self) -> None:
-        """Notes a close for which the privileged nodes before or after it aren't known. The counts of this
-        recovery can't be printed then."""
+        """Notes that the privileged nodes before or after a close aren't known. The counts of the present recovery
+        aren't printed then."""
         self.missed = True
 
     def close(self, moved: Collection[int], before: Collection[int], after: Collection[int]) -> str:
-        """Counts a close, by the nodes that moved and the nodes that were privileged before and after it. Returns
-        the line with the counts if the class is stable, and an empty text otherwise."""
+        """Counts a close, by the nodes that moved and the nodes that were privileged before and after it. Returns the
+        line with the counts if no node is privileged any longer, and an empty text otherwise."""
         if self.recovery is None:
             self.recovery = Recovery(before)
         self.recovery.step(moved, after)
@@ -55,9 +58,10 @@ class Comeback:
 
 
 class Recount(Replay):
-    """Counts recoveries along a journal by asking the program for its events again."""
+    """Finds the recoveries in a journal by asking the program for its events again."""
 
     def __init__(self, lab: labs.Lab, events: list[Event], counted: Comeback) -> None:
+        """`counted` counts the recoveries as the events of the lab's journal come."""
         super().__init__(lab, events)
         self.counted = counted
         self.before: set[int] = set()
@@ -70,13 +74,13 @@ class Recount(Replay):
             script.ask(REPORT, self.report_taker(event))
 
     def note_reply(self, event: Event, reply: dict[str, Any]) -> None:
-        """Notes the nodes that moved."""
+        """Notes the nodes that moved, which the reply to a close names."""
         self.moved = reply.get("moved", [])
 
     def report_taker(self, event: Event | None) -> Callable[[dict[str, Any]], None]:
-        """Returns the function that takes the report after an event, or at the beginning."""
+        """Returns the function that handles the report after an event, or at the beginning if it is None."""
         def takes(report: dict[str, Any]) -> None:
-            """Notes the privileged nodes in a report, and counts the event if there is one."""
+            """Notes the privileged nodes in a report, and counts the event before it."""
             before, self.before = self.before, {node for node, _ in report["privileged"]}
             if event is None or event.is_edit:
                 if event is not None:
@@ -88,14 +92,15 @@ class Recount(Replay):
         return takes
 
     def counts(self) -> list[int]:
-        """Counts to the end. Returns the places of the closes with which the run came to rest."""
+        """Plays the whole journal. Returns the places of the closes after which no node was privileged."""
         for _ in self.replies():
             pass
         return self.rests
 
 
 def told(lab: labs.Lab, events: list[Event]) -> str:
-    """Returns how a run came to rest with the last of these events, by the program's tally of them."""
+    """Returns the line about the recovery that ends with the last of these events, by the program's tally of them.
+    Raises `Fault` if the program is too old to count rounds."""
     journal = "".join(f"{event.place} {event.at} {' '.join(event.words)}\n" for event in events)
     found = tallies.of_texts(labs.text(lab), journal)
     if found.rounds is None:
@@ -105,8 +110,8 @@ def told(lab: labs.Lab, events: list[Event]) -> str:
 
 
 def recoveries(lab: labs.Lab, events: list[Event]) -> list[str]:
-    """Returns a line for each recovery of a run, with its place in the journal. Returns a single line if the run
-    has too many edits."""
+    """Returns a line for each recovery of a run, with its place in the journal. If the run has more than MOST_COUNTED
+    edits, returns a single line that says so."""
     edits = sum(event.is_edit for event in events)
     if edits > MOST_COUNTED:
         return [f"{edits} faults, links and cuts: how the class came back is printed only for at most {MOST_COUNTED}"]

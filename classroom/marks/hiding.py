@@ -1,4 +1,4 @@
-"""Lines of a record in a form that can be shown: only printable characters, and nobody's key."""
+"""Lines of a record in a form that can be shown: only printable characters, and no key of a student or teacher."""
 from __future__ import annotations
 
 import json
@@ -18,21 +18,22 @@ WORDS = frozenset((
 
 
 class Hider:
-    """Hides the keys of a lab."""
+    """Hides the keys of a lab in texts."""
 
     def __init__(self, keys: Iterable[str], names: Iterable[str]) -> None:
+        """`keys` are the texts to hide. `names` are texts that are shown even if they equal a key."""
         self.keys = [key for key in keys if key]
         self.shown = WORDS | set(names)
 
     def line(self, line: bytes) -> str:
-        """Returns a line in which `***` replaces each key. If a line isn't a JSON object and may have a key,
-        returns only its beginning."""
+        """Returns a line with `***` in place of each key. If the line isn't a JSON object and may have a key, returns
+        only the part before the key."""
         text = line.decode(errors="backslashreplace")
         return printable(self.without_keys(text) if is_object(text) else self.beginning(text))
 
     def without_keys(self, text: str) -> str:
-        """Returns the text of a JSON object without keys. Hides each value of `key`, and each text that contains a
-        key."""
+        """Returns the text of a JSON object without keys. Replaces each value of `key`, and each text that contains
+        somebody's key."""
         pieces: list[str] = []
         at, hides = 0, False
         for found in TEXT.finditer(text):
@@ -47,7 +48,8 @@ class Hider:
         return "".join(pieces) + (":***, and more" if hides else text[at:])
 
     def has_key(self, word: str) -> bool:
-        """Returns whether a text contains somebody's key. Words of the protocol and names don't count as keys."""
+        """Returns whether a text contains somebody's key. A key that is also a word of the protocol or a name doesn't
+        count."""
         return word not in self.shown and self.first_key(word) is not None
 
     def first_key(self, text: str) -> int | None:
@@ -59,7 +61,7 @@ class Hider:
         return next(islice((at for at, char in enumerate(text) if char != ESCAPE), min(found), None), len(text))
 
     def beginning(self, text: str) -> str:
-        """Returns the part of a text before the first place where a key may be."""
+        """Returns the part of a text before the first place at which a key may be."""
         found = re.search(r"key|\\u", text, re.IGNORECASE)
         shown = text[:found.start()] if found else text
         shown = shown[:self.first_key(shown)]
@@ -67,7 +69,7 @@ class Hider:
 
 
 def unescaped(text: str) -> str:
-    """Returns a text without its backslashes, so that a key is found in it even in a string within strings."""
+    """Returns a text without its backslashes, so that a key can be found even in a string within strings."""
     return text.replace(ESCAPE, "")
 
 

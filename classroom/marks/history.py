@@ -1,4 +1,9 @@
-"""`./class history`: what a student's connections sent, the replies, and the steps between them."""
+"""`./class history`: what a student's connections sent, the replies, and the steps between them.
+
+A *record* has the lines and replies of all connections, as entries. A *session* is one connection's entries, and a
+*seat* serves one session after another. A *place* is the number of an event in the journal. Keys are hidden in all
+texts.
+"""
 from __future__ import annotations
 
 import argparse
@@ -37,8 +42,8 @@ Said = tuple[Vouched, Session, set[str]]  # a session with its record and the na
 
 @dataclass(frozen=True)
 class Row:
-    """A line with its reply, the end of a connection, or an event. `place` is the number of events up to it,
-    including an event itself."""
+    """One row of a history: a line with its reply, the end of a connection, or an event. `place` is the number of
+    events up to it, including an event itself."""
 
     place: int
     seat: int = 0
@@ -55,7 +60,7 @@ class Row:
         return max(self.place, self.latest)
 
     def after(self) -> str:
-        """Returns the number of events before the row, as a text."""
+        """Returns, as a text, the number of events before the row."""
         return f"after {self.place}" + f" to {self.latest}" * (self.latest > self.place)
 
 
@@ -71,7 +76,7 @@ def add_words(words: argparse.ArgumentParser) -> None:
 
 
 def sessions(part: Vouched) -> Iterator[Session]:
-    """Yields the sessions of a record, seat by seat."""
+    """Yields the sessions of a record, seat by seat. The last one of a seat may be incomplete."""
     for file in seats(part.copy):
         said: Session = []
         for entry in Reader().take(file.read_bytes()):
@@ -84,20 +89,21 @@ def sessions(part: Vouched) -> Iterator[Session]:
 
 
 def names_of(said: Session) -> set[str]:
-    """Returns the names with which a session was greeted. If there are none, returns the names that it tried."""
+    """Returns the names of the students or teachers whose hello was granted in a session. If there are none, returns
+    the names in its denied hellos."""
     told = [(entry, entry.told()) for entry in said if not entry.mark]
     known = {reply["who"] for _, reply in told if "who" in reply}
     return known or {name for entry, reply in told if reply.get("deny") == "unknown" and (name := entry.asked_name()) is not None}
 
 
 def sessions_of(parts: list[Vouched]) -> list[Said]:
-    """Returns the sessions of all records, each with its record and its names."""
+    """Returns the sessions of all records, each with its record and the names of `names_of`."""
     return [(part, said, names_of(said)) for part in parts for said in sessions(part)]
 
 
 def rows_of(every: list[Said], name: str, hider: Hider) -> list[Row]:
-    """Returns the rows of all sessions with that name, in the order of their places, and at one place by seat. The
-    beginning of a session is listed before the rest of it."""
+    """Returns the rows of all sessions with that name, in the order of their places, and at one place by seat. The part
+    of a session up to its hello is listed before its other rows."""
     found: list[Row] = []
     for number, (part, said, _) in enumerate((each for each in every if name in each[2]), 1):
         count, latest = beginning(said)
@@ -107,15 +113,16 @@ def rows_of(every: list[Said], name: str, hider: Hider) -> list[Row]:
 
 
 def beginning(said: Session) -> tuple[int, int]:
-    """Returns the number of entries up to the granted hello, and the number of events up to them at most. The
-    journal isn't read for an entry before the hello, so these entries have the place of the seat's last session."""
+    """Returns the number of a session's entries up to the granted hello, and the number of events up to them at most.
+    The session didn't see the journal before the hello, so these entries have the place of the seat's last session."""
     count = next((index for index, entry in enumerate(said, 1) if not entry.mark and entry.told().get("ok") == "hello"), len(said))
     return count, said[count].place if count < len(said) else 0
 
 
 def left_open(part: Vouched, said: Session, session: int) -> list[Row]:
-    """Returns the last row of a session that hasn't ended: it continues if the server runs, and otherwise its rest
-    isn't recorded. Returns no row if the session has ended, or if its last entry is such a mark already."""
+    """Returns the last row of a session that hasn't ended, as a list. The row says that the session continues if the
+    server is running, and otherwise that its later lines aren't recorded. Returns an empty list if the session has
+    ended, or if its last entry says so already."""
     if said[-1].mark == ENDED or said[-1].mark == CUT and not part.goes_on:
         return []
     events = part.journal.read_bytes().count(b"\n")
@@ -123,7 +130,7 @@ def left_open(part: Vouched, said: Session, session: int) -> list[Row]:
 
 
 def row_of(entry: Entry, session: int, hider: Hider) -> Row:
-    """Returns the row of an entry."""
+    """Returns the row of an entry in the session with this number."""
     if entry.mark:
         return Row(entry.place, entry.seat, session, event=MARKS[entry.mark].format(entry.missed))
     told = entry.told()
@@ -133,8 +140,8 @@ def row_of(entry: Entry, session: int, hider: Hider) -> Row:
 
 
 def steps(lab: labs.Lab, journal: list[Event], name: str, own: set[int]) -> Iterator[Row]:
-    """Yields a row for each step, and for each other event at the student's nodes. `own` are the places of events
-    that the student's lines show already."""
+    """Yields a row for each closed step, for each other event that made a configuration, and for each other event at
+    the student's nodes. `own` are the places of events that the student's lines show already."""
     book, nodes = Book(list(lab.students)), set(lab.nodes_of(name))
     for event in journal:
         moved = book.add(event)
@@ -153,12 +160,13 @@ def steps(lab: labs.Lab, journal: list[Event], name: str, own: set[int]) -> Iter
 
 
 def merged(lines: list[Row], between: list[Row]) -> list[Row]:
-    """Returns lines and events in their order. An event comes before the lines that were answered after it."""
+    """Returns the rows of lines and of events in one order. An event comes before the lines that were answered after
+    it."""
     return sorted([*between, *lines], key=lambda row: (row.at, row.seat > 0))
 
 
 def text(told: list[str], rows: list[Row]) -> str:
-    """Returns the rows as text for people."""
+    """Returns the history as text for people. `told` are the lines about the records."""
     lines = [*told]
     for row, count in grouped(rows):
         head = f"  {row.after()}, seat {row.seat}{times(count)}"
@@ -172,24 +180,25 @@ def text(told: list[str], rows: list[Row]) -> str:
 
 
 def grouped(rows: list[Row]) -> list[tuple[Row, int]]:
-    """Returns each group of equal consecutive rows as one row with a count."""
+    """Returns the rows in groups: each row with the number of equal rows that follow each other."""
     return [(row, len(list(same))) for row, same in groupby(rows)]
 
 
 def times(count: int) -> str:
-    """Returns the count as text, or an empty text if it is 1."""
+    """Returns a count as text for people, or an empty text if the count is 1."""
     return f", {count} times" if count > 1 else ""
 
 
 def cells(row: Row) -> list[str]:
-    """Returns the cells of a row. A cell that a spreadsheet would take for a formula begins with an apostrophe."""
+    """Returns the cells of a row for a table. A cell that a spreadsheet would take for a formula begins with an
+    apostrophe."""
     every = [str(row.place), str(row.seat or ""), str(row.session or ""), row.asked, row.reply, row.denied, row.event]
     return list(map(guarded, every))
 
 
 def section(title: str, told: list[str], rows: list[Row], why: dict[tuple[int, str], str] | None = None) -> str:
-    """Returns the rows as a section of the player's page. Each row links to its place, and a move that a guard
-    denied has the reason if it is known."""
+    """Returns the rows as a section of the player's page, as HTML. Each row links to its place. `told` are the lines
+    about the records, and `why` has the reasons of denied moves, by the number of events before and the line."""
     items = [f'<li><a href="#p={row.at}">{row.after()}</a> {item(row, count)}{reason((why or {}).get((row.place, row.asked), ""))}</li>'
              for row, count in grouped(rows)]
     heads = "".join(f"<p>{escape(line)}</p>" for line in told)
@@ -198,7 +207,7 @@ def section(title: str, told: list[str], rows: list[Row], why: dict[tuple[int, s
 
 
 def item(row: Row, count: int) -> str:
-    """Returns the text of a row as HTML."""
+    """Returns the text of a row as HTML. `count` is the number of equal rows that it stands for."""
     if row.event:
         return escape(row.event if not row.seat else f"seat {row.seat}: {row.event}")
     reply = f"<strong>{escape(row.reply)}</strong>" if row.denied else escape(row.reply)
@@ -206,18 +215,18 @@ def item(row: Row, count: int) -> str:
 
 
 def reason(text: str) -> str:
-    """Returns the reason of a denial as HTML, or an empty text if there is none."""
+    """Returns the reason of a denial as HTML, or an empty text if `text` is empty."""
     return f" <em>{escape(text)}</em>" if text else ""
 
 
 def guarded_rows(rows: list[Row]) -> list[tuple[int, str]]:
-    """Returns the moves that a guard denied, each with the number of events before it."""
+    """Returns the moves that were denied by a guard, each as the number of events before it and its line."""
     return [(row.place, row.asked) for row in rows if row.denied == GUARD]
 
 
 def own_page(title: str, name: str, lab_file: Path, journal: Path, told: list[str], lines: list[Row]) -> str:
-    """Returns the page of a student's own run: the player, and beside it the student's lines. Each denial is at
-    its moment, with the part of the guard that failed."""
+    """Returns the page of a student's own run as HTML: the player, and beside it the student's lines. Each denial is at
+    its moment, with the part of the guard that failed. `told` are the lines about the records."""
     kept_layout.load(lab_file.parent)
     lab, frames = frames_of(lab_file, journal)
     happened = events(journal.read_text(encoding="ascii"))
@@ -226,21 +235,21 @@ def own_page(title: str, name: str, lab_file: Path, journal: Path, told: list[st
 
 
 def with_steps(lab: labs.Lab, journal: list[Event], name: str, lines: list[Row]) -> list[Row]:
-    """Returns a student's lines together with the steps between them."""
+    """Returns the rows of a student's lines together with rows for the steps between them."""
     own = {row.place + 1 for row in lines if '"place":' in row.reply}
     return merged(lines, [*steps(lab, journal, name, own)])
 
 
 def hider_of(parts: list[Vouched], lab: labs.Lab) -> Hider:
-    """Returns the object that hides all keys of the lab, including earlier keys."""
+    """Returns the object that hides all keys of the lab, including the earlier ones in the labs of the records."""
     every = [lab, *(labs.read(part.lab) for part in parts)]
     keys = {key for each in every for key in (*each.students.values(), each.teacher[1])}
     return Hider(keys, [*lab.students, lab.teacher[0]])
 
 
 def history(words: argparse.Namespace) -> int:
-    """Prints what a student's connections sent, or writes it as a page, if `verify` accepts the records. Returns
-    the exit status."""
+    """Prints what a student's connections sent, or writes it as a page. Returns the exit status. Raises `Fault` if
+    `verify` refuses a record."""
     name = words.name
     run = classes.run_of(Path(words.folder), name)
     lab_file, journal = folders.of_folder(run)

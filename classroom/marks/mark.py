@@ -1,4 +1,8 @@
-"""`./class mark`: the marks of each student from the journals of runs."""
+"""`./class mark`: the marks of each student from the journals of runs.
+
+A *journal* has the granted events of a run, and a *record* all lines and replies of its connections. A *rule* is a
+teacher's file that computes grades from marks. The *tally* is what the proved program counts in a journal.
+"""
 from __future__ import annotations
 
 import argparse
@@ -35,14 +39,14 @@ UNTOLD = (
 
 @dataclass(frozen=True)
 class Recorded:
-    """The verdict on a run's record, and the counts of its lines unless it is refused."""
+    """The verdict on a record as a line, and the counts of its lines unless the record is refused."""
 
     line: str
     asked: Asked | None = None
 
     @property
     def is_refused(self) -> bool:
-        """Returns whether there is a record that was refused."""
+        """Returns whether this is the verdict on a record that was refused, rather than NONE."""
         return self.asked is None and self != NONE
 
 
@@ -62,7 +66,8 @@ class Run:
 
     @property
     def asked(self) -> Asked | None:
-        """Returns the counts of all records of the run together, or None if there is no record or one is refused."""
+        """Returns the counts of all records of the run together. Returns None if there is no record or one is
+        refused."""
         together = Asked()
         for it in self.records:
             if it.asked is None:
@@ -72,30 +77,30 @@ class Run:
 
     @property
     def network(self) -> str:
-        """Returns the name of the network: that of the lab with which a run's folder was begun, or else that of
-        the lab's file."""
+        """Returns the name of the network: that of the lab with which the run was begun, if the journal is in the run's
+        folder, or else that of the lab's file."""
         if self.journal.name != "journal" or not (self.journal.parent / "lab.toml").is_file():
             return self.lab_file.stem
         found = folders.Record.read(self.journal.parent)
         return Path(found.lab).stem if found else self.lab_file.stem
 
     def is_whole(self, name: str) -> bool:
-        """Returns whether the records have all lines of a student."""
+        """Returns whether the records have all lines of the student with that name."""
         asked = self.asked
         return asked is not None and name in (asked.all_of or ())
 
     def values(self, name: str) -> dict[str, Value]:
-        """Returns the values of a student's columns for a rule."""
+        """Returns the values of a student's columns, by their names."""
         return columns.row(self.tally.students[name], self.lab, name, self.network, self.denied(name), self.is_whole(name))
 
     def denied(self, name: str) -> list[int | None]:
-        """Returns the number of a student's lines that each clause denied, and of malformed lines. Each is None if
-        there is no record."""
+        """Returns the number of a student's lines that each clause denied, and of malformed lines, in the order of
+        DENIED. Each is None if there is no record or one is refused."""
         asked = self.asked
         return [None if asked is None else asked.denied.get(name, Counter())[clause] for clause in DENIED]
 
     def table(self, rule: Rule | None = None) -> dict[str, Any]:
-        """Returns the run in the form of `--json`, with the results of a rule for each student."""
+        """Returns the run as an object of `--json`, with the results of a rule for each student if one is given."""
         asked = self.asked
         students = {
             name: {
@@ -119,12 +124,13 @@ class Run:
 
 
 def by_node(shared: dict[int, dict[str, Counter[str]]]) -> dict[str, dict[str, dict[str, int]]]:
-    """Returns the counts of each owner at each node in the form of JSON."""
+    """Returns the counts of moves for each owner of each node, with the keys that JSON needs."""
     return {str(node): {name: dict(moves) for name, moves in owners.items()} for node, owners in shared.items()}
 
 
 def marked(lab_file: Path, journal: Path) -> Run:
-    """Returns the run of a journal, with its tally. Raises `Fault` if the audit refuses it."""
+    """Returns the run of a journal over a lab, with its tally and verdicts. Raises `Fault` if the audit refuses the
+    journal, or if the run is still going on."""
     try:
         told = tally.of(lab_file, journal)
     except Fault as fault:
@@ -142,7 +148,8 @@ def marked(lab_file: Path, journal: Path) -> Run:
 
 
 def recorded(journal: Path) -> list[Recorded]:
-    """Returns the verdicts on the records in the run's folder. A journal elsewhere has no record."""
+    """Returns the verdicts on the records beside a journal in the folder of a run. For a journal elsewhere, returns the
+    verdict that there is none."""
     if journal.name != "journal" or not record.kept(journal.parent):
         return [NONE]
     with vouched(journal.parent) as parts:
@@ -150,8 +157,8 @@ def recorded(journal: Path) -> list[Recorded]:
 
 
 def asked_in(part: Vouched) -> Asked | None:
-    """Returns the counts of a record's lines, or None if the record is refused. If its server hasn't ended, the
-    counts are marked as incomplete for everybody."""
+    """Returns the counts of a record's lines, or None if the record is refused. If its server hasn't ended, the counts
+    are marked as incomplete for all students."""
     asked = tally.of(part.lab, part.journal, record=part.copy).asked if part.status == 0 else None
     if asked is None or part.has_ended:
         return asked
@@ -159,7 +166,7 @@ def asked_in(part: Vouched) -> Asked | None:
 
 
 def refusal(journal: Path, error: str) -> str:
-    """Returns the audit's error, with the line of the journal that it names."""
+    """Returns the audit's error about a journal, with the line of the journal that the error names."""
     line = re.match(r"audit: line (\d+)", error)
     if line is None:
         return f"{journal}: {error}"
@@ -168,8 +175,8 @@ def refusal(journal: Path, error: str) -> str:
 
 
 def rows(runs: list[Run], rule: Rule | None = None) -> list[list[str]]:
-    """Returns the table: a row of heads, and a row for each student and run. A rule's results come after the
-    marks."""
+    """Returns the table of marks: a row of heads, and a row for each student and run. The results of a rule come after
+    the marks."""
     names = rule.names if rule else []
     table = [["journal", "student", "granted", "applied", *RULES, "steps", "first", "last", "shared", *DENIED, *MORE, *names]]
     for run in runs:
@@ -182,7 +189,7 @@ def rows(runs: list[Run], rule: Rule | None = None) -> list[list[str]]:
 
 
 def sentence(run: Run) -> str:
-    """Returns the line about a run."""
+    """Returns the line with the counts of a run."""
     told = run.tally
     pairs = " ".join(f"{a}-{b}" for a, b in run.pairs) or "none"
     return (f"{run.journal}: {told.events} events, configuration {told.configuration}, "
@@ -191,7 +198,7 @@ def sentence(run: Run) -> str:
 
 
 def of_owner(name: str, granted: Counter[str], asked: Counter[str] | None) -> str:
-    """Returns the text about an owner at a shared node: the granted moves, and how many were asked for if that is
+    """Returns the text about one owner of a shared node: the granted moves, and the number of requested ones if it is
     known."""
     rules = ", ".join(f"{number} {rule}" for rule, number in granted.items() if number)
     of_asked = "" if asked is None else f" of {asked.total()} asked for"
@@ -210,8 +217,7 @@ def shared(run: Run) -> list[str]:
 
 
 def text(runs: list[Run], rule: Rule | None = None) -> str:
-    """Returns the table for people, one for each run below the line about it. The columns of the rules count
-    applied moves."""
+    """Returns the marks as text for people: for each run a line about it, its table, and its recoveries."""
     lines = []
     for run in runs:
         table = [[*row[1:NETWORK], *row[NETWORK + 1:]] for row in rows([run], rule)]
@@ -228,7 +234,8 @@ def as_json(runs: list[Run], rule: Rule | None = None) -> str:
 
 
 def mark(words: argparse.Namespace) -> int:
-    """Prints the marks of all journals in the chosen form. Returns the exit status."""
+    """Prints the marks of all runs that the arguments name, in the chosen form. Returns the exit status. Raises `Fault`
+    if a run can't be marked."""
     if words.columns:
         print(columns.listing(), end="")
         return 0

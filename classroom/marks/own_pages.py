@@ -1,4 +1,5 @@
-"""The pages of the students' own runs, which are written into the run's folder at its end."""
+"""The page of each student's own run, which is written into the run's folder at its end. It shows the student's lines
+beside the player."""
 from __future__ import annotations
 
 from collections.abc import Callable
@@ -19,8 +20,8 @@ MOST = 64 << 20  # bytes of all pages
 
 
 def rows_by_student(folder: Path, lab: labs.Lab) -> tuple[list[str], dict[str, list[Row]]]:
-    """Returns the lines about the records in a run's folder, and the rows of each student. Returns nothing if a
-    record is refused."""
+    """Returns the lines about the records in a run's folder, and the rows of each student who sent something. Returns
+    two empty values if a record is refused."""
     with vouched(folder) as parts:
         if any(part.status for part in parts):
             return [], {}
@@ -30,8 +31,8 @@ def rows_by_student(folder: Path, lab: labs.Lab) -> tuple[list[str], dict[str, l
 
 
 def write_pages(folder: Path, tell: Callable[[str], None]) -> None:
-    """Writes a page for each student who sent something, with each denial at its moment. If the pages would take
-    too much room, prints how to make one instead."""
+    """Writes a page for each student who sent something, with each denial at its moment. If the pages would take too
+    much room, prints by `tell` how to make one."""
     lab_file, journal = folder / "lab.toml", folder / "journal"
     lab = labs.read(lab_file)
     told, every = rows_by_student(folder, lab)

@@ -1,4 +1,5 @@
-"""The reasons why moves of a run were denied: the part of the guard that failed, according to the plain model."""
+"""The reasons why moves of a run were denied: the part of the guard that failed, according to the plain model
+(`model/`), a second program with the same rules."""
 from __future__ import annotations
 
 from collections.abc import Sequence
@@ -13,8 +14,8 @@ MOST = 2000  # lines that are explained
 
 
 def reasons(lab: labs.Lab, events: Sequence[Event], asked: Sequence[tuple[int, str]]) -> dict[tuple[int, str], str]:
-    """Returns the model's explanations of denied moves, each by the number of events before it and its line. Moves
-    that the model doesn't explain are left out."""
+    """Returns the model's explanations of denied moves, by the number of events before the move and its line, as
+    `asked` has them. Leaves out moves that the model doesn't explain."""
     wanted = sorted(set(asked), key=lambda each: each[0])[:MOST]
     lines = {place: [line for _, line in own] for place, own in groupby(wanted, key=lambda each: each[0])}
     script, found = [*replay.HELLOS], dict[int, tuple[int, str]]()

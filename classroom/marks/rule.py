@@ -30,12 +30,12 @@ FUNCTIONS: dict[str, Callable[[list[Fraction]], Fraction]] = {"min": min, "max":
 
 
 class Wrong(Exception):
-    """An error in a line of a rule."""
+    """An error in a line of a rule, as a text for people."""
 
 
 @dataclass(frozen=True)
 class Line:
-    """A line of a rule."""
+    """A line of a rule: its name and its expression."""
 
     name: str
     number: int
@@ -44,7 +44,7 @@ class Line:
 
 @dataclass(frozen=True)
 class Rule:
-    """A rule: its lines, in their order."""
+    """The lines of a teacher's rule, in their order."""
 
     path: Path
     lines: list[Line]
@@ -66,7 +66,8 @@ class Rule:
         return found
 
     def cells(self, row: Row) -> list[str]:
-        """Returns the values as cells of a table. None of them is a spreadsheet's formula."""
+        """Returns the values as cells of a table. A value that a spreadsheet would take for a formula is guarded by an
+        apostrophe."""
         return [value if value == UNKNOWN else guarded(value) for value in self.values(row)]
 
 
@@ -82,7 +83,8 @@ def shown(value: Value) -> str:
 
 
 def read(path: Path, columns: Sequence[str]) -> Rule:
-    """Returns the rule in a file. Its expressions may use these columns."""
+    """Returns the rule in a file. Its expressions may use the names in `columns`. Raises `Fault` if the file can't be
+    read or has a wrong line."""
     try:
         lines = plain.read(path, MOST_BYTES).decode("utf-8-sig").splitlines()
     except UnicodeDecodeError:
@@ -91,7 +93,8 @@ def read(path: Path, columns: Sequence[str]) -> Rule:
 
 
 def parsed(path: Path, lines: Sequence[str], columns: Sequence[str]) -> Rule:
-    """Returns the rule in these lines."""
+    """Returns the rule in these lines of the file at `path`. Its expressions may use the names in `columns`. Raises
+    `Fault` with the first wrong line."""
     known, found = list(columns), list[Line]()
     for number, text in enumerate(lines, 1):
         try:
@@ -109,7 +112,8 @@ def parsed(path: Path, lines: Sequence[str], columns: Sequence[str]) -> Rule:
 
 
 def line_of(tokens: list[tuple[str, str]], number: int, known: Sequence[str]) -> Line:
-    """Returns the line in these tokens. Its expression may use the names in `known`."""
+    """Returns the line of a rule that consists of these tokens. Its expression may use the names in `known`. Raises
+    `Wrong` if there is an error in it."""
     if len(tokens) < 3 or tokens[0][0] != "name" or tokens[1] != ("sign", "="):
         raise Wrong("write NAME = EXPRESSION")
     name = tokens[0][1]
@@ -123,7 +127,8 @@ def line_of(tokens: list[tuple[str, str]], number: int, known: Sequence[str]) ->
 
 
 def tokens_of(text: str) -> list[tuple[str, str]]:
-    """Returns the kinds and texts of a line's tokens. The part after `#` is a comment."""
+    """Returns the tokens of a line, each as its kind and its text. Ignores a comment, which begins with `#`. Raises
+    `Wrong` if a character fits no token."""
     found, at = list[tuple[str, str]](), 0
     while text[at:].strip() and not text[at:].lstrip().startswith("#"):
         token = TOKEN.match(text, at)
@@ -138,25 +143,27 @@ def tokens_of(text: str) -> list[tuple[str, str]]:
 
 
 class Parser:
-    """A recursive-descent parser of expressions. From the lowest precedence up, it reads choices, `or`, `and`,
-    `not`, comparisons, sums, products and signs."""
+    """A recursive-descent parser of expressions, one function for each level of precedence. From the lowest up, it
+    reads choices, `or`, `and`, `not`, comparisons, sums, products and signs. All functions raise `Wrong` if the next
+    tokens don't fit."""
 
     def __init__(self, tokens: list[tuple[str, str]], names: Sequence[str]) -> None:
+        """`tokens` are those of one line, and `names` those that its expression may use."""
         self.tokens, self.names, self.depth = tokens, names, 0
 
     def take(self, *texts: str) -> str:
-        """Removes the next token and returns it, if it is one of these. Returns an empty text otherwise."""
+        """Removes the next token and returns its text, if it is one of these texts. Returns an empty text otherwise."""
         if self.tokens and self.tokens[0][0] != "text" and self.tokens[0][1] in texts:
             return self.tokens.pop(0)[1]
         return ""
 
     def expect(self, text: str) -> None:
-        """Removes the next token. Raises `Wrong` if it isn't this one."""
+        """Removes the next token. Raises `Wrong` if its text isn't this one."""
         if not self.take(text):
             raise Wrong(f"{text} is expected {f'before {self.tokens[0][1]}' if self.tokens else 'at the end'}")
 
     def choice(self) -> Expression:
-        """Reads `A if CONDITION else B`, or an expression of higher precedence."""
+        """Reads `A if CONDITION else B`, or an expression without `if`."""
         self.depth += 1
         if self.depth > MOST_DEPTH:
             raise Wrong(f"it is nested more than {MOST_DEPTH} deep")
@@ -170,7 +177,7 @@ class Parser:
         return first
 
     def joined(self, word: str) -> Expression:
-        """Reads operands that are joined by this word, `or` or `and`."""
+        """Reads operands that are joined by this word, `or` or `and`, or a single operand."""
         def part() -> Expression:
             """Reads one operand."""
             return self.joined("and") if word == "or" else self.negated()
@@ -239,7 +246,7 @@ class Parser:
         return self.call_of(text) if text in FUNCTIONS else self.named(text)
 
     def call_of(self, name: str) -> Expression:
-        """Reads the arguments of a function. Returns the call."""
+        """Reads the arguments of the function with that name. Returns the expression that calls it."""
         self.expect("(")
         given = [self.choice()]
         while self.take(","):
@@ -250,14 +257,14 @@ class Parser:
         return called(name, given)
 
     def named(self, name: str) -> Expression:
-        """Returns the expression for a column or an earlier line."""
+        """Returns the expression for the column or earlier line with that name."""
         if name not in self.names:
             raise Wrong(f"no column {name}; mark --columns prints them")
         return lambda row: row[name]
 
 
 def constant(value: Value) -> Expression:
-    """Returns the expression with this value."""
+    """Returns the expression whose value is always this one."""
     return lambda row: value
 
 
@@ -269,7 +276,7 @@ def number(value: Value) -> Fraction:
 
 
 def truth(value: Value) -> bool | None:
-    """Returns a value as yes, no or unknown. Raises `Wrong` for any other value."""
+    """Returns a value as true, false or, if it is unknown, None. Raises `Wrong` for a number or a text."""
     if value is not None and not isinstance(value, bool):
         raise Wrong(f"{shown(value)} is neither yes nor no; a comparison is, as: applied >= 1")
     return value
@@ -296,7 +303,8 @@ def logical(left: Expression, right: Expression, is_or: bool) -> Expression:
 
 
 def negation(inner: Expression, is_negated: bool) -> Expression:
-    """Returns the negation of an expression, or if `is_negated` isn't set its truth value."""
+    """Returns the negation of an expression. If `is_negated` isn't set, returns the expression, whose value must then
+    be a truth value."""
     def value(row: Row) -> Value:
         """Returns the value for a row of marks."""
         holds = truth(inner(row))
@@ -306,7 +314,7 @@ def negation(inner: Expression, is_negated: bool) -> Expression:
 
 
 def of_two(left: Expression, right: Expression, made: Callable[[Known, Known], Known]) -> Expression:
-    """Returns the expression that applies `made` to two values. It is unknown if one of them is."""
+    """Returns the expression that applies `made` to the values of two expressions. It is unknown if one of them is."""
     def value(row: Row) -> Value:
         """Returns the value for a row of marks."""
         one, other = left(row), right(row)
@@ -316,8 +324,8 @@ def of_two(left: Expression, right: Expression, made: Callable[[Known, Known], K
 
 
 def comparison(sign: str, left: Expression, right: Expression) -> Expression:
-    """Returns the expression that compares two values. Texts can only be equal or not; the other signs compare
-    numbers."""
+    """Returns the expression that compares two values by this sign. Texts can only be equal or not, and the other signs
+    compare numbers."""
     def holds(one: Known, other: Known) -> bool:
         """Returns whether the comparison of two values holds."""
         if sign in ("==", "!="):
@@ -331,7 +339,7 @@ def comparison(sign: str, left: Expression, right: Expression) -> Expression:
 
 
 def arithmetic(sign: str, left: Expression, right: Expression) -> Expression:
-    """Returns the expression for a sum, a difference, a product or a quotient."""
+    """Returns the expression that adds, subtracts, multiplies or divides two values, as the sign says."""
     def result(one: Known, other: Known) -> Fraction:
         """Returns the result for two values."""
         a, b = number(one), number(other)
@@ -343,7 +351,8 @@ def arithmetic(sign: str, left: Expression, right: Expression) -> Expression:
 
 
 def called(name: str, given: Sequence[Expression]) -> Expression:
-    """Returns the expression that calls a function."""
+    """Returns the expression that calls the function with that name on these arguments. Raises `Wrong` if it takes
+    another number of arguments."""
     def value(row: Row) -> Value:
         """Returns the value for a row of marks."""
         values = [each(row) for each in given]

@@ -15,15 +15,15 @@ from classroom.marks.vouched import vouched
 
 
 def model_call(word: str, *files: Path) -> Answer:
-    """Returns the output and exit status of the plain model for a command of the program."""
+    """Runs a command of the plain model with these files. Returns its output and exit status."""
     call: list[str | Path] = [sys.executable, "-B", "-m", "model", word, *(file.absolute() for file in files)]
     done = subprocess.run(call, cwd=TOP, stdin=subprocess.DEVNULL, capture_output=True, text=True, check=False)
     return Answer(done.returncode, done.stdout, done.stderr.strip())
 
 
 def difference(word: str, *files: Path) -> str:
-    """Returns the first line in which the program and the model differ, or an empty text if their output and
-    status are the same."""
+    """Returns a text with the first line in which the proved program and the model differ for a command and its files.
+    Returns an empty text if their output and status are the same."""
     proved, plain = host_call(word, *files), model_call(word, *files)
     if proved == plain:
         return ""
@@ -33,10 +33,9 @@ def difference(word: str, *files: Path) -> str:
 
 
 def differences(lab: Path, journal: Path) -> list[str]:
-    """Returns the differences in a run: in its tally, and in each record in its folder.
+    """Returns a line for each difference in a run: in its tally, and in each record in its folder.
 
-    Copies the journal first, since both must read the same bytes while the run continues.
-    """
+    Copies the journal first, since both programs must read the same bytes while the run continues."""
     found = []
     with tempfile.TemporaryDirectory() as room:
         copy = Path(room) / "journal"
@@ -50,8 +49,8 @@ def differences(lab: Path, journal: Path) -> list[str]:
 
 
 def compare(runs: list[tuple[Path, Path]]) -> bool:
-    """Prints on standard error whether the program and the model agree about these runs. Returns whether they
-    differ."""
+    """Prints on standard error whether the proved program and the model agree about these runs, each a lab and a
+    journal. Returns whether they differ."""
     lines = [line for lab, journal in runs for line in differences(lab, journal)]
     for line in lines or ["the plain model agrees about all that is marked"]:
         print(printable(f"class: {line}"), file=sys.stderr)

@@ -1,4 +1,8 @@
-"""The totals of several runs: one row for each person, in the order of a class list or by the names in the labs."""
+"""The totals of several runs: one row for each person, in the order of a class list or by the names in the labs.
+
+A *rule* is a teacher's file that computes grades from the totals. The *record* of a run has all lines of its
+connections, and shows what was denied.
+"""
 from __future__ import annotations
 
 import csv
@@ -32,7 +36,8 @@ class Total:
     networks: dict[str, None] = field(default_factory=dict)  # whose labs have the person
 
     def add(self, marks: Marks, denied: Counter[str], is_whole: bool, nodes: int, network: str) -> None:
-        """Adds the marks of a run, and the counts of its record."""
+        """Adds a person's marks in one run. `denied` has the counts of the run's record, `is_whole` says whether that
+        record is complete, and `nodes` is the number of the person's nodes."""
         self.nodes += nodes
         self.networks[network] = None
         self.granted += marks.granted.total()
@@ -44,7 +49,7 @@ class Total:
         self.recorded += is_whole
 
     def row(self) -> list[str]:
-        """Returns the cells below HEADS."""
+        """Returns the cells of the total for a table, in the order of HEADS."""
         rules = [self.applied[rule] for rule in RULES]
         numbers = [self.granted, self.applied.total(), *rules, self.steps, self.shared, self.runs,
                    *(self.denied[clause] for clause in DENIED), self.recorded]
@@ -52,12 +57,12 @@ class Total:
 
     @property
     def network(self) -> str:
-        """Returns the names of the networks whose labs have the person."""
+        """Returns the names of the networks that the person was in, as one text."""
         return "; ".join(self.networks)
 
     def values(self, name: str) -> dict[str, Value]:
-        """Returns the values of the columns for a rule. Denials are known only if the record of each run is
-        complete."""
+        """Returns the values of a person's columns for a rule, by their names. Denials are known only if the record of
+        each run is complete."""
         is_whole = self.recorded == self.runs
         counts = {"granted": self.granted, "applied": self.applied.total(), **{rule: self.applied[rule] for rule in RULES},
                   "steps": self.steps, "shared": self.shared, "nodes": self.nodes, "runs": self.runs, "recorded": self.recorded}
@@ -79,8 +84,8 @@ Runs = list[Marked]
 
 
 def summed(runs: Runs) -> dict[str, tuple[Person, Total]]:
-    """Returns the totals of each person. Persons are the same if they have the same identifier, or without one the
-    same name in the lab."""
+    """Returns each person with the totals over all runs, by a key. Two students of different labs are the same person
+    if they have the same identifier, or without one the same name in the lab."""
     found: dict[str, tuple[Person, Total]] = {}
     for run in runs:
         lab, asked = run.lab, run.asked
@@ -96,20 +101,20 @@ def summed(runs: Runs) -> dict[str, tuple[Person, Total]]:
 
 
 def ruled(rule: Rule | None, total: Total, name: str) -> list[str]:
-    """Returns the results of a rule for a person, or none without a rule."""
+    """Returns the results of a rule for a person as cells. Returns none if there is no rule."""
     return rule.cells(total.values(name)) if rule else []
 
 
 def by_labs(runs: Runs, rule: Rule | None = None) -> list[list[str]]:
-    """Returns the table: a row of heads, and a row for each person in the labs."""
+    """Returns the table of totals: a row of heads, and a row for each person in the labs."""
     return [["student", "id", *HEADS, *(rule.names if rule else [])],
             *([guarded(person.written), guarded(person.id), *total.row(), *ruled(rule, total, person.written)]
               for person, total in summed(runs).values())]
 
 
 def by_roster(runs: Runs, roster: People, rule: Rule | None = None) -> tuple[list[list[str]], list[str]]:
-    """Returns the rows of a class list with the totals after them, and the names of the persons that the list
-    lacks."""
+    """Returns the table of a class list with the totals after each of its rows, and the names of the persons in the
+    labs that the list lacks."""
     left = summed(runs)
     heads, names = roster.heads or ["name"], rule.names if rule else []
     rows = [[*heads, *HEADS, *names]]
@@ -125,10 +130,10 @@ def by_roster(runs: Runs, roster: People, rule: Rule | None = None) -> tuple[lis
 
 def is_same_person(person: Person, other: Person) -> bool:
     """Returns whether two entries are one person: by their identifiers if both have one, and otherwise by their names.
-    Characters that aren't printable are compared as they are escaped, because labs of 1.0.0 have them so."""
+    Characters that aren't printable are compared in escaped form, because labs of version 1.0.0 have them so."""
     return printable(person.id) == printable(other.id) if person.id and other.id else printable(person.written) == printable(other.written)
 
 
 def write(rows: list[list[str]], delimiter: str = ",") -> None:
-    """Prints a table as CSV."""
+    """Prints a table as CSV with this delimiter."""
     csv.writer(sys.stdout, delimiter=delimiter, lineterminator="\n").writerows(rows)

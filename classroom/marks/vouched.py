@@ -1,5 +1,10 @@
-"""The records in a run's folder with the verdicts of `verify`: copies of the complete entries, together with the
-journal so far."""
+"""The records in a run's folder with the verdicts of the command `verify`: copies of the complete entries, together
+with the journal so far.
+
+A *record* has a file of entries for each seat, which serves one session after another. An *entry* is a line with its
+reply, or a mark, and has the number of events before it. The record of a server that was killed may lack its last
+entries.
+"""
 from __future__ import annotations
 
 import re
@@ -33,27 +38,26 @@ class Vouched:
 
     @property
     def lab(self) -> Path:
-        """Returns the path of the lab that was used during the recording."""
+        """Returns the path of the copy of the lab with which the record was made."""
         return self.copy / "lab"
 
     @property
     def journal(self) -> Path:
-        """Returns the path of the events up to the end of the record."""
+        """Returns the path of the copy of the journal, up to the end of the record."""
         return self.copy / "journal"
 
     @property
     def is_copied(self) -> bool:
-        """Returns whether all files of the record could be read."""
+        """Returns whether all files of the record could be copied."""
         return self.journal.is_file()
 
     def told(self) -> str:
-        """Returns the verdict as a line."""
+        """Returns the line about the record and its verdict."""
         return f"{self.record}: {self.line}"
 
 
 def has_ended(run: Path) -> bool:
-    """Returns whether the server of a run has printed that it is done. Returns true if the folder has no output of
-    a server."""
+    """Returns whether the server of a run has printed that it is done, or the folder has no output of a server."""
     output = run / "server.txt"
     if not output.is_file():
         return True
@@ -62,8 +66,8 @@ def has_ended(run: Path) -> bool:
 
 
 def entries_up_to(text: bytes, events: int) -> bytes:
-    """Returns the complete entries in a seat's text that need at most so many events. Later entries belong to a
-    run that continues. Searches from the end, because places never fall."""
+    """Returns the beginning of a seat's text: its complete entries up to the last that needs at most so many events.
+    Later entries belong to a run that continues. Searches from the end, because the numbers of events never fall."""
     end = text.rfind(b"\n") + 1
     while end:
         start = text.rfind(b"\n", 0, end - 1) + 1
@@ -76,20 +80,21 @@ def entries_up_to(text: bytes, events: int) -> bytes:
 
 
 def granted_place(sign: bytes, reply: bytes) -> int:
-    """Returns the place of the event that a reply granted, or 0 if it granted none."""
+    """Returns the place of the event that a reply granted, or 0 if it granted none. `sign` is that of the entry's line,
+    `<` for a reply."""
     place = json_object(reply).get("place") if sign == b"<" else None
     return place if isinstance(place, int) else 0
 
 
 def goes_on(run: Path) -> bool:
-    """Returns whether the server of a run's folder is still running."""
+    """Returns whether the server of the run in a folder is still running."""
     record = Record.read(run)
     return record is not None and record.server.lives()
 
 
 def copy_record(record: Path, into: Path, journal: bytes) -> None:
-    """Copies into a folder: a record's complete entries as far as the journal reaches, its lab, the place at which
-    it began, and the journal."""
+    """Copies a record into a folder: its entries as far as the journal reaches, its lab, the number of events before
+    it, and `journal` itself. Raises `Fault` if a file can't be read."""
     events = journal.count(b"\n")
     for file in seats(record):
         (into / file.name).write_bytes(entries_up_to(plain.read(file, limits.allowed().seat_read), events))
@@ -99,14 +104,14 @@ def copy_record(record: Path, into: Path, journal: bytes) -> None:
 
 
 def is_open(seat: Path) -> bool:
-    """Returns whether a seat's file ends within a session."""
+    """Returns whether a seat's file ends before the end of a session."""
     last = seat.read_bytes().rpartition(b"\n")[0].rpartition(b"\n")[2]
     return last != b"" and not re.fullmatch(rb"\d+ \d+ \.", last)
 
 
 def mark_incomplete(into: Path) -> None:
-    """Marks a copy as one that may lack entries: appends a cut session to a seat, if possible to one without an
-    open session."""
+    """Marks the copy of a record as one that may lack entries: appends a session that was cut off to a seat, if
+    possible to one without an open session."""
     events = (into / "journal").read_bytes().count(b"\n")
     for file in sorted(seats(into), key=is_open)[:1]:
         seat = file.name.partition(".")[0]
@@ -116,7 +121,8 @@ def mark_incomplete(into: Path) -> None:
 
 @contextmanager
 def vouched(run: Path) -> Iterator[list[Vouched]]:
-    """Yields the records of a folder, the oldest first, as private copies that are removed at the end."""
+    """Yields the records of a run's folder with their verdicts, the oldest first. Their copies are removed at the
+    end."""
     is_whole, lives = has_ended(run), goes_on(run)
     lines = plain.read(run / "journal", limits.allowed().journal).split(b"\n")[:-1]
     records = kept(run)
@@ -128,8 +134,9 @@ def vouched(run: Path) -> Iterator[list[Vouched]]:
 
 
 def vouch(record: Path, into: Path, journal: bytes, is_whole: bool, lives: bool) -> Vouched:
-    """Copies a record and verifies the copy. If its server hasn't ended and an entry is missing, verifies it as an
-    incomplete record. A record with another lab than the run's is refused."""
+    """Copies a record with the journal into a folder, and verifies the copy. If `is_whole` isn't set and an entry is
+    missing, verifies it as an incomplete record. `lives` says whether its server is running. Refuses a record with
+    another lab than the run's."""
     into.mkdir()
     try:
         copy_record(record, into, journal)
@@ -146,7 +153,7 @@ def vouch(record: Path, into: Path, journal: bytes, is_whole: bool, lives: bool)
 
 
 def has_lab_of(run: Path, copy: Path) -> bool:
-    """Returns whether the lab of a copy is the same as the run's lab in all that a journal names."""
+    """Returns whether the lab of a copy agrees with the run's lab in all that a journal refers to."""
     if (copy / "lab").read_bytes() == plain.read(run / "lab.toml", limits.allowed().lab):
         return True
     try:
@@ -156,5 +163,5 @@ def has_lab_of(run: Path, copy: Path) -> bool:
 
 
 def verified(copy: Path) -> Answer:
-    """Returns the program's verdict on a copy."""
+    """Returns the output and status of the command `verify` for the copy of a record."""
     return host_call("verify", copy / "lab", copy / "journal", copy)
