@@ -79,8 +79,8 @@ class ClassState:
 
 
 def write(folder: Path, state: dict[str, Any]) -> None:
-    """Writes the state of a network, a JSON object of the form above, into the folder of its run. If the disk is full, the old
-    file stays, and no error is raised."""
+    """Writes the state of a network, a JSON object of the form above, into the folder of its run. If the disk is full,
+    the old file stays, and no error is raised."""
     new = folder / f"{STATE}.new"
     try:
         new.write_text(json.dumps(state, separators=(",", ":")) + "\n", encoding="utf-8")
@@ -90,7 +90,8 @@ def write(folder: Path, state: dict[str, Any]) -> None:
 
 
 def read(folder: Path) -> dict[str, Any] | None:
-    """Returns the state of a network from the folder of its run, or None if there is no such file or it isn't a JSON object."""
+    """Returns the state of a network from the folder of its run, or None if there is no such file or it isn't a JSON
+    object."""
     try:
         it = json.loads(plain.read(folder / STATE, MOST))
     except (Fault, ValueError, RecursionError):

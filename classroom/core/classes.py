@@ -103,16 +103,16 @@ def name_of(files: Sequence[Path]) -> str:
 
 
 def begun(into: Path, networks: list[Network]) -> Path:
-    """Makes the folder of a class of these networks below `into`, with its `class.json`, and returns it. The folder's name
-    has the minute and the name of the class."""
+    """Makes the folder of a class of these networks below `into`, with its `class.json`, and returns it. The folder's
+    name has the minute and the name of the class."""
     folder = new_folder(into, Path(f"{name_of([Path(network.lab) for network in networks])}.toml"))
     Class(networks, Process.of(os.getpid())).write(folder)
     return folder
 
 
 def runs_of(folder: Path) -> list[Path]:
-    """Returns the folders of the runs of a class, in the order of its networks, or the folder itself if it isn't that of a
-    class. Raises `Fault` if no network of the class was started."""
+    """Returns the folders of the runs of a class, in the order of its networks, or the folder itself if it isn't that
+    of a class. Raises `Fault` if no network of the class was started."""
     found = Class.read(folder)
     if found is None:
         return [folder]
@@ -123,8 +123,8 @@ def runs_of(folder: Path) -> list[Path]:
 
 
 def run_of(folder: Path, name: str) -> Path:
-    """Returns the folder of the only run of a class whose lab has a person of that name, or the folder itself if it isn't
-    that of a class. Raises `Fault` if no run or several have such a person."""
+    """Returns the folder of the only run of a class whose lab has a person of that name, or the folder itself if it
+    isn't that of a class. Raises `Fault` if no run or several have such a person."""
     if not is_class(folder):
         return folder
     runs = [(run, labs.read(of_folder(run)[0])) for run in runs_of(folder)]
@@ -137,8 +137,8 @@ def run_of(folder: Path, name: str) -> Path:
 
 
 def given(words: list[str]) -> list[tuple[Path, Path]]:
-    """Returns the lab and the journal of each run that the arguments name: folders of runs, folders of classes, or a lab
-    and its journals. Raises `Fault` if there is no such run."""
+    """Returns the lab and the journal of each run that the arguments name: folders of runs, folders of classes, or a
+    lab and its journals. Raises `Fault` if there is no such run."""
     first = Path(words[0])
     if first.is_dir():
         return [of_folder(run) for word in words for run in runs_of(Path(word))]

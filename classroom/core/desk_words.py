@@ -1,5 +1,5 @@
-"""The commands of a teacher's desk, which are typed or come from buttons: one table for all code that takes, runs, shows, counts or
-replays a command."""
+"""The commands of a teacher's desk, which are typed or come from buttons: one table for all code that takes, runs,
+shows, counts or replays a command."""
 from __future__ import annotations
 
 from collections.abc import Callable, Sequence
@@ -109,8 +109,8 @@ BY_LINKS = {it.links: word for word, it in WORDS.items() if it.links}  # the com
 
 
 def request(word: str, values: Sequence[str]) -> dict[str, Any]:
-    """Returns the values of the request that a command sends to the server. `values` are the command's arguments, as they are typed
-    or as a line of the journal has them. Raises `ValueError` if an argument can't be read."""
+    """Returns the values of the request that a command sends to the server. `values` are the command's arguments, as
+    they are typed or as a line of the journal has them. Raises `ValueError` if an argument can't be read."""
     return {"do": word} | {key: READ[kind](value) for (key, kind), value in zip(KEYS[word].items(), values)}
 
 

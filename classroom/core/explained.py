@@ -15,9 +15,9 @@ LIMIT = 60.0  # seconds after which there is no explanation
 
 
 def lines_of(made: labs.Lab, script: bytes) -> list[list[str]]:
-    """Returns the explanations of the model for a script, a list of request lines, over a lab. For each denied move: the
-    number of its line, its node and a text. For each node that could move at the end: `now`, the node and a text. Returns
-    nothing if the model doesn't answer."""
+    """Returns the explanations of the model for a script, a list of request lines, over a lab. For each denied move:
+    the number of its line, its node and a text. For each node that could move at the end: `now`, the node and a text.
+    Returns nothing if the model doesn't answer."""
     with tempfile.TemporaryDirectory() as room:
         lab, lines = Path(room, "lab.toml"), Path(room, "script")
         lab.write_text(labs.text(made), encoding="utf-8")

@@ -21,7 +21,8 @@ UNIT_OF = {name: unit for unit, names in UNITS.items() for name in names}
 
 @dataclass(frozen=True)
 class Limits:
-    """The limits, each under the name that the host's program prints, with `_` for `-`. The units are those of UNITS."""
+    """The limits, each under the name that the host's program prints, with `_` for `-`. The units are those of
+    UNITS."""
 
     nodes: int
     identifier: int
@@ -50,8 +51,8 @@ class Limits:
 
 def parsed(text: str) -> Limits:
     """Returns the limits in the program's output, lines of the form `NAME NUMBER UNIT`. Ignores lines with other names,
-    since later versions may have them. Raises `Fault` if a line has another form, if a name is repeated, or if a limit or
-    its line's end is missing."""
+    since later versions may have them. Raises `Fault` if a line has another form, if a name is repeated, or if a limit
+    or its line's end is missing."""
     found: dict[str, int] = {}
     for line in text.split("\n")[:-1]:
         it = LINE.fullmatch(line)

@@ -1,5 +1,5 @@
-"""Requests for pages at a door, the port at which students on other machines connect. Only the head of a request is read, and a new head is written for the
-server of the page, which answers on this machine only."""
+"""Requests for pages at a door, the port at which students on other machines connect. Only the head of a request is
+read, and a new head is written for the server of the page, which answers on this machine only."""
 from __future__ import annotations
 
 import re
@@ -51,7 +51,8 @@ class Asked:
 
     @staticmethod
     def read(head: bytes) -> Asked:
-        """Returns the parsed head of a request. Raises `BadRequest` if the head can't be parsed or has another method than METHODS."""
+        """Returns the parsed head of a request. Raises `BadRequest` if the head can't be parsed or has another method
+        than METHODS."""
         first, *rest = head.decode("latin-1").removesuffix("\r\n\r\n").split("\r\n")
         words = first.split(" ")
         if len(words) != 3 or not words[2].startswith("HTTP/1.") or not re.fullmatch(r"/[!-~]*", words[1]):
@@ -80,8 +81,8 @@ class Asked:
             raise BadRequest("421 Misdirected Request", f"{host!r} isn't an address of this door: open the address of your slip")
 
     def network(self) -> tuple[str, str]:
-        """Returns the network's name, which is the first part of the path, and the path below it. Raises `BadRequest` if there is no such name, and `Redirect`
-        if the slash after the name is missing."""
+        """Returns the network's name, which is the first part of the path, and the path below it. Raises `BadRequest`
+        if there is no such name, and `Redirect` if the slash after the name is missing."""
         found = re.fullmatch(r"/([a-z][a-z0-9-]*)(/.*)?", self.path)
         if found is None:
             raise BadRequest("404 Not Found", "open the address of your slip, which has the network's name")
@@ -98,9 +99,10 @@ class Asked:
 
 
 def page_of(asked: Asked, path: str, record: Record) -> tuple[int, str]:
-    """Returns the port of the page that is asked for, and the path there. `path` is the path below the network's name, and `record` has the ports of the
-    network's pages. A path with `look` and the right token leads to the page to look at, and any other path to the page to play. No path leads to a page on
-    which the teacher acts. Raises `BadRequest` if there is no such page."""
+    """Returns the port of the page that is asked for, and the path there. `path` is the path below the network's name,
+    and `record` has the ports of the network's pages. A path with `look` and the right token leads to the page to look
+    at, and any other path to the page to play. No path leads to a page on which the teacher acts. Raises `BadRequest`
+    if there is no such page."""
     looks = re.fullmatch(r"/look(/[A-Za-z0-9_-]+/[a-z]*)", path)
     if looks is not None:
         is_known = record.page is not None and record.looks and looks[1].split("/")[1] == record.looks

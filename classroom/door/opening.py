@@ -1,5 +1,5 @@
-"""Opens a door for the runs of a class, and restarts its process if it ends too early. A *door* is a TLS port at which students on other machines connect, and
-has a folder with its data. *Slips* are files with the data of a student."""
+"""Opens a door for the runs of a class, and restarts its process if it ends too early. A *door* is a TLS port at which
+students on other machines connect, and has a folder with its data. *Slips* are files with the data of a student."""
 from __future__ import annotations
 
 import argparse
@@ -33,8 +33,9 @@ class Place:
 
     @staticmethod
     def of(word: str) -> Place:
-        """Returns the address in an argument such as `4700` or `class.example:4700`. Without a host the address is empty, and the door then listens at all
-        addresses of this machine. Raises `ArgumentTypeError` for any other argument."""
+        """Returns the address in an argument such as `4700` or `class.example:4700`. Without a host the address is
+        empty, and the door then listens at all addresses of this machine. Raises `ArgumentTypeError` for any other
+        argument."""
         address, _, port = word.rpartition(":")
         try:
             return Place(*door_of(word)) if address else Place("", door_of(f"any:{port}")[1])
@@ -68,7 +69,8 @@ class OpenDoor:
     """A door that this process has opened."""
 
     def __init__(self, folder: Path, listener: socket.socket, tell: Callable[[str], None]) -> None:
-        """Starts the process that serves the door in `folder`. `listener` is its listening socket, and `tell` prints a line."""
+        """Starts the process that serves the door in `folder`. `listener` is its listening socket, and `tell` prints a
+        line."""
         self.folder, self.listener, self.tell = folder, listener, tell
         self.port: int = listener.getsockname()[1]
         self.closes = threading.Event()
@@ -84,7 +86,8 @@ class OpenDoor:
                                     pass_fds=[number], start_new_session=True)
 
     def watch(self) -> None:
-        """Waits for the end of the door's process, and restarts it if it ends by itself, at most TIMES times. Prints a line each time."""
+        """Waits for the end of the door's process, and restarts it if it ends by itself, at most TIMES times. Prints a
+        line each time."""
         for _ in range(TIMES):
             if self.child.wait() == 0 or self.closes.is_set():
                 return self.listener.close()
@@ -102,8 +105,8 @@ class OpenDoor:
 
 
 def open_door(place: Place, into: Path, file: Path, tell: Callable[[str], None]) -> OpenDoor:
-    """Opens a door at `place` with the certificate in `file`. The door's folder is made in `into`, the folder of the runs. `tell` prints a line. Raises `Fault`
-    if that isn't possible."""
+    """Opens a door at `place` with the certificate in `file`. The door's folder is made in `into`, the folder of the
+    runs. `tell` prints a line. Raises `Fault` if that isn't possible."""
     certificate.context(file)
     listener = listen(place)
     folder = (into / FOLDER.format(listener.getsockname()[1])).resolve()
@@ -118,8 +121,8 @@ def open_door(place: Place, into: Path, file: Path, tell: Callable[[str], None])
 
 
 def reopen(folder: Path, tell: Callable[[str], None]) -> OpenDoor | None:
-    """Opens the door of a folder again, at its earlier address. Returns None if the door is still open. Raises `Fault` if the folder has no door or the address
-    can't be used."""
+    """Opens the door of a folder again, at its earlier address. Returns None if the door is still open. Raises `Fault`
+    if the folder has no door or the address can't be used."""
     kept = Kept.read(folder)
     if kept is None:
         raise Fault(f"{folder}: this run had no door: open one by --door [ADDRESS:]PORT", FAILED)
@@ -141,7 +144,8 @@ def slips_of(lab: Path) -> list[Slip]:
 
 
 def route_to(folder: Path, lab: Path, run: Path) -> None:
-    """Makes a door forward connections for a lab's network to a run. The slips beside the lab name the host names by which students come."""
+    """Makes a door forward connections for a lab's network to a run. The slips beside the lab name the host names by
+    which students come."""
     hosts = {door_of(slip.door)[0] for slip in slips_of(lab) if slip.door}
     announce(folder, network(lab), run, sorted(hosts))
 

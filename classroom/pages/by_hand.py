@@ -1,7 +1,8 @@
-"""The page on which a student plays by hand. It connects to the server with the student's name and key, as a
-program would, and shows the replies on that connection.
+"""The page on which a student plays by hand. Its server connects to the class's server with the student's name and key,
+as a program would, and shows the replies on that connection.
 
-A page has a connection only after its hello. A page that is closed frees its seat.
+A page has a connection only after its hello, the request with name and key. The connection takes a *seat* at the
+class's server, and a page that is closed frees its seat.
 """
 from __future__ import annotations
 
@@ -31,9 +32,10 @@ ASKS = ("node", "at", "rule", "with")  # of a move
 
 
 class PlayServer(Web):
-    """The server of the page for the students of one run."""
+    """The server of the page for all students of one run."""
 
     def __init__(self, port: int, title: str, lab: Lab) -> None:
+        """Listens at the port, but doesn't answer before `show`. Raises `OSError` if the port is taken."""
         super().__init__(port, PlayRequest, title)
         self.lab, self.students = lab, 0
         self.page = assembled("by_hand", {"TITLE": title}, "", ("drawing.css", "page.css", "by_hand.css"), ("by_hand.js",))
@@ -48,13 +50,14 @@ class PlayServer(Web):
         return f"http://127.0.0.1:{self.server_port}/"
 
     def show(self, students: int, tell: Callable[[str], None]) -> None:
-        """Starts to serve the page. `students` is the port of the server that the page connects to."""
+        """Starts to answer. `students` is the port of the class's server, and `tell` prints a line about an error."""
         self.students, self.tell = students, tell
         self.open()
 
     @contextmanager
     def keeping_seat(self, seat: Seat) -> Iterator[str]:
-        """Keeps a seat while its page is open. Yields a token that only this page knows."""
+        """Keeps a seat in the table of seats while its page is open. Yields the token by which that page names its
+        seat."""
         token, port = secrets.token_urlsafe(16), seat.client.own_port()
         with self.turn:
             self.seats[token], self.names[port] = seat, f"{seat.name}, by hand"
@@ -66,13 +69,13 @@ class PlayServer(Web):
                 self.turn.notify_all()
 
     def seat(self, token: object) -> Seat | None:
-        """Returns the seat with this token, or None if there is none."""
+        """Returns the seat with this token, or None if no open page has it."""
         with self.turn:
             return next((seat for known, seat in self.seats.items()
                          if isinstance(token, str) and hmac.compare_digest(known.encode(), token.encode(errors="replace"))), None)
 
     def stop(self) -> None:
-        """Waits a moment until the pages have given up their seats, and closes the port."""
+        """Tells all pages to give up their seats, waits for that at most LAST_WORD seconds, and closes the port."""
         with self.turn:
             self.leaves = True
             self.turn.wait_for(lambda: not self.seats, LAST_WORD)
@@ -94,7 +97,7 @@ class PlayRequest(Asked):
         self.answer(200, "text/html; charset=utf-8", page.encode(), policy)
 
     def do_POST(self) -> None:
-        """Handles a hello or a move. The answer to a hello goes on while the page is open."""
+        """Handles a hello or a move. The answer to a hello ends only when the page is closed."""
         if self.reject_foreign_host():
             return
         does = {"/enter": self.enter, "/move": self.move}.get(self.path)
@@ -114,11 +117,12 @@ class PlayRequest(Asked):
         self.answer(status, "application/json", json.dumps(told).encode())
 
     def send_row(self, row: dict[str, Any]) -> None:
-        """Sends a row to the page, as a line of JSON."""
+        """Sends a row of values to the page, as a line of JSON."""
         self.wfile.write(json.dumps(row).encode() + b"\n")
 
     def enter(self, asked: dict[str, Any]) -> None:
-        """Connects with the name and key of a hello, and sends updates while the page is open."""
+        """Connects to the class's server with the name and key in `asked`, and sends updates while the page is open. If
+        the hello isn't granted, answers why."""
         name, key = asked.get("name"), asked.get("key")
         if not isinstance(name, str) or not isinstance(key, str):
             return self.send_head(400)
@@ -138,7 +142,7 @@ class PlayRequest(Asked):
                 self.send_updates(seat)
 
     def send_updates(self, seat: Seat) -> None:
-        """Sends each change of what the seat shows, until the page, the connection or the run ends."""
+        """Sends what a seat shows whenever it has changed, until the page, the connection or the run ends."""
         before, due = None, 0.0
         while not self.server.leaves:
             try:
@@ -154,7 +158,7 @@ class PlayRequest(Asked):
         self.send_row({"ended": last_word(seat)})
 
     def move(self, asked: dict[str, Any]) -> None:
-        """Asks for a move on the connection of the page's seat, and sends the reply."""
+        """Asks for the move in `asked` on the connection of the page's seat, and answers with the reply."""
         seat = self.server.seat(asked.get("token"))
         if seat is None:
             return self.answer_json(404, told="this page has lost its seat: come in again")
@@ -169,8 +173,8 @@ class PlayRequest(Asked):
 
 
 def last_word(seat: Seat) -> str:
-    """Returns why a seat ended when the run closed it: the server's reason if it has closed the connection, or
-    else a standard text."""
+    """Returns why a seat's updates end when the page's server stops: the class's server's reason if it has closed the
+    connection, or else a standard text."""
     try:
         seat.present()
     except (Closed, Denied) as error:
@@ -179,5 +183,6 @@ def last_word(seat: Seat) -> str:
 
 
 def open_play_page(port: int, title: str, lab: Lab) -> PlayServer:
-    """Returns the server of the page, at a port or the next free one."""
+    """Returns the server of the page, which listens at a port or the next free one. It doesn't answer yet. Raises
+    `Fault` if no port is free."""
     return opened(port, lambda number: PlayServer(number, title, lab))

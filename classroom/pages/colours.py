@@ -1,5 +1,5 @@
-"""The style of a drawing in its own file. Its colours are literal values, because programs other than browsers
-don't know the variables of a style."""
+"""The style of a drawing in a file of its own. Its colours are literal values, because programs other than browsers
+don't support the variables of a style. A *theme* is `light` or `dark`, and gives each variable a value."""
 from __future__ import annotations
 
 import re
@@ -15,7 +15,7 @@ USED = re.compile(r"var\((--[a-z]+)\)")
 
 @cache
 def parts() -> tuple[dict[str, dict[str, str]], str]:
-    """Returns the variables of each theme, and the rules that use them."""
+    """Returns the variables of each theme with their values, and the CSS rules that use them, from drawing.css."""
     text = STYLE.read_text(encoding="utf-8")
     found = BEGINNING.match(text)
     assert found is not None, "drawing.css begins with the themes"
@@ -28,10 +28,10 @@ def value(name: str, theme: str = LIGHT) -> str:
 
 
 def literal(rules: str, theme: str = LIGHT) -> str:
-    """Returns rules in which each variable is replaced by its value."""
+    """Returns CSS rules in which each variable is replaced by its value in a theme."""
     return USED.sub(lambda used: value(used[1], theme), rules)
 
 
 def style(more: str = "", theme: str = LIGHT) -> str:
-    """Returns the style element of a drawing, with more rules added."""
+    """Returns the style element of a drawing in a theme, with the CSS rules `more` added."""
     return f"<style>{literal(parts()[1] + more, theme)}</style>"

@@ -1,4 +1,9 @@
-"""A configuration as SVG. The page's script changes the same elements from place to place."""
+"""A configuration as SVG. The page's script changes the same elements when it shows the next one.
+
+A *place* is the number of events up to a configuration, and a *state* has all values at a place. A *privileged* node
+has an enabled rule, an *open* link joins two nodes without a partner, and its *witness* is a node near it that can
+move.
+"""
 from __future__ import annotations
 
 import math
@@ -25,7 +30,7 @@ ANCHORS = ("start", "middle", "end")
 
 @dataclass(frozen=True)
 class Drawing:
-    """The parts of a drawing that are the same at all places."""
+    """The parts of a drawing that don't change during a run: the lab, and the positions of nodes and names."""
 
     lab: Lab
     view: View
@@ -37,7 +42,7 @@ class Drawing:
 
     @property
     def measures(self) -> dict[str, float]:
-        """Returns all sizes and line widths, which depend on the radius of a node."""
+        """Returns all sizes and line widths by their names. They depend on the radius of a node."""
         radius, form = self.view.layout.radius, self.view.form
         plain = {
             "radius": radius, "ring": 1.28 * radius, "ringLine": max(1.5, 0.14 * radius), "discLine": max(1.2, 0.1 * radius),
@@ -49,11 +54,11 @@ class Drawing:
 
     @property
     def is_tiny(self) -> bool:
-        """Returns whether nodes are too small for their rules."""
+        """Returns whether nodes are too small for showing their rules."""
         return self.view.layout.radius < labels.LEAST_FRAMED
 
     def svg(self, state: State, event: Event | None) -> str:
-        """Returns the SVG element of a state. `event` led to it."""
+        """Returns the SVG element that shows a state. `event` is the event that led to it, if there is one."""
         open_links = state.open if len(state.open) <= OPEN_MOST else []
         sizes, field = self.measures, self.view.layout.field
         return "\n".join([
@@ -87,12 +92,13 @@ class Drawing:
         return " ".join(["named" if self.view.labels else "bare", *["tiny"] * self.is_tiny])
 
     def link_opacity(self, links: int) -> float:
-        """Returns the opacity of a link's line. The more links there are, the fainter each is, so that the rest
-        stays readable."""
+        """Returns the opacity of the line of each link, if there are so many links. The more there are, the fainter is
+        each."""
         return min(1.0, FAINT_ABOVE * len(self.lab.nodes) / max(links, 1))
 
     def rows(self, name: str, thick: float, drawn: list[tuple[int, str]], opacity: float = 1.0) -> list[str]:
-        """Returns one path for each node, with the lines whose lower end it is. So few paths change at a time."""
+        """Returns a group with the class `name` as SVG, with one path for each node. `drawn` has the lines, each with
+        the lower of its ends, to whose path it belongs. So few paths change from one state to the next."""
         lines: dict[int, list[str]] = {node.id: [] for node in self.lab.nodes}
         for node, line in drawn:
             lines[node].append(line)
@@ -100,29 +106,30 @@ class Drawing:
         return [f'<g class="{name}" stroke-width="{thick:g}" stroke-opacity="{opacity:.2g}">', *paths, "</g>"]
 
     def line(self, a: int, b: int) -> str:
-        """Returns the line of a link as path data."""
+        """Returns the line from node a to node b as path data."""
         (x, y), (u, v) = self.points[a], self.points[b]
         return f"M{x:g} {y:g}L{u:g} {v:g}"
 
     def half(self, a: int, b: int) -> str:
-        """Returns the half of a link next to node a, as path data."""
+        """Returns the half of the line from node a to node b that is next to a, as path data."""
         (x, y), (u, v) = self.points[a], self.points[b]
         return f"M{x:g} {y:g}L{(x + u) / 2:g} {(y + v) / 2:g}"
 
     def witness(self, link: OpenLink) -> str:
-        """Returns the text with the witness of an open link and its rule, in the middle of the link."""
+        """Returns the text element with the witness of an open link and the witness's rule, in the middle of the
+        link."""
         a, b, witness, rule = link
         (x, y), (u, v) = self.points[a], self.points[b]
         return f'<text x="{(x + u) / 2:g}" y="{(y + v) / 2:g}">{witness}: {self.view.form.word(rule)}</text>'
 
     def pointer(self, node: int, state: State) -> str:
-        """Returns the path of a node's pointer. It is empty if the node points at none or is married."""
+        """Returns the path element for a node's pointer. Its path is empty if the node points at none or is married."""
         target = state.pointers[node]
         drawn = "" if target is None or married(node, state) else self.arrow(node, target)
         return f'<path class="pointer" data-of="{node}" d="{drawn}" marker-end="url(#arrow)"/>'
 
     def arrow(self, a: int, b: int) -> str:
-        """Returns the path data of an arrow from the rim of one node to the ring of another."""
+        """Returns the path data of an arrow from the rim of node a to the ring around node b."""
         start, end = self.points[a], self.points[b]
         length = math.dist(start, end) or 1.0
         along = ((end[0] - start[0]) / length, (end[1] - start[1]) / length)
@@ -130,7 +137,8 @@ class Drawing:
         return f"M{at(start, along, near)}L{at(start, along, far)}"
 
     def node(self, node: int, owners: list[str], state: State, event: Event | None) -> str:
-        """Returns a node's element: its values, its disc, its label and its rule."""
+        """Returns the SVG element of a node: its values, its disc, its label and its rule. If `event` has changed the
+        node, this is marked."""
         (x, y), sizes = self.points[node], self.measures
         pointer, rule = state.pointers[node], state.privileged.get(node, "")
         chosen, m = state.chosen.get(node, ""), true_or_false(state.ms[node])
@@ -148,7 +156,8 @@ class Drawing:
         ])
 
     def label(self, node: int) -> list[str]:
-        """Returns the name beside a node, or nothing if there is no room for names."""
+        """Returns the text element with a node's name, as a list. Returns an empty list if there is no room for
+        names."""
         label = self.view.labels.get(node)
         if label is None:
             return []
@@ -156,7 +165,8 @@ class Drawing:
                 f' font-size="{self.view.form.size:g}">{escape(label.text)}</text>']
 
     def pill(self, node: int, rule: str, chosen: str) -> str:
-        """Returns the rule of a node in a frame. A chosen move has a tick before its rule."""
+        """Returns the SVG element of a node's rule in a frame. `chosen` is the rule of its chosen move, which is shown
+        with a tick."""
         form, word = self.view.form, chosen or rule
         width, high = form.pill_width(word, bool(chosen)), self.measures["pillHigh"]
         x, y = self.view.pill_at(node, width)
@@ -165,12 +175,13 @@ class Drawing:
                 f' height="{high:g}" rx="{high / 2:g}"/><text class="rule" y="{0.35 * form.pill:.3g}" font-size="{form.pill:g}">{text}</text></g>')
 
     def node_in_words(self, node: int, owners: list[str], state: State) -> str:
-        """Returns the description of a node for readers who don't see it."""
+        """Returns the description of a node for people who don't see the drawing."""
         pointer, partner = state.pointers[node], next((sum(pair) - node for pair in state.pairs if node in pair), None)
         return describe_node(node, owners, pointer, state.ms[node], partner, state.privileged.get(node, ""), state.chosen.get(node, ""))
 
     def mark(self, event: Event | None) -> str:
-        """Returns the word of a fault, link or cut at its nodes. It is empty for any other event."""
+        """Returns the text element that names a fault, link or cut beside its nodes. It is empty for any other
+        event."""
         size = self.measures["mark"]
         if event is None or not event.is_edit:
             return f'<text class="mark" font-size="{size:g}"></text>'
@@ -180,8 +191,8 @@ class Drawing:
         return f'<text class="mark" x="{x:g}" y="{max(size, y - up):g}" font-size="{size:g}">⚡ {event.kind}</text>'
 
     def key(self) -> str:
-        """Returns the explanation of the letters below a drawing, or an empty text if rules are words or aren't
-        shown."""
+        """Returns the text element below a drawing that explains the letters of rules. Returns an empty text if rules
+        are shown as words or not at all."""
         if self.view.form.words or self.is_tiny:
             return ""
         return f'<text class="key" x="8" y="{self.view.layout.field.height + 17:g}" font-size="{KEY_SIZE:g}">{LETTERS}</text>'
@@ -201,18 +212,19 @@ class Drawing:
 
 
 def drawing_of(lab: Lab, links: Iterable[tuple[int, int]] | None = None, field: Field = WIDE) -> Drawing:
-    """Returns the drawing of a lab's network in a field, with these links or else the lab's."""
+    """Returns the drawing of a lab's network for a field. Its links are `links`, or those of the lab if that is
+    None."""
     owners = {node.id: node.owners for node in lab.nodes}
     return Drawing(lab, view_of(owners, sorted(lab.links if links is None else links), field))
 
 
 def married(node: int, state: State) -> bool:
-    """Returns whether a node is in a pair of the report."""
+    """Returns whether a node is in one of the pairs of the state's report."""
     return any(node in pair for pair in state.pairs)
 
 
 def describe_node(node: int, owners: list[str], pointer: int | None, m: bool, partner: int | None, rule: str, chosen: str) -> str:
-    """Returns the description of a node. The page's script produces the same text."""
+    """Returns the description of a node with these values, in words. The page's script produces the same text."""
     return ", ".join([
         f"node {node} of {' and '.join(owners)}", f"p {'null' if pointer is None else pointer}", f"m {true_or_false(m)}",
         *([f"married to {partner}"] if partner is not None else []), *([f"privileged: {rule}"] if rule else []),
@@ -221,22 +233,23 @@ def describe_node(node: int, owners: list[str], pointer: int | None, m: bool, pa
 
 
 def true_or_false(value: bool) -> str:
-    """Returns a truth value as the page's elements have it."""
+    """Returns a truth value as the texts `true` and `false`, as the page's elements have it."""
     return "true" if value else "false"
 
 
 def at(start: Point, along: Point, far: float) -> str:
-    """Returns the point at a distance from a start in a direction, as path data."""
+    """Returns the point at the distance `far` from `start` in the direction of the unit vector `along`, as path
+    data."""
     return f"{start[0] + along[0] * far:.1f} {start[1] + along[1] * far:.1f}"
 
 
 def path(name: str, drawn: str, thick: float) -> str:
-    """Returns a path element with a class and a line width."""
+    """Returns a path element with a class, its path data, and its line width."""
     return f'<path class="{name}" stroke-width="{thick:g}" d="{drawn}"/>'
 
 
 def standalone(drawing: Drawing, state: State, event: Event | None, theme: str = "light") -> str:
-    """Returns the SVG file of a drawing, with its style inside."""
+    """Returns the text of an SVG file that shows a state in a drawing, with its style inside."""
     key, field = drawing.key(), drawing.view.layout.field
     head, tail = drawing.svg(state, event).split("<defs>", 1)
     if key:

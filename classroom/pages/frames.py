@@ -1,5 +1,6 @@
-"""A journal as frames: the program's replies when the events of a journal are asked for again. Every value in a
-frame was read from a reply."""
+"""A journal as frames: the program's replies when the events of a journal are asked for again. Every value in a frame
+was read from a reply. A *frame* is the state of the run after an event, and a *place* is the number of events up to
+it."""
 from __future__ import annotations
 
 from collections.abc import Iterator
@@ -18,7 +19,7 @@ OpenLink = tuple[int, int, int, str]
 
 @dataclass
 class State:
-    """The state of the run at a place. Each value is from a reply."""
+    """The state of the run at a place: registers, chosen moves, and the values of the report."""
 
     place: int
     number: int
@@ -34,7 +35,7 @@ class State:
     since: int = 0  # moves since the last fault, link or cut
 
     def copy(self) -> State:
-        """Returns a copy. Values that are always replaced as a whole are shared."""
+        """Returns a copy. It shares with the original those values that are never changed but only replaced."""
         return State(self.place, self.number, self.links, dict(self.pointers), dict(self.ms), dict(self.chosen),
                      self.privileged, self.pairs, self.open, self.stable, self.moves, self.since)
 
@@ -51,6 +52,7 @@ class Looking(Replay):
     """Collects the frames of a replay, by looks and reports after each event."""
 
     def __init__(self, lab: labs.Lab, events: list[Event]) -> None:
+        """Begins with the lab's network. Nothing is asked before `run`."""
         super().__init__(lab, events)
         self.state = State(0, 0, frozenset(self.links))
         self.frames: list[Frame] = []
@@ -62,7 +64,7 @@ class Looking(Replay):
             self.frames.clear()
 
     def ask(self, script: Script, event: Event | None, named: set[int]) -> None:
-        """Asks for a look at each node that an event may have changed, and for the report if it made a
+        """Asks for a look at each node that an event may have changed, and for the report if the event made a
         configuration. The last reply completes the frame."""
         if event is None or event.makes_configuration:
             for node in sorted(named if event else self.registers):
@@ -73,9 +75,10 @@ class Looking(Replay):
         script.takes.append(self.completing(event, script.takes.pop()))
 
     def completing(self, event: Event | None, take: Take | None) -> Take:
-        """Returns a function that handles the last reply of a frame like `take`, and then appends the frame."""
+        """Returns a function that handles the last reply for a frame by `take`, and then appends the frame of the
+        event."""
         def takes(reply: dict[str, Any]) -> None:
-            """Handles the last reply, and appends the frame."""
+            """Handles the last reply for the frame, and appends the frame."""
             if take is not None:
                 take(reply)
             self.frames.append(Frame(event, self.state))
@@ -83,7 +86,7 @@ class Looking(Replay):
         return takes
 
     def take_look(self, reply: dict[str, Any]) -> None:
-        """Copies the registers and the chosen move of a look into the state."""
+        """Copies the registers and the chosen move in the reply to a look into the state."""
         node, state = reply["node"], self.state
         state.pointers[node], state.ms[node] = reply["p"], reply["m"]
         state.chosen.pop(node, None)
@@ -91,7 +94,8 @@ class Looking(Replay):
             state.chosen[node] = reply["chosen"]
 
     def take_report(self, reply: dict[str, Any]) -> None:
-        """Copies the values of a report into the state. Its numbers begin anew with each part of the replay."""
+        """Copies the values of a report into the state. The report's number counts from the beginning of a part of the
+        replay, which is added."""
         state = self.state
         state.number = reply["at"] + self.number
         state.privileged = {node: rule for node, rule in reply["privileged"]}
@@ -100,7 +104,7 @@ class Looking(Replay):
         state.stable = reply["stable"]
 
     def note_reply(self, event: Event, reply: dict[str, Any]) -> None:
-        """Counts the moves of a close, and copies the event's place and links into the state."""
+        """Updates the place, the links and the counts of moves in the state after an event, by its reply."""
         state = self.state
         state.place = event.place
         if event.kind == "close":
@@ -113,8 +117,8 @@ class Looking(Replay):
 
 
 def frames_of(lab: Path, journal: Path) -> tuple[labs.Lab, Iterator[Frame]]:
-    """Returns the lab, and the frames of a journal that the audit accepts. All frames share one state, which
-    changes when the next frame is taken."""
+    """Returns the lab, and the frames of a journal, which are computed as they are taken. All frames share one state,
+    which changes when the next frame is taken. Raises `Fault` if the audit refuses the journal."""
     answer = call("audit", lab, journal)
     if answer.status != 0:
         raise Fault(f"{journal}: {answer.error}", answer.status)

@@ -43,8 +43,9 @@ class Hall(TwoAddresses):
 
     def __init__(self, port: int, title: str, act: Callable[[str], None], state: ClassState, looks: str | None = None,
                  views: Callable[[], Views] = list) -> None:
-        """`views` returns the positions of each network's nodes. It is called for each page, since the search for
-        a layout may take a second."""
+        """Listens at the port, but doesn't answer before `open`. `act` handles a line of the teacher, and `looks` is
+        the token of the address to look at, if it has one already. `views` returns the positions of each network's
+        nodes. It is called for each page, since the search for a layout may take a second."""
         super().__init__(port, Page, title, looks)
         self.act, self.views = act, views
         self.turn = threading.Condition()
@@ -52,7 +53,8 @@ class Hall(TwoAddresses):
         self.version, self.ended = 1, False
 
     def show(self, looks: ClassState, acts: ClassState) -> None:
-        """Sets the state that the pages show. The page on which the teacher acts links to the networks' pages for acting."""
+        """Replaces the state that is shown at the address to look at by `looks`, and that at the address to act at by
+        `acts`. The latter has links to the pages on which the teacher acts in each network."""
         texts = {self.looks: text(looks), self.acts: text(acts)}
         with self.turn:
             if texts != self.texts:
@@ -60,14 +62,14 @@ class Hall(TwoAddresses):
                 self.turn.notify_all()
 
     def wait_for_change(self, version: int, seconds: float) -> tuple[int, bool]:
-        """Waits for a version other than this one, at most so many seconds. Returns the version, and whether it is
-        the last."""
+        """Waits until the state has a version other than this one, at most so many seconds. Returns its version, and
+        whether the state is the last."""
         with self.turn:
             self.turn.wait_for(lambda: self.version != version, seconds)
             return self.version, self.ended
 
     def stop(self, looks: ClassState, acts: ClassState) -> None:
-        """Shows the last state on the pages, waits until they have it, and closes the port."""
+        """Shows the last states at the two addresses, waits until all pages have them, and closes the port."""
         self.ended = True
         self.show(looks, acts)
         with self.turn:
@@ -76,12 +78,12 @@ class Hall(TwoAddresses):
 
 
 class Page(AtAddress):
-    """A request of a page."""
+    """A request at one of the two addresses."""
 
     server: Hall
 
     def do_GET(self) -> None:
-        """Answers with the page, the state or the events."""
+        """Answers with the page, the state or the events, as the path asks."""
         token, asked = self.asked()
         if self.reject_foreign_host():
             return
@@ -97,14 +99,15 @@ class Page(AtAddress):
         self.answer(200, "text/html; charset=utf-8", page.encode(), policy)
 
     def accept_line(self, line: str) -> bool:
-        """Runs a line of the teacher if the page may send it. Returns whether it may."""
+        """Handles a line of the teacher if it has the form of LINE. Returns whether it has."""
         is_known = LINE.fullmatch(line) is not None
         if is_known:
             self.server.act(line)
         return is_known
 
     def send_events(self, token: str) -> None:
-        """Sends the state, and again whenever it has changed, until the class or the page ends."""
+        """Sends the state of the address with this token, and again whenever it has changed, until the class or the
+        page ends."""
         version, ended = 0, False
         while not ended:
             before = version
@@ -114,13 +117,13 @@ class Page(AtAddress):
 
 
 def text(state: ClassState) -> str:
-    """Returns a state as the text that a page receives."""
+    """Returns a state of the class as the JSON text that a page receives."""
     return json.dumps(state.table(), separators=(",", ":"))
 
 
 def view(folder: Path, lab: Lab) -> dict[str, Any]:
-    """Returns the positions of a network's nodes on the page, by the layout in the folder of its run if there is
-    one."""
+    """Returns the positions of the nodes of a lab's network on the page. If the folder of its run has a layout, uses
+    it."""
     kept_layout.load(folder)
     data = drawing_of(lab, lab.links, FLAT).data()
     wanted = {name: data[name] for name in ("width", "height", "measures", "points")}
@@ -128,7 +131,8 @@ def view(folder: Path, lab: Lab) -> dict[str, Any]:
 
 
 def hall_page(title: str, state: str, views: Views, acts: bool) -> tuple[str, str]:
-    """Returns the page, and the content policy that allows only its own style and script."""
+    """Returns the text of the page, and the content policy that allows only the page's own style and script. `acts`
+    says whether the teacher can act on it."""
     drawn = data_element(json.dumps(views, separators=(",", ":"))).replace('id="data"', 'id="views"', 1)
     parts = {"TITLE": title, "DATA": data_element(state) + drawn, "ACTS": "acts" if acts else "looks"}
     return assembled("hall", parts, "", ("drawing.css", "hall.css"), ("hall.js",))
@@ -136,8 +140,8 @@ def hall_page(title: str, state: str, views: Views, acts: bool) -> tuple[str, st
 
 def opened(port: int, title: str, act: Callable[[str], None], state: ClassState, looks: str | None = None,
            views: Callable[[], Views] = list) -> Hall:
-    """Returns the server, at a port or the next free one. It answers from now on. A class that continues keeps its
-    token to look at."""
+    """Returns the server of the page, which listens at a port or the next free one and answers from now on. `looks` is
+    the token of the address to look at if the class continues. Raises `Fault` if no port is free."""
     it = web_opened(port, lambda number: Hall(number, title, act, state, looks, views))
     it.open()
     return it

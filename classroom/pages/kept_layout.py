@@ -1,5 +1,5 @@
-"""The layout of a network that needed a search. It is kept in the folder of its run, so that nobody needs to
-search again."""
+"""The layout of a network of no known shape, for which positions have to be searched. It is kept in the folder of the
+network's run, so that the search is made once."""
 from __future__ import annotations
 
 import json
@@ -18,8 +18,8 @@ FARTHEST = 1e6  # of a point from the middle
 
 
 def save(folder: Path, lab: Lab) -> None:
-    """Writes the layout of a lab's network into the folder of its run, if it needs a search and isn't there yet.
-    On a full disk, writes nothing and raises no error."""
+    """Writes the layout of a lab's network into the folder of its run, unless it needs no search or is there already.
+    If the disk is full, writes nothing and raises no error."""
     file, new = folder / LAYOUT, folder / f"{LAYOUT}.new"
     nodes, links = tuple(sorted(node.id for node in lab.nodes)), tuple(sorted(lab.links))
     if file.exists() or lay_out(nodes, links).kind != "general":
@@ -33,8 +33,8 @@ def save(folder: Path, lab: Lab) -> None:
 
 
 def load(folder: Path) -> None:
-    """Reads the layout in the folder of a run, and uses it for all drawings of that network from now on. Ignores a
-    file that isn't a layout."""
+    """Reads the layout in the folder of a run. All drawings of that network use it from now on. Ignores a file that
+    isn't a layout."""
     try:
         it = json.loads(plain.read(folder / LAYOUT, MOST))
         points = {int(node): (float(x), float(y)) for node, (x, y) in it["points"].items()}

@@ -1,7 +1,8 @@
 """The positions of the name and the rule of each node: beside its disc, away from other discs, links and labels.
 
 The widths of texts are estimated from their letters, and are at least those of the usual fonts. So each text has a
-position before anything is drawn.
+position before anything is drawn. A *label* consists of the names of a node's owners and, in a *frame*, the rule that
+is enabled at the node.
 """
 from __future__ import annotations
 
@@ -39,7 +40,7 @@ def text_width(text: str, size: float, bold: bool = False) -> float:
 
 
 def letter_width(letter: str) -> float:
-    """Returns the width of a letter whose size is 1."""
+    """Returns an upper estimate of the width of a letter in a font of size 1."""
     if unicodedata.combining(letter):
         return 0.0
     if unicodedata.east_asian_width(letter) in "WF":
@@ -62,7 +63,7 @@ class Form:
 
     @property
     def pill(self) -> float:
-        """Returns the size of the letters of a rule."""
+        """Returns the size of the letters of a rule in its frame."""
         return max(LEAST, PILL * self.size)
 
     @property
@@ -71,22 +72,22 @@ class Form:
         return LINE * self.size + PILL_HIGH * self.pill + GAP
 
     def name(self, owners: list[str]) -> str:
-        """Returns the names of the owners, cut if they are too long."""
+        """Returns the names of a node's owners as one text, which is cut if it has too many letters."""
         whole = ", ".join(owners)
         return whole if len(whole) <= self.letters else whole[:self.letters - 1] + "…" if self.letters else ""
 
     def word(self, rule: str) -> str:
-        """Returns the text of a rule: its word, or its first letter."""
+        """Returns the text that stands for a rule: its word, or its first letter."""
         return rule if self.words else rule[:1].upper()
 
     def pill_width(self, rule: str, is_chosen: bool) -> float:
-        """Returns the width of the frame of a rule."""
+        """Returns the width of the frame of a rule. A chosen move also has a tick in the frame."""
         text = FULL * is_chosen + self.word(rule)
         return round(text_width(text, self.pill) + PILL_PAD * self.pill, 1)
 
     @property
     def widest_pill(self) -> float:
-        """Returns the largest width of a rule's frame."""
+        """Returns the largest width of any rule's frame."""
         return max(self.pill_width(rule, True) for rule in RULES)
 
 
@@ -96,7 +97,7 @@ BARE = Form(0, 13, False)
 
 @dataclass(frozen=True)
 class Box:
-    """A rectangle."""
+    """A rectangle with its edges parallel to those of the field."""
 
     left: float
     top: float
@@ -104,17 +105,17 @@ class Box:
     bottom: float
 
     def shared(self, other: Box) -> float:
-        """Returns the area of the intersection with another box, with GAP added to its width and height."""
+        """Returns the area of the intersection with another box, as if it were wider and higher by GAP."""
         across = min(self.right, other.right) - max(self.left, other.left) + GAP
         down = min(self.bottom, other.bottom) - max(self.top, other.top) + GAP
         return across * down if across > 0 and down > 0 else 0.0
 
     def outside(self, field: Field) -> float:
-        """Returns how far the box reaches beyond the edges of a field."""
+        """Returns how far the box reaches beyond the edges of a field, added up over the four edges."""
         return sum(max(0.0, far) for far in (GAP - self.left, self.right - field.width + GAP, GAP - self.top, self.bottom - field.height + GAP))
 
     def in_disc(self, middle: Point, radius: float) -> float:
-        """Returns how far the box reaches into a disc."""
+        """Returns how far the box reaches into the disc around a point, or 0 if it doesn't."""
         x, y = min(max(middle[0], self.left), self.right), min(max(middle[1], self.top), self.bottom)
         return max(0.0, radius + GAP - math.dist((x, y), middle))
 
@@ -146,13 +147,14 @@ class Label:
     box: Box
 
     def pill_x(self, width: float) -> float:
-        """Returns the middle of a frame with that width."""
+        """Returns the horizontal position of the middle of a frame with that width, relative to the node's middle."""
         return self.x + {"start": width / 2, "end": -width / 2, "middle": 0.0}[self.anchor]
 
 
 @dataclass(frozen=True)
 class View:
-    """A layout with its labels. A node without a label has the letter of its rule at a corner."""
+    """A layout with a label for each node. If there is no room for labels, each node has only the frame of its rule, at
+    a corner."""
 
     layout: Layout
     form: Form
@@ -161,7 +163,7 @@ class View:
 
     @property
     def identifier_size(self) -> float:
-        """Returns the size of the identifiers: the largest that fits into a disc."""
+        """Returns the size of the letters of the nodes' identifiers: the largest that fits into a disc."""
         radius, digits = self.layout.radius, max(len(str(node)) for node in self.layout.points)
         plain = BARE.size if text_width("8" * digits, BARE.size, True) <= 1.95 * radius else 0.0
         return round(max(plain, 0.92 * radius), 1)
@@ -173,7 +175,8 @@ class View:
 
 
 def view_of(owners: dict[int, list[str]], links: list[tuple[int, int]], field: Field) -> View:
-    """Returns the layout of a network with the largest labels for which there is room. A narrow field has none."""
+    """Returns the layout of a network in a field, with the largest labels for which there is room. A narrow field has
+    none. `owners` has the owners of each node."""
     shape = shape_for(owners, links, field)
     near = neighbours(owners, links)
     if field.width >= 500 and len(owners) <= MOST_NAMED and len(links) <= MOST_LINKS:
@@ -187,8 +190,8 @@ def view_of(owners: dict[int, list[str]], links: list[tuple[int, int]], field: F
 
 
 def corners_of(layout: Layout) -> dict[int, Point]:
-    """Returns the middle of the frame of each node's rule, relative to the node's middle. Avoids other nodes and
-    other frames if possible."""
+    """Returns the middle of the frame of each node's rule, relative to the node's middle, for a layout without labels.
+    Frames avoid other nodes and other frames if possible."""
     radius, points = layout.radius, layout.points
     found, frames = {node: CORNERS[0] for node in points}, dict[int, Box]()
     for _ in range(TURNS if radius >= LEAST_FRAMED else 0):
@@ -201,14 +204,15 @@ def corners_of(layout: Layout) -> dict[int, Point]:
 
 
 def framed(middle: Point, corner: Point, radius: float) -> Box:
-    """Returns the box of the widest rule's frame at a corner of a node. The corner is given in radii."""
+    """Returns the box of the widest rule's frame at a corner of the node at `middle`. The corner is relative to the
+    node, in radii."""
     x, y = middle[0] + corner[0] * radius, middle[1] + corner[1] * radius
     width, high = BARE.widest_pill, PILL_HIGH * BARE.pill
     return Box(x - width / 2, y - high / 2, x + width / 2, y + high / 2)
 
 
 def pads(kind: str, field: Field, form: Form, owners: dict[int, list[str]]) -> Pads:
-    """Returns the margins at the edges of a field for labels."""
+    """Returns the margins that labels of this form need at the edges of a field, in a layout of this kind of shape."""
     most = field.most_radius
     if not form.letters:
         return Pads(1.7 * most, 1.9 * most, 1.7 * most, 1.5 * most)
@@ -221,8 +225,8 @@ def pads(kind: str, field: Field, form: Form, owners: dict[int, list[str]]) -> P
 
 
 def placed(layout: Layout, form: Form, owners: dict[int, list[str]], near: Near) -> tuple[dict[int, Label], float, float]:
-    """Returns a label for each node, those with the most links first. Also returns by how much all labels overlap
-    discs, other labels and the edges, and by how much they overlap links."""
+    """Returns a label for each node. Nodes with the most links come first. Also returns by how much all labels together
+    overlap discs, other labels and the edges, and by how much they overlap links."""
     labels: dict[int, Label] = {}
     lines = [(layout.points[a], layout.points[b]) for a, others in near.items() for b in others if a < b]
     hard = soft = 0.0
@@ -243,13 +247,15 @@ def placed(layout: Layout, form: Form, owners: dict[int, list[str]], near: Near)
 
 
 def lies_upon(box: Box, layout: Layout, discs: list[Point], others: Iterable[Box]) -> float:
-    """Returns by how much a label would overlap discs, other labels, and the edges of the field."""
+    """Returns by how much a label's box would overlap the discs at these points, other labels, and the edges of the
+    field."""
     upon = 20 * box.outside(layout.field) + sum(map(box.shared, others))
     return upon + 20 * sum(box.in_disc(point, RING * layout.radius) for point in discs)
 
 
 def candidates(node: int, layout: Layout, form: Form, text: str, others: list[int]) -> Iterator[Label]:
-    """Yields possible labels of a node, the best first: in the widest gap between its links, and then all around."""
+    """Yields possible labels of a node with this text, the best first: in the widest gap between its links to `others`,
+    and then all around."""
     first = math.pi / 4 if layout.kind == "grid" else widest_gap(layout, node, others)
     width = max(text_width(text, form.size), form.widest_pill)
     for angle in (first, *(eighths * math.pi / 4 for eighths in ANGLES)):
@@ -257,8 +263,8 @@ def candidates(node: int, layout: Layout, form: Form, text: str, others: list[in
 
 
 def widest_gap(layout: Layout, node: int, others: list[int]) -> float:
-    """Returns the angle of the middle of the widest gap between a node's links. Gaps to the left and right count a
-    little more, since texts are wide."""
+    """Returns the angle of the middle of the widest gap between a node's links to `others`. Gaps to the left and right
+    count a little more, since texts are wide."""
     x, y = layout.points[node]
     angles = sorted(math.atan2(layout.points[other][1] - y, layout.points[other][0] - x) for other in others)
     gaps = []
@@ -270,7 +276,8 @@ def widest_gap(layout: Layout, node: int, others: list[int]) -> float:
 
 
 def label_at(middle: Point, radius: float, angle: float, form: Form, text: str, width: float) -> Label:
-    """Returns the label at an angle from its node."""
+    """Returns the label beside the node at `middle`, in the direction of an angle. `width` is that of its text or of
+    its widest frame."""
     level, upright = math.cos(angle), math.sin(angle)
     x, y = level * REACH * radius, upright * REACH * radius
     anchor = "start" if level > SIDEWAYS else "end" if level < -SIDEWAYS else "middle"

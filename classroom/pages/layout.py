@@ -49,7 +49,7 @@ FLAT = Field(440, 200, 0.075)  # one of several networks on a page
 
 @dataclass(frozen=True)
 class Layout:
-    """The position of each node in a field, and the smallest distance of two nodes."""
+    """The position of each node in a field, the kind of the network's shape, and the smallest distance of two nodes."""
 
     kind: str
     field: Field
@@ -63,18 +63,18 @@ class Layout:
 
 
 def lay_out(nodes: Iterable[int], links: Iterable[tuple[int, int]], field: Field = WIDE) -> Layout:
-    """Returns a layout with room for the nodes only, without labels."""
+    """Returns a layout of a network in a field, with margins for the nodes' discs but not for labels."""
     reach = 1.5 * field.most_radius
     return fitted(shape_for(nodes, links, field), field, Pads(reach, reach, reach, reach))
 
 
 def shape_for(nodes: Iterable[int], links: Iterable[tuple[int, int]], field: Field) -> Shape:
-    """Returns the shape of a network for a field."""
+    """Returns the shape of a network for the proportions of a field, in units of its own."""
     return shape_of(sorted(nodes), sorted(links), field.width / field.height)
 
 
 def fitted(shape: Shape, field: Field, pads: Pads) -> Layout:
-    """Returns a shape, moved and stretched into the part of a field between its margins."""
+    """Returns the layout for which a shape is moved and stretched into the part of a field between these margins."""
     xs, ys = zip(*shape.points.values())
     wide, high = max(xs) - min(xs), max(ys) - min(ys)
     across = (field.width - pads.left - pads.right) / wide if wide > 1e-9 else 0.0

@@ -1,4 +1,8 @@
-"""A single HTML file that shows a run, and needs no other file."""
+"""A single HTML file that shows a run, and needs no other file.
+
+A *frame* is the state of the run after an event, and a *place* is the number of events up to it. The page's script is
+sent one *row* for each frame, with the changes since the frame before.
+"""
 from __future__ import annotations
 
 import base64
@@ -27,9 +31,10 @@ Link = tuple[int, int]
 
 
 class Frames:
-    """The frames as rows with the changes from one to the next. Nodes and links are indices into lists."""
+    """The rows of frames that are added one after another. In rows, nodes and links are indices into lists."""
 
     def __init__(self, drawing: Drawing) -> None:
+        """Begins without rows. The order of nodes is that of the drawing's lab."""
         self.drawing = drawing
         self.order = {node.id: index for index, node in enumerate(drawing.lab.nodes)}
         self.links: list[Link] = []
@@ -61,8 +66,8 @@ class Frames:
         self.before = state.copy()
 
     def registers(self, before: State, state: State) -> list[list[int]]:
-        """Returns the nodes with changed registers. Each has the index of the node that it points at, or -1, and m
-        as 0 or 1."""
+        """Returns the nodes whose registers have changed: for each its index, the index of the node that it points at,
+        or -1, and m as 0 or 1."""
         if (before.pointers, before.ms) == (state.pointers, state.ms):
             return []
         return [
@@ -72,13 +77,14 @@ class Frames:
         ]
 
     def rules(self, before: dict[int, str], now: dict[int, str]) -> list[list[int]]:
-        """Returns the nodes with a changed rule, each with the rule's index in RULES, or 0 for none."""
+        """Returns the nodes whose rule has changed: for each its index, and the rule's index in RULES, which is 0 for
+        none."""
         changed = {node for node, _ in before.items() ^ now.items()}
         return [[self.order[node], RULES.index(now.get(node, ""))] for node in sorted(changed)]
 
     def partners(self, before: list[Link], now: list[Link]) -> list[list[int]]:
-        """Returns the nodes that lost their partner, each with -1, and then those that got one, each with the
-        partner."""
+        """Returns the nodes that lost their partner, each with -1, and then those that got one, each with the partner.
+        All are indices."""
         gone, come = set(before) - set(now), set(now) - set(before)
         rows = [[self.order[node], -1] for pair in sorted(gone) for node in pair]
         return rows + [
@@ -86,7 +92,7 @@ class Frames:
         ]
 
     def changed_links(self, before: frozenset[Link], now: frozenset[Link]) -> list[list[int]]:
-        """Returns the links that were added, each with 1, or removed, with 0."""
+        """Returns the index of each link that was added, with 1, or removed, with 0."""
         return [[self.index_of(link), int(link in now)] for link in sorted(before ^ now)]
 
     def index_of(self, link: Link) -> int:
@@ -97,8 +103,8 @@ class Frames:
         return self.index[link]
 
     def changed_open(self, links: list[OpenLink]) -> list[list[int]]:
-        """Returns the changes of open links, as runs of consecutive links with the same witness: the first link,
-        their number, the witness (-1 for none) and its rule."""
+        """Returns the changes of open links since the last call, as runs of consecutive indices with the same witness:
+        the first link, their number, the witness (-1 for none) and its rule."""
         now = {self.index_of((a, b)): (self.order[node], RULES.index(rule)) for a, b, node, rule in links}
         changed = sorted(link for link in now.keys() | self.open.keys() if now.get(link) != self.open.get(link))
         runs: list[list[int]] = []
@@ -112,14 +118,15 @@ class Frames:
         return runs
 
     def drawn_links(self, known: int = 0) -> list[list[int]]:
-        """Returns the ends of all links after the first `known` ones."""
+        """Returns the indices of the ends of all links after the first `known` ones."""
         return [[self.order[a], self.order[b]] for a, b in self.links[known:]]
 
 
 class Played:
-    """A replayed run, for one or several pages."""
+    """The drawing and the rows of a run, for one or several pages."""
 
     def __init__(self, lab: Lab, frames: Iterable[Frame]) -> None:
+        """Takes all frames of the lab's run, of which the first is the beginning."""
         each = iter(frames)
         first = next(each)
         self.drawing = drawing_of(lab.without_house(), first.state.links)
@@ -129,30 +136,31 @@ class Played:
         self.data = as_element(constant_data(self.drawing, first.state) | {"links": rows.drawn_links(), "frames": rows.rows})
 
     def page(self, title: str, history: str = "") -> str:
-        """Returns the text of the page, with a section `history` beside the player."""
+        """Returns the text of the HTML page. `history` is a section of HTML beside the player."""
         return drawing_page("player", title, self.drawing, self.picture, self.data, {"MORE": history})[0]
 
 
 def page_of(title: str, lab: Lab, frames: Iterable[Frame]) -> str:
-    """Returns the text of a run's page."""
+    """Returns the text of the HTML page of a run with these frames."""
     return Played(lab, frames).page(title)
 
 
 def live_page(title: str, drawing: Drawing, state: State, acts: bool) -> tuple[str, str]:
-    """Returns the page of a continuing run, whose script asks for changes, and the content policy to send with it."""
+    """Returns the HTML page of a run that goes on, whose script asks for changes, and the content policy to send with
+    it. `acts` says whether the teacher can act on it."""
     own = {"links": [], "acts": acts, "buttons": {name: it.line for name, it in BUTTONS.items()}, "byLinks": BY_LINKS}
     parts = {name: button(it) for name, it in BUTTONS.items()}
     return drawing_page("live", title, drawing, drawing.svg(state, None), as_element(constant_data(drawing, state) | own), parts)
 
 
 def button(it: Button) -> str:
-    """Returns a button of the desk as HTML."""
+    """Returns a button of the desk as an HTML element."""
     more = "".join(f' {name}="{escape(value)}"' for name, value in (("type", it.kind), ("title", it.title)) if value)
     return f'<button id="{it.name}"{more}>{escape(it.text)}</button>'
 
 
 def constant_data(drawing: Drawing, state: State) -> dict[str, Any]:
-    """Returns the part of a page's data that is the same at all places, with the drawing for a screen and the one
+    """Returns the part of a page's data that doesn't change during the run, with the drawing for a screen and the one
     for a phone."""
     phone = drawing_of(drawing.lab, state.links, TALL)
     return {
@@ -169,15 +177,17 @@ def network_in_words(drawing: Drawing) -> str:
 
 
 def drawing_page(name: str, title: str, drawing: Drawing, picture: str, data: str, more: dict[str, str]) -> tuple[str, str]:
-    """Returns the page of a drawing from its template, with more parts, and the content policy to send with it."""
+    """Returns the HTML page of a drawing, and the content policy to send with it. `name` is that of the template and
+    its script, `picture` the SVG element, `data` the element with the data, and `more` has further parts of the
+    template."""
     header = fill_template("header", {"TITLE": escape(title), "SIZE": escape(network_in_words(drawing))})
     parts = more | {"TITLE": title, "DRAWING": picture, "HEADER": header, "DATA": data}
     return assembled(name, parts, "", ("drawing.css", "page.css"), ("picture.js", "chart.js", f"{name}.js"))
 
 
 def assembled(name: str, parts: dict[str, str], more: str, styles: tuple[str, ...], programs: tuple[str, ...]) -> tuple[str, str]:
-    """Returns a page from its template, with its styles and scripts inside, and the content policy that allows
-    only these."""
+    """Returns a page made of the template `name` and its parts, and the content policy that allows only its own styles
+    and scripts. These are files of this folder, and `more` is added to the styles."""
     style = "".join((FOLDER / file).read_text("utf-8") for file in styles) + more
     program = "".join((FOLDER / file).read_text("utf-8") for file in programs)
     page = fill_template(name, parts | {"TITLE": escape(parts["TITLE"]), "STYLE": style, "PROGRAM": program, "LEGEND": legend()})
@@ -185,28 +195,30 @@ def assembled(name: str, parts: dict[str, str], more: str, styles: tuple[str, ..
 
 
 def fill_template(name: str, parts: dict[str, str]) -> str:
-    """Returns a template in which each name in braces is replaced by the part of that name."""
+    """Returns the text of the template `name`, in which each name in double braces is replaced by the part of that
+    name."""
     head, *rest = (FOLDER / f"{name}.html").read_text("utf-8").split("{{")
     return head + "".join(parts[piece.split("}}", 1)[0]] + piece.split("}}", 1)[1] for piece in rest)
 
 
 def hashed(text: str) -> str:
-    """Returns the hash of a text in the form of a content policy."""
+    """Returns the hash of a style or script as a content policy names it."""
     return f"'sha256-{base64.b64encode(hashlib.sha256(text.encode()).digest()).decode()}'"
 
 
 def legend() -> str:
-    """Returns the explanation of the signs in a drawing."""
+    """Returns the explanation of the signs in a drawing as HTML."""
     return (FOLDER / "legend.html").read_text("utf-8").replace("{{LETTERS}}", LETTERS)
 
 
 def as_element(data: dict[str, Any]) -> str:
-    """Returns the element with a page's data."""
+    """Returns the HTML element with a page's data."""
     return data_element(json.dumps(data, separators=(",", ":")))
 
 
 def data_element(text: str) -> str:
-    """Returns the element with a JSON text. A long text is compressed. The content can't end the element."""
+    """Returns the HTML element with a JSON text, which is compressed if it is long. No part of the text can end the
+    element."""
     if len(text) <= PLAIN_LIMIT:
         return f'<script id="data" type="application/json" data-form="plain">{text.replace("<", chr(92) + "u003c")}</script>'
     packed = base64.b64encode(zlib.compress(text.encode(), 9)).decode()

@@ -1,4 +1,5 @@
-"""`./class play`: makes a page of a run, or a picture of configurations."""
+"""`./class play`: makes a page of a run, or a picture of configurations. A *place* is the number of events up to a
+configuration."""
 from __future__ import annotations
 
 import argparse
@@ -18,21 +19,23 @@ from classroom.pages.sheet import sheet
 
 
 def page(lab_file: Path, journal: Path) -> str:
-    """Returns the page of the whole run."""
+    """Returns the HTML page of a whole run. Raises `Fault` if the audit refuses the journal."""
     kept_layout.load(lab_file.parent)
     lab, frames = frames_of(lab_file, journal)
     return page_of(folders.title(lab_file, journal), lab, frames)
 
 
 def places(word: str) -> list[int]:
-    """Returns the numbers in an argument, separated by commas."""
+    """Returns the places in an argument, which are separated by commas. Raises `ArgumentTypeError` for any other
+    text."""
     if not re.fullmatch(r"\d+(,\d+)*", word):
         raise argparse.ArgumentTypeError(f"{word}: write places of the journal with commas between them, such as 0,4,24; 0 is the beginning")
     return [int(place) for place in word.split(",")]
 
 
 def picture(lab_file: Path, journal: Path, asked: list[int], theme: str = LIGHT) -> str:
-    """Returns the configurations after these places as SVG: one alone, or several in a sheet."""
+    """Returns the text of an SVG file with the configurations at these places: one alone, or several in rows. Raises
+    `Fault` if the run has no such place."""
     kept_layout.load(lab_file.parent)
     lab, frames = frames_of(lab_file, journal)
     first = next(frames)
@@ -50,7 +53,8 @@ def picture(lab_file: Path, journal: Path, asked: list[int], theme: str = LIGHT)
 
 
 def play(words: argparse.Namespace) -> int:
-    """Writes the file, and prints its name and size. Returns the exit status."""
+    """Writes the page or the picture, and prints its name and size. Returns the exit status. Raises `Fault` if the
+    arguments don't name one run."""
     runs = classes.given(words.run)
     if len(runs) != 1:
         raise Fault("play: name the folder of a run, or a lab and a journal")

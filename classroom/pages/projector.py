@@ -1,7 +1,8 @@
-"""The page of a continuing run: one address for the projector, and one for the teacher to act at.
+"""The page of a continuing run, with two addresses: one for the projector, and one at which the teacher acts. Each
+address has a random token in its path.
 
-Each page has a thread, which sends all changes since its last message. A slow page gets fewer and larger messages,
-and nothing waits for it.
+Each page has a thread, which sends all changes since its last message. A slow page gets fewer and larger messages, and
+nothing waits for it.
 """
 from __future__ import annotations
 
@@ -24,39 +25,42 @@ LAST_WORD = 5.0  # seconds in which the pages may learn that the run is over
 
 
 class Pages(TwoAddresses):
-    """The server of the pages of one run. Its token to act can be replaced."""
+    """The server of the page of one run. The token of the address to act at can be replaced."""
 
     def __init__(self, port: int, title: str, lab: Lab, typed: queue.SimpleQueue[str], looks: str | None = None) -> None:
+        """Listens at the port, but doesn't answer before `show`. Lines of the teacher are put into `typed`, and `looks`
+        is the token of the address to look at, if it has one already."""
         super().__init__(port, Page, title, looks)
         self.lab, self.typed = lab, typed
         self.drawing = drawing_of(lab.without_house(), lab.links)
         self.present: Present | None = None
 
     def renew(self) -> None:
-        """Replaces the address to act at. The old one neither acts nor shows anything from then on."""
+        """Replaces the address to act at. Requests at the old one are refused from then on, and no more is shown
+        there."""
         self.acts = new_token()
         if self.present is not None:
             self.present.put()
 
     def show(self, present: Present, tell: Callable[[str], None]) -> None:
-        """Starts to serve the pages."""
+        """Starts to answer. `present` has what the page shows, and `tell` prints a line about an error."""
         self.present, self.tell = present, tell
         self.open()
 
     def stop(self) -> None:
-        """Sends the pages that the run is over, waits until they have it, and closes the port."""
+        """Sends all open pages that the run is over, waits until they have received that, and closes the port."""
         if self.present is not None:
             self.present.put(ended=True)
         self.close_after(LAST_WORD)
 
 
 class Page(AtAddress):
-    """A request of a page."""
+    """A request at one of the two addresses."""
 
     server: Pages
 
     def do_GET(self) -> None:
-        """Answers with the page or its events."""
+        """Answers with the page or its events, as the path asks."""
         (token, asked), present = self.asked(), self.server.present
         if self.reject_foreign_host():
             return
@@ -78,7 +82,7 @@ class Page(AtAddress):
         return True
 
     def send_events(self, present: Present, token: str) -> None:
-        """Sends the present state, and then all changes, until the run, the page or its token ends."""
+        """Sends the present state, and then all changes, until the run or the page ends or the token is replaced."""
         rows = Frames(self.server.drawing)
         before: Now | None = None
         while (before is None or not before.ended) and token in (self.server.looks, self.server.acts):
@@ -89,7 +93,8 @@ class Page(AtAddress):
 
 
 def message(rows: Frames, present: Present, before: Now | None, now: Now) -> dict[str, Any]:
-    """Returns the message for a page that has shown `before`."""
+    """Returns the values of the message that brings a page from the snapshot `before`, or from nothing, to `now`.
+    `rows` has what was sent to that page."""
     links = len(rows.links)
     rows.add(Frame(present.events[now.events - 1] if now.events else None, now.state), len(now.state.links))
     events = present.events[max(before.events if before else 0, now.events - LISTED):now.events]
@@ -102,6 +107,6 @@ def message(rows: Frames, present: Present, before: Now | None, now: Now) -> dic
 
 
 def open_pages(port: int, title: str, lab: Lab, typed: queue.SimpleQueue[str], looks: str | None = None) -> Pages:
-    """Returns the server of the pages, at a port or the next free one. `looks` is the token of the address to look
-    at, if the run had one before."""
+    """Returns the server of the page, which listens at a port or the next free one. It doesn't answer yet. `looks` is
+    the token of the address to look at, if the run had one before. Raises `Fault` if no port is free."""
     return opened(port, lambda number: Pages(number, title, lab, typed, looks))

@@ -1,8 +1,9 @@
-"""A journal's events, asked for again.
+"""Replaying a journal: its events are asked for again.
 
-The events become scripts over a lab in which one student owns all nodes. The teacher looks at nodes or asks for
-the report between them. Long journals are split into parts, each of which begins at the end of the part before.
-This module knows nothing of the rules.
+The events become scripts, lists of request lines, over a lab in which one student owns all nodes. The teacher looks at
+nodes or asks for the report between them. Long journals are split into parts, each of which begins at the end of the
+part before. In the replies of a part, places (the numbers of events) and the numbers of configurations begin at 0
+again. This module knows nothing of the rules.
 """
 from __future__ import annotations
 
@@ -29,7 +30,8 @@ raw_decode, encode = json.JSONDecoder().raw_decode, json.JSONEncoder(separators=
 
 
 def request(at: int | str, words: Sequence[str]) -> str:
-    """Returns the line that asks for an event, in a configuration with that number."""
+    """Returns the script's line that asks for the event with these words of the journal. A move asks in the
+    configuration with the number `at`."""
     word, *rest = words
     if word == "grant":
         partner = f',"with":{rest[3]}' if len(rest) == 4 else ""
@@ -38,20 +40,20 @@ def request(at: int | str, words: Sequence[str]) -> str:
 
 
 def look(node: int) -> str:
-    """Returns the line that looks at a node."""
+    """Returns the script's line by which the teacher looks at a node."""
     return f'1 {{"do":"look","node":{node}}}'
 
 
 @dataclass
 class Script:
-    """Lines, and for each the function that handles its reply."""
+    """The lines of a script, and for each the function that handles its reply."""
 
     lines: list[str] = field(default_factory=list)
     takes: list[Take | None] = field(default_factory=list)
     size: int = 0
 
     def ask(self, line: str, take: Take | None = None) -> None:
-        """Appends a line, and the function that handles its reply."""
+        """Appends a line, and the function that handles its reply, if there is one."""
         self.lines.append(line)
         self.takes.append(take)
         self.size += len(line) + 1
@@ -62,9 +64,10 @@ class Script:
 
 
 class Replay:
-    """Plays events. Subclasses ask for more after each event."""
+    """Replays the events of a journal. Subclasses ask for more after each event."""
 
     def __init__(self, lab: labs.Lab, events: list[Event]) -> None:
+        """Begins with the lab's network. No event is asked for before `replies`."""
         self.lab, self.events = lab, events
         self.links = {labs.ordered(link) for link in lab.links}
         self.registers = {node.id: (node.p, node.m) for node in lab.nodes}
@@ -72,14 +75,14 @@ class Replay:
         self.now = (0, 0)  # place and number after the last event that was answered
 
     def ask(self, script: Script, event: Event | None, named: set[int]) -> None:
-        """Appends requests after an event, or at the beginning. `named` are the nodes of all events since the last
-        configuration was made, including this one."""
+        """Appends further requests to the script after an event, or at the beginning if it is None. `named` has the
+        nodes of all events since the last configuration was made, including this event. Here it does nothing."""
 
     def note_reply(self, event: Event, reply: dict[str, Any]) -> None:
-        """Handles the reply to an event."""
+        """Handles the reply to an event. Here it does nothing."""
 
     def replies(self) -> Iterator[None]:
-        """Plays all events, and yields after each reply."""
+        """Replays all events, and yields after each reply was handled."""
         left, is_first = self.events, True
         while is_first or left:
             self.place, self.number = self.now
@@ -88,8 +91,9 @@ class Replay:
             is_first = False
 
     def part(self, events: list[Event], is_first: bool) -> tuple[Script, list[Event]]:
-        """Returns a script with as many events as fit into it: all, or those up to an event that made a
-        configuration. Also returns the remaining events."""
+        """Returns a script with the next of these events, as many as fit into it: all, or those up to an event that
+        made a configuration. Also returns the remaining events. Raises `Fault` if too many events come without a new
+        configuration."""
         script, fits, kept, named = Script(), 0, 0, set[int]()
         for line in HELLOS:
             script.ask(line)
@@ -115,11 +119,12 @@ class Replay:
         return script, events[fits:]
 
     def ask_event(self, script: Script, event: Event) -> None:
-        """Appends the request for an event."""
+        """Appends the request for an event to a script."""
         script.ask(request(event.at - self.number, event.words), lambda reply: self.take_event(event, reply))
 
     def take_event(self, event: Event, reply: dict[str, Any]) -> None:
-        """Checks the place in a reply, and updates the state at which the next part begins."""
+        """Checks the place in the reply to an event, and updates the links, the place and the number at which the next
+        part begins. Raises `Fault` if the place is wrong."""
         place = reply["place"] + self.place
         if place != event.place:
             raise Fault(f"the program's reply to event {event.place} of the journal names event {place}", 4)
@@ -130,11 +135,12 @@ class Replay:
         self.note_reply(event, reply)
 
     def take_registers(self, reply: dict[str, Any]) -> None:
-        """Copies a node's registers for the lab of the next part."""
+        """Copies the registers in a reply into those with which the next part begins."""
         self.registers[reply["node"]] = (reply["p"], reply["m"])
 
     def answered(self, script: Script) -> Iterator[None]:
-        """Runs a script, passes each reply to its function, and yields after each."""
+        """Runs a script, passes each reply to its function, and yields after each. Raises `Fault` if a reply isn't
+        `ok`."""
         nodes = [labs.Node(node, [STUDENT], p, m) for node, (p, m) in self.registers.items()]
         with tempfile.TemporaryDirectory() as room:
             lab, lines = Path(room, "lab.toml"), Path(room, "script")
@@ -154,23 +160,24 @@ class Replay:
 
 
 def alone(nodes: list[labs.Node], links: list[tuple[int, int]], events: int) -> labs.Lab:
-    """Returns a lab with one student."""
+    """Returns a lab in which one student owns the nodes, for a script with so many events."""
     return labs.Lab(events, 2, (TEACHER, KEY), {STUDENT: KEY}, nodes, links)
 
 
 def values_of(reply: str) -> dict[str, Any]:
-    """Returns the values of a reply after its connection number."""
+    """Returns the values of a script's reply, which begins with its connection number."""
     told: dict[str, Any] = raw_decode(reply, 2)[0]
     return told
 
 
 def another(line: str, reply: str) -> Fault:
-    """Returns the fault for a line that has another reply than in the run."""
+    """Returns the fault to raise if a line gets another reply than in the run."""
     return Fault(f"{line[2:]} is answered {reply[2:]}", 4)
 
 
 def report(lab: labs.Lab, lines: list[list[str]]) -> dict[str, Any]:
-    """Returns the report after the events in these lines."""
+    """Returns the report after the events in these lines of a lab's journal. Raises `Fault` if an event isn't granted
+    again."""
     nodes = [labs.Node(node.id, [STUDENT], node.p, node.m) for node in lab.nodes]
     script = [*HELLOS, *(request(at, words) for _, at, *words in lines), REPORT]
     replies = all_of(alone(nodes, lab.links, max(1, len(lines))), script)

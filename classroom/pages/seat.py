@@ -1,4 +1,5 @@
-"""The seat of a page to play: one connection to the server, and the contents of its replies, with a picture."""
+"""The seat of a page on which a student plays: one connection to the class's server, and the contents of its replies,
+with a picture. *Looks* have the values that the student may read at each of the student's nodes."""
 from __future__ import annotations
 
 import threading
@@ -21,17 +22,18 @@ Looks = dict[int, Look]
 
 @dataclass(frozen=True)
 class Seen(Drawing):
-    """The drawing of the part of the network that a student is shown. Of a node beyond that part it is only known
-    that another node points at it."""
+    """The drawing of the part of the network that a student is shown. Of a node *beyond* that part only its number is
+    known, because another node points at it."""
 
     beyond: frozenset[int] = frozenset()
 
     def pointer(self, node: int, state: State) -> str:
-        """Returns the path of a node's pointer, or nothing for a node beyond the part."""
+        """Returns the path element for a node's pointer, or an empty text for a node beyond the part."""
         return "" if node in self.beyond else super().pointer(node, state)
 
     def node(self, node: int, owners: list[str], state: State, event: Event | None) -> str:
-        """Returns a node's element. A node beyond the part is only a number, and a neighbour has a thin rim."""
+        """Returns the SVG element of a node. A node beyond the part is only a number, and a neighbour has a thin
+        rim."""
         if node not in self.beyond:
             kind = "node near" if owners == [NEIGHBOUR] else "node"
             return super().node(node, owners, state, event).replace('class="node"', f'class="{kind}"', 1)
@@ -41,7 +43,7 @@ class Seen(Drawing):
 
 
 def shown_part(name: str, looks: Looks) -> Lab:
-    """Returns the part of the network that the looks show."""
+    """Returns the part of the network that the looks of the student `name` show, as a lab."""
     near = {each.node: each.p for look in looks.values() for each in look.near}
     beyond = {p for p in [*near.values(), *(look.p for look in looks.values())] if p is not None} - near.keys() - looks.keys()
     nodes = [Node(node, [name] if node in looks else [] if node in beyond else [NEIGHBOUR])
@@ -51,7 +53,7 @@ def shown_part(name: str, looks: Looks) -> Lab:
 
 
 def drawing_of_part(part: Lab, looks: Looks) -> Seen:
-    """Returns the drawing of a part, with each node beyond it near the one that points at it."""
+    """Returns the drawing of a part. Each node beyond it is drawn near the node that points at it."""
     beyond = frozenset(node.id for node in part.nodes if not node.owners)
     points_at = [(each.node, each.p) for look in looks.values() for each in look.near if each.p in beyond and each.p is not None]
     links = sorted({*part.links, *map(ordered, points_at)})
@@ -59,7 +61,7 @@ def drawing_of_part(part: Lab, looks: Looks) -> Seen:
 
 
 def state_of(part: Lab, looks: Looks) -> State:
-    """Returns the state for a picture of the looks."""
+    """Returns the state that a picture of the looks shows."""
     registers = {each.node: each for look in looks.values() for each in (*look.near, look)}
     state = State(0, max(look.at for look in looks.values()), frozenset(part.links))
     for node in part.nodes:
@@ -71,9 +73,10 @@ def state_of(part: Lab, looks: Looks) -> State:
 
 
 class Seat:
-    """A student's connection. The page's thread and those of its moves take turns."""
+    """A student's connection. The page's thread and the threads of its moves use it one at a time."""
 
     def __init__(self, client: Client, name: str, nodes: list[int]) -> None:
+        """`nodes` are those of the student `name`, for whom the client has greeted."""
         self.client, self.name, self.nodes = client, name, nodes
         self.turn = threading.Lock()
         self.end_reason = ""  # why the connection has ended, or empty as long as it is open
@@ -82,8 +85,8 @@ class Seat:
         self.shown: dict[str, Any] = {}  # what `present` returned last
 
     def ask_server(self, ask: Callable[[], Told]) -> Told:
-        """Returns the server's reply. After the server has closed the connection, raises `Closed` with the reason
-        each time."""
+        """Calls `ask`, which uses the connection, and returns its result. Raises `Closed` with the server's reason once
+        the server has closed the connection."""
         with self.turn:
             try:
                 return ask()
@@ -96,7 +99,7 @@ class Seat:
         raise Closed(self.end_reason)
 
     def move(self, request: dict[str, Any]) -> dict[str, Any]:
-        """Returns the reply to a request for a move."""
+        """Sends a request for a move, and returns the values of the reply, also of a denial or refusal."""
         try:
             return self.ask_server(lambda: self.client.ask(**request))
         except Denied as denied:
@@ -105,8 +108,8 @@ class Seat:
             return {"refuse": refused.word}
 
     def present(self) -> dict[str, Any]:
-        """Returns what the page shows now. Returns the same object as before if nothing has changed, or if the
-        nodes can't be read at the moment."""
+        """Returns the values that the page shows now. Returns the same object as before if nothing has changed, or if
+        the nodes can't be read in one configuration at the moment."""
         try:
             looks = self.ask_server(lambda: self.client.snapshot(self.nodes))
         except (Moving, Refused):
@@ -122,6 +125,7 @@ class Seat:
 
 
 def look_values(look: Look) -> dict[str, Any]:
-    """Returns the values of a look without the configuration's number, and the neighbours that point at the node."""
+    """Returns the values of a look as the page shows them, without the configuration's number, and with the neighbours
+    that point at the node."""
     values = {name: value for name, value in asdict(look).items() if name != "at"}
     return values | {"pointing": [near.node for near in look.near if near.p == look.node]}

@@ -1,7 +1,8 @@
 """The shape of a network, recognised from its links alone: a path, cycle, star, tree, grid, complete graph, or any
 other.
 
-A shape has a point for each node in its own units. `layout` fits it into a field.
+A shape has a point for each node in units of its own, and `layout` fits it into a field. `near` has the neighbours of
+each node, and `aspect` is the field's ratio of width to height.
 """
 from __future__ import annotations
 
@@ -40,7 +41,7 @@ def shape_of(nodes: list[int], links: Links, aspect: float) -> Shape:
 
 @lru_cache(maxsize=64)
 def kept_shape(nodes: tuple[int, ...], links: tuple[tuple[int, int], ...], aspect: float) -> Shape:
-    """Computes the shape of a network, and returns it. The last results are cached."""
+    """Returns the shape of a network. Computes it unless it is among the last results, which are cached."""
     near = {node: sorted(set(others)) for node, others in neighbours(nodes, links).items()}
     found = plain_shape(near, aspect) or grid_shape(near)
     if found is None and is_tree(near):
@@ -71,7 +72,7 @@ def plain_shape(near: Near, aspect: float) -> Shape | None:
 
 
 def is_joined(near: Near) -> bool:
-    """Returns whether the network is connected."""
+    """Returns whether all nodes are connected with each other."""
     return len(steps_from(next(iter(near)), near)) == len(near)
 
 
@@ -81,7 +82,8 @@ def is_tree(near: Near) -> bool:
 
 
 def walk(near: Near, start: int) -> list[int]:
-    """Returns the nodes of a path or cycle in their order, from one of them towards its lowest neighbour."""
+    """Returns the nodes of a path or cycle in their order. They begin at `start`, and continue towards its lowest
+    neighbour."""
     order, seen = [start], {start}
     while True:
         others = [node for node in near[order[-1]] if node not in seen]
@@ -92,7 +94,8 @@ def walk(near: Near, start: int) -> list[int]:
 
 
 def snake(order: list[int], aspect: float) -> Points:
-    """Returns points for the nodes of a path, row by row. A long path turns back at the end of each row."""
+    """Returns points for the nodes of a path, row by row, in this order. A long path turns back at the end of each
+    row."""
     rows = max(1, round(math.sqrt(len(order) / aspect / 3)))
     across = -(-len(order) // rows)
     points = {}
@@ -103,8 +106,8 @@ def snake(order: list[int], aspect: float) -> Points:
 
 
 def ellipse(order: list[int], aspect: float, room: float = 0.0) -> Points:
-    """Returns points for the nodes on an ellipse, at equal distances along it, beginning at the top. If `room` isn't 0,
-    this share of the ellipse stays free at its right, and the nodes begin after it."""
+    """Returns points for the nodes on an ellipse in this order, at equal distances along it, beginning at the top. If
+    `room` isn't 0, this share of the ellipse stays free at its right, and the nodes begin after that."""
     wide = min(MOST_WIDE, max(1.0, aspect))
     angles = [math.tau * turn / TURNS - (0 if room else math.pi / 2) for turn in range(TURNS + 1)]
     fine = [(wide * math.cos(angle), math.sin(angle)) for angle in angles]
@@ -132,7 +135,7 @@ def layers(near: Near, aspect: float) -> Points:
 
 
 def down(root: int, children: Near) -> Iterator[int]:
-    """Yields the nodes of a tree, each before its children, from left to right."""
+    """Yields the nodes of a tree from its root on, each before its children, and from left to right."""
     stack = [root]
     while stack:
         node = stack.pop()
@@ -141,8 +144,8 @@ def down(root: int, children: Near) -> Iterator[int]:
 
 
 def grid_shape(near: Near) -> Shape | None:
-    """Returns the shape of a grid, whatever its identifiers are, or None for another network. The lowest corner is
-    at the upper left, and its lower neighbour beside it."""
+    """Returns the shape of a grid, or None for another network. The lowest corner is at the upper left, and the lower
+    one of its neighbours is to its right."""
     corners = [node for node, others in near.items() if len(others) == 2]
     if len(near) < 4 or len(corners) != 4 or any(not 2 <= len(others) <= 4 for others in near.values()):
         return None
@@ -153,8 +156,8 @@ def grid_shape(near: Near) -> Shape | None:
 
 
 def lattice(near: Near, first: dict[int, int], second: dict[int, int]) -> Points | None:
-    """Returns points on a lattice, computed from the distances of each node to the two ends of the first row.
-    Returns None if the network isn't a grid."""
+    """Returns points with whole coordinates for the nodes of a grid, or None if the network isn't a grid. `first` and
+    `second` have the distances of each node to the two ends of the first row."""
     if len(first) != len(near):
         return None
     last = min(first[node] for node in second if not second[node])

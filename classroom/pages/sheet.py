@@ -16,7 +16,8 @@ ARROW = re.compile("<defs>.*?</defs>", re.DOTALL)  # all of them use one
 
 
 def sheet(drawing: Drawing, frames: list[Frame], theme: str = colours.LIGHT) -> str:
-    """Returns the SVG file with all configurations. The drawing is for the field of one of them."""
+    """Returns the text of an SVG file with the configurations of all frames. The drawing is that of a single one, for
+    the field CELL."""
     across, down = min(ACROSS, len(frames)), -(-len(frames) // ACROSS)
     key, whole = drawing.key(), down * (CELL.height + TITLE)
     high = whole + (KEY_HIGH if key else 0)
@@ -34,7 +35,7 @@ def sheet(drawing: Drawing, frames: list[Frame], theme: str = colours.LIGHT) -> 
 
 
 def cell(drawing: Drawing, frame: Frame, index: int) -> str:
-    """Returns one configuration below its title. `index` is its position in the rows."""
+    """Returns the SVG elements of one frame below its title. `index` is its position in the rows."""
     x, y = index % ACROSS * CELL.width, index // ACROSS * (CELL.height + TITLE)
     state = frame.state
     left = f"{plural(len(state.privileged), 'node')} can move" if not state.stable else "at rest"

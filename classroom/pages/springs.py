@@ -30,13 +30,14 @@ KNOWN: dict[tuple[tuple[int, ...], tuple[tuple[int, int], ...]], dict[int, Point
 
 
 def by_springs(nodes: tuple[int, ...], links: tuple[tuple[int, int], ...]) -> dict[int, Point]:
-    """Returns a point for each node of a network with at least two: the known layout, or one that is searched for."""
+    """Returns a point for each node of a network with at least two nodes: the layout in KNOWN, or a computed one."""
     return KNOWN.get((nodes, links)) or searched(nodes, links)
 
 
 @lru_cache(maxsize=16)
 def searched(nodes: tuple[int, ...], links: tuple[tuple[int, int], ...]) -> dict[int, Point]:
-    """Computes a point for each node of a network with at least two. The last results are cached."""
+    """Returns a point for each node of a network with at least two nodes. Computes them unless they are among the last
+    results, which are cached."""
     far = distances(nodes, links)
     ring = [math.tau * index / len(nodes) for index in range(len(nodes))]
     first, second = classical_scaling(far, [list(map(math.cos, ring)), list(map(math.sin, ring))])
@@ -52,12 +53,14 @@ def searched(nodes: tuple[int, ...], links: tuple[tuple[int, int], ...]) -> dict
 
 
 def pulls_of(index: int, far: Rows) -> Iterable[Pull]:
-    """Returns the pull of each other node on a node. Near nodes pull more than distant ones."""
+    """Returns the pull of each other node on the node at an index, by the distances of all nodes. Near nodes pull more
+    than distant ones."""
     return ((other, apart, 1 / (apart * apart)) for other, apart in enumerate(far[index]) if apart)
 
 
 def sparse_pulls(far: Rows) -> list[list[Pull]]:
-    """Returns the pulls on each node: by its neighbours, and by pivots with the weight of the nodes around them."""
+    """Returns the pulls on each node, by the distances of all nodes: by its neighbours, and by pivots with the weight
+    of the nodes around them."""
     pivots = pivots_of(far)
     regions: dict[int, list[float]] = {pivot: [] for pivot in pivots}
     for row in far:
@@ -72,7 +75,8 @@ def sparse_pulls(far: Rows) -> list[list[Pull]]:
 
 
 def pivots_of(far: Rows) -> list[int]:
-    """Returns nodes that are as distant from each other as possible. The first node is the first."""
+    """Returns the indices of PIVOTS nodes, or of all if they are fewer, that are as distant from each other as
+    possible. The first node is one of them."""
     pivots, nearest = [0], [*far[0]]
     while len(pivots) < min(PIVOTS, len(far)):
         pivots.append(max(range(len(far)), key=lambda index: nearest[index]))
@@ -81,7 +85,8 @@ def pivots_of(far: Rows) -> list[int]:
 
 
 def levelled(points: list[Point]) -> list[Point]:
-    """Returns the points, centred and rotated so that their longer axis is horizontal."""
+    """Returns the points, moved so that their centre is at the origin, and rotated so that their longer axis is
+    horizontal."""
     middle_x, middle_y = (sum(values) / len(points) for values in zip(*points))
     moved = [(x - middle_x, y - middle_y) for x, y in points]
     across, down = sum(x * x for x, _ in moved), sum(y * y for _, y in moved)
@@ -90,7 +95,7 @@ def levelled(points: list[Point]) -> list[Point]:
 
 
 def pushed_apart(points: list[Point]) -> list[Point]:
-    """Returns the points after pushing apart those that are too close."""
+    """Returns the points, of which those that were closer than LEAST are pushed apart."""
     now = [*points]
     for _ in range(PUSHES):
         close = [pair for pair in near_pairs(now) if math.dist(now[pair[0]], now[pair[1]]) < LEAST - 1e-6]
@@ -106,8 +111,8 @@ def pushed_apart(points: list[Point]) -> list[Point]:
 
 
 def near_pairs(points: list[Point]) -> Iterator[tuple[int, int]]:
-    """Yields all pairs of points that may be too close: those in the same square of a grid, or in adjacent
-    squares."""
+    """Yields the indices of all pairs of points that may be closer than LEAST: those in the same square of a grid, or
+    in adjacent squares."""
     squares: dict[tuple[int, int], list[int]] = {}
     for index, (x, y) in enumerate(points):
         squares.setdefault((math.floor(x / LEAST), math.floor(y / LEAST)), []).append(index)
@@ -125,8 +130,8 @@ def stretched(points: dict[int, Point], aspect: float) -> dict[int, Point]:
 
 
 def distances(nodes: Sequence[int], links: Iterable[tuple[int, int]]) -> Rows:
-    """Returns the number of links between each two nodes. If there is no path, returns one more than the longest
-    distance."""
+    """Returns, as a matrix, the number of links on the shortest path between each two nodes. If there is no path, it is
+    one more than the longest distance."""
     near = neighbours(nodes, links)
     found = [steps_from(node, near) for node in nodes]
     longest = max(max(steps.values()) for steps in found)
@@ -134,8 +139,8 @@ def distances(nodes: Sequence[int], links: Iterable[tuple[int, int]]) -> Rows:
 
 
 def classical_scaling(far: Rows, axes: Rows) -> Rows:
-    """Computes the classical scaling of the distances in two dimensions by power iteration, which begins at these axes.
-    Returns the two coordinates that explain most of the distances, a row each."""
+    """Returns two coordinates of each node, a row each, that explain most of the distances: the classical scaling in
+    two dimensions. It is computed by power iteration, which begins at these axes."""
     squares = [[each * each for each in row] for row in far]
     means = [sum(row) / len(row) for row in squares]
     mean = sum(means) / len(means)
@@ -158,7 +163,8 @@ def classical_scaling(far: Rows, axes: Rows) -> Rows:
 
 
 def new_place(points: list[Point], pulls: list[Pull], index: int) -> Point:
-    """Returns the new point of a node: the weighted mean of the points at which each pull wants it."""
+    """Returns the new point of the node at an index: the weighted mean of the points at which its pulls would have
+    it."""
     x, y = points[index]
     sum_x = sum_y = weights = 0.0
     for other, apart, weight in pulls:
@@ -171,7 +177,8 @@ def new_place(points: list[Point], pulls: list[Pull], index: int) -> Point:
 
 
 def tangles(points: dict[int, Point], links: Links, radius: float) -> int:
-    """Returns how often links cross, or pass through a node with that radius."""
+    """Returns how often two links cross, or a link passes through a node with that radius, in a drawing with these
+    points."""
     crossed = sum(
         cross(points[a], points[b], points[c], points[d]) for (a, b), (c, d) in combinations(links, 2) if len({a, b, c, d}) == 4
     )
@@ -186,7 +193,7 @@ def cross(a: Point, b: Point, c: Point, d: Point) -> bool:
 
 
 def side(a: Point, b: Point, c: Point) -> float:
-    """Returns a number whose sign is the side of the line from a to b on which c is."""
+    """Returns a number whose sign tells on which side of the line from a to b the point c is."""
     return (b[0] - a[0]) * (c[1] - a[1]) - (b[1] - a[1]) * (c[0] - a[0])
 
 

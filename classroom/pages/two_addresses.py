@@ -1,4 +1,5 @@
-"""Pages with two addresses: one to look at, and one to act at. A page to look at doesn't know the token to act.
+"""Pages with two addresses: one to look at, and one to act at. Each has a random token in its path, and a page to look
+at doesn't contain the token to act.
 
 A page receives events while it is open. A server that ends waits a moment until each page has its last event.
 """
@@ -22,9 +23,11 @@ def new_token() -> str:
 
 
 class TwoAddresses(Web):
-    """A server of pages with two addresses. If the run continues, the token to look at stays the same."""
+    """A server of a page with two addresses. If a run continues, the token to look at stays the same."""
 
     def __init__(self, port: int, asked: type[AtAddress], title: str, looks: str | None = None) -> None:
+        """Listens at the port. `asked` is the class that handles a request, and `looks` the token to look at, if there
+        is one already."""
         super().__init__(port, asked, title)
         self.looks, self.acts = looks or new_token(), new_token()
         self.leaving = threading.Condition()
@@ -42,7 +45,7 @@ class TwoAddresses(Web):
 
     @contextmanager
     def receiving_page(self) -> Iterator[None]:
-        """Counts a page while it receives events."""
+        """Counts a page as one that receives events until the caller is done."""
         self.count(1)
         try:
             yield
@@ -56,7 +59,7 @@ class TwoAddresses(Web):
             self.leaving.notify_all()
 
     def close_after(self, seconds: float) -> None:
-        """Closes the port when no page receives events any longer, or after so many seconds."""
+        """Waits until no page receives events any longer, at most so many seconds, and closes the port."""
         with self.leaving:
             self.leaving.wait_for(lambda: self.receiving == 0, seconds)
         self.close()
@@ -68,14 +71,14 @@ class AtAddress(Asked):
     server: TwoAddresses
 
     def asked(self) -> tuple[str, str]:
-        """Returns the token in the path if it is one of the two, and the path below it. Returns two empty texts
-        otherwise."""
+        """Returns the token in the request's path, and the path below it. Returns two empty texts if the token isn't
+        one of the server's."""
         beginning, slash, rest = self.path[1:].partition("/")
         known = [token for token in (self.server.looks, self.server.acts) if hmac.compare_digest(beginning.encode(), token.encode())]
         return (known[0], rest) if known and slash else ("", "")
 
     def do_POST(self) -> None:
-        """Handles a line of the teacher, at the address to act only."""
+        """Handles a line of the teacher. Answers 404 at any other address than that to act at."""
         if self.reject_foreign_host():
             return
         body = self.body(MOST_BYTES) if self.asked() == (self.server.acts, "act") else None
@@ -84,5 +87,6 @@ class AtAddress(Asked):
         self.send_head(204 if self.accept_line(body.decode("utf-8", errors="replace")) else 400)
 
     def accept_line(self, line: str) -> bool:
-        """Does what a line asks for, if the page may send it. Returns whether it may."""
+        """Does what a line of the teacher asks for, if the page may send that. Returns whether it may. Subclasses
+        define this."""
         raise NotImplementedError

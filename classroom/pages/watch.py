@@ -1,4 +1,6 @@
-"""The data of a live page: read at the desk when they change, and shared by any number of pages."""
+"""The data of a live page: read at the desk when they change, and shared by any number of pages. The *desk* is the
+teacher's connection to the server. A *place* is the number of events so far, and a granted move is *chosen* until a
+step applies it."""
 from __future__ import annotations
 
 import threading
@@ -18,14 +20,16 @@ Bar = tuple[int, int | None, int, str, bool]
 
 
 class Bars:
-    """The configurations of a run for its chart. The last one still changes."""
+    """The configurations of a run for the page's chart. The last one still changes."""
 
     def __init__(self) -> None:
+        """Begins with the first configuration of a run."""
         self.rows: list[Bar] = [(0, None, 0, "", False)]
         self.chosen: set[int] = set()
 
     def add(self, event: Event) -> None:
-        """Takes an event: begins a new configuration, or updates the chosen moves of the last one."""
+        """Updates the chart by the next event: begins a new configuration, or changes the chosen moves of the last
+        one."""
         if event.makes_configuration:
             self.chosen.clear()
             self.rows.append((event.at + 1, None, 0, event.kind, False))
@@ -37,8 +41,8 @@ class Bars:
         self.rows[-1] = (number, can, len(self.chosen), kind, is_stable)
 
     def take_report(self, state: State) -> None:
-        """Copies the number of privileged nodes and the stability into the last configuration, if the state is of
-        that one."""
+        """Copies the number of privileged nodes and the stability from a state into the last configuration. Does
+        nothing if the state is of another configuration."""
         number, _, moved, kind, _ = self.rows[-1]
         if number == state.number:
             self.rows[-1] = (number, len(state.privileged), moved, kind, state.stable)
@@ -46,8 +50,8 @@ class Bars:
 
 @dataclass(frozen=True)
 class Now:
-    """A snapshot of the present: the state, the numbers of events and lines, and how steps are closed. It never
-    changes."""
+    """An unchangeable snapshot of the present: the state, the numbers of events, lines and configurations, and how
+    steps are closed."""
 
     version: int
     state: State
@@ -59,10 +63,11 @@ class Now:
 
 
 class Present:
-    """The latest snapshot, and all events and lines, which only grow. Readers wait for a new snapshot; the writer
-    never waits."""
+    """The latest snapshot, and all events and lines so far. Readers wait for a new snapshot, and the writer never
+    waits."""
 
     def __init__(self, state: State, closing: str) -> None:
+        """Begins with the first state. `closing` says how steps are closed."""
         self.turn = threading.Condition()
         self.events: list[Event] = []
         self.lines: list[str] = []
@@ -72,7 +77,8 @@ class Present:
 
     def put(self, state: State | None = None, events: Iterable[Event] = (), line: str | None = None,
             closing: str | None = None, ended: bool = False) -> None:
-        """Publishes a new snapshot with these changes."""
+        """Publishes a new snapshot with these changes: another state, more events, a further line, another way of
+        closing steps, or the end of the run."""
         with self.turn:
             now = self.now
             for event in events:
@@ -88,16 +94,19 @@ class Present:
             self.turn.notify_all()
 
     def after(self, version: int, seconds: float) -> Now:
-        """Waits for a snapshot with another version, at most so many seconds. Returns the latest."""
+        """Waits for a snapshot with another version than this one, at most so many seconds. Returns the latest
+        snapshot."""
         with self.turn:
             self.turn.wait_for(lambda: self.now.version != version, seconds)
             return self.now
 
 
 class Watch:
-    """Looks at each node once, and then only at nodes that events name."""
+    """Reads the state of a run at the desk: looks at each node once, and then only at nodes that events name."""
 
     def __init__(self, lab: labs.Lab, client: Client, report: Report, closing: str) -> None:
+        """Looks at each node, and begins with this report. `client` is the desk's connection, and `closing` says how
+        steps are closed."""
         self.client = client
         self.state = State(0, 0, frozenset(map(labs.ordered, lab.links)))
         self.named = {node.id for node in lab.nodes}
@@ -122,8 +131,8 @@ class Watch:
             state.links = state.links | link if event.links > 0 else state.links - link
 
     def publish(self, report: Report, book: Book) -> None:
-        """Publishes the state after the noted events. Publishes nothing if the run has gone on meanwhile, since
-        its next events come first."""
+        """Publishes the state after the noted events, with the report after them and the counts in `book`. Publishes
+        nothing if the run has gone on meanwhile, since its next events come first."""
         if not self.events:
             return
         last = self.events[-1]
@@ -139,9 +148,9 @@ class Watch:
         self.events.clear()
 
     def wait_for_server(self) -> None:
-        """Waits until the server has applied the last line of the journal. A line is written before it takes
-        effect, and any later request is answered after that. So this sends a request that is always denied: to
-        link a node to itself."""
+        """Waits until the server has applied the last line of the journal, which is written before the event takes
+        effect. Sends a request for this, to link a node to itself, which is always denied and is answered only after
+        the event."""
         node = min(self.state.pointers)
         try:
             self.client.link(node, node)
@@ -149,7 +158,8 @@ class Watch:
             pass
 
     def look(self) -> set[int]:
-        """Looks at the named nodes. Returns the numbers of the configurations in which they were seen."""
+        """Looks at the nodes that events have named, and updates the state. Returns the numbers of the configurations
+        in which the looks were answered."""
         state, numbers = self.state, set()
         for node in sorted(self.named):
             look = self.client.look(node)

@@ -1,5 +1,5 @@
-"""The base of all servers of pages: limits on connections, a time limit for each request, and the headers of
-answers."""
+"""The base of all servers of pages: limits on connections, a time limit for each request, and the headers of answers.
+They answer on this machine only."""
 from __future__ import annotations
 
 import io
@@ -26,12 +26,14 @@ Opened = TypeVar("Opened", bound="Web")
 
 
 class Web(ThreadingHTTPServer):
-    """A server of the pages of a run on 127.0.0.1."""
+    """A server of pages on 127.0.0.1, with a thread for each connection."""
 
     daemon_threads = True
     request_queue_size = BACKLOG
 
     def __init__(self, port: int, asked: type[Asked], title: str) -> None:
+        """Listens at the port, but doesn't answer before `open`. `asked` is the class that handles a request. Raises
+        `OSError` if the port is taken."""
         super().__init__(("127.0.0.1", port), asked)
         self.title = title
         self.tell: Callable[[str], None] = print
@@ -40,14 +42,14 @@ class Web(ThreadingHTTPServer):
         self.faults: set[tuple[str, str]] = set()  # the kinds of errors that were printed
 
     def open(self) -> None:
-        """Starts to answer."""
+        """Starts to answer, in a thread of its own. Does nothing if the server answers already."""
         if self.is_open:
             return
         self.is_open = True
         threading.Thread(target=self.serve_forever, kwargs={"poll_interval": 0.1}, daemon=True).start()
 
     def close(self) -> None:
-        """Closes the port."""
+        """Stops answering, and closes the port."""
         if self.is_open:
             self.shutdown()
         self.server_close()
@@ -70,7 +72,7 @@ class Web(ThreadingHTTPServer):
             self.free.release()
 
     def handle_error(self, request: Any, client_address: Any) -> None:
-        """Prints an error, but each kind only once. A page that has gone away is no error."""
+        """Prints an error in a request by `tell`, but each kind only once. That a page has gone away is no error."""
         error = sys.exc_info()[1]
         if error is None or isinstance(error, (ConnectionError, TimeoutError)):
             return
@@ -82,18 +84,20 @@ class Web(ThreadingHTTPServer):
 
 
 class DeadlineReader(io.RawIOBase):
-    """The input of a connection with a deadline. A read after it fails."""
+    """The input of a connection with a deadline. Reading after the deadline raises `TimeoutError`."""
 
     def __init__(self, connection: socket.socket, seconds: float) -> None:
+        """Reads from `connection`. The deadline is so many seconds from now."""
         super().__init__()
         self.connection, self.end = connection, time.monotonic() + seconds
 
     def readable(self) -> bool:
-        """Returns true, since this is only for reading."""
+        """Returns true, as `io` asks of an input."""
         return True
 
     def readinto(self, buffer: Any) -> int:
-        """Reads the next bytes before the deadline. Returns their number."""
+        """Reads bytes into a buffer, and returns their number. Raises `TimeoutError` if none come before the
+        deadline."""
         left = self.end - time.monotonic()
         if left <= 0:
             raise TimeoutError
@@ -102,21 +106,21 @@ class DeadlineReader(io.RawIOBase):
 
 
 class Asked(BaseHTTPRequestHandler):
-    """A request of a page."""
+    """A request to a server of pages. Subclasses answer it."""
 
     def log_message(self, format: str, *words: Any) -> None:
-        """Prints nothing, since a request may have a secret."""
+        """Prints nothing, since a request may contain a secret."""
 
     def setup(self) -> None:
-        """Limits the send buffer and the time for the request. So a slow page gets the present state instead of
-        old ones."""
+        """Limits the time for the request and the size of the send buffer. With a small buffer, a slow page gets the
+        present state rather than old ones."""
         self.request.setsockopt(socket.SOL_SOCKET, socket.SO_SNDBUF, KEPT)
         super().setup()
         self.rfile = io.BufferedReader(DeadlineReader(self.connection, ASKING))
 
     def reject_foreign_host(self) -> bool:
-        """Answers 421 if the request names another host or another port, as through a tunnel. The answer names the
-        right address. Returns whether the request was rejected."""
+        """Answers 421 with the right address if the request names another host or another port, as through a tunnel.
+        Returns whether it was answered so."""
         port = self.connection.getsockname()[1]
         if self.headers.get("Host") in (f"127.0.0.1:{port}", f"localhost:{port}"):
             return False
@@ -133,14 +137,16 @@ class Asked(BaseHTTPRequestHandler):
         return self.rfile.read(int(size))
 
     def answer(self, status: int, kind: str = "", content: bytes = b"", policy: str = "") -> None:
-        """Sends a complete answer within the time limit."""
+        """Sends a complete answer: its status, its content type `kind`, its content, and the content policy `policy` in
+        addition to the common one. Raises `TimeoutError` if the page doesn't take it in time."""
         end = time.monotonic() + TAKING
         self.send_head(status, kind, len(content), policy)
         self.connection.settimeout(max(end - time.monotonic(), 0.001))
         self.wfile.write(content)
 
     def send_head(self, status: int, kind: str = "", size: int | None = 0, policy: str = "") -> None:
-        """Sends the status and the headers of an answer. Without a size, the answer ends with the connection."""
+        """Sends the status and the headers of an answer with a content of this size. If `size` is None, the answer ends
+        with the connection."""
         self.connection.settimeout(TAKING)
         self.send_response_only(status)
         for name, value in (("Cache-Control", "no-store"), ("Referrer-Policy", "no-referrer"),
@@ -154,9 +160,10 @@ class Asked(BaseHTTPRequestHandler):
 
 
 def opened(port: int, make: Callable[[int], Opened]) -> Opened:
-    """Returns a server at that port, or the next free one."""
+    """Returns the server that `make` returns for a port: this one, or the next free one. Raises `Fault` if no port is
+    free."""
     def at(number: int) -> Opened | None:
-        """Returns the server at that port, or None if the port is taken."""
+        """Returns the server at a port, or None if the port is taken."""
         try:
             return make(number)
         except OSError:
