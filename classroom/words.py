@@ -21,18 +21,18 @@ class Parser(argparse.ArgumentParser):
     """A parser that exits with the status of usage on a bad command line."""
 
     def error(self, message: str) -> NoReturn:
-        """Prints the message, and exits with the status of usage."""
+        """Prints the message, and exits with the status of a wrong command line."""
         self.exit(USAGE, f"{self.prog}: {printable(message)}; {self.prog} --help prints what to type\n")
 
 
 def version() -> str:
-    """Returns version, commit and toolchain, as `mml` prints them."""
+    """Returns a text with version, commit and toolchain, as `mml` prints them."""
     said = subprocess.run([TOP / "mml", "--version"], stdin=subprocess.DEVNULL, capture_output=True, text=True, check=False)
     return said.stdout.strip().removeprefix("Cenduwa ") or "of no known version"
 
 
 def add_new(words: argparse.ArgumentParser) -> None:
-    """Adds the options of `new`."""
+    """Adds the options of `new` to its parser."""
     from classroom.core import lists, networks
     from classroom.setup import handing, new
 
@@ -80,7 +80,7 @@ EXAMPLES = {
 
 
 def add_mark(words: argparse.ArgumentParser) -> None:
-    """Adds the options of `mark`."""
+    """Adds the options of `mark` to its parser."""
     from classroom.core import lists
     from classroom.marks import mark
 
@@ -99,7 +99,7 @@ def add_mark(words: argparse.ArgumentParser) -> None:
 
 
 def add_check(words: argparse.ArgumentParser) -> None:
-    """Adds the options of `check`."""
+    """Adds the options of `check` to its parser."""
     from classroom.setup import check
 
     words.add_argument("lab", help="the file of the lab")
@@ -107,7 +107,7 @@ def add_check(words: argparse.ArgumentParser) -> None:
 
 
 def add_demo(words: argparse.ArgumentParser) -> None:
-    """Adds the options of `demo`."""
+    """Adds the options of `demo` to its parser."""
     from classroom.run import demo
 
     words.add_argument("--into", default="runs", help="the folder in which the run's folder is made (runs)")
@@ -115,7 +115,7 @@ def add_demo(words: argparse.ArgumentParser) -> None:
 
 
 def add_play(words: argparse.ArgumentParser) -> None:
-    """Adds the options of `play`."""
+    """Adds the options of `play` to its parser."""
     from classroom.pages import play
 
     words.add_argument("run", nargs="+", metavar="FOLDER or LAB JOURNAL", help="the folder of a run; or a lab and its journal")
@@ -127,7 +127,7 @@ def add_play(words: argparse.ArgumentParser) -> None:
 
 def options_of(module: str) -> Callable[[argparse.ArgumentParser], None]:
     """Returns a function that imports `classroom.MODULE` and adds its options to a parser. The module is imported only
-    when that function is called."""
+    when the function is called."""
     def add(words: argparse.ArgumentParser) -> None:
         """Imports the module, and adds its options."""
         import_module(f"classroom.{module}").add_words(words)
@@ -167,7 +167,8 @@ def parser(asked: str | None = None) -> argparse.ArgumentParser:
 
 
 def main(words: list[str] | None = None) -> int:
-    """Runs the subcommand that the arguments name, and returns the exit status."""
+    """Runs the subcommand that the arguments name, those of the command line if `words` is None. Returns the exit
+    status."""
     given = sys.argv[1:] if words is None else words
     if given[:1] == ["--version"]:
         print(f"class {version()}")

@@ -53,7 +53,7 @@ def sizes(word: str) -> range:
 
 
 def add_words(words: argparse.ArgumentParser) -> None:
-    """Adds the arguments of `experiment`."""
+    """Adds the arguments of `experiment` to its parser."""
     words.add_argument("--family", default="path,cycle,random", metavar="F,..",
                        help=f"the networks: {networks.NAMED}; random without numbers has 1.5 links for each node (path,cycle,random)")
     words.add_argument("--nodes", type=sizes, default=range(4, 17), metavar="A..B", help="the numbers of nodes; with A..B/STEP each STEP-th number (4..16)")

@@ -38,7 +38,7 @@ SPARING = 9  # times as long as writing took they aren't written, if it takes lo
 
 
 def add_words(words: argparse.ArgumentParser) -> None:
-    """Adds the arguments of `grade`."""
+    """Adds the arguments of `grade` to its parser."""
     words.add_argument("bots", nargs="+", metavar="BOT",
                        help="a command, such as 'python3 bot.py'; the path of a slip is added to it. For bot.py, Bot.java and bot.js the name of the "
                             "file is enough")

@@ -45,7 +45,7 @@ SEED = 5503  # over seven nodes in a cycle, hurt, both nodes that it deals out n
 
 
 def add_words(words: argparse.ArgumentParser) -> None:
-    """Adds the arguments of `practise`."""
+    """Adds the arguments of `practise` to its parser."""
     words.add_argument("bots", nargs="*", metavar="BOT",
                        help="a command, such as 'python3 bot.py'; the path of a slip is added to it. Without a BOT, it waits for your program at a port")
     words.add_argument("--family", default="cycle", help=f"the network: {networks.NAMED} (cycle)")

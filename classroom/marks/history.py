@@ -65,7 +65,7 @@ class Row:
 
 
 def add_words(words: argparse.ArgumentParser) -> None:
-    """Adds the arguments of `history`."""
+    """Adds the arguments of `history` to its parser."""
     words.add_argument("folder", metavar="FOLDER", help="the folder of a run or of a class, which may be going on")
     words.add_argument("name", metavar="NAME", help="a student's name in the lab, or the teacher's")
     form = words.add_mutually_exclusive_group()

@@ -1,5 +1,5 @@
-"""Lines that are typed at the desk of a class of several networks: the networks that a line is for, and the command for
-them."""
+"""Lines that are typed at the desk of a class of several networks, such as `2: close` or `end maths-2`: the networks
+that a line is for, and the command for them."""
 from __future__ import annotations
 
 import re
@@ -21,13 +21,13 @@ HOW = "put a network's number or name before a command (`2 shake 3`, `maths-2: c
 
 
 def listed(names: Sequence[str]) -> str:
-    """Returns the networks with their numbers, as a text."""
+    """Returns the names of networks with their numbers from 1, as a text."""
     return ", ".join(f"{number} {name}" for number, name in enumerate(names, 1))
 
 
 def target(word: str, names: Sequence[str]) -> list[int] | None:
-    """Returns the indices of the networks that a word names by number, by name or as `all`. Returns None if it names
-    none."""
+    """Returns the indices of the networks that a word names: by a number from 1, by a name, or as `all`. Returns None
+    if the word names none."""
     if word == EVERY:
         return list(range(len(names)))
     if word in names:
@@ -36,8 +36,8 @@ def target(word: str, names: Sequence[str]) -> list[int] | None:
 
 
 def addressed(line: str, names: Sequence[str]) -> tuple[list[int], str]:
-    """Returns the indices of the networks that a line is for, and the command for them. Raises `ValueError` if it names
-    a missing network."""
+    """Returns the indices of the networks that a line is for, and the command for them. Raises `ValueError` if the line
+    names a missing network."""
     words = line.split()
     before = re.fullmatch(r"\s*(\S+?)\s*:\s*(.*?)\s*", line)
     if before and before[1] not in WORDS:
@@ -51,7 +51,7 @@ def addressed(line: str, names: Sequence[str]) -> tuple[list[int], str]:
 
 
 def wanted(word: str, names: Sequence[str]) -> list[int]:
-    """Returns the indices of the networks that a word names. Raises `ValueError` if it names none."""
+    """Returns the indices of the networks that a word names. Raises `ValueError` if the word names none."""
     found = target(word, names)
     if found is None:
         raise ValueError(f"there is no network {word}; there are {listed(names)}")

@@ -1,5 +1,9 @@
-"""Daemons that make a run long: the schedule of the proof, and the adversary, which searches ahead over its own
-program."""
+"""Daemons that make a run long: the *schedule*, an order of moves that the proof of the bound uses, and the
+*adversary*, which searches ahead.
+
+A *daemon* decides which chosen moves a close applies. The adversary has a process of the proved program of its own, a
+bench, on which it tries moves.
+"""
 from __future__ import annotations
 
 import random
@@ -26,23 +30,23 @@ def scheduled(rules: Mapping[int, str], nodes: Sequence[int]) -> int:
 
 
 class Adversary:
-    """Searches over its own program for the moves that make a run long."""
+    """Searches on its own bench for the moves that make a run long."""
 
     def __init__(self, seed: str, partner_of: Partner = min) -> None:
-        """`partner_of` chooses the node to marry among those that point at a node. The lowest makes runs longest, and a
-        student's client takes the highest."""
+        """`seed` determines the random choices. `partner_of` chooses the node to marry among those that point at a
+        node. The lowest makes runs longest, and a student's client takes the highest."""
         self.chance, self.partner_of = random.Random(f"{seed} adversary"), partner_of
         self.bench: Bench | None = None
         self.registers: dict[int, tuple[int | None, bool]] = {}
 
     def search_of(self, how: Daemon, rules: Mapping[int, str], seen: Callable[[], labs.Lab]) -> Search:
-        """Returns the function by which a daemon searches among nodes with these rules. `seen` returns the network with
-        its registers."""
+        """Returns the function by which the daemon `how` chooses among nodes whose chosen moves have these rules.
+        `seen` returns the network with its present registers."""
         return lambda nodes: [scheduled(rules, nodes)] if how.kind == "schedule" else self.choose(seen(), nodes)
 
     def choose(self, made: labs.Lab, chosen: Sequence[int]) -> list[int]:
-        """Returns the nodes whose moves a close is to apply: one of those with a chosen move, or all. `made` is the
-        network with its registers."""
+        """Returns the nodes whose moves a close is to apply: one of those in `chosen`, or all of them. `made` is the
+        network with its present registers."""
         if len(chosen) < 2:
             return list(chosen)
         bench = self.bench_over(made)
@@ -59,7 +63,7 @@ class Adversary:
         return ways[worth.index(max(worth))]
 
     def bench_over(self, made: labs.Lab) -> Bench:
-        """Returns a program over the network with enough events for a search. Starts a new one if the present one has
+        """Returns a bench over the network with enough events for a search. Starts a new one if the present one has
         other links or too few events left."""
         if self.bench is None or self.bench.made.links != made.links or self.bench.events > USED * self.bench.made.events:
             self.close()
@@ -67,16 +71,17 @@ class Adversary:
         return self.bench
 
     def some(self, rules: Mapping[int, str], nodes: Sequence[int]) -> list[int]:
-        """Returns the nodes, or only some if they are many: the one that is next by the schedule, and others drawn at
-        random."""
+        """Returns at most FIRST of these nodes: the one that is next by the schedule, and others, which are drawn at
+        random if they are many."""
         first = scheduled(rules, nodes)
         others = [node for node in nodes if node != first]
         return [first, *(others if len(others) < FIRST else self.chance.sample(others, FIRST - 1))]
 
     def value_of(self, bench: Bench, report: dict[str, Any], nodes: list[int], steps: int) -> int:
-        """Returns the value of moving these nodes now, and then one node in each step by the schedule, to the end
-        or for `steps` steps. The value is the number of moves, and of privileged nodes at the end, according to
-        the program's reports. Undoes all moves afterwards, except for the number of the configuration."""
+        """Returns the value of moving these nodes now, and then one node in each step by the schedule, to the end or
+        for `steps` steps. The value is the number of moves, and of privileged nodes at the end, according to the
+        program's reports. Undoes all moves afterwards, so that only the number of the configuration in `report`
+        changes."""
         after, moves, moved = bench.step(report, nodes, self.partner_of), len(nodes), {*nodes}
         for _ in range(steps - 1):
             rules = {node: rule for node, rule in after["privileged"]}
@@ -90,7 +95,7 @@ class Adversary:
         return moves + len(after["privileged"])
 
     def close(self) -> None:
-        """Ends its program."""
+        """Ends the process of the bench."""
         if self.bench is not None:
             self.bench.close()
             self.bench = None

@@ -1,5 +1,9 @@
 """The lines that a run prints as it continues: each event, each recovery, the nodes that it waits for, and why nothing
-more is granted."""
+more is granted.
+
+The class *waits* for a node that is privileged and has no chosen move. A *recovery* is the part of a run from a fault,
+link or cut to the next stable configuration. A *grant* is the event of a move.
+"""
 from __future__ import annotations
 
 import itertools
@@ -22,7 +26,7 @@ LOOKS, PAUSE = 30, 0.1  # how often it is looked what the server says of the jou
 
 
 def report_line(report: Report) -> str:
-    """Returns a report as a line."""
+    """Returns a report as a line for people."""
     lists = {
         "pairs": [f"{a}-{b}" for a, b in report.pairs],
         "free": [str(node) for node in report.free],
@@ -37,6 +41,7 @@ class Announcer:
     """Prints the events and the state of a run, as lines."""
 
     def __init__(self, lab: labs.Lab, folder: Path, known: Follower, tell: Callable[[str], None]) -> None:
+        """Prints by `tell`. `folder` is that of the run, and `known` has its journal and its report."""
         self.lab, self.known, self.tell = lab, known, tell
         self.shown = lab.without_house()
         self.folder = folder
@@ -48,8 +53,8 @@ class Announcer:
         self.edits: list[Event] = []  # that weren't printed yet
 
     def announce_resumed(self) -> None:
-        """Counts the recovery of the class within the past events, and prints the configuration from which the
-        class continues."""
+        """Counts the present recovery along the past events, and prints the configuration from which the class
+        continues."""
         self.recount()
         self.known.ask_report()
         self.tell(f"the class goes on at configuration {self.known.report.at}, {self.events_used()}")
@@ -57,8 +62,8 @@ class Announcer:
             self.end_by("full")
 
     def recount(self) -> None:
-        """Counts the recovery of the class within the events that have passed. If the program can't be asked, says so,
-        and the next line about a stable class has no counts."""
+        """Counts the present recovery along the past events. If the program can't be asked, prints that, and the next
+        line about a stable class has no counts."""
         past = self.known.past
         try:
             Recount(self.lab, past, self.comeback).counts()
@@ -70,8 +75,8 @@ class Announcer:
             self.comeback.miss()
 
     def event(self, news: News) -> None:
-        """Prints an event unless it is a grant. A fault, link or cut is printed together with those after it. Prints
-        the counts of the recovery if a close ended it."""
+        """Prints the line of an event. Grants have no line. Faults, links and cuts are kept for `tell_edits`. If a
+        close ends the recovery, prints its counts too."""
         event = news.event
         if event.is_edit:
             self.comeback.edit(event)
@@ -85,8 +90,7 @@ class Announcer:
             self.tell_event(event.at, wording.edit(event))
 
     def tell_edits(self) -> None:
-        """Prints the faults, links and cuts that haven't been printed yet. Those of one kind that follow each other are
-        one line."""
+        """Prints the faults, links and cuts that were kept. Those of one kind that follow each other have one line."""
         edits, self.edits = self.edits, []
         for _, same in itertools.groupby(edits, key=lambda event: event.kind):
             events = list(same)
@@ -106,12 +110,12 @@ class Announcer:
             self.end_by("full")
 
     def events_used(self) -> str:
-        """Returns the number of events and their limit."""
+        """Returns the number of events and their limit, as a text."""
         return f"events {self.known.count} of {self.lab.events}"
 
     def tell_event(self, at: int, what: str) -> None:
-        """Prints the line of an event: the number of the configuration after it, what happened, the moves beside their
-        bound, and the events. The number of privileged nodes is added if the report is of that configuration."""
+        """Prints the line of an event: the number `at` of the configuration after it, what happened, the moves beside
+        their bound, and the events. The number of privileged nodes is added if the report is of that configuration."""
         known = self.known
         most = bounds.told(len(self.lab.nodes), len(self.lab.links) + known.book.links)
         limit = f" of at most {most.moves}" if most else ""
@@ -120,7 +124,8 @@ class Announcer:
         self.tell(f"configuration {at}: {what}; {now}{known.book.since}{limit} moves; {self.events_used()}")
 
     def count_close(self, event: Event, moved: list[int], before: Report) -> None:
-        """Counts a close. If it ended the recovery of the class, prints the counts of the recovery."""
+        """Counts a close in the recovery. `moved` are the nodes that moved, and `before` is the report before the
+        close. If the close ended the recovery, prints the counts."""
         report = self.known.report
         if (before.at, report.at) != (event.at, event.at + 1):
             self.comeback.miss()
@@ -131,7 +136,7 @@ class Announcer:
             self.tell(told)
 
     def waiting(self) -> list[str]:
-        """Returns the nodes that are privileged and have no chosen move, each with its owners and its rule."""
+        """Returns a text for each node that the class waits for, with its owners and its rule."""
         return [f"{node} ({' and '.join(self.shown.owners(node))}): {rule}" for node, rule in self.known.waiting()]
 
     def tell_waiting(self) -> None:
@@ -148,7 +153,8 @@ class Announcer:
         self.tell(f"waiting for {', '.join(self.told_waiting) or 'nobody'}")
 
     def end_by(self, word: str) -> None:
-        """Prints that nothing is granted any longer, and the remedy. Ends the run."""
+        """Ends the run because nothing is granted any longer. `word` is the server's refusal, `full` or `journal`.
+        Prints the reason and the remedy."""
         if self.over:
             return
         self.over = word
@@ -159,8 +165,8 @@ class Announcer:
         self.tell(f"nothing more is granted: {what}")
 
     def why_full(self) -> str:
-        """Returns the remedy if all events of the lab are used. Without the host's program it doesn't say how many a lab
-        may have."""
+        """Returns the remedy if all events of the lab are used, as the end of a line. Without the host's program the
+        text doesn't say how many a lab may have."""
         known = limits.known()
         if known and self.lab.events >= known.events:
             return ", the most that a lab may have; continue with a new lab"
@@ -168,8 +174,8 @@ class Announcer:
         return f"; raise `events` in {self.folder}/lab.toml{most}, then {self.go_on} --again"
 
     def why_journal(self) -> str:
-        """Returns why the journal takes no more lines, and the remedy. The server reports within a moment what happened
-        to the file. If it reports nothing, no line could be written."""
+        """Returns why the journal takes no more lines, and the remedy. Waits a few seconds for the server to report
+        what happened to the file. If it reports nothing, no line could be written."""
         for _ in range(LOOKS):
             lost = self.lost_journal()
             if lost:

@@ -1,4 +1,5 @@
-"""`./class attach`: takes the desk of a class whose `run` has ended or has lost its terminal, and continues the run."""
+"""`./class attach`: takes the desk of a class whose `run` has ended or has lost its terminal, and continues the run.
+The *desk* is the teacher's connection to the server, with the terminal at which commands are typed."""
 from __future__ import annotations
 
 import argparse
@@ -23,7 +24,7 @@ PATIENCE = 60.0  # seconds in which a `run` without its terminal leaves the desk
 
 
 def add_words(words: argparse.ArgumentParser) -> None:
-    """Adds the options of `attach`."""
+    """Adds the options of `attach` to its parser."""
     words.add_argument("folder", metavar="FOLDER", help="the folder of the run or of the class")
     add_desk_words(words)
     words.set_defaults(work=attach)
@@ -45,7 +46,8 @@ def wait_for_desk(folder: Path, record: Record) -> None:
 
 
 def attach(words: argparse.Namespace) -> int:
-    """Takes the desk of the run in a folder."""
+    """Takes the desk of the run in the folder that the arguments name, and runs it to its end. Returns the exit status.
+    Raises `Fault` if there is no such desk."""
     folder = Path(words.folder)
     if is_class(folder):
         return class_again.hold_again(words, folder)

@@ -1,4 +1,9 @@
-"""A run from its first step to its last: steps are closed, and typed commands are run."""
+"""A run from its first step to its last: steps are closed, and typed commands are run. It also watches the room for the
+journal, on the disk and by the limit on the size of files.
+
+The *desk* is the teacher's connection to the server. The functions return the reason for the end of a run as a word,
+which is empty while the run continues.
+"""
 from __future__ import annotations
 
 import contextlib
@@ -29,7 +34,8 @@ LINE = 101  # bytes of a journal's line at most
 
 
 def pause(how: Closing) -> float:
-    """Returns how many seconds to wait for a typed line before the next check whether to close a step."""
+    """Returns how many seconds to wait for a typed line before the next check whether a step is to be closed by the
+    daemon `how`."""
     return min(TICK, max(how.value / 4, 0.01)) if how.kind in ("every", "when-idle") else TICK
 
 
@@ -38,8 +44,8 @@ AGAIN_ROOM = ("the disk has room again. If a line couldn't be written, the journ
 
 
 def disk_line(left: int, why: str) -> tuple[str, str]:
-    """Returns how much room a disk with `left` free bytes has (`little`, `full` or an empty text), and the line to
-    print. `why` is the reason if nothing can be written, and empty otherwise."""
+    """Returns the state of a disk with `left` free bytes (`little`, `full` or an empty text), and the line to print
+    about it. `why` is the reason if nothing can be written, and empty otherwise."""
     if left > 0 and not why:
         return ("little", f"the disk has little room: {left} bytes are left") if left < LITTLE else ("", "")
     what = f"takes nothing ({why})" if why else "is full"
@@ -48,7 +54,7 @@ def disk_line(left: int, why: str) -> tuple[str, str]:
 
 
 def limit_of(process: int) -> int | None:
-    """Returns the limit on the size of a process's files in bytes (ulimit -f), or None if it has no limit or it can't
+    """Returns the limit on the size of a process's files in bytes (ulimit -f), or None if there is no limit or it can't
     be read."""
     try:
         limit = resource.prlimit(process, resource.RLIMIT_FSIZE)[0]
@@ -58,8 +64,8 @@ def limit_of(process: int) -> int | None:
 
 
 def limit_line(left: int, folder: Path) -> tuple[str, str]:
-    """Returns how much room a journal has that may grow by `left` bytes (`little`, `full` or an empty text), and
-    the line to print."""
+    """Returns the state of a journal that may grow by `left` bytes (`little`, `full` or an empty text), and the line to
+    print about it. `folder` is that of the run."""
     how = f"(ulimit -f): end the run, and continue with {CLASS} run --resume {folder} without such a limit"
     if left >= LITTLE:
         return "", ""
@@ -69,7 +75,7 @@ def limit_line(left: int, folder: Path) -> tuple[str, str]:
 
 
 def unlinked_file(folder: Path) -> IO[bytes] | None:
-    """Returns an unlinked file on the disk of a folder, or None if none can be made."""
+    """Returns an open file without a name on the disk of a folder, or None if none can be made."""
     try:
         return tempfile.TemporaryFile(buffering=0, dir=folder)
     except OSError:
@@ -77,25 +83,26 @@ def unlinked_file(folder: Path) -> IO[bytes] | None:
 
 
 class Room:
-    """Checks the room on the disk for a journal's lines, and the limit on the server's files."""
+    """The room for a journal's lines: on the disk, and by the limit on the size of the server's files."""
 
     def __init__(self, folder: Path, server: int | None = None) -> None:
+        """`folder` is that of the run, and `server` the number of the server's process."""
         self.folder, self.server = folder, server
         self.due, self.told, self.told_limit = 0.0, "", ""
         self.file = unlinked_file(folder)
 
     def close(self) -> None:
-        """Closes the file that tests whether the disk can be written to."""
+        """Closes the file by which writing is tested."""
         if self.file is not None:
             self.file.close()
 
     def left(self) -> int:
-        """Returns the number of free bytes."""
+        """Returns the number of free bytes on the disk of the run's folder."""
         disk = os.statvfs(self.folder)
         return disk.f_bavail * disk.f_frsize
 
     def write_error(self) -> str:
-        """Returns why a write fails although bytes are free, for example a quota. Returns an empty text if it
+        """Returns why a test write to the disk fails, for example because of a quota. Returns an empty text if it
         succeeds."""
         if self.file is None:
             return ""
@@ -107,7 +114,7 @@ class Room:
         return ""
 
     def news(self) -> list[str]:
-        """Returns the lines about changes of the disk or the limit: little room, no room, or room again. Checks at most
+        """Returns the lines about changes since the last check: little room, no room, or room again. Checks at most
         once a second."""
         now = time.monotonic()
         if now < self.due:
@@ -116,8 +123,7 @@ class Room:
         return [*self.disk_news(), *self.limit_news()]
 
     def disk_news(self) -> list[str]:
-        """Returns a line if the disk has less room than at the last check, little or none, or has room again after
-        it was full."""
+        """Returns a line if the state of the disk has changed to little room, to none, or from none to enough."""
         left = self.left()
         kind, line = disk_line(left, self.write_error() if left >= LITTLE else "")
         before, self.told = self.told, kind
@@ -126,8 +132,7 @@ class Room:
         return [line] if line else [AGAIN_ROOM] if before == "full" else []
 
     def limit_news(self) -> list[str]:
-        """Returns a line if the limit on files leaves less room for the journal than at the last check, little or
-        none."""
+        """Returns a line if the limit on the size of files has come to leave little room for the journal, or none."""
         limit = limit_of(self.server) if self.server is not None else None
         journal = self.folder / "journal"
         left = LITTLE if limit is None or not journal.exists() else limit - journal.stat().st_size
@@ -137,8 +142,8 @@ class Room:
 
 
 def turn(desk: Desk, room: Room, until_stable: bool) -> str:
-    """Reads new events, lets the house play, and prints each piece of news as a line. Greets again first if the desk
-    was lost. Returns why the run ends, or an empty text if it continues."""
+    """Reads new events, lets the house play, and prints all news of a desk. Connects to the desk first if its
+    connection was lost. Returns the reason if the run ends, and an empty text otherwise."""
     if not desk.reconnect():
         return ""
     desk.read()
@@ -159,7 +164,7 @@ def turn(desk: Desk, room: Room, until_stable: bool) -> str:
 
 
 def check_clock(desk: Desk, clock: Clock) -> bool:
-    """Prints the warnings before the end of the lesson, and the end. Returns whether the lesson is over."""
+    """Prints at the desk the warnings before the end of the lesson, and the end. Returns whether the lesson is over."""
     now = datetime.now()
     if warning := clock.warning(now):
         desk.tell(warning)
@@ -169,7 +174,7 @@ def check_clock(desk: Desk, clock: Clock) -> bool:
 
 
 def next_typed(typed: Typed, seconds: float) -> str | None:
-    """Returns the next typed line, if one comes within `seconds`."""
+    """Returns the next typed line, or None if none comes within `seconds`."""
     try:
         return typed.get(timeout=seconds)
     except queue.Empty:
@@ -177,7 +182,8 @@ def next_typed(typed: Typed, seconds: float) -> str | None:
 
 
 def run_typed(desk: Desk, line: str | None, hung: Callable[[], None]) -> str:
-    """Runs a typed line, if there is one. Returns the reason if the line ends the run, and an empty text otherwise."""
+    """Runs a typed line at the desk, if there is one. Calls `hung` if the line says that the terminal is closed.
+    Returns the reason if the line ends the run, and an empty text otherwise."""
     if line is None:
         return ""
     if line == HUNG:

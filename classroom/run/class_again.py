@@ -1,5 +1,5 @@
-"""A class of several networks whose desk has ended: `attach` takes its desks over, and `run --resume` also starts the
-servers that have ended."""
+"""A class of several networks whose desk has ended: `attach` takes over the desks of its networks, and `run --resume`
+also starts the servers that have ended."""
 from __future__ import annotations
 
 import argparse
@@ -19,8 +19,8 @@ PATIENCE = 60.0  # seconds in which a process that has lost its terminal has to 
 
 
 def wait_for_desks(folder: Path, kept: Class) -> None:
-    """Waits until no process holds the desks of a class. A process that has lost its terminal is asked to leave them.
-    Raises a fault if another process holds them."""
+    """Waits until no process holds the desks of the class in a folder. A process that has lost its terminal is asked to
+    leave them. Raises `Fault` if another process holds them."""
     if not kept.desk.lives():
         return
     if not kept.left:
@@ -34,8 +34,8 @@ def wait_for_desks(folder: Path, kept: Class) -> None:
 
 
 def begin(member: Member, several: Several, again: bool, starts: bool) -> None:
-    """Takes the desk of a network. Starts the network's server first if it has ended and `starts` is set. If the run was
-    ended on purpose, it is opened only if `again` is set too. Otherwise a network without a server is marked as down."""
+    """Takes the desk of a network in a class. If its server has ended, starts it first if `starts` is set, and if its
+    run wasn't ended on purpose or `again` is set. Otherwise marks the network as ended or as down."""
     record = Record.read(member.folder)
     if record is not None and record.ended and not record.goes_on() and not (starts and again):
         member.status = ENDED
@@ -48,7 +48,7 @@ def begin(member: Member, several: Several, again: bool, starts: bool) -> None:
 
 
 def hold_again(words: argparse.Namespace, folder: Path) -> int:
-    """Takes over the desk of a class, and runs it to its end."""
+    """Takes over the desk of the class in a folder, and runs it to its end. Returns the exit status."""
     kept = Class.read(folder)
     assert kept is not None
     wait_for_desks(folder, kept)
@@ -62,7 +62,7 @@ def hold_again(words: argparse.Namespace, folder: Path) -> int:
     members = members_of(folder, kept.networks, words, news)
 
     def start(several: Several) -> None:
-        """Takes the desk of each network, or starts its server."""
+        """Takes the desk of each network, after starting its server if needed."""
         for member in members:
             begin(member, several, again, starts)
 

@@ -13,7 +13,7 @@ LATEST = timedelta(hours=12)  # An hour that is over counts as tomorrow's if tha
 
 
 def hour(word: str) -> str:
-    """Returns the time of day that an argument names, as `10:45`."""
+    """Returns the time of day in an argument such as `10:45`. Raises `ArgumentTypeError` for any other text."""
     found = re.fullmatch(r"(\d{1,2}):(\d\d)", word, re.ASCII)
     if not found or int(found[1]) > 23 or int(found[2]) > 59:
         raise argparse.ArgumentTypeError(f"{word} isn't a time of day: write it as 10:45")
@@ -21,8 +21,8 @@ def hour(word: str) -> str:
 
 
 def next_time(word: str, now: datetime) -> datetime:
-    """Returns the next date with that time of day. Raises `ValueError` if it has passed today, and tomorrow's is more
-    than LATEST away."""
+    """Returns the first date from `now` on that has this time of day. Raises `ValueError` if it is more than LATEST
+    away."""
     hours, minutes = map(int, word.split(":"))
     end = now.replace(hour=hours, minute=minutes, second=0, microsecond=0)
     end = end if end > now else end + timedelta(days=1)
@@ -32,8 +32,8 @@ def next_time(word: str, now: datetime) -> datetime:
 
 
 def kept_end(text: str | None, now: datetime) -> datetime | None:
-    """Returns the time at which a run is to end, from `text`, which its folder keeps. Returns None if `text` isn't a
-    local time, or if this time has come."""
+    """Returns the time in `text`, at which a run is to end, as its folder keeps it. Returns None if `text` is None or
+    isn't a local time, or if this time has come."""
     try:
         end = datetime.fromisoformat(text) if text else None
     except ValueError:
@@ -42,7 +42,9 @@ def kept_end(text: str | None, now: datetime) -> datetime | None:
 
 
 def end_of(word: str | None, before: str | None = None) -> datetime | None:
-    """Returns the end of the lesson: the one in the options, or the one that the continuing run has in its folder."""
+    """Returns the end of the lesson: the one that the option `word` names, or else `before`, which the folder of a
+    continuing run keeps. Returns None if there is neither, or if `before` has come. Raises `Fault` if the time of the
+    option has passed."""
     now = datetime.now()
     try:
         return next_time(word, now) if word else kept_end(before, now)
@@ -54,18 +56,19 @@ class Clock:
     """Warns before the end of a lesson, and reports the end."""
 
     def __init__(self, end: datetime, begun: datetime) -> None:
-        """Begins at `begun`. Warnings whose time has passed by then are left out."""
+        """`end` is the end of the lesson, and `begun` the present time. Warnings that were due before that are left
+        out."""
         self.end = end
         self.left = [minutes for minutes in WARNINGS if end - timedelta(minutes=minutes) >= begun]
 
     def warning(self, now: datetime) -> str:
-        """Returns the line of the last warning that is due, or an empty text."""
+        """Returns the line of the last warning that is due, once, or an empty text."""
         due = [minutes for minutes in self.left if now >= self.end - timedelta(minutes=minutes)]
         self.left = [minutes for minutes in self.left if minutes not in due]
         return f"the lesson ends at {self.end:%H:%M}, in {plural(due[-1], 'minute')}" if due and not self.is_over(now) else ""
 
     def is_over(self, now: datetime) -> bool:
-        """Returns whether the end has come."""
+        """Returns whether the end of the lesson has come."""
         return now >= self.end
 
     def told(self) -> str:

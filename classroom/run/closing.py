@@ -1,4 +1,5 @@
-"""The daemon that closes the steps of a run at its desk."""
+"""The daemon that closes the steps of a run at its desk. A *daemon* decides when a step is closed, and which of the
+granted moves it applies."""
 from __future__ import annotations
 
 from pathlib import Path
@@ -14,12 +15,14 @@ mode = daemon
 
 
 def closing(word: str) -> Closing:
-    """Returns the daemon that a word names, with SECONDS if it names no seconds."""
+    """Returns the daemon that a word such as `every:5` names. If the word has no number of seconds, they are
+    SECONDS."""
     return Daemon.of(word, SECONDS)
 
 
 def kept(folder: Path, record: Record) -> Closing:
-    """Returns the daemon of a continuing run from its folder."""
+    """Returns the daemon of a continuing run, from the record in its folder. Raises `Fault` if the record names
+    none."""
     try:
         return closing(record.close)
     except ValueError as error:
@@ -27,5 +30,5 @@ def kept(folder: Path, record: Record) -> Closing:
 
 
 def spelled(how: Closing) -> str:
-    """Returns the name of the daemon, as it is typed."""
+    """Returns the word that names the daemon, as it is typed."""
     return how.spelled()

@@ -1,4 +1,6 @@
-"""The connections to a port of this machine, as far as the system reports them (only on Linux)."""
+"""The connections to a port of this machine, as far as the system reports them (only on Linux). A connection has two
+*ends*, the server's and the client's, each a socket with a port and a number. A connection takes a *seat* at the
+server."""
 from __future__ import annotations
 
 import os
@@ -16,14 +18,16 @@ Row = tuple[int, int, str, str]
 
 
 def rows() -> Iterator[Row]:
-    """Yields each of the system's TCP sockets over IPv4: its own port, the other end's, its state, its number."""
+    """Yields each of the system's TCP sockets over IPv4 with its own port, the other end's port, its state and its
+    number."""
     for line in (PROC / "net/tcp").read_text(encoding="ascii").splitlines()[1:]:
         _, own, other, state, *_, = words = line.split()
         yield int(own.rpartition(":")[2], 16), int(other.rpartition(":")[2], 16), state, words[9]
 
 
 def leads_to(end: Path, wanted: str) -> bool:
-    """Returns whether a process's descriptor is the wanted socket. Returns false if it has been closed."""
+    """Returns whether the descriptor `end` of a process, a path in /proc, is the wanted socket. Returns false if the
+    descriptor has been closed."""
     try:
         return os.readlink(end) == wanted
     except FileNotFoundError:
@@ -31,8 +35,8 @@ def leads_to(end: Path, wanted: str) -> bool:
 
 
 def owner(number: str) -> str:
-    """Returns the process that has the client's end of a connection, found by its socket's number. If it belongs to
-    another user or another machine, returns a text for someone from elsewhere."""
+    """Returns a text with the process that has the socket with this number. If no process of this user and machine has
+    it, returns ELSEWHERE."""
     wanted = f"socket:[{number}]"
     for process in PROC.iterdir():
         if not process.name.isdecimal():
@@ -46,13 +50,13 @@ def owner(number: str) -> str:
 
 
 class Connected:
-    """Prints the connections that begin and end at the students' port."""
+    """Notes which connections to the students' port begin and end."""
 
     def __init__(self, port: int, seats: int, but: int, names: dict[int, str] | None = None,
                  tells: bool = True) -> None:
-        """`seats` is the number of seats, and `but` the port of the desk's own end, which isn't counted. `names` has
-        the clients that are known otherwise than by a process, by the port of their end. If a record shows connections,
-        `tells` is false, and only full seats are reported here."""
+        """`port` is the students' port, `seats` the number of seats, and `but` the port of the desk's own end, which
+        isn't counted. `names` has texts for clients that are known otherwise than by a process, by the port of their
+        end. If a record shows connections, `tells` is false, and only full seats are reported here."""
         self.port, self.seats, self.but, self.tells = port, seats, but, tells
         self.names = {} if names is None else names
         self.known: dict[int, str] = {}
@@ -61,7 +65,7 @@ class Connected:
 
     def news(self) -> list[str]:
         """Returns lines about the connections that began or ended since the last check, and a line if all seats are
-        taken."""
+        taken. Checks at most once a second."""
         now = time.monotonic()
         if now < self.due:
             return []
@@ -72,8 +76,8 @@ class Connected:
             return []
 
     def look(self) -> list[Row]:
-        """Returns the system's connections. Its list isn't of one moment, so it is read again, a few times, while a
-        newcomer's own end is missing. Connections from other machines have none here."""
+        """Returns the system's sockets. The system's list isn't of one moment, so it is read again, a few times, while
+        a new connection lacks its client's end. Clients on other machines have none in it."""
         for _ in range(READINGS):
             found = list(rows())
             if not self.tells or self.client_ports(found) <= self.client_sockets(found).keys() | self.known.keys():
@@ -82,15 +86,16 @@ class Connected:
         return found
 
     def client_sockets(self, found: list[Row]) -> dict[int, str]:
-        """Returns the sockets of the clients' ends on this machine, by port."""
+        """Returns the numbers of the sockets that are clients' ends on this machine, by their ports."""
         return {own: number for own, other, state, number in found if other == self.port and state == ESTABLISHED}
 
     def client_ports(self, found: list[Row]) -> set[int]:
-        """Returns the clients' ports without the desk's, from the server's ends."""
+        """Returns the ports of all clients, as the server's ends name them, without the desk's."""
         return {other for own, other, state, _ in found if own == self.port and state == ESTABLISHED} - {self.but}
 
     def changes(self, found: list[Row]) -> list[str]:
-        """Returns lines about the connections that began or ended, and a line if all seats are taken."""
+        """Returns lines about the connections that began or ended since the last call, and a line if all seats are
+        taken."""
         ends, here = self.client_sockets(found), self.client_ports(found)
         gone = [self.known.pop(port) for port in sorted(self.known.keys() - here)]
         come = sorted(here - self.known.keys())
@@ -104,7 +109,8 @@ class Connected:
         return lines
 
     def process(self, number: str | None) -> str:
-        """Returns the process of a connection, found by its socket's number, or a text for someone from elsewhere."""
+        """Returns a text with the process that has the socket with this number. If there is no such socket or process,
+        returns ELSEWHERE."""
         return owner(number) if self.tells and number is not None else ELSEWHERE
 
     def count(self) -> int:
@@ -115,6 +121,6 @@ class Connected:
             return 0
 
     def who(self) -> str:
-        """Returns the number of seats that are taken, and their holders in the order in which they came."""
+        """Returns a text with the number of seats that are taken, and their holders in the order in which they came."""
         names = [self.names.get(port, who) for port, who in self.known.items()]
         return f"{len(self.known)} of {self.seats} seats: {', '.join(names) or 'nobody'}"

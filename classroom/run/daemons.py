@@ -1,5 +1,5 @@
-"""Daemons that close steps from outside: they decide when a step is closed, and which of the chosen moves it
-applies."""
+"""Daemons, which decide when a step is closed, and which of the chosen moves it applies. A *chosen* move was granted
+and waits for the close, and a *privileged* node is one that can move."""
 from __future__ import annotations
 
 import argparse
@@ -24,7 +24,8 @@ class Daemon:
 
     @staticmethod
     def of(word: str, seconds: float = 2.0) -> Daemon:
-        """Returns the daemon that a word names. `seconds` is the default for `every` and `when-idle`."""
+        """Returns the daemon that a word names, such as `random:0.5`. `seconds` is the default for `every` and
+        `when-idle`. Raises `ValueError` for any other word."""
         found = re.fullmatch(r"(random|every|when-idle)(?::(\d+(?:\.\d+)?))?", word)
         if word in PLAIN:
             return Daemon(word)
@@ -38,7 +39,7 @@ class Daemon:
 
 
 def daemon(word: str) -> Daemon:
-    """Returns the daemon that an argument names."""
+    """Returns the daemon that an argument names. Raises `ArgumentTypeError` if it names none."""
     try:
         return Daemon.of(word)
     except ValueError as error:
@@ -46,7 +47,8 @@ def daemon(word: str) -> Daemon:
 
 
 def daemons(word: str) -> list[Daemon]:
-    """Returns the daemons that an argument names, separated by commas."""
+    """Returns the daemons that an argument names, separated by commas. Raises `ArgumentTypeError` if a part names
+    none."""
     return [daemon(each) for each in word.split(",")]
 
 
@@ -66,15 +68,16 @@ class Sight:
 
 
 def heads(nodes: Sequence[int], probability: float, chance: random.Random) -> list[int]:
-    """Returns the nodes whose coins show heads, with this probability. If all show tails, returns one node."""
+    """Tosses a coin for each node, which shows heads with this probability. Returns the nodes with heads, or one random
+    node if there are none."""
     found = [node for node in nodes if chance.random() < probability]
     return found or [chance.choice(list(nodes))]
 
 
 def applied(how: Daemon, sight: Sight, chance: random.Random, patience: float, search: Search = list) -> list[int]:
-    """Returns the nodes whose moves a close applies now, or none. The other chosen moves are released first. The random
-    daemon tosses, and a searching daemon searches, once each privileged node has a move, or none has come for
-    `patience` seconds."""
+    """Returns the nodes whose moves a close applies now, or none if no step is closed yet. The other chosen moves are
+    released before the close. The random daemon tosses coins, and a searching daemon calls `search`, once each
+    privileged node has a chosen move, or none was granted for `patience` seconds."""
     if not sight.chosen:
         return []
     if how.kind == "central":
@@ -92,7 +95,8 @@ def applied(how: Daemon, sight: Sight, chance: random.Random, patience: float, s
 
 
 def movers(how: Daemon, privileged: Sequence[int], chance: random.Random, search: Search = list) -> list[int]:
-    """Returns the privileged nodes that move in the next step, if each of them asks at once, as in an experiment."""
+    """Returns the privileged nodes that move in the next step under a daemon, if each of them asks at once, as in an
+    experiment. A searching daemon calls `search`."""
     if how.kind == "central":
         return [chance.choice(list(privileged))]
     if how.kind == "random":
@@ -103,9 +107,9 @@ def movers(how: Daemon, privileged: Sequence[int], chance: random.Random, search
 
 
 def in_time(how: Daemon, nodes: Sequence[int], chance: random.Random) -> list[int]:
-    """Simulates one step of a timed daemon. Each node asks after a random time, one second on average. Returns the
-    nodes that have asked when the step closes: under `every`, at the first tick after a request; under `when-idle`,
-    once nobody has asked for `how.value` seconds."""
+    """Simulates one step under a timed daemon. Each node asks after a random time, one second on average. Returns the
+    nodes that have asked when the step is closed: under `every`, at the first tick after a request; under `when-idle`,
+    once no node has asked for `how.value` seconds."""
     asks = sorted((chance.expovariate(1.0), node) for node in nodes)
     first = end = asks[0][0]
     if how.kind == "every" and how.value:

@@ -1,4 +1,4 @@
-"""`./class demo`: a class in a box."""
+"""`./class demo`: a whole class on this machine, with programs that play the students."""
 from __future__ import annotations
 
 import argparse
@@ -21,7 +21,8 @@ SIGNALS = (signal.SIGINT, signal.SIGTERM)
 
 
 def bots_of(lab: labs.Lab, port: int, room: Path) -> list[subprocess.Popen[bytes]]:
-    """Writes the slips of a lab, and starts a bot for each student."""
+    """Writes the slips of a lab into a folder, and starts a bot for each student, which connects to the port. Returns
+    the processes."""
     slips.write_all(lab, Way(port, "demo"), room / "slips")
     return [
         subprocess.Popen([sys.executable, TOP / "examples/bot.py", room / "slips" / f"{name}.slip"],
@@ -31,7 +32,8 @@ def bots_of(lab: labs.Lab, port: int, room: Path) -> list[subprocess.Popen[bytes
 
 
 def demo(words: argparse.Namespace) -> int:
-    """Calls `run` over the cycle of `examples/`, with a bot for each of its four students, until it is stable."""
+    """Calls `run` over the cycle of `examples/`, with a bot for each of its four students, until it is stable. Returns
+    the exit status."""
     if not LAB.exists():
         raise Fault("this is the archive for students: it has no finished bots to show; ./class practise bot.py tries yours")
     server.require_built(False)

@@ -1,4 +1,8 @@
-"""The teacher's desk: its connection, the teacher's words, and what is shown and printed as the run goes on."""
+"""The teacher's desk: its connection to the server, the commands that the teacher types, and the lines and pages that
+show how the run goes on.
+
+The *house* plays for absent students. The class *waits* for a node that is privileged and has no chosen move.
+"""
 from __future__ import annotations
 
 from collections.abc import Callable
@@ -23,9 +27,10 @@ from classroom.setup.shaking import Registers, longest_start, pairs_of, shaken
 
 
 class Desk:
-    """Runs the teacher's commands."""
+    """The desk of a run: reads its events, prints them, and runs the teacher's commands."""
 
     def __init__(self, lab: labs.Lab, journal: Path, client: Client, how: Closing, tell: Callable[[str], None]) -> None:
+        """`client` is the desk's connection, `how` the daemon that closes steps, and `tell` prints a line."""
         self.lab, self.tell, self.closing = lab, tell, how
         self.known = Follower(lab, journal, client)
         self.announcer = Announcer(lab, journal.parent, self.known, tell)
@@ -62,7 +67,7 @@ class Desk:
         return self.known.client
 
     def reconnect(self) -> bool:
-        """Connects to the desk again if its connection was lost. Returns whether the desk is connected."""
+        """Connects to the desk again if its connection was lost. Returns whether the desk is connected now."""
         if not self.lost:
             return True
         try:
@@ -74,7 +79,7 @@ class Desk:
         return True
 
     def use_connection(self, client: Client) -> None:
-        """Makes the desk, the page and the list of connections use another connection."""
+        """Makes the desk, its page and its list of connections use another connection to the desk."""
         self.known.client = client
         if self.watch:
             self.watch.client = client
@@ -83,15 +88,15 @@ class Desk:
         self.lost, self.known.is_old = "", True
 
     def give_up_connection(self, error: Closed) -> None:
-        """Closes a connection that has failed or on which a reply is late. The desk connects again while the
-        server runs."""
+        """Closes a connection that has failed by this error, or on which a reply is late. `reconnect` makes another
+        one."""
         self.lost = str(error)
         self.client.hang_up()
         self.tell(f"the desk: {error}; saying hello again")
 
     def catch_up(self) -> None:
-        """Counts the events that the journal has already. Prints none of them, only the configuration from which the
-        class continues."""
+        """Counts the events that the journal has already. Prints only the configuration from which the class
+        continues."""
         self.known.catch_up()
         if self.heard:
             self.heard.catch_up(self.known.last_step)
@@ -117,7 +122,7 @@ class Desk:
             self.announcer.end_by("journal")
 
     def start_watch(self) -> Watch:
-        """Returns the data for the pages, beginning with all past events. The desk keeps them up to date from now
+        """Returns the data for the pages, beginning with all past events. `read` keeps the data up to date from now
         on."""
         self.watch = Watch(self.lab, self.client, self.known.report, spelled(self.closing))
         for event in self.known.past:
@@ -125,7 +130,7 @@ class Desk:
         return self.watch
 
     def stand_in(self) -> None:
-        """Lets the house play for absent students: one move at a time, if a step applies one."""
+        """Lets the house ask for moves that the class waits for: for one at a time, if a close applies one."""
         if self.house is None or self.known.is_old or self.announcer.over:
             return
         self.house.begun = self.heard is None or self.heard.came
@@ -134,8 +139,8 @@ class Desk:
         self.house.turn(waiting, len(waiting) if not is_central else 0 if self.known.book.chosen else 1)
 
     def close(self) -> None:
-        """Closes a step. If no node is chosen, prints whom the class waits for. If no more events are granted,
-        ends the run."""
+        """Closes a step. If no move is chosen, prints for whom the class waits. If no more events are granted, ends the
+        run."""
         try:
             self.client.close()
         except Denied as denied:
@@ -149,7 +154,8 @@ class Desk:
             self.announcer.end_by(refused.word)
 
     def command(self, line: str) -> bool:
-        """Runs a command of the teacher. Returns false if it ends the run."""
+        """Runs a line that the teacher has typed. Returns false if it ends the run. Prints what is wrong if the line
+        can't be run."""
         if line == EOF:
             self.tell("to end the run, type `end`")
             return True
@@ -170,8 +176,8 @@ class Desk:
         return True
 
     def confirm_end(self, asked: bool) -> bool:
-        """Returns whether `end` ends the run. If the run isn't stable, `end` has to be typed twice, and the first
-        time a line says so. `asked` is set if the line before was `end` too."""
+        """Returns whether a typed `end` ends the run. If the run isn't stable, `end` has to be typed twice, and the
+        first time a line says so. `asked` is set if the line before was `end` too."""
         self.known.ask_report()
         if asked or self.known.report.stable:
             return True
@@ -180,7 +186,7 @@ class Desk:
         return False
 
     def ask(self, word: str, rest: list[str]) -> None:
-        """Sends the request of a command with the values that were typed."""
+        """Sends the request of a command, with the values that were typed after its word."""
         self.client.ask(**request(word, rest))
 
     def tell_report(self) -> None:
@@ -189,8 +195,8 @@ class Desk:
         self.tell(f"{report_line(self.known.report)}; {self.announcer.events_used()}")
 
     def tell_who(self) -> None:
-        """Prints who is connected, who asks without success, and who hasn't moved. Without a record, prints only
-        processes."""
+        """Prints who is connected, who asks without success, and who hasn't moved. If there is no record, prints only
+        the processes that are connected."""
         if self.connected and self.heard:
             self.heard.read()
             self.heard.forget_before(self.known.last_step)
@@ -206,8 +212,8 @@ class Desk:
             self.tell(self.house.told())
 
     def house_for(self, name: str) -> House:
-        """Returns the house for playing a student's nodes. Raises `ValueError` with the reason if there is no
-        house."""
+        """Returns the house, which is to play the nodes of the student `name`. Raises `ValueError` with the reason if
+        it can't."""
         if self.house is None and self.lab.held():
             raise ValueError("the house can't play in a run with --serve")
         if self.house is None:
@@ -215,35 +221,36 @@ class Desk:
         return self.house
 
     def nodes(self) -> list[int]:
-        """Returns all nodes."""
+        """Returns the identifiers of all nodes."""
         return [node.id for node in self.lab.nodes]
 
     def present_lab(self) -> labs.Lab:
-        """Returns the network with its present registers."""
+        """Returns the network with its present registers, as a lab."""
         seen = [self.client.see(node) for node in self.nodes()]
         return network([labs.Node(it.node, [], it.p, it.m) for it in seen], pairs_of(self.announcer.comeback.links))
 
     def renew_page(self) -> None:
-        """Changes the address of the page on which the teacher acts. Actions at the old address are refused from then on."""
+        """Moves the page on which the teacher acts to another address. Requests at the old one are refused from then
+        on."""
         if self.another_page is None:
             raise ValueError("there is no page: start the run with --page")
         self.another_page()
 
     def renew_key(self, name: str) -> None:
-        """Gives a student another key."""
+        """Gives the student `name` another key. Raises `ValueError` if that isn't possible."""
         if self.another_key is None:
             raise ValueError("a key can't be changed in a run with --serve")
         self.another_key(name)
 
     def close_by(self, word: str) -> None:
-        """Changes the daemon that closes steps from now on."""
+        """Lets steps be closed by the daemon that a word names from now on. Raises `ValueError` if it names none."""
         self.closing = closing(word)
         self.tell(f"steps are closed {spelled(self.closing)}")
         if self.watch:
             self.watch.present.put(closing=spelled(self.closing))
 
     def shake(self, count: str, seed: str | None = None) -> None:
-        """Sets the registers of `count` nodes, or of all, to random values drawn with a seed."""
+        """Sets the registers of `count` random nodes, or of `all`, to random values that are drawn with a seed."""
         self.set_all(shaken(self.nodes(), self.announcer.comeback.links, count, int(seed) if seed is not None else None))
 
     def set_all(self, registers: list[Registers]) -> None:

@@ -1,4 +1,5 @@
-"""The files that a run leaves in its folder: a journal of complete lines, its audit, its marks and its pages."""
+"""The files that a run leaves in its folder: a journal of complete lines, its audit, its marks and its pages. In each
+function `tell` prints a line."""
 from __future__ import annotations
 
 import os
@@ -13,8 +14,8 @@ from classroom.pages import kept_layout, play
 
 
 def put_back(journal: IO[bytes], path: Path, tell: Callable[[str], None]) -> None:
-    """Writes the content of an open journal back to its path if the file is gone, or beside it if another file is
-    there. Does nothing if the file at the path is the open one."""
+    """Writes the content of an open journal to its path again if the file there is gone, or beside it if there is
+    another file. Does nothing if the file at the path is the open one."""
     try:
         if os.path.samestat(os.fstat(journal.fileno()), path.stat()):
             return
@@ -31,7 +32,8 @@ def put_back(journal: IO[bytes], path: Path, tell: Callable[[str], None]) -> Non
 
 
 def cut_torn_end(journal: Path) -> None:
-    """Moves the incomplete end of a journal into a file beside it. Makes an empty journal if there is none."""
+    """Moves the incomplete last line of a journal into a file beside the journal. Makes an empty journal if there is
+    none."""
     content = journal.read_bytes() if journal.exists() else b""
     whole, found, torn = content.rpartition(b"\n")
     if torn or not journal.exists():
@@ -42,8 +44,8 @@ def cut_torn_end(journal: Path) -> None:
 
 
 def finish(folder: Path, tell: Callable[[str], None], brief: bool = False) -> int:
-    """Writes the audit, the page, the marks and the students' pages into the folder, and prints what they say.
-    Returns 0, or the status of what failed. If `brief` is set, prints only the file of the marks."""
+    """Writes the audit, the page, the marks and the students' pages of a run into its folder, and prints what they say.
+    Returns 0, or the status of what failed. If `brief` is set, prints only the name of the file with the marks."""
     try:
         cut_torn_end(folder / "journal")
         answer = call("audit", folder / "lab.toml", folder / "journal")

@@ -1,4 +1,6 @@
-"""The state of a run at its desk: the journal as it grows, and the report after its last event."""
+"""The state of a run at its desk, the teacher's connection: the journal as it grows, and the report after its last
+event. The *report* has the number of the configuration, the pairs, and the privileged nodes. A *grant* is the event of
+a move."""
 from __future__ import annotations
 
 import os
@@ -17,7 +19,8 @@ ASKED, PAUSE = 50, 0.1  # how often the first report is asked for, and seconds b
 
 
 def first_report(client: Client) -> Report:
-    """Returns the report at the beginning. Asks for it again if the server is out of memory."""
+    """Returns the report at the beginning. Asks for it again while the server is out of memory. Raises `Refused` if it
+    is out of memory for too long."""
     for _ in range(ASKED):
         try:
             return client.report()
@@ -29,14 +32,14 @@ def first_report(client: Client) -> Report:
 
 
 def raise_unless_memory(refused: Refused) -> None:
-    """Raises a refusal unless it is `memory`, which is temporary."""
+    """Raises a refusal unless it is `memory`, which passes."""
     if refused.word != "memory":
         raise refused
 
 
 @dataclass(frozen=True)
 class News:
-    """A new event, the nodes that moved by it, and the report before it."""
+    """A new event, the moves that it applied if it is a close, and the report before it."""
 
     event: Event
     moved: list[tuple[int, str, str]]
@@ -47,6 +50,7 @@ class Follower:
     """Follows the journal of a run, and asks at the desk for the report if an event may have changed it."""
 
     def __init__(self, lab: Lab, journal: Path, client: Client) -> None:
+        """Opens the journal, and asks for the first report on the desk's connection."""
         self.client = client
         self.journal = journal.open("rb")
         self.book = Book([*lab.without_house().students])
@@ -60,14 +64,14 @@ class Follower:
         self.past: list[Event] = []
 
     def catch_up(self) -> None:
-        """Counts the events that the journal has already."""
+        """Counts the events that the journal has already, and keeps them in `past`."""
         whole, found, self.rest = self.journal.read().rpartition(b"\n")
         self.past = events((whole + found).decode("ascii"))
         for event in self.past:
             self.take(event)
 
     def take(self, event: Event) -> list[tuple[int, str, str]]:
-        """Counts an event. Returns the nodes that moved by it."""
+        """Counts an event. Returns the moves that it applied, each with its node, student and rule."""
         self.count = event.place
         self.last_step = event.place if event.makes_configuration else self.last_step
         return self.book.add(event)
@@ -87,20 +91,20 @@ class Follower:
             yield News(event, moved, before)
 
     def rewind(self) -> None:
-        """Goes back to the beginning of an incomplete line, since the process that continues the journal removes the
-        line."""
+        """Goes back to the beginning of an incomplete last line, since the server that continues the journal removes
+        this line."""
         self.journal.seek(-len(self.rest), os.SEEK_CUR)
         self.rest = b""
 
     def is_halted(self) -> bool:
-        """Returns whether a line couldn't be written or synced. A line is written at once, so a part that stays
-        alone for seconds is all that was written. A line that wasn't synced is removed, so the file becomes
-        shorter."""
+        """Returns whether a line of the journal couldn't be written or synced. A line is written at once, so an
+        incomplete one that stays for seconds couldn't be written. A line that wasn't synced is removed, so that the
+        file becomes shorter."""
         is_torn = self.rest != b"" and time.monotonic() - self.torn_since > TORN
         return is_torn or os.fstat(self.journal.fileno()).st_size < self.journal.tell()
 
     def ask_report(self) -> None:
-        """Asks for the report. If the server is out of memory, asks again at the next turn."""
+        """Asks for the report. If the server is out of memory, keeps the old one, and `news` asks again."""
         try:
             self.report = self.client.report()
             self.is_old = False

@@ -1,4 +1,9 @@
-"""The connections and requests that the record of a running class shows: wrong keys, denied requests, and floods."""
+"""The connections and requests that the record of a running class shows: wrong keys, denied requests, and floods.
+
+The *record* has a file of entries for each *seat*, which serves one connection after another. An *entry* is a line with
+its reply, or a mark. A *place* is the number of an event, and the last *step* is the last event that made a
+configuration.
+"""
 from __future__ import annotations
 
 import time
@@ -27,15 +32,15 @@ DESK = 1  # the seat of who holds the desk
 
 @dataclass
 class Seat:
-    """A seat's file as it grows."""
+    """A seat's file as it grows, and the name that its connection has greeted with."""
 
     at: int = 0  # How many of its bytes were read.
     reader: Reader = field(default_factory=Reader)
     name: str | None = None  # Who is known there.
 
     def grown(self, path: Path) -> bytes:
-        """Returns the bytes that the file has gained since the last read, at most MOST. Returns none if it can't be
-        read."""
+        """Returns the bytes that the file at a path has gained since the last read, at most MOST. Returns none if it
+        can't be read."""
         try:
             with plain.opened(path) as it:
                 it.seek(self.at)
@@ -47,21 +52,23 @@ class Seat:
 
 
 def denial_words(word: str) -> str:
-    """Returns the words for a denial or refusal."""
+    """Returns a text for the word of a denial or refusal, such as `denied guard`."""
     return f"refused {word}" if word == MALFORMED else f"denied {word}"
 
 
 def together(what: str, who: list[str]) -> list[str]:
-    """Returns a line for each name if there are few, or one line with their number."""
+    """Returns a line with `what` and a name for each of these names, or a single line if they are many."""
     if len(who) <= FEW:
         return [f"{what}: {each}" for each in who]
     return [f"{what}: {plural(len(who), 'student')}: {'; '.join(who)}"]
 
 
 class Heard:
-    """Follows a record. It names students, and never shows their lines."""
+    """Counts what is in a record as it grows, for lines at the desk. The lines name students, and never show what they
+    sent."""
 
     def __init__(self, folder: Path, lab: Lab) -> None:
+        """Follows the record in a folder, from its beginning. The lab names the students."""
         self.folder, self.lab = folder, lab
         self.seats: dict[Path, Seat] = {}
         self.wrong: Counter[str] = Counter()  # wrong keys, by the name that was given
@@ -78,7 +85,8 @@ class Heard:
         self.due = self.last = time.monotonic()
 
     def catch_up(self, step: int) -> None:
-        """Reads what the record has already, and prints none of it."""
+        """Counts what the record has already, so that no later line is about it. `step` is the place of the last
+        step."""
         while self.read():
             pass
         self.forget_before(step)
@@ -89,17 +97,19 @@ class Heard:
         self.over = ""
 
     def begin(self) -> None:
-        """Notes whether a student has come to a server that begins. A student of the earlier server counts only if
-        still connected."""
+        """Notes whether a student is connected to a server that begins. Students who had come to the earlier server
+        don't count."""
         self.came = not self.students.isdisjoint(self.connected())
 
     def news(self, step: int) -> list[str]:
-        """Returns lines about what is new since the last check. `step` is the place of the last step."""
+        """Returns lines about what is new since the last check. Checks at most once a second. `step` is the place of
+        the last step."""
         now = time.monotonic()
         return self.look(step, now) if now >= self.due else []
 
     def look(self, step: int, now: float) -> list[str]:
-        """Returns lines about what is new since the last check, at the moment `now`."""
+        """Returns lines about what is new since the last check. `now` is the present time, and `step` the place of the
+        last step."""
         seconds = max(now - self.last, PAUSE)
         self.last, self.due = now, now + PAUSE
         self.read()
@@ -107,7 +117,7 @@ class Heard:
         return [*self.come_and_gone(), *self.wrong_keys(), *self.in_vain(), *self.flooding(seconds), *self.cut_short()]
 
     def read(self) -> bool:
-        """Reads the new bytes of the files. Returns whether there may be more."""
+        """Counts the new entries in all files. Returns whether a file may have more."""
         more = False
         for path in seats(self.folder):
             seat = self.seats.setdefault(path, Seat())
@@ -118,7 +128,7 @@ class Heard:
         return more
 
     def take(self, seat: Seat, entry: Entry) -> None:
-        """Counts an entry."""
+        """Counts an entry of a seat."""
         who = seat.name or NOBODY
         if entry.mark == ENDED:
             seat.name = None
@@ -139,12 +149,12 @@ class Heard:
                     self.vain[who, word][entry.place] += 1
 
     def guess(self, name: str | None) -> None:
-        """Counts a wrong key, by the name in the hello. Names that the lab lacks are counted together."""
+        """Counts a wrong key in a hello with this name. Names that the lab lacks are counted together."""
         known = name is not None and (name in self.lab.students or name == self.lab.teacher[0])
         self.wrong[name if known and name else OTHERS] += 1
 
     def forget_before(self, step: int) -> None:
-        """Forgets the denials before the last step, whose place is `step`."""
+        """Forgets the denials that came before the last step, whose place is `step`."""
         if step != self.step:
             self.told = Counter({key: count for key, count in self.told.items() if key[0] == "wrong"})
         self.step = step
@@ -153,11 +163,11 @@ class Heard:
                 del at[place]
 
     def connected(self) -> Counter[str]:
-        """Returns the number of connections of each name, without the desk's."""
+        """Returns the number of open connections of each name, without the desk's."""
         return Counter(seat.name for path, seat in self.seats.items() if seat.name and path.name != f"{DESK}.record")
 
     def come_and_gone(self) -> list[str]:
-        """Returns lines about names whose number of connections has changed."""
+        """Returns lines about names whose number of connections has changed since the last call."""
         before, now = self.shown, self.connected()
         self.shown = now
         come = [name + (f", {plural(now[name], 'connection')}" if now[name] > 1 else "")
@@ -167,31 +177,32 @@ class Heard:
         return together("connected", come) + together("gone", gone)
 
     def note_if_news(self, key: tuple[str, str], count: int, least: int) -> bool:
-        """Returns whether a count is to be printed: it is at least `least`, and at least twice the last one that
-        was printed. If so, notes that it was printed."""
+        """Returns whether the line `key` with a count is to be printed: the count is at least `least`, and at least
+        twice the last one that was printed. If so, notes that it was printed."""
         if count < max(least, 2 * self.told[key]):
             return False
         self.told[key] = count
         return True
 
     def wrong_keys(self) -> list[str]:
-        """Returns lines about wrong keys, each time their number has doubled."""
+        """Returns a line about the wrong keys for each name, whenever their number has doubled."""
         return [f"{plural(count, 'wrong key')} for {name}" for name, count in self.wrong.items()
                 if self.note_if_news(("wrong", name), count, 1)]
 
     def denied(self) -> list[tuple[str, str, int]]:
-        """Returns the students who asked without success since the last step: name, word of the denial or refusal, and
+        """Returns who was denied since the last step: for each the name, the word of the denial or refusal, and the
         count."""
         return [(name, word, at.total()) for (name, word), at in self.vain.items() if at.total()]
 
     def in_vain(self) -> list[str]:
-        """Returns lines about students who asked without success since the last step. A line is printed from VAIN times
-        on, each time the number has doubled."""
+        """Returns lines about students who were denied since the last step. A student gets a line after VAIN denials by
+        one word, and whenever their number has doubled."""
         return [f"{name}: {denial_words(word)} {plural(count, 'time')} since the last step"
                 for name, word, count in self.denied() if self.note_if_news((name, word), count, VAIN)]
 
     def flooding(self, seconds: float) -> list[str]:
-        """Returns lines about the students who began to flood, and those who stopped."""
+        """Returns lines about the students who began to flood, and those who stopped. `seconds` is the time since the
+        last call."""
         rates = {name: round(count / seconds) for name, count in self.lines.items() if count / seconds >= FLOOD}
         self.lines.clear()
         begun = [f"a flood: {rate} lines a second from {name}" for name, rate in rates.items() if name not in self.floods]
@@ -200,14 +211,15 @@ class Heard:
         return begun + over
 
     def cut_short(self) -> list[str]:
-        """Returns lines about the students whose lines aren't recorded any longer."""
+        """Returns lines about the students whose lines have ceased to be recorded since the last call."""
         names, self.cut = self.cut, []
         why = "its share of the record is used up, or the disk is full"
         return [f"the rest of what {name} sends isn't recorded: {why}" for name in dict.fromkeys(names)]
 
     def who(self, count: int, all_seats: int, otherwise: Iterable[str] = ()) -> str:
-        """Returns who is connected, and how many seats are taken. `count` is the number that the system reports.
-        `otherwise` are texts about some connections: a name, a comma, and how it is connected."""
+        """Returns a text about who is connected, and how many of all seats are taken. `count` is the number that the
+        system reports. `otherwise` has texts about some connections: a name, a comma, and how the student is
+        connected."""
         known, every = self.connected(), self.connected().total()
         how = [text for text in otherwise if known[text.partition(",")[0]]]
         known.subtract(text.partition(",")[0] for text in how)
@@ -217,7 +229,8 @@ class Heard:
         return f"{max(count, every)} of {all_seats} seats: {', '.join(names) or 'nobody'}"
 
     def amiss(self) -> list[str]:
-        """Returns lines about wrong keys, floods, and students who asked without success since the last step."""
+        """Returns lines about wrong keys, floods, and students who were denied since the last step, for the command
+        `who`."""
         wrong = ", ".join(f"{count} for {name}" for name, count in self.wrong.items())
         vain = [f"{name}: {denial_words(word)} {plural(count, 'time')}" for name, word, count in self.denied()]
         floods = ", ".join(f"{name}, {rate} lines a second" for name, rate in self.floods.items())

@@ -1,4 +1,9 @@
-"""The desk of a run, from its greeting to the end of the run. `run` uses it, and every command that continues a run."""
+"""The desk of a run, from its greeting to the end of the run. `run` uses this module, and so does every command that
+continues a run.
+
+The *desk* is the teacher's connection to the server. `run.json` in the folder of a run is its *record*, by which other
+processes find it. An exit status of None means that the run continues without this process.
+"""
 from __future__ import annotations
 
 import contextlib
@@ -43,7 +48,7 @@ SIGNALS = {signal.SIGINT: NOW, signal.SIGTERM: NOW, signal.SIGHUP: HUNG, signal.
 
 @dataclass
 class Running:
-    """A run, with the options of its desk."""
+    """A run, with the options of its desk and with its pages."""
 
     folder: Path
     lab_file: Path
@@ -68,7 +73,7 @@ class Running:
     terminal: Terminal | None = None
 
     def record(self, it: server.Server) -> Record:
-        """Returns the record for the folder of the run while it continues."""
+        """Returns the record to write into the folder of the run while it continues on the server `it`."""
         page, looks = (self.pages.server_port, self.pages.looks) if self.pages else (self.page, self.looks)
         play = self.hands.server_port if self.hands else self.play
         return Record(str(self.lab_file.resolve()), it.port, it.desk, page, spelled(self.close), self.until,
@@ -78,34 +83,35 @@ class Running:
 
     @cached_property
     def names(self) -> ShownNames:
-        """Returns the names that the pages of the run show."""
+        """Returns the names that the pages of the run show for students."""
         return ShownNames.of(self.lab, self.anonymous)
 
     def is_in_class(self) -> bool:
-        """Returns whether this is the run of one network of a class. Then the class's desk has the other end of its
-        input."""
+        """Returns whether this is the run of one network of a class. In such a run, lines come from the class's
+        desk."""
         return is_class(self.folder.absolute().parent)
 
     def update_record(self, **other: Any) -> None:
-        """Changes values of the record in the folder, if there is one."""
+        """Changes these values of the record in the folder, if there is one."""
         record = Record.read(self.folder)
         if record is not None:
             replace(record, **other).write(self.folder)
 
     def title(self) -> str:
-        """Returns the title of the page."""
+        """Returns the title of the run's page."""
         return title(self.folder / "lab.toml", self.folder / "journal", self.lab_file.stem)
 
     def hung(self) -> None:
-        """Notes that the terminal is closed, and continues the run without it."""
+        """Notes in the record that the terminal is closed, so that the run continues without one."""
         self.update_record(left=True)
         self.tell.around = str
         self.tell(f"the terminal was closed, and the run goes on: {CLASS} attach {self.folder} controls it again")
 
 
 def open_desk(it: server.Server, run: Running) -> Desk:
-    """Writes the record into the run's folder, connects to the desk, and sets up the house, the clock and the
-    watch on connections. Catches up with a run that continues."""
+    """Writes the record into the run's folder, connects to the desk of the server `it`, and sets up the house, the
+    clock and the watch on connections. Catches up with a run that continues. Raises `Left` if another process wants the
+    desk."""
     run.record(it).write(run.folder)
     client = take_desk(it, run.lab.teacher, run.typed, run.tell, run.hung)
     desk = Desk(run.lab, run.folder / "journal", client, run.close, run.tell)
@@ -133,7 +139,8 @@ def open_desk(it: server.Server, run: Running) -> Desk:
 
 
 def renew(run: Running, it: server.Server, desk: Desk, name: str) -> None:
-    """Gives a student another key, and connects the desk to the server that uses it."""
+    """Gives the student `name` another key, which replaces the values of the server `it` by those of a new server, and
+    connects the desk to it. Raises `ValueError` if there is no such student."""
     renewing.renew(run.folder, run.lab, it, desk, name)
     if run.hands is not None:
         run.hands.students = it.port
@@ -145,12 +152,13 @@ def renew(run: Running, it: server.Server, desk: Desk, name: str) -> None:
 
 
 def show(pages: projector.Pages, desk: Desk, tell: Teller, typed: bool) -> None:
-    """Starts to serve the page, and shows on it what is printed from now on. The address to act at is printed only
-    on the terminal, or for a program that types instead."""
+    """Starts to serve the page, and shows on it what is printed from now on. Prints its addresses. The address to act
+    at is printed only on the terminal, or if a program types the commands, as `typed` says."""
     watch = desk.start_watch()
 
     def act() -> None:
-        """Prints the address to act at if only the teacher can read it. Otherwise prints that it isn't shown."""
+        """Prints the address to act at if only the teacher can read what is printed. Otherwise prints that it isn't
+        shown."""
         if is_private(typed):
             tell.alone(f"page to act {pages.address_to_act}")
         else:
@@ -169,7 +177,7 @@ def show(pages: projector.Pages, desk: Desk, tell: Teller, typed: bool) -> None:
 
 
 def start_reading(run: Running) -> None:
-    """Starts to read typed commands, if there is a terminal or another input."""
+    """Starts a thread that reads typed commands, if there is a terminal or another input."""
     at_terminal = sys.stdin is not None and sys.stdin.isatty()
     if not at_terminal and not run.takes_lines:
         return
@@ -181,21 +189,21 @@ def start_reading(run: Running) -> None:
 
 
 def read_typed(run: Running) -> None:
-    """Queues typed lines until there are no more. A run of a class loses its desk at the end of its input."""
+    """Queues typed lines until there are no more. In a run of a class, then queues that the desk is left."""
     (run.terminal.read if run.terminal else read_lines)(run.typed.put)
     if run.terminal is None and run.is_in_class():
         run.typed.put(HUNG)
 
 
 def queue_signals(typed: Typed) -> None:
-    """Queues a word among the typed lines for each signal that comes from now on."""
+    """Makes each signal that comes from now on queue a word among the typed lines."""
     for number in SIGNALS:
         signal.signal(number, lambda number, _: typed.put(SIGNALS[signal.Signals(number)]))
 
 
 def hold(run: Running, it: server.Server) -> int | None:
-    """Runs the desk to the end of the run. Returns the exit status, or None if the desk is left to another
-    process."""
+    """Runs the desk of the server `it` to the end of the run. Returns the exit status, or None if another process takes
+    over the desk."""
     try:
         desk = open_desk(it, run)
         if it.hosted:
@@ -220,8 +228,8 @@ def hold(run: Running, it: server.Server) -> int | None:
 
 
 def give_up(it: server.Server, run: Running, seconds: float) -> int | None:
-    """Ends a server whose desk can't be held, and returns the status. A server that wasn't started here continues
-    unless it ends by itself in time, and then None is returned."""
+    """Ends the server `it`, because its desk can't be held, and returns the exit status. If another process started the
+    server, waits for its end only so many seconds, and returns None if it continues."""
     ended = it.has_ended(seconds)
     if it.child is None and not ended:
         leave(it, run)
@@ -232,14 +240,14 @@ def give_up(it: server.Server, run: Running, seconds: float) -> int | None:
 
 
 def leave(it: server.Server, run: Running) -> None:
-    """Prints that the server continues without a desk."""
-    run.tell(f"the server, process {it.process.number}, keeps running, and nobody controls it: while it runs, {CLASS} attach "
-             f"{run.folder} connects to its desk; after that, {CLASS} mark prints the marks")
+    """Prints that the server `it` continues without a desk."""
+    run.tell(f"the server keeps running without a desk, process {it.process.number}: while it runs, {CLASS} attach {run.folder} "
+             f"connects to its desk; after that, {CLASS} mark prints the marks")
 
 
 def take_leave(it: server.Server, desk: Desk, why: str, run: Running) -> int | None:
-    """Says bye at the desk, and waits for the server's end. `why` is the reason for the end of the run. Returns
-    the exit status, or None if the server continues."""
+    """Says bye at the desk, and waits for the end of the server `it`. `why` is the reason for the end of the run.
+    Returns the exit status, or None if the server continues."""
     tell = run.tell
     if why == "left":
         desk.client.hang_up()
@@ -270,7 +278,8 @@ def take_leave(it: server.Server, desk: Desk, why: str, run: Running) -> int | N
 
 
 def wait_for_server(it: server.Server, run: Running) -> bool:
-    """Waits for the server's end, and prints a line if it is late. Returns false if the teacher stops waiting."""
+    """Waits for the end of the server `it`, and prints a line if that takes long. Returns false if the teacher stops
+    waiting."""
     if it.has_ended(LATE):
         return True
     while not run.typed.empty():
@@ -283,8 +292,8 @@ def wait_for_server(it: server.Server, run: Running) -> bool:
 
 
 def to_the_end(run: Running, start: Callable[[], server.Server]) -> int:
-    """Runs the desk over a server that `start` starts or finds. At the end, writes marks and pages into the
-    folder. Returns the exit status."""
+    """Opens the pages of a run, and runs its desk over the server that `start` returns. At the end, writes marks and
+    pages into the folder. Returns the exit status."""
     try:
         if run.page is not None:
             kept_layout.load(run.folder)

@@ -1,4 +1,5 @@
-"""The house of a run: the second owner of each node, which plays for absent students in its own name."""
+"""The house of a run: the second owner of each node, which plays for absent students in its own name. The class *waits*
+for a node that is privileged and has no chosen move."""
 from __future__ import annotations
 
 import time
@@ -16,18 +17,19 @@ HOW = "`./class new` with --stand-in makes a lab in which the house is the secon
 
 
 def want_house(lab: Lab, file: object) -> None:
-    """Raises `Fault`, which names the file, if a lab has no house."""
+    """Raises `Fault`, which names the lab's file, if the lab has no house."""
     if not lab.held():
         raise Fault(f"{file}: the house can't stand in, since no node has `{HOUSE}` as its second owner: {HOW}")
 
 
 class House:
-    """Asks for the moves of nodes that the class waits for. It takes a seat for a moment each time."""
+    """Asks for the moves of nodes that the class waits for. Each time it takes a seat of the server for a moment."""
 
     def __init__(self, lab: Lab, port: int, seconds: float | None, tell: Callable[[str], None], played: Collection[str] = (),
                  keep: Callable[[list[str]], None] = lambda names: None) -> None:
-        """The house plays a node by itself after the class has waited `seconds` for it, if they are given. It plays at
-        once for the students named in `played`. `keep` stores their names when they change."""
+        """If `seconds` isn't None, the house plays each node for which the class has waited so long. It plays at once
+        for the students named in `played`, and `keep` stores their names when they change. `port` is the students'
+        port, and `tell` prints a line."""
         self.port, self.seconds, self.tell = port, seconds, tell
         self.key = lab.students[HOUSE]
         self.held = set(lab.held())
@@ -39,13 +41,15 @@ class House:
         self.told_busy = False
 
     def play(self, name: str) -> str:
-        """Plays a student's nodes from now on, without waiting. Returns the line that reports it."""
+        """Lets the house play the nodes of the student `name` from now on, without waiting. Returns the line that
+        reports it. Raises `ValueError` if there is no such student."""
         self.played.add(self.student(name))
         self.keep(sorted(self.played))
         return f"the house plays for {name}: {', '.join(map(str, sorted(self.students[name])))}"
 
     def stop(self, name: str) -> str:
-        """Stops playing a student's nodes. Returns the line that reports it."""
+        """Ends what `play` began for the student `name`. Returns the line that reports it. Raises `ValueError` if the
+        house doesn't play for this student."""
         if self.student(name) not in self.played:
             raise ValueError(f"the house doesn't play for {name}")
         self.played.discard(name)
@@ -53,30 +57,31 @@ class House:
         return f"the house doesn't play for {name} any longer"
 
     def student(self, name: str) -> str:
-        """Returns the name if it is the name of a student with nodes. Raises an error otherwise."""
+        """Returns the name if it is the name of a student with nodes. Raises `ValueError` otherwise."""
         if name not in self.students:
             raise ValueError(f"no student {name} has a node here; there are {', '.join(self.students)}")
         return name
 
     def told(self) -> str:
-        """Returns the line about the students for whom the house plays."""
+        """Returns the line about whom the house plays for."""
         names = ", ".join(name for name in self.students if name in self.played)
         late = f"each node that has waited for {self.seconds:g} seconds" if self.seconds is not None else ""
         whom = " and ".join(filter(None, (f"for {names}" if names else "", late)))
         return f"the house plays {whom or 'for nobody'}{f'; {WAITS}' if self.waits() else ''}"
 
     def waits(self) -> bool:
-        """Returns whether the house would play by itself, and no student has come yet who could have played."""
+        """Returns whether the house plays after some seconds, but doesn't count them yet, because no student has
+        come."""
         return self.seconds is not None and not self.begun
 
     def note(self, event: Event) -> None:
-        """Takes an event. The class no longer waits for a node whose move was granted."""
+        """Notes an event. The class no longer waits for a node whose move was granted."""
         if event.kind == "grant":
             self.since.pop(event.nodes[0], None)
 
     def due(self, waiting: Collection[int], now: float) -> list[int]:
-        """Returns the nodes that the house may play now, among those that the class waits for. The one with the longest
-        wait comes first. No time passes before a first student has come."""
+        """Returns the nodes that the house may play at the time `now`, among those that the class waits for. The node
+        for which it has waited longest comes first. No time is counted before a first student has come."""
         before = self.since if self.begun else {}
         self.since = {node: before.get(node, now) for node in waiting if node in self.held}
         at_once = set[int]().union(*(self.students[name] for name in self.played))
@@ -84,7 +89,8 @@ class House:
         return sorted(at_once.intersection(self.since).union(late), key=lambda node: (self.since[node], node))
 
     def turn(self, waiting: Collection[int], most: int) -> None:
-        """Asks for the moves that the house may ask for now, at most `most`."""
+        """Asks for moves of nodes that the house may play now, at most `most`. `waiting` are the nodes that the class
+        waits for."""
         now = time.monotonic()
         nodes = self.due(waiting, now)[:most]
         if not nodes or now < self.again:
@@ -103,8 +109,8 @@ class House:
             self.again = now + AGAIN
 
     def ask(self, me: Client, node: int) -> None:
-        """Asks for the enabled rule of a node. Does nothing if there is none, for example if its student was
-        quicker."""
+        """Asks for the enabled rule of a node on the house's connection. Does nothing if there is none, for example
+        because the student was quicker."""
         look = me.look(node)
         if look.rule is None or look.chosen is not None:
             return

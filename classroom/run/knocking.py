@@ -1,4 +1,5 @@
-"""The first connection at a host's desk. It is tried while the host starts, before anybody knows the desk's number."""
+"""The first connection at a host's desk. It is tried while the host starts, before any other process can know the
+desk's port."""
 from __future__ import annotations
 
 import socket
@@ -11,8 +12,8 @@ LONGEST = 1.0  # seconds that one try may take
 
 def held(port: int) -> socket.socket:
     """Returns a socket that is bound to a port, or to a free one if the port is 0, and doesn't listen. While it is
-    open, the system gives the port to no other program, and a host may still listen there, since both set
-    SO_REUSEADDR."""
+    open, the system gives the port to no other program, but a host can listen there, since both set SO_REUSEADDR.
+    Raises `OSError` if the port is taken."""
     it = socket.socket()
     it.setsockopt(socket.SOL_SOCKET, socket.SO_REUSEADDR, 1)
     try:
@@ -23,10 +24,10 @@ def held(port: int) -> socket.socket:
 
 
 class Knock:
-    """Connects to a port as soon as a program listens there."""
+    """Connects to a port of this machine as soon as a program listens there."""
 
     def __init__(self, port: int) -> None:
-        """Reserves the port. If `port` is 0, a free one is chosen."""
+        """Reserves the port, or a free one if `port` is 0. Raises `OSError` if the port is taken."""
         self.held = held(port)
         self.port: int = port or self.held.getsockname()[1]
         self.connection: socket.socket | None = None
@@ -40,7 +41,7 @@ class Knock:
             self.connection.close()
 
     def wait(self, seconds: float) -> None:
-        """Waits for `seconds`, and tries to connect in the meantime unless it is connected."""
+        """Waits for `seconds`. Meanwhile tries to connect again and again, unless it is connected already."""
         end = time.monotonic() + seconds
         while time.monotonic() < end:
             if self.connection is None:
@@ -48,7 +49,7 @@ class Knock:
             time.sleep(BETWEEN)
 
     def taken(self) -> socket.socket | None:
-        """Returns the connection, if there is one. The caller has to close it."""
+        """Returns the connection, which the caller has to close, or None if there is none."""
         it, self.connection = self.connection, None
         return it
 

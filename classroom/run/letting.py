@@ -1,4 +1,6 @@
-"""A door for the runs of a class: its options, and the lines that are printed about it."""
+"""A door for the runs of a class: its options, and the lines that are printed about it. A *door* is a TLS port at which
+students on other machines connect, and its folder has its data. In each function, a folder of None means that there is
+no door."""
 from __future__ import annotations
 
 import argparse
@@ -16,7 +18,7 @@ WHERE = "[ADDRESS:]PORT"
 
 
 def add_words(words: argparse.ArgumentParser) -> None:
-    """Adds the options of a door."""
+    """Adds the options of a door to a parser."""
     words.add_argument("--door", type=Place.of, metavar=WHERE,
                        help="open a door for students on other machines, by TLS, at this port of all addresses or of one")
     words.add_argument("--certificate", type=Path, metavar="FILE",
@@ -26,8 +28,9 @@ def add_words(words: argparse.ArgumentParser) -> None:
 
 @contextmanager
 def door(words: argparse.Namespace, labs: Iterable[Path], tell: Callable[[str], None], before: str | None = None) -> Iterator[str | None]:
-    """Opens a door if the options ask for one, or if there was one `before`. Yields its folder, and closes it at the end.
-    A door that another process has opened stays open."""
+    """Opens a door if the options ask for one, or opens again the one whose folder is `before`. Yields the door's
+    folder, or None if there is none, and closes the door at the end. A door that another process has opened stays open.
+    Raises `Fault` if that isn't possible."""
     every, opened, folder = [*labs], None, words.door_at
     if words.door is not None:
         file = words.certificate or certificate.beside(every[0])
@@ -45,7 +48,8 @@ def door(words: argparse.Namespace, labs: Iterable[Path], tell: Callable[[str], 
 
 
 def door_lines(opened: opening.OpenDoor, labs: list[Path], file: Path) -> Iterator[str]:
-    """Yields the lines about a door: its port, its certificate, and the labs whose slips name another address."""
+    """Yields the lines about an open door: its port, its certificate in `file`, and the labs whose slips name another
+    address."""
     yield f"door at port {opened.port}; its certificate, {file}, has the fingerprint {certificate.fingerprint(file)}"
     wrong = opening.misled_labs(labs, file, opened.port)
     if wrong:
@@ -54,13 +58,14 @@ def door_lines(opened: opening.OpenDoor, labs: list[Path], file: Path) -> Iterat
 
 
 def route_to(folder: str | None, lab: Path, run: Path) -> None:
-    """Makes a door, if there is one, forward connections to a run."""
+    """Makes the door forward connections for a lab's network to a run. Does nothing without a door."""
     if folder is not None:
         opening.route_to(Path(folder), lab, run)
 
 
 def page_lines(folder: str | None, lab: Path, looks: str | None) -> Iterator[str]:
-    """Yields lines with the addresses of a run's pages through a door, if there is one."""
+    """Yields lines with the addresses of a run's pages through the door. `looks` is the token of the page to look at,
+    or None if there is no such page. Yields nothing without a door."""
     place = place_of(folder, lab)
     if place is None:
         return
@@ -70,7 +75,8 @@ def page_lines(folder: str | None, lab: Path, looks: str | None) -> Iterator[str
 
 
 def place_of(folder: str | None, lab: Path) -> Place | None:
-    """Returns the address and port of a door, or None if there is none. The address is the one in the slips of the lab."""
+    """Returns the address and port of the door, or None if there is none. The address is the one in the slips of the
+    lab."""
     kept = Kept.read(Path(folder)) if folder is not None else None
     if kept is None:
         return None
@@ -79,8 +85,9 @@ def place_of(folder: str | None, lab: Path) -> Place | None:
 
 
 def page_for_all(folder: str | None, lab: Path, port: int, looks: str) -> str:
-    """If there is a door, has it forward to the page that shows all networks of the class. Returns the address of that page
-    through the door, or an empty text if there is no door."""
+    """Makes the door forward requests for the page for all networks of a class, which this process serves at `port`.
+    Returns the address of the page through the door, or an empty text without a door. `looks` is the token of the
+    page."""
     place = place_of(folder, lab)
     if folder is None or place is None:
         return ""

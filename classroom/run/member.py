@@ -1,4 +1,6 @@
-"""One network of a class: the process of its desk, the output of that process, and its alarm."""
+"""One network of a class: the process that runs its desk, the output of that process, and its alarm. A network is
+*down* if its server or its desk is gone, and the lines that its process prints while it starts have *facts*, such as a
+port."""
 from __future__ import annotations
 
 import os
@@ -43,7 +45,7 @@ def environment() -> dict[str, str]:
 
 @dataclass
 class Member:
-    """A network of a class with the process of its desk."""
+    """A network of a class, with the process that runs its desk."""
 
     number: int
     network: Network
@@ -67,8 +69,8 @@ class Member:
         return self.network.name
 
     def start(self, hear: Callable[[Member, str], None], ended: Callable[[Member], None]) -> None:
-        """Starts the process of the desk: of a new run, of one that continues, or of a server that is still running.
-        Passes each line of its output and its end to the callbacks."""
+        """Starts the process that runs the desk: of a new run, of one that continues, or of a server that is still
+        running. Queues a call of `hear` for each line of its output, and a call of `ended` for its end."""
         record = Record.read(self.folder)
         if record is None:
             words = ["run", self.network.lab, "--into", str(self.folder.parent), "--beside", *self.more]
@@ -85,8 +87,8 @@ class Member:
         threading.Thread(target=self.follow, args=[self.child, hear, ended], daemon=True).start()
 
     def resume_words(self, *but: str) -> list[str]:
-        """Returns the arguments for a run that continues: all except those for its port, and except other options
-        `but` that have a value."""
+        """Returns the arguments for a run that continues: those of the network without its port and folder, and without
+        the options in `but`, each with its value."""
         words = list(self.more)
         for word in ("--port", "--into", *but):
             if word in words:
@@ -95,7 +97,7 @@ class Member:
         return [word for word in words if word not in ("--serve", "--beside")]
 
     def follow(self, child: Child, hear: Callable[[Member, str], None], ended: Callable[[Member], None]) -> None:
-        """Queues each line of the process's output, and then its end."""
+        """Queues a call of `hear` for each line that a process prints, and then a call of `ended`."""
         assert child.stdout is not None
         for line in child.stdout:
             self.news.put(partial(hear, self, line.rstrip("\n")))
@@ -103,7 +105,7 @@ class Member:
         self.news.put(partial(ended, self))
 
     def note_line(self, line: str) -> bool:
-        """Notes a line of the process's output. Returns whether the class's desk shows it."""
+        """Notes the facts in a line that the process has printed. Returns whether the class's desk shows the line."""
         fact, value = fact_in(line)
         is_new = fact != "" and fact not in self.facts
         if fact:
@@ -117,7 +119,7 @@ class Member:
         return not LEFT_OUT.fullmatch(line)
 
     def send(self, line: str) -> bool:
-        """Sends a line to the process. Returns whether the process accepts lines."""
+        """Sends a typed line to the process. Returns whether the process accepts lines."""
         try:
             assert self.child is not None and self.child.stdin is not None
             self.child.stdin.write(line + "\n")
@@ -127,7 +129,7 @@ class Member:
         return True
 
     def note_end(self) -> None:
-        """Notes the end of the process. Unless the run has ended too, the network is down, which is an alarm."""
+        """Notes that the process has ended. Unless its run has ended too, the network is down, and gets an alarm."""
         assert self.child is not None
         self.code = self.child.returncode
         for pipe in (self.child.stdin, self.child.stdout):
@@ -149,8 +151,8 @@ class Member:
         self.alarm = f"{what}; {remedy}, end {self.number} gives it up"
 
     def give_up(self) -> str:
-        """Marks a network that is down as ended, and returns the line that reports it. Raises `ValueError` if its
-        server is still running."""
+        """Marks a network that is down as ended. Returns the line that reports it. Raises `ValueError` if its server is
+        still running."""
         record = Record.read(self.folder)
         if record is not None and record.server.lives():
             raise ValueError(f"its server keeps running: resume {self.number} connects to its desk, then end {self.number} ends it")
@@ -160,34 +162,35 @@ class Member:
         return f"given up; its files are in {self.folder}"
 
     def terminate(self) -> None:
-        """Sends the process the signal to end its run, if it is running."""
+        """Sends the process, if it is running, the signal to end its run."""
         if self.child is not None and self.child.poll() is None:
             self.child.send_signal(signal.SIGTERM)
 
     def leave(self) -> None:
-        """Makes its process leave the desk to another process."""
+        """Makes the process leave its desk to another process."""
         if self.child is not None and self.child.poll() is None:
             self.child.send_signal(signal.SIGUSR1)
 
     def page(self, acts: bool) -> str:
-        """Returns the address of the network's page: to act at on this machine, or to look at, through the door if
-        there is one."""
+        """Returns the address of the network's page: to act at on this machine if `acts` is set, and otherwise to look
+        at, through the door if there is one. It is empty if there is no such page."""
         return self.facts.get("act", "") if acts else self.facts.get("look_from", self.facts.get("page", ""))
 
     def shown(self, acts: bool = False) -> NetworkState:
-        """Returns the state of the network for the page for all."""
+        """Returns the state of the network as the page for all networks shows it. `acts` selects the address of its own
+        page."""
         port = int(self.facts["port"]) if "port" in self.facts else None
         page = self.page(acts) if self.status in (STARTS, RUNS) else ""
         return NetworkState(self.number, self.name, self.network.room, port, page, self.lab.sessions - 1, len(self.lab.students),
                             self.status, self.alarm, self.state())
 
     def state(self) -> dict[str, Any] | None:
-        """Returns the state that its run wrote last."""
+        """Returns the state of the network that its run wrote last, or None if there is none."""
         return class_state.read(self.folder)
 
 
 def fact_in(line: str) -> tuple[str, str]:
-    """Returns the fact in a line and its value, or two empty texts if it has none."""
+    """Returns the name of the fact in a line and its value, or two empty texts if the line has none."""
     for fact, pattern in FACTS.items():
         if found := pattern.fullmatch(line):
             return fact, found[1]
@@ -195,7 +198,8 @@ def fact_in(line: str) -> tuple[str, str]:
 
 
 def wanted(words: list[str], record: Record | None) -> set[str]:
-    """Returns the facts that a run with these arguments prints while it starts."""
+    """Returns the names of the facts that a run with these arguments prints while it starts. `record` is that of the
+    run if it continues."""
     found = {"port"} | ({"play_from"} if "--door-at" in words else set())
     if "--page" in words or record is not None and record.page is not None:
         found |= {"page", "act"} | ({"look_from"} if "--door-at" in words else set())
@@ -203,5 +207,5 @@ def wanted(words: list[str], record: Record | None) -> set[str]:
 
 
 def told_status(code: int) -> str:
-    """Returns the text for the exit status of a process."""
+    """Returns the text for the exit status of a process, also if a signal ended it."""
     return f"status {code}" if code >= 0 else f"by {signal.Signals(-code).name}"

@@ -11,7 +11,7 @@ MOST_NAMED = 3  # students who are missing
 
 
 def aligned(rows: Sequence[Sequence[str]]) -> list[str]:
-    """Returns the rows as lines with aligned columns. The first column is aligned to the right."""
+    """Returns the rows of a table as lines with aligned columns. The first column is aligned to the right."""
     widths = [max(len(row[column]) for row in rows) for column in range(len(rows[0]))]
     lines = []
     for row in rows:
@@ -21,8 +21,8 @@ def aligned(rows: Sequence[Sequence[str]]) -> list[str]:
 
 
 def start_table(networks: Sequence[NetworkState], play: Sequence[str]) -> list[str]:
-    """Returns the lines of the table at the start: network, room, port, students, seats and pages. Empty columns
-    are left out."""
+    """Returns the lines of the table at the start: network, room, port, students, seats and pages. `play` has the
+    address of each network's page to play. Empty columns are left out."""
     heads = ["", "network", "room", "port", "students", "seats", "page", "page to play"]
     rows = [
         [str(it.number), it.name, it.room or NONE, NONE if it.port is None else str(it.port), str(it.students), str(it.seats),
@@ -40,7 +40,7 @@ def now_table(networks: Sequence[NetworkState]) -> str:
 
 
 def now_row(it: NetworkState) -> list[str]:
-    """Returns the row of a network."""
+    """Returns the cells of a network for the table with the present states."""
     state = it.state or {}
     status = ("stable" if state.get("stable") else plural_privileged(len(state.get("privileged", [])))) if state and it.status == RUNS \
         else "DOWN" if it.status == DOWN else it.status
@@ -56,7 +56,7 @@ def plural_privileged(count: int) -> str:
 
 
 def named(names: Sequence[str]) -> str:
-    """Returns the number of missing students, with the first names."""
+    """Returns the number of missing students with some of their names, as a text."""
     if not names:
         return NONE
     more = f" and {len(names) - MOST_NAMED} more" if len(names) > MOST_NAMED else ""

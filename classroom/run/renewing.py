@@ -23,8 +23,9 @@ PATIENCE = 60.0  # seconds in which a killed process is gone
 
 
 def renew(folder: Path, lab: labs.Lab, it: server.Server, desk: Desk, name: str) -> None:
-    """Changes a student's key in the lab and the slips, and replaces the server `it` by a new one. The caller has
-    to connect to the desk again."""
+    """Changes the key of the student `name` in the lab and the slips, kills the server, and replaces the values of `it`
+    by those of a new server. The caller has to connect to the desk again. Raises `ValueError` if there is no such
+    student, and `Fault` if the class can't continue."""
     if name not in lab.without_house().students:
         raise ValueError(f"no student {name}; there are {', '.join(lab.without_house().students)}")
     kept = Record.read(folder)
@@ -44,7 +45,7 @@ def renew(folder: Path, lab: labs.Lab, it: server.Server, desk: Desk, name: str)
 
 
 def follow(folder: Path, lab: labs.Lab, it: server.Server, desk: Desk) -> None:
-    """Makes the desk follow the new server's record, and the house use its port."""
+    """Makes the desk follow the record of the new server `it`, and the house use its port."""
     if desk.heard is not None:
         came, desk.heard = desk.heard.came, Heard(folder / record.FOLDER, lab)
         desk.heard.came = came

@@ -25,7 +25,7 @@ CLOSING = closing.closing("when-idle:2")
 
 
 def port(word: str) -> int:
-    """Returns the port that an argument names."""
+    """Returns the port that an argument names. Raises `ArgumentTypeError` if it names none."""
     try:
         return port_of(word)
     except NoSlip as error:
@@ -33,14 +33,14 @@ def port(word: str) -> int:
 
 
 def seconds_with_unit(word: str) -> float:
-    """Returns the seconds in an argument, such as `20s` or `20`."""
+    """Returns the number of seconds in an argument, such as `20s` or `20`. Raises `ArgumentTypeError` for any other
+    text."""
     return seconds(word.removesuffix("s"))
 
 
 def add_desk_words(words: argparse.ArgumentParser) -> None:
-    """Adds the options of every command that runs a desk."""
-    words.add_argument("--daemon", "--close", dest="close", type=closing.mode, metavar="D",
-                       help=f"how steps are closed (docs/COURSE.md): {FORMS} (when-idle:2)")
+    """Adds the options that all commands with a desk have to a parser."""
+    words.add_argument("--daemon", "--close", dest="close", type=closing.mode, metavar="D", help=f"{FORMS} (when-idle:2)")
     words.add_argument("--stand-in", type=seconds_with_unit, metavar="20s",
                        help="let the house ask for a move if a rule could be applied at a node for this time and nobody asked for it; the house begins "
                             "when a first student has said hello")
@@ -55,7 +55,7 @@ def add_desk_words(words: argparse.ArgumentParser) -> None:
 
 
 def add_words(words: argparse.ArgumentParser) -> None:
-    """Adds the options of `run`."""
+    """Adds the options of `run` to its parser."""
     words.add_argument("labs", nargs="*", metavar="LAB",
                        help="the lab; several labs are the networks of one class, each with its own port, and with one desk and one folder")
     words.add_argument("--rooms", metavar="ROOM,..", help="with several labs: the room of each, which the table at the start and the page show")
@@ -73,7 +73,7 @@ def add_words(words: argparse.ArgumentParser) -> None:
 
 
 def run_lab(words: argparse.Namespace) -> int:
-    """Runs a lab from its folder to its marks. Returns the exit status."""
+    """Runs the only lab that the arguments name, from making its folder to its marks. Returns the exit status."""
     lab_file, into = Path(words.labs[0]), Path(words.into)
     server.require_built(words.serve)
     lab = labs.read(lab_file)
@@ -96,7 +96,7 @@ def run_lab(words: argparse.Namespace) -> int:
 
 
 def check_stand_in(words: argparse.Namespace, lab: labs.Lab, file: Path) -> None:
-    """Raises `Fault` if --stand-in is asked for, and the lab has no house or --serve is used."""
+    """Raises `Fault` if the arguments ask for --stand-in, and the lab in a file has no house or --serve is used."""
     if words.stand_in is not None:
         house.want_house(lab, file)
         if getattr(words, "serve", False):
@@ -104,8 +104,9 @@ def check_stand_in(words: argparse.Namespace, lab: labs.Lab, file: Path) -> None
 
 
 def resume(words: argparse.Namespace) -> int:
-    """Continues the run in a folder with its lab, journal, ports, page and daemon. Options of the command line
-    come first. Returns the exit status."""
+    """Continues the run, or the class of several runs, in the folder of `--resume`, with its lab, journal, ports, page
+    and daemon. Options of the command line override these. Returns the exit status. Raises `Fault` if the run is still
+    going on, or was ended on purpose."""
     folder = Path(words.resume)
     if is_class(folder):
         return class_again.hold_again(words, folder)
@@ -127,7 +128,7 @@ def resume(words: argparse.Namespace) -> int:
 
 
 def refuse_second_run(into: Path, lab_file: Path) -> None:
-    """Raises `Fault` if a run of the lab is going on, or if the last one didn't end."""
+    """Raises `Fault` if a run of the lab below the folder `into` is going on, or if the last one didn't end."""
     found = going(into, lab_file)
     if found is None:
         return
@@ -141,7 +142,7 @@ def refuse_second_run(into: Path, lab_file: Path) -> None:
 
 
 def start_server(run: Running, port_asked: int, record: Record | None = None) -> server.Server:
-    """Starts the server, and prints the run's ports and folder."""
+    """Starts the server of a run, and prints its ports and its folder. `record` is that of a run that continues."""
     letting.route_to(run.door, run.lab_file, run.folder)
     by_number = run.lab.sessions if run.by_number else None
     it = server.start(run.folder, run.folder / "lab.toml", port_asked, run.folder / "journal", by_number, record)
@@ -159,8 +160,8 @@ def start_server(run: Running, port_asked: int, record: Record | None = None) ->
 
 
 def ports_for(asked: int | None, default: int, known: Sequence[int | None]) -> list[int]:
-    """Returns the ports of the labs: consecutive ones from `asked`, or those on the slips if each lab has its own,
-    or else consecutive ones from `default`."""
+    """Returns a port for each lab: consecutive ones from `asked`, or if that is None the ones in `known`, those on the
+    slips, if all differ, or else consecutive ones from `default`."""
     ports = [port for port in known if port is not None]
     if asked is None and len(set(ports)) == len(known):
         return ports

@@ -1,4 +1,6 @@
-"""Starting and ending servers. No other module does that."""
+"""Starting and ending servers. No other module does that. A *host* is the server for a class, with a port for students
+and one for the teacher, the desk. `mml serve` is the simpler server, with one port and a fixed number of
+connections."""
 from __future__ import annotations
 
 import os
@@ -48,14 +50,14 @@ class Server:
         return True
 
     def status(self) -> int:
-        """Returns the exit status of a server that has ended. If another process started it, its last line shows
-        whether it ended well."""
+        """Returns the exit status of a server that has ended. If another process started it, the status is 0 or 4, as
+        its last line shows."""
         if self.child is not None:
             return self.child.wait()
         return 0 if self.printed().rpartition("\n")[2].startswith("done: ") else 4
 
     def how(self) -> str:
-        """Returns how the server ended, with its output if there is any."""
+        """Returns a text about how the server ended, with its output if there is any."""
         status, printed = self.status(), self.printed()
         told = f"status {status}" if status >= 0 else f"by {signal.Signals(-status).name}"
         return f"{told}: {printed}" if printed else told
@@ -66,17 +68,18 @@ class Server:
         return lines[-1:] == ["record fault"] and any(line.startswith("done: ") for line in lines)
 
     def lost_journal(self) -> str:
-        """Returns what happened to the journal's file, for example `was changed`, if the server has reported that."""
+        """Returns what happened to the journal's file, for example `was changed`, or an empty text if the server has
+        reported nothing."""
         told = LOST.search(self.printed())
         return told[1] if told else ""
 
     def replace_by(self, other: Server) -> None:
-        """Takes over all values of another server, which continues the class of this one."""
+        """Replaces all values by those of another server, which continues the class of this one."""
         for each in fields(self):
             setattr(self, each.name, getattr(other, each.name))
 
     def stop(self) -> int:
-        """Ends the server by a signal if it hasn't ended, and waits for its end. Returns the status."""
+        """Ends the server by a signal if it hasn't ended yet, and waits for its end. Returns its exit status."""
         if not self.has_ended():
             os.kill(self.process.number, signal.SIGTERM)
         while not self.has_ended(AGAIN):
@@ -90,8 +93,9 @@ class Server:
 
 
 def first_line(process: subprocess.Popen[bytes], output: Path, before: int, wait: Callable[[float], None] = time.sleep) -> str:
-    """Waits for the line with a server's ports, and returns it. Returns all its output if the server ends before.
-    `before` is the size of the output file at the beginning, and `wait` waits between two reads of it."""
+    """Waits for the line with a server's ports, and returns the line. If the server ends before, returns all its
+    output. `output` is the file with its output, which had `before` bytes when the process was started, and `wait`
+    waits between two reads of the file."""
     while True:
         ended = process.poll() is not None
         text = output.read_bytes()[before:].decode(errors="replace")
@@ -102,7 +106,7 @@ def first_line(process: subprocess.Popen[bytes], output: Path, before: int, wait
 
 
 def require_built(by_number: bool) -> None:
-    """Raises `Fault` if the server isn't built."""
+    """Raises `Fault` if the server isn't built: `mml serve` if `by_number` is set, and otherwise the host."""
     program()
     if not by_number and host() is None:
         how = "`./mml build` builds it (with the toolchain's rt on the path)" if is_clone() else "this release has none"
@@ -111,7 +115,7 @@ def require_built(by_number: bool) -> None:
 
 @dataclass
 class Call:
-    """The command that starts a server. Its first arguments are a lab and two numbers."""
+    """The command that starts a server, without its ports."""
 
     folder: Path
     lab: Path
@@ -121,8 +125,9 @@ class Call:
     record: Path
 
     def at(self, port: int, desk: int = 0) -> Server | None:
-        """Returns a server that listens at this port, or None if a port is taken. `desk` may be 0 for any port.
-        While a host starts, this program already connects to its desk, so that nobody else is first."""
+        """Starts a server that listens at this port, and returns it, or None if a port is taken. `desk` may be 0 for
+        any port. While a host starts, this process already tries to connect to its desk, so that no other process is
+        first."""
         hosting = host() if self.by_number is None else None
         if hosting is None:
             return self.start([program(), "serve"], port, self.by_number or 0, None)
@@ -130,8 +135,9 @@ class Call:
             return self.start([hosting, "resume" if self.is_resumed else "host"], port, knock.port, knock)
 
     def start(self, words: list[str | Path], port: int, number: int, knock: Knock | None) -> Server | None:
-        """Starts a server with these arguments. Returns it when it listens, or None if a port is taken. `number`
-        is the desk's port for a host, and otherwise the number of connections to serve."""
+        """Starts a server by the command `words`, waits until it listens, and returns it, or None if a port is taken.
+        `number` is the desk's port for a host, and otherwise the number of connections to serve. Raises `Fault` if the
+        server doesn't start for another reason."""
         output = self.folder / "server.txt"
         with output.open("ab" if self.is_resumed else "wb") as prints:
             before = prints.tell()
@@ -153,9 +159,9 @@ class Call:
 
 def start(folder: Path, lab: Path, port: int, journal: Path, by_number: int | None = None,
           resumed: Record | None = None) -> Server:
-    """Starts a host over a lab at the first free port from this one on, with its record in the folder. With
-    `resumed`, starts one that continues a class, if possible at its own ports. With `by_number`, starts a server
-    for so many connections, one of which is the teacher's."""
+    """Starts a host over a lab at the first free port from this one on, with its output and record in the folder, and
+    returns it. With `resumed`, the host continues a class, if possible at its own ports. With `by_number`, starts `mml
+    serve` for so many connections, one of which is the teacher's. Raises `Fault` if no server can be started."""
     require_built(by_number is not None)
     call = Call(folder, lab, journal, by_number, resumed is not None, folder / record.FOLDER)
     again = call.at(resumed.port, resumed.desk) if resumed is not None else None

@@ -1,4 +1,8 @@
-"""A class of several networks: one process for each network, and one desk for all of them."""
+"""A class of several networks: one process for each network, and one desk for all of them.
+
+A *member* is a network with its process. A network is *down* if its server or its desk is gone, which is printed as an
+alarm. *News* are functions in a queue, which one thread calls one after another.
+"""
 from __future__ import annotations
 
 import argparse
@@ -38,9 +42,11 @@ SHOWN = 0.5  # seconds between two looks at the states for the page
 
 
 class Several:
-    """The desk of a class. One thread handles all news."""
+    """The desk of a class, at which lines are typed for one network or several."""
 
     def __init__(self, folder: Path, members: list[Member], news: News, is_typed: bool, clock: Clock | None = None) -> None:
+        """`is_typed` says whether lines are typed, on a terminal or by a program. `clock` has the end of the lesson, if
+        there is one."""
         self.folder, self.members, self.news, self.is_typed, self.clock = folder, members, news, is_typed, clock
         self.names = [member.name for member in members]
         self.terminal: Terminal | None = None
@@ -52,7 +58,7 @@ class Several:
         self.reminded = self.looked = time.monotonic()
 
     def say(self, line: str, private: bool = False) -> None:
-        """Prints a line. A private one isn't shown on the page."""
+        """Prints a line, and shows it on the page unless it is private."""
         line = printable(line)
         if not private:
             self.lines = [*self.lines, line][-hall.LISTED:]
@@ -62,20 +68,20 @@ class Several:
             pass  # The terminal went away; each run keeps its lines.
 
     def hear(self, member: Member, line: str) -> None:
-        """Handles a line from a network's process."""
+        """Handles a line that a network's process has printed."""
         is_private_line = line.startswith("page to act http")
         if member.note_line(line) and (not is_private_line or is_private(self.is_typed)):
             self.say(f"{member.name}: {line}", is_private_line)
 
     def note_end(self, member: Member) -> None:
-        """Handles the end of a network's process."""
+        """Handles the end of a network's process. Prints the alarm if the network is down now."""
         member.note_end()
         if member.status == DOWN and not self.is_left:
             self.say(self.alarm(member))
         self.prompt()
 
     def alarm(self, member: Member) -> str:
-        """Returns the line of an alarm."""
+        """Returns the line of the alarm for a network that is down."""
         return f"ALARM {member.name} is down: {member.alarm}"
 
     def down(self) -> list[Member]:
@@ -89,7 +95,7 @@ class Several:
             self.terminal.prompt = f"{names} down> " if names else Terminal.PROMPT
 
     def typed(self, line: str) -> None:
-        """Runs a typed line."""
+        """Runs a typed line, or prints what is wrong with it."""
         if line == EOF:
             return self.say("to end the class, type `end`; to end one network, type `end 2`")
         try:
@@ -107,8 +113,8 @@ class Several:
             self.ask(self.members[index], word, rest, len(indices) == 1)
 
     def with_student(self, name: str, indices: list[int]) -> list[int]:
-        """Returns the one network among these that has a student of that name. If there is none or more than one,
-        prints that and returns none."""
+        """Returns the index of the one network among these that has a student of that name, as a list. If none or
+        several have, prints that and returns an empty list."""
         found = [index for index in indices if name in self.members[index].lab.students]
         if len(found) != 1:
             there = ", ".join(self.names[index] for index in found)
@@ -116,7 +122,8 @@ class Several:
         return found if len(found) == 1 else []
 
     def ask(self, member: Member, word: str, line: str, is_alone: bool) -> None:
-        """Runs a line for one network. If it is for this network alone, prints why it can't be done."""
+        """Runs the command `line`, which begins with `word`, for one network. If `is_alone` is set, the line is for no
+        other network, and a failure is printed."""
         if word == addressed.RESUME:
             if member.status == DOWN:
                 member.start(self.hear, self.note_end)
@@ -133,7 +140,8 @@ class Several:
             self.say(f"{member.name}: no: {'it has ended' if member.status == ENDED else member.alarm or 'it is starting'}")
 
     def act(self, line: str) -> None:
-        """Runs a line of the page on which the teacher acts. The page asks before an end, so one line is enough."""
+        """Runs a line that was sent by the page on which the teacher acts. The page asks before an end, so that one
+        line ends a network."""
         try:
             indices, rest = addressed.addressed(line, self.names)
         except ValueError:
@@ -145,7 +153,7 @@ class Several:
                 self.ask(self.members[index], rest.split()[0], rest, len(indices) == 1)
 
     def listen(self) -> None:
-        """Starts to read typed lines."""
+        """Starts a thread that reads typed lines."""
         if sys.stdin.isatty():
             self.terminal = Terminal([*self.names, *self.nodes()])
         read = self.terminal.read if self.terminal else read_lines
@@ -153,11 +161,12 @@ class Several:
         threading.Thread(target=read, args=[put], daemon=True).start()
 
     def nodes(self) -> list[str]:
-        """Returns the identifiers of all nodes."""
+        """Returns the identifiers of the nodes in all networks, as texts."""
         return [str(node) for node in sorted({node.id for member in self.members for node in member.lab.nodes})]
 
     def tell_table(self) -> None:
-        """Prints the table once each network has started or is down."""
+        """Prints the table of networks, once all of them have started or are down. Does nothing if it was printed
+        already."""
         if self.is_told or any(member.status == STARTS for member in self.members):
             return
         self.is_told = True
@@ -178,7 +187,8 @@ class Several:
             self.say(f"words: {addressed.HOW}; networks, resume, help, end")
 
     def tick(self) -> None:
-        """Runs what is due by the clock: warnings, the end, lasting alarms, and the page."""
+        """Does what is due by the clock: warnings, the end of the lesson, repeated alarms, and a new state for the
+        page."""
         self.tell_table()
         now = time.monotonic()
         self.check_clock()
@@ -191,7 +201,7 @@ class Several:
             self.hall.show(self.state(False), self.state(True))
 
     def check_clock(self) -> None:
-        """Prints warnings before the end of the lesson, and ends all networks when it has come."""
+        """Prints the warnings before the end of the lesson, and ends all networks when the end has come."""
         if self.clock is None:
             return
         if warning := self.clock.warning(datetime.now()):
@@ -206,11 +216,12 @@ class Several:
             self.ask(member, addressed.END, addressed.END, False)
 
     def state(self, acts: bool, ended: bool = False) -> ClassState:
-        """Returns the state of the class, as the page for all shows it."""
+        """Returns the state of the class, as the page for all networks shows it. `acts` selects the addresses of the
+        networks' pages."""
         return ClassState(title(self.folder), [member.shown(acts) for member in self.members], self.lines, ended)
 
     def goes_on(self) -> bool:
-        """Returns whether a network is running, or is down and may be resumed."""
+        """Returns whether any network is running, or is down and can still be resumed by a line or by the page."""
         can_be_told = self.is_typed or self.hall is not None
         return any(member.status in (STARTS, RUNS) or member.status == DOWN and can_be_told for member in self.members)
 
@@ -233,7 +244,7 @@ class Several:
         return max(member.code for member in self.members)
 
     def end(self) -> None:
-        """Ends the run of each network."""
+        """Ends the run of each network that is running, and stops waiting for those that are down."""
         for member in self.members:
             member.terminate()
         self.is_typed = False
@@ -241,7 +252,7 @@ class Several:
             member.code = member.code or WARNED
 
     def leave(self) -> None:
-        """Leaves the desks to another process, once the processes of all networks have left them."""
+        """Makes all networks' processes leave their desks, waits for that, and ends this desk for another process."""
         self.is_left = True
         for member in self.members:
             member.leave()
@@ -250,13 +261,13 @@ class Several:
                 member.child.wait()
 
     def hung(self) -> None:
-        """Continues without the terminal."""
+        """Notes in the folder that the terminal is closed. The class continues without one."""
         found = Class.read(self.folder)
         if found is not None:
             replace(found, left=True).write(self.folder)
 
     def queue_signals(self) -> None:
-        """Queues the reaction to each signal that comes from now on."""
+        """Makes each signal that comes from now on queue its handling as news."""
         for number in SIGNALS:
             signal.signal(number, lambda *_: self.news.put(self.end))
         signal.signal(signal.SIGUSR1, lambda *_: self.news.put(self.leave))
@@ -264,14 +275,14 @@ class Several:
 
 
 def help_text() -> str:
-    """Returns all words with what they do, those of the class's desk first."""
+    """Returns all words that can be typed with what they do, those of the class's desk first."""
     wide = max(map(len, addressed.OWN))
     own = "\n".join(f"  {form:{wide}}  {what}" for form, what in addressed.OWN.items())
     return f"{addressed.HOW}\n{own}\n{command_help()}"
 
 
 def desk_words(words: argparse.Namespace) -> list[str]:
-    """Returns the options of a desk that each network's run gets."""
+    """Returns those options of a desk that are passed on to the run of each network."""
     more = ["--until", words.until] if words.until else []
     more += ["--close", spelled(words.close)] if words.close else []
     more += ["--stand-in", f"{words.stand_in:g}"] if words.stand_in is not None else []
@@ -281,8 +292,8 @@ def desk_words(words: argparse.Namespace) -> list[str]:
 
 
 def words_of(words: argparse.Namespace, index: int) -> list[str]:
-    """Returns the arguments of a network's run. A run that continues keeps its port, and the port of its page to play
-    by if it had one."""
+    """Returns the arguments for the run of the network with this index. A run that continues keeps its port, and the
+    port of its page to play by if it had one."""
     more, plays = desk_words(words), getattr(words, "plays", None)
     more += ["--port", str(words.ports[index])] if hasattr(words, "ports") else []
     more += ["--serve"] if getattr(words, "serve", False) else []
@@ -292,7 +303,7 @@ def words_of(words: argparse.Namespace, index: int) -> list[str]:
 
 
 def members_of(folder: Path, networks: Sequence[Network], words: argparse.Namespace, news: News) -> list[Member]:
-    """Returns the networks of a class. None has been started."""
+    """Returns the members of the class in a folder. No process is started yet."""
     found = []
     for index, network in enumerate(networks):
         own = folder / network.name
@@ -302,7 +313,8 @@ def members_of(folder: Path, networks: Sequence[Network], words: argparse.Namesp
 
 
 def networks_of(words: argparse.Namespace) -> list[Network]:
-    """Returns the networks that the labs of the command line make. A lab that the program refuses is a fault."""
+    """Returns the networks of the labs that the arguments name. Raises `Fault` if two labs have the same name, or a
+    name or the number of rooms doesn't fit."""
     rooms = [room.strip() for room in words.rooms.split(",")] if words.rooms else [*map(room_of, words.labs)]
     if words.rooms and len(rooms) != len(words.labs):
         raise Fault(f"--rooms names {plural(len(rooms), 'room')} for {len(words.labs)} networks")
@@ -317,19 +329,20 @@ def networks_of(words: argparse.Namespace) -> list[Network]:
 
 
 def room_of(lab: str) -> str:
-    """Returns the room in the slips of a lab, or an empty text."""
+    """Returns the room in the slips beside a lab, or an empty text if they name none."""
     way = Way.read(Path(lab))
     return way.room if way is not None else ""
 
 
 def require_ports(words: argparse.Namespace, count: int) -> None:
-    """Raises `Fault` if there aren't enough ports for the networks and their pages."""
+    """Raises `Fault` if the ports of `count` networks and their pages would exceed the last one."""
     if max(*words.ports, *words.plays, (words.page or 0) + count) > LAST_PORT:
         raise Fault(f"{count} labs need a port each, and none is above {LAST_PORT}: name a lower --port, --page or --play")
 
 
 def hold_class(folder: Path, members: list[Member], news: News, words: argparse.Namespace, first: Callable[[Several], None]) -> int:
-    """Runs the desk of a class to its end. `first` starts the networks. Returns the exit status."""
+    """Runs the desk of a class to its end. Calls `first`, which starts the networks, once the desk is open. Returns the
+    exit status."""
     typed = words.typed or sys.stdin is not None and sys.stdin.isatty()
     kept = Class.read(folder)
     end = end_of(words.ends, kept.ends if kept else None)
@@ -354,12 +367,14 @@ def hold_class(folder: Path, members: list[Member], news: News, words: argparse.
 
 
 def with_door(words: argparse.Namespace) -> argparse.Namespace:
-    """Returns the arguments with those of a door added, which `attach` lacks. So an earlier door is opened again."""
+    """Returns the arguments together with those of a door, which `attach` doesn't have. With these an earlier door is
+    opened again."""
     return argparse.Namespace(**{"door": None, "door_at": None, "certificate": None, **vars(words)})
 
 
 def side_by_side(words: argparse.Namespace) -> int:
-    """Runs several labs at once. A signal to this process ends all of them. Returns the exit status."""
+    """Runs the labs that the arguments name, as the networks of one class. A signal to this process ends all of them.
+    Returns the exit status."""
     typed = words.typed or sys.stdin is not None and sys.stdin.isatty()
     if words.close is not None and words.close.kind == "by-hand" and not typed:
         raise Fault("steps of several labs are closed by time (--close every:SECONDS or when-idle:SECONDS), or by what you type (--typed)")
@@ -373,7 +388,7 @@ def side_by_side(words: argparse.Namespace) -> int:
         member.folder = folder / member.name
 
     def start(several: Several) -> None:
-        """Starts each network."""
+        """Starts the process of each network."""
         for member in members:
             member.start(several.hear, several.note_end)
 

@@ -1,4 +1,4 @@
-"""The state of a network of a class, written by its run for the desk and the page of the class."""
+"""The state of a network of a class, which its run writes into a file for the desk and the page of the class."""
 from __future__ import annotations
 
 import time
@@ -17,12 +17,13 @@ class StateFile:
     """Keeps `state.json` in the folder of a run up to date (`classroom.core.class_state` documents it)."""
 
     def __init__(self, folder: Path, names: ShownNames) -> None:
+        """`folder` is that of the run, and `names` are the names that pages show for students."""
         self.folder, self.names = folder, names
         self.due = 0.0
         self.written: dict[str, Any] | None = None
 
     def write_if_changed(self, desk: Desk) -> None:
-        """Writes the state if it has changed, at most once a second."""
+        """Writes the state of a desk's network if it has changed, at most once a second."""
         now = time.monotonic()
         if now < self.due:
             return
@@ -33,7 +34,7 @@ class StateFile:
             self.written = state
 
     def of(self, desk: Desk) -> dict[str, Any]:
-        """Returns the state of a desk's network."""
+        """Returns the state of a desk's network, as the file has it."""
         known, lab = desk.known, desk.announcer.shown
         links = sorted(tuple(sorted(link)) for link in desk.announcer.comeback.links)
         most = bounds.told(len(lab.nodes), len(links))
@@ -48,13 +49,13 @@ class StateFile:
         }
 
     def waiting(self, desk: Desk) -> list[dict[str, Any]]:
-        """Returns the nodes for which the class waits, with their owners."""
+        """Returns the nodes that are privileged and have no chosen move, each with its owners and its rule."""
         owners = desk.announcer.shown.owners
         return [{"node": node, "owners": [self.names.name(name) for name in owners(node)], "rule": rule}
                 for node, rule in desk.known.waiting()]
 
     def missing(self, desk: Desk) -> list[str]:
-        """Returns the students with a node who have no connection. Returns none without a record."""
+        """Returns the names of the students with a node who have no connection. Returns none if there is no record."""
         if desk.heard is None:
             return []
         lab, there = desk.announcer.shown, desk.heard.connected()
@@ -62,7 +63,8 @@ class StateFile:
 
 
 def nodes(desk: Desk) -> list[list[Any]]:
-    """Returns each node with its registers and the rule of its chosen move, if there is a page."""
+    """Returns each node with its registers and the rule of its chosen move, if the desk has a page. Returns none
+    otherwise."""
     if desk.watch is None:
         return []
     state = desk.watch.state

@@ -1,4 +1,5 @@
-"""Closes the steps of a run at its desk, as its daemon decides."""
+"""Closes the steps of a run at its desk, when its daemon decides so. The *daemon* also decides which of the chosen
+moves, those that were granted, a close applies."""
 from __future__ import annotations
 
 import random
@@ -15,17 +16,18 @@ LOOKS = 5  # at what was granted meanwhile
 
 
 class Striker:
-    """Closes steps at a desk as its daemon decides."""
+    """Closes steps at a desk when its daemon decides so."""
 
     def __init__(self, seed: int = 1) -> None:
+        """`seed` determines the random choices of daemons."""
         self.chance, self.adversary = random.Random(seed), Adversary(str(seed), max)
         self.how: Closing | None = None
         self.closed = 0.0
 
     def strike(self, desk: Desk) -> None:
-        """Closes a step if it is time for one, after releasing the chosen moves that it must not apply. If nothing
-        has come for SECONDS, prints whom the class waits for, unless steps are closed by hand. If the search of
-        the adversary fails, changes the daemon to when-idle."""
+        """Closes a step if the desk's daemon decides so, after releasing the chosen moves that the close mustn't apply.
+        If nothing has come for SECONDS, prints for whom the class waits, unless steps are closed by hand. If the search
+        of the adversary fails, changes the daemon to when-idle."""
         now = time.monotonic()
         if desk.closing != self.how:
             self.how, self.closed = desk.closing, now
@@ -50,20 +52,20 @@ class Striker:
             desk.announcer.tell_waiting()
 
     def by_clock(self, desk: Desk, now: float) -> None:
-        """Closes a step if its time has come, even if no node is chosen: then the desk prints whom the class waits
-        for."""
+        """Closes a step under a daemon that closes by time, if the time has come. If no move is chosen, the desk prints
+        for whom the class waits."""
         seconds = desk.closing.value
         if now - self.closed >= seconds and not (desk.closing.kind == "when-idle" and now - desk.known.news_came < seconds):
             self.closed = now
             desk.close()
 
     def close(self) -> None:
-        """Ends the adversary's program."""
+        """Ends the program of the adversary, the daemon that searches."""
         self.adversary.close()
 
     def release_others(self, desk: Desk, but: set[int]) -> None:
-        """Releases the chosen moves of all other nodes, and those that are granted meanwhile. A move that is
-        granted after the last check is applied too, since only the server could prevent that."""
+        """Releases the chosen moves of all nodes that aren't in `but`, also those that are granted meanwhile. A move
+        that is granted after the last check is applied too, since only the server could prevent that."""
         for _ in range(LOOKS):
             others = sorted(desk.known.book.chosen.keys() - but)
             for node in others:

@@ -1,4 +1,5 @@
-"""Takes the desk of a running server: greets there, and retries while another process has it."""
+"""Takes the desk of a running server: says the teacher's hello there, and retries while another process is connected.
+Signals come as words in the queue of typed lines."""
 from __future__ import annotations
 
 import queue
@@ -14,13 +15,13 @@ PAUSE = 0.5  # seconds between two tries
 
 
 class Left(Exception):
-    """The error that the desk is left to another process."""
+    """Raised if the desk is to be left to another process."""
 
 
 def take_desk(it: Server, teacher: tuple[str, str], typed: Typed, tell: Callable[[str], None], hung: Callable[[], None]) -> Client:
-    """Connects to the desk, and tries again for a minute if that fails. Prints once that it tries again. Raises
-    the last error after the minute, or if the server has ended or the run is to end. Raises `Left` if another
-    process wants the desk."""
+    """Connects to the desk of the server `it`, with the name and key of the teacher, and returns the connection. Tries
+    again for a minute if that fails, which `tell` prints once. Raises the last error after the minute, or if the server
+    has ended or the run is to end. Raises `Left` if another process wants the desk."""
     end, is_told = time.monotonic() + PATIENCE, False
     while True:
         try:
@@ -40,20 +41,20 @@ def take_desk(it: Server, teacher: tuple[str, str], typed: Typed, tell: Callable
 
 
 def greet(it: Server, teacher: tuple[str, str]) -> Client:
-    """Greets at the desk over the first connection that the server's start has left, if there is one, and else
-    over a new one."""
+    """Returns a connection to the desk after its hello. Uses the connection that was made while the server started, if
+    there is one."""
     first, it.first = it.first, None
     return Client(it.desk, *teacher, connection=first)
 
 
 def reason_line(error: Closed | Refused) -> str:
-    """Returns the line with the reason why the desk can't be taken."""
+    """Returns the line that says why the desk can't be taken."""
     return "another process is connected to the desk" if isinstance(error, Refused) and error.word == "busy" else f"the desk: {error}"
 
 
 def wait_for_end(typed: Typed, hung: Callable[[], None]) -> bool:
-    """Waits a moment for a signal. Returns whether one came that ends the run. Raises `Left` if another process
-    wants the desk."""
+    """Waits a moment for a signal. Returns whether a signal came that ends the run. Calls `hung` if the terminal was
+    closed. Raises `Left` if another process wants the desk."""
     try:
         word = typed.get(timeout=PAUSE)
     except queue.Empty:

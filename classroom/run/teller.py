@@ -12,8 +12,8 @@ from classroom.core.printable import printable
 
 
 def is_private(typed: bool) -> bool:
-    """Returns whether only the teacher reads the output: it is a terminal, a program that types too, or the
-    system's journal. A file may have other readers."""
+    """Returns whether only the teacher reads what is printed: on a terminal, in the system's journal, or by a program
+    that types too, as `typed` says. A file may have other readers."""
     try:
         mode = os.fstat(sys.stdout.fileno()).st_mode
         return sys.stdout.isatty() or stat.S_ISSOCK(mode) or typed and not stat.S_ISREG(mode)
@@ -25,12 +25,13 @@ class Teller:
     """Prints lines and appends them to a file in the folder. A closed terminal or a full disk raises no error."""
 
     def __init__(self, folder: Path) -> None:
+        """`folder` is that of the run, in which the lines are kept."""
         self.path = folder / "run.txt"
         self.also: list[Callable[[str], None]] = []
         self.around: Callable[[str], str] = str  # What a terminal shows instead while a line is typed there.
 
     def __call__(self, line: str) -> None:
-        """Prints a line, appends it to the file, and passes it to all other receivers."""
+        """Prints a line, appends it to the file, and passes it on to the functions in `also`."""
         line = printable(line)
         for hear in self.also:
             hear(line)
@@ -41,14 +42,14 @@ class Teller:
                 pass
 
     def alone(self, line: str) -> None:
-        """Prints a line that is neither kept nor shown on pages."""
+        """Prints a line that is neither appended to the file nor shown on pages."""
         try:
             self.say(printable(line))
         except OSError:
             pass
 
     def say(self, line: str) -> None:
-        """Prints a line. Prints nothing more after the reader has closed the output."""
+        """Prints a line. Prints nothing once the reader has closed the output."""
         try:
             print(self.around(line + "\n"), end="", flush=True)
         except OSError:

@@ -20,8 +20,8 @@ HELP = ", ".join(FORMS.values())
 
 
 def parse_command(line: str) -> list[str]:
-    """Returns the words of a line if it is a command. An empty line is `wait`. Raises `ValueError` with the right
-    form otherwise."""
+    """Returns the words of a typed line if they are a command of the desk. An empty line is `wait`. Raises `ValueError`
+    with the right form otherwise."""
     word, *rest = line.split() or ["wait"]
     if word not in FORMS:
         near = difflib.get_close_matches(word, WORDS, 1)
@@ -45,7 +45,7 @@ class Terminal:
     PROMPT = "> "
 
     def __init__(self, words: list[str]) -> None:
-        """`words` are offered as completions after the first word."""
+        """`words` are offered as completions after the first word of a line."""
         import readline  # Here alone: it writes to a terminal as it is loaded.
 
         self.words, self.readline = words, readline
@@ -57,19 +57,18 @@ class Terminal:
         readline.parse_and_bind("tab: complete")
 
     def complete(self, text: str, state: int) -> str | None:
-        """Returns the completion with this index among those of a text, or None after the last."""
+        """Returns the completion of a text with the index `state`, or None after the last one."""
         before = self.readline.get_line_buffer()[:self.readline.get_begidx()]
         first = re.fullmatch(r"\s*(\d+\s+|\S+\s*:\s*)?", before) is not None  # A network may stand before it.
         found = [f"{word} " for word in (WORDS if first else self.words) if word.startswith(text)]
         return found[state] if state < len(found) else None
 
     def around(self, line: str) -> str:
-        """Returns a line for the terminal: clears the line that is being typed, prints this one, and shows the
-        typed one again."""
+        """Returns the characters that print a line on the terminal above the line that is being typed."""
         return f"\r\x1b[K{line}{self.prompt}{self.readline.get_line_buffer()}" if self.reads else line
 
     def read(self, put: Callable[[str], None]) -> None:
-        """Calls `put` with each typed line, until the terminal goes away."""
+        """Calls `put` with each typed line, until the terminal is closed."""
         while True:
             self.reads = True
             try:
@@ -95,7 +94,7 @@ class Terminal:
 
 
 def read_lines(put: Callable[[str], None]) -> None:
-    """Calls `put` with each line of a standard input that isn't a terminal."""
+    """Calls `put` with each line of standard input, which isn't a terminal, until its end."""
     try:
         for line in sys.stdin:
             put(line.rstrip("\n"))

@@ -13,7 +13,8 @@ KINDS = {"fault": "fault", "link": "link", "cut": "cut"}
 
 
 def moves(moved: Sequence[tuple[int, str, str]]) -> str:
-    """Returns the moves of a step as a text. If they are many, returns the number of moves of each rule."""
+    """Returns a text for the moves of a step, each with its node, student and rule. If they are many, the text has only
+    the number of moves of each rule."""
     if len(moved) <= MOST_MOVES:
         return ", ".join(f"{node} ({name}) {rule}" for node, name, rule in moved)
     count = Counter(rule for _, _, rule in moved)
@@ -21,7 +22,7 @@ def moves(moved: Sequence[tuple[int, str, str]]) -> str:
 
 
 def edit(event: Event) -> str:
-    """Returns the text of an event that isn't a step."""
+    """Returns a text for an event that isn't a close."""
     if event.kind != "fault":
         return " ".join(event.words)
     _, node, p, m = event.words
@@ -29,19 +30,20 @@ def edit(event: Event) -> str:
 
 
 def edits(events: Sequence[Event]) -> str:
-    """Returns the text of several events of one kind, with their number."""
+    """Returns one text for several events of one kind, with their number."""
     nodes = sorted({node for event in events for node in event.nodes})
     return f"{plural(len(events), KINDS[events[0].kind])} at {named(nodes)}"
 
 
 def named(nodes: Sequence[int]) -> str:
-    """Returns the nodes as a text. If they are many, returns the first ones and the number of the others."""
+    """Returns a text that lists nodes. If they are many, it has the first ones and the number of the others."""
     shown = ", ".join(map(str, nodes[:MOST_NODES]))
     more = len(nodes) - MOST_NODES
     return f"nodes {shown} and {more} more" if more > 0 else f"node{'s' if len(nodes) > 1 else ''} {shown}"
 
 
 def some(texts: Sequence[str], most: int, what: str) -> str:
-    """Returns the texts, or the first `most` and the number of the others, which are called `what`."""
+    """Returns a text that lists these texts, or the first `most` of them and the number of the others. `what` is what
+    they are called."""
     more = len(texts) - most
     return ", ".join(texts[:most]) + (f", and {plural(more, f'more {what}')}" if more > 0 else "")

@@ -1,1 +1,2 @@
-"""Before a class: labs from class lists, slips, keys, and checks of labs."""
+"""Before a class: labs from class lists, slips (the data that each student needs to connect), keys, and checks of
+labs."""

@@ -1,4 +1,6 @@
-"""`./class check`: prints the verdict of `mml check` on a lab, the line of an error, and warnings."""
+"""`./class check`: prints the verdict of `mml check` on a lab, the line of an error, and warnings. A *lab* is the TOML
+file that defines a network with its students and their keys, and *keys* in the functions about the file's format are
+those of TOML."""
 from __future__ import annotations
 
 import argparse
@@ -32,7 +34,8 @@ OTHERS = 128  # how many letters of no kind a key is taken to be drawn from
 
 
 def refused(path: Path, error: str) -> Iterator[str]:
-    """Yields the lines about a refused lab: the error, its line in the file, and suggestions for unknown keys."""
+    """Yields the lines about a lab that the program refuses by this error: the error, its line in the file, and
+    suggestions for unknown keys."""
     text = path.read_bytes().decode("utf-8-sig", errors="replace")
     yield f"{path}: {error}"
     line, what = place_of_error(text, error)
@@ -44,8 +47,8 @@ def refused(path: Path, error: str) -> Iterator[str]:
 
 
 def place_of_error(text: str, error: str) -> tuple[int | None, str]:
-    """Returns the line that an error is about, if there is one, and a text after the line's number: the message of
-    the TOML reader, or the identifier of a node."""
+    """Returns the number of the line that the program's error about a lab's text refers to, or None, and a text to
+    print after the number: the message of the TOML reader, or the identifier of a node."""
     if error == "lab: not a TOML document":
         try:
             tomllib.loads(text)
@@ -72,23 +75,24 @@ def place_of_error(text: str, error: str) -> tuple[int | None, str]:
 
 
 def identifier(text: str, table: positions.Table) -> str:
-    """Returns the text after the line of a node: its identifier as the file has it, in brackets, or an empty text."""
+    """Returns the text to print after the line of a node: its identifier as the file has it, in brackets. Returns an
+    empty text if the node's table has none."""
     line = table.keys.get("id")
     found = re.search(r"\bid\s*=\s*([-+\w]+)", text.splitlines()[line - 1]) if line else None
     return f" (the node with identifier {found[1]})" if found else ""
 
 
 def line_of_key(text: str, key: str) -> tuple[int | None, str]:
-    """Returns the line of the key that an error names, such as `teacher.name`, if exactly one table of that name
-    has it. The text after it is empty."""
+    """Returns the number of the line with the key that an error names, such as `teacher.name`, if exactly one table of
+    that name has it, and otherwise None. Also returns an empty text, as `place_of_error` does."""
     table, _, word = key.rpartition(".")
     lines = [each.keys[word] for each in positions.tables(text) if each.name == table and word in each.keys]
     return (lines[0], "") if len(lines) == 1 else (None, "")
 
 
 def unknown_keys(text: str) -> Iterator[tuple[int, str, str | None]]:
-    """Yields the keys and tables that the format doesn't have: the line, the key, and the most similar known one,
-    if there is one."""
+    """Yields the keys and tables in a lab's text that the format doesn't have: the line, the key, and the most similar
+    known one, or None."""
     for table in positions.tables(text):
         known = KNOWN.get(table.name)
         if known is None:
@@ -103,42 +107,43 @@ def unknown_keys(text: str) -> Iterator[tuple[int, str, str | None]]:
 
 
 def nearest(key: str, known: Iterable[str]) -> str | None:
-    """Returns the most similar known key, or None if none is similar."""
+    """Returns the known key that is most similar to `key`, or None if none is similar."""
     found = difflib.get_close_matches(key, list(known), 1, 0.6)
     return found[0] if found else None
 
 
 def is_drawn(key: str) -> bool:
-    """Returns whether a key looks like one of `new`: it has at least as many words of its list. Such a key counts
-    as random."""
+    """Returns whether a person's key looks like one that `new` has drawn at random, with at least as many words of the
+    list."""
     parts = keys.count_parts(key)
     return parts is not None and parts[0] >= keys.WORDS_EACH
 
 
 def bits(key: str) -> float:
-    """Returns an upper bound on the bits of a key: those of its words and digits if it is random, or else the
-    smaller of these and those of its letters."""
+    """Returns an upper bound on the bits of a person's key: those of its words and digits if the key looks drawn, and
+    otherwise the smaller of these and those of its letters."""
     parts = keys.count_parts(key)
     by_words = keys.bits_of(*parts) if parts else math.inf
     return by_words if is_drawn(key) else min(by_words, bits_of_letters(key))
 
 
 def bits_of_letters(key: str) -> float:
-    """Returns an upper bound on the bits of a key by its length, the kinds of its letters, and the number of
+    """Returns an upper bound on the bits of a person's key by its length, the kinds of its letters, and the number of
     different letters."""
     letters = set(key)
     return len(key) * math.log2(max(2, min(letters_of_kinds(letters), 2 * len(letters))) if len(letters) > 1 else 1.01)
 
 
 def letters_of_kinds(letters: set[str]) -> int:
-    """Returns the number of letters of all kinds that occur among these. A letter of no kind, such as a space,
-    adds OTHERS."""
+    """Returns how many letters the kinds of these letters have together: lower case, upper case, digits and
+    punctuation. OTHERS is added if one of these letters, such as a space, is of no kind."""
     others = letters.difference(*KINDS)
     return sum(len(kind) for kind in KINDS if letters.intersection(kind)) + (OTHERS if others else 0)
 
 
 def effort(key: str) -> str:
-    """Returns the longest time in which a key can be guessed, as a text. The server limits the rate of guesses."""
+    """Returns the longest time in which a person's key can be guessed, as a text. The server limits the rate of
+    guesses."""
     seconds = 2 ** bits(key) / keys.DENIALS
     for size, word in ((86400 * 365, "years"), (86400, "days"), (3600, "hours"), (60, "minutes")):
         if seconds >= size:
@@ -147,7 +152,7 @@ def effort(key: str) -> str:
 
 
 def example_keys() -> set[str]:
-    """Returns the keys in the example labs."""
+    """Returns the keys of all persons in the example labs, which are public."""
     found = {"chalk", "a-key", "b-key", "c-key"}
     for path in (TOP / "examples").glob("*.toml"):
         it = labs.document(path)
@@ -156,7 +161,7 @@ def example_keys() -> set[str]:
 
 
 def key_warnings(lab: labs.Lab) -> Iterator[str]:
-    """Yields a warning for each key that is public or can be guessed."""
+    """Yields a warning for each person's key that is public or can be guessed."""
     examples = example_keys()
     for name, key in [lab.teacher, *lab.students.items()]:
         if key in examples:
@@ -166,7 +171,8 @@ def key_warnings(lab: labs.Lab) -> Iterator[str]:
 
 
 def network_warnings(lab: labs.Lab) -> Iterator[str]:
-    """Yields a warning for each student without a node and each node without a neighbour, and for a network in parts."""
+    """Yields a warning for each student without a node, for each node without a neighbour, and for a network that isn't
+    connected."""
     owners = {owner for node in lab.nodes for owner in node.owners}
     yield from (f"{name} has no node" for name in lab.students if name not in owners)
     near = networks.neighbours((node.id for node in lab.nodes), lab.links)
@@ -177,7 +183,7 @@ def network_warnings(lab: labs.Lab) -> Iterator[str]:
 
 
 def parts_of(near: dict[int, list[int]]) -> int:
-    """Returns the number of connected parts of the network."""
+    """Returns the number of connected parts of a network. `near` has the neighbours of each node."""
     left, parts = set(near), 0
     while left:
         parts += 1
@@ -201,7 +207,8 @@ def limit_warnings(lab: labs.Lab) -> Iterator[str]:
 
 
 def pair_warnings(lab: labs.Lab) -> Iterator[str]:
-    """Yields a warning about nodes with two students: granted moves count for the one whose program asks first."""
+    """Yields a warning about nodes that two students own: there, marks by granted moves favour the student whose
+    program asks first."""
     shared = [str(node.id) for node in lab.without_house().nodes if len(node.owners) == 2]
     if shared:
         nodes = ("nodes " if len(shared) > 1 else "node ") + ", ".join(shared[:MOST_LISTED]) + ", ..." * (len(shared) > MOST_LISTED)
@@ -209,7 +216,8 @@ def pair_warnings(lab: labs.Lab) -> Iterator[str]:
 
 
 def start_warnings(path: Path, lab: labs.Lab) -> Iterator[str]:
-    """Yields a warning if no node is privileged at the beginning, according to the program's report."""
+    """Yields a warning if no node is privileged at the beginning, according to the program's report. `path` is the
+    lab's file. Raises `Fault` if the program refuses it."""
     hello = '{"do":"hello","name":"%s","key":%s}' % (lab.teacher[0], labs.quoted(lab.teacher[1]))
     with tempfile.TemporaryDirectory() as room:
         script = Path(room, "script")
@@ -222,7 +230,7 @@ def start_warnings(path: Path, lab: labs.Lab) -> Iterator[str]:
 
 
 def warnings(path: Path) -> Iterator[str]:
-    """Yields all warnings about a lab that the program accepts."""
+    """Yields all warnings about the lab in a file, which the program accepts."""
     text = path.read_text(encoding="utf-8-sig")
     for line, key, meant in unknown_keys(text):
         yield f"line {line}: {key} isn't a key of a lab, so it is ignored" + (f"; did you mean {meant}?" if meant else "")
@@ -236,7 +244,8 @@ def warnings(path: Path) -> Iterator[str]:
 
 
 def size_line(path: Path, told: str) -> str:
-    """Returns the program's line about a lab's size, with the house counted separately if the lab can be read."""
+    """Returns `told`, the program's line about a lab's size, with the house counted separately if the lab can be read.
+    The house is a student without a person."""
     try:
         return labs.with_house_apart(told, labs.read(path))
     except Fault:

@@ -1,4 +1,5 @@
-"""Dealing students to networks, and nodes to students."""
+"""Dealing students to networks, and nodes to students. Students may have a *room*, in a column of the class list.
+*House* is a student without a person, who may own each node together with a student."""
 from __future__ import annotations
 
 import itertools
@@ -18,22 +19,24 @@ People = dict[str, Person]
 
 @dataclass(frozen=True)
 class Part:
-    """The students of one network, and their room if the list has one."""
+    """The students of one network, and their room, or an empty text."""
 
     names: list[str]
     room: str = ""
 
 
 def in_groups(people: list[str], count: int) -> list[list[str]]:
-    """Returns the people in this number of groups, whose sizes differ by at most one."""
+    """Returns the people in `count` groups, whose sizes differ by at most one. Raises `Fault` if there are fewer
+    people."""
     if not 1 <= count <= len(people):
         raise Fault(f"--groups {count}: write a number from 1 to {len(people)}")
     return [people[index::count] for index in range(count)]
 
 
 def parts(people: People, count: int | None, column: str | None) -> list[Part]:
-    """Returns the students of each network: `count` networks, or separate networks for each room in a column of
-    the list."""
+    """Returns the students of each network: of `count` networks, or if `column` names a column with rooms, of separate
+    networks for each room. `people` are the students by their names in the lab. Raises `Fault` if they can't be dealt
+    so."""
     if column is None:
         return [Part(names) for names in in_groups([*people], count or 1)]
     lost = [person.written for person in people.values() if not person.group]
@@ -47,8 +50,9 @@ def parts(people: People, count: int | None, column: str | None) -> list[Part]:
 
 
 def networks_of(rooms: dict[str, list[str]], count: int | None, column: str) -> dict[str, int]:
-    """Returns the number of networks of each room: as many as give each student a seat, or `count` in total. Each
-    further one goes to the room with the most students per network."""
+    """Returns the number of networks of each room: as many as give each student a seat, or `count` in total. Beyond one
+    for each room, the next goes to the room with the most students per network. Raises `Fault` if `count` is less than
+    the number of rooms."""
     if count is None:
         seats = limits.allowed().seats
         return {room: -(-len(names) // seats) for room, names in rooms.items()}
@@ -61,7 +65,8 @@ def networks_of(rooms: dict[str, list[str]], count: int | None, column: str) -> 
 
 
 def deal(identifiers: list[int], students: list[str], each: int) -> list[labs.Node]:
-    """Returns the nodes with `each` owners. The numbers of nodes of two students differ by at most one."""
+    """Returns nodes with these identifiers, each with `each` owners. The numbers of nodes of two students differ by at
+    most one. Raises `Fault` if there are fewer students than owners of a node."""
     if len(students) < each:
         raise Fault(f"{each} owners for each node need {each} students")
     turns = itertools.cycle(students)
@@ -69,7 +74,7 @@ def deal(identifiers: list[int], students: list[str], each: int) -> list[labs.No
 
 
 def counts(made: labs.Lab) -> str:
-    """Returns how many students have how many nodes, as a text."""
+    """Returns how many students of a lab have how many nodes, as a text."""
     shown = made.without_house()
     found = Counter(len(shown.nodes_of(name)) for name in shown.students)
     told = (f"{students} with {plural(nodes, 'node')}" for nodes, students in sorted(found.items(), reverse=True))
@@ -77,8 +82,8 @@ def counts(made: labs.Lab) -> str:
 
 
 def table(labs_of: dict[str, labs.Lab], rooms: dict[str, str]) -> Iterator[str]:
-    """Yields the lines of a table with all students: their names in the list and in the lab, network, room and
-    nodes."""
+    """Yields the lines of a table with all students: their names in the list and in the lab, network, room and nodes.
+    `labs_of` has the lab of each network, and `rooms` its room."""
     has_rooms = any(rooms.values())
     lines = [["student", "name", "network", *(["room"] if has_rooms else []), "nodes"]]
     for network, made in labs_of.items():

@@ -1,4 +1,6 @@
-"""Slips for students: made by `new`, or made again by `./class slips`."""
+"""Slips for students, which have the data that a student needs to connect: made by `new`, or made again by `./class
+slips`. The *way* into a network is what all its slips have in common, such as the port. A *door* is a TLS port for
+students on other machines."""
 from __future__ import annotations
 
 import argparse
@@ -20,14 +22,15 @@ HEADS = ("name", "e-mail", "network", "room", "file")
 
 
 def port(word: str) -> int:
-    """Returns the port that an argument names."""
+    """Returns the port that an argument names. Raises `ArgumentTypeError` if it names none."""
     if not (word.isascii() and word.isdecimal() and 1 <= int(word) <= LAST_PORT):
         raise argparse.ArgumentTypeError(f"{word} isn't a port: write a number from 1 to {LAST_PORT}")
     return int(word)
 
 
 def door(word: str) -> str:
-    """Returns the address of a door, `class.example:4700`. A port alone is one of this machine."""
+    """Returns the address of a door, such as `class.example:4700`, that an argument names. A port alone is one of this
+    machine. Raises `ArgumentTypeError` for any other argument."""
     place = f"{own_host_name()}:{word}" if word.isdecimal() else word
     try:
         door_of(place)
@@ -37,13 +40,13 @@ def door(word: str) -> str:
 
 
 def own_host_name() -> str:
-    """Returns the name of this machine, as far as it is known."""
+    """Returns the name of this machine in its network, or what comes closest to it if that isn't known."""
     name = socket.getfqdn()
     return socket.gethostname() if name.startswith("localhost") else name
 
 
 def add_way(words: argparse.ArgumentParser) -> None:
-    """Adds the arguments about the way in for students."""
+    """Adds the arguments about the way in for students to a parser."""
     words.add_argument("--port", type=port, help=f"the port on the slips; of several labs, the port of the first ({FIRST_PORT})")
     words.add_argument("--page-port", type=port, metavar="PORT",
                        help=f"the port of the page for playing by hand; of several labs, the port of the first ({FIRST_PAGE})")
@@ -54,14 +57,16 @@ def add_way(words: argparse.ArgumentParser) -> None:
 
 
 def add_words(words: argparse.ArgumentParser) -> None:
-    """Adds the arguments of `slips`."""
+    """Adds the arguments of `slips` to its parser."""
     words.add_argument("labs", nargs="+", metavar="LAB", help="the labs of a class, in the order in which `run` takes them")
     add_way(words)
     words.set_defaults(work=remake_slips)
 
 
 def ways(words: argparse.Namespace, files: list[Path], rooms: list[str], before: list[Way | None] | None = None) -> list[Way]:
-    """Returns the way into each lab, from the arguments or else from earlier slips."""
+    """Returns the way into the network of each lab: by the arguments, or else as in `before`, the earlier slips.
+    `rooms` has the room of each network. Makes the door's certificate if it is missing. Raises `Fault` if the arguments
+    don't fit."""
     found, names = [], [network(file) for file in files]
     if len(set(names)) < len(names):
         raise Fault(f"two labs have the same network name: {', '.join(names)}")
@@ -80,7 +85,7 @@ def ways(words: argparse.Namespace, files: list[Path], rooms: list[str], before:
 
 
 def rewrite_slips(made: labs.Lab, way: Way, lab: Path) -> None:
-    """Writes the page of a lab's slips, and the slips of its students and its teacher. Replaces old files."""
+    """Writes the page with a lab's slips, and the slips of its students and its teacher. Replaces older files."""
     folder = slips.folder_of(lab)
     folder.mkdir(mode=0o700, exist_ok=True)
     for name in made.without_house().students:
@@ -90,7 +95,7 @@ def rewrite_slips(made: labs.Lab, way: Way, lab: Path) -> None:
 
 
 def remake_slips(words: argparse.Namespace) -> int:
-    """Makes the slips of labs again, with another way in. Returns the exit status."""
+    """Makes the slips of the labs in the arguments again, with another way in. Returns the exit status."""
     files = [Path(lab) for lab in words.labs]
     every = [labs.read(file) for file in files]
     before = [Way.read(file) for file in files]
@@ -104,7 +109,7 @@ def remake_slips(words: argparse.Namespace) -> int:
 
 
 def merge(parts: list[tuple[labs.Lab, Way, Path]]) -> str:
-    """Returns the table for a mail merge: each student with the file of the slip."""
+    """Returns the table for a mail merge as CSV: each student of these labs with the file of the slip."""
     out = io.StringIO()
     rows = csv.writer(out, lineterminator="\n")
     rows.writerow(HEADS)

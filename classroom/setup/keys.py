@@ -27,7 +27,7 @@ def for_programs() -> str:
 
 
 def count_parts(key: str) -> tuple[int, int] | None:
-    """Returns the numbers of words and of digits in a key, or None if it has other parts."""
+    """Returns the numbers of words and of digits in a key, or None if the key has other parts."""
     parts = key.split("-")
     digits = [part for part in parts if part.isascii() and part.isdecimal()]
     words = [part for part in parts if part in KNOWN]
@@ -35,5 +35,5 @@ def count_parts(key: str) -> tuple[int, int] | None:
 
 
 def bits_of(words: int, digits: int) -> float:
-    """Returns the bits of a key with so many random words and digits."""
+    """Returns the bits of a key that consists of so many random words and digits."""
     return words * math.log2(len(WORDS)) + digits * math.log2(10)

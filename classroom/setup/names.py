@@ -1,4 +1,4 @@
-"""Turns the names in a class list into names for a lab."""
+"""Turns the names in a class list into names for a lab, which consist of the letters a to z, digits and hyphens."""
 from __future__ import annotations
 
 import re
@@ -34,8 +34,8 @@ SYLLABLES = ("DEVANAGARI", "BENGALI", "GURMUKHI", "GUJARATI", "TAMIL", "TELUGU",
 
 
 def letters(char: str) -> str:
-    """Returns a character in letters a to z and digits, whatever is beside it, or an empty text if that isn't
-    known."""
+    """Returns a letter of any script as letters a to z and digits, regardless of the letters beside it. Returns an
+    empty text if its sound isn't known."""
     if char in SPELLED:
         return SPELLED[char]
     named = unicodedata.name(char, "")
@@ -51,7 +51,8 @@ def letters(char: str) -> str:
 
 
 def sounds(named: list[str]) -> str | None:
-    """Returns the sound of a letter, from the words of its Unicode name, or None if that isn't known."""
+    """Returns the sound of a letter as letters a to z. `named` are the words of its Unicode name. Returns None if the
+    sound isn't known."""
     if len(named) < 3:
         return None
     if named[0] in ("ARABIC", "HEBREW") and named[1] == "LETTER":
@@ -64,8 +65,8 @@ def sounds(named: list[str]) -> str | None:
 
 
 def lab_name(name: str) -> str:
-    """Returns a name's form in a lab, without regard to others: `zoe-mueller` for `Zoë Müller` and for `Müller,
-    Zoë`. It is empty if none of its letters is known."""
+    """Returns a name as a lab has it: `zoe-mueller` for `Zoë Müller` and for `Müller, Zoë`. The result is empty if none
+    of the name's letters is known. Different persons may get the same name."""
     last, comma, first = name.partition(",")
     folded = unicodedata.normalize("NFC", f"{first} {last}" if comma and "," not in first else name).lower()
     spelled = "".join("-" if char.isspace() or char in "-_.,/" else letters(char) for char in folded)
@@ -74,13 +75,14 @@ def lab_name(name: str) -> str:
 
 
 def with_end(short: str, end: str) -> str:
-    """Returns a name with a suffix, within the limit of its length."""
+    """Returns the name `short` with a suffix `end`, cut to the greatest length of a name."""
     return f"{short[: limits.allowed().name - len(end) - 1].rstrip('-')}-{end}"
 
 
 def all_of(people: Iterable[Person], taken: Iterable[str] = ()) -> dict[str, Person]:
-    """Returns the lab's names, each with its person. Equal names get the person's identifier or a number as a
-    suffix. A name without a known letter becomes `s-` and such a suffix."""
+    """Returns a different name in the lab for each of these people, other than the names in `taken`. Where two persons
+    would have the same name, the person's identifier or a number is added. A person without a known letter is called
+    `s-` with an identifier or a number."""
     listed = list(people)
     forms = [lab_name(person.written) for person in listed]
     ids = [re.sub("[^a-z0-9]+", "-", person.id.lower()).strip("-") for person in listed]

@@ -1,4 +1,6 @@
-"""`./class new`: makes labs from a class list, with a page of slips for each."""
+"""`./class new`: makes labs from a class list, with slips for each. A *lab* is the file that defines a network with its
+students, and a *slip* has the data that a student needs to connect. The *way* into a network is what all its slips have
+in common."""
 from __future__ import annotations
 
 import argparse
@@ -23,8 +25,8 @@ from classroom.setup.slips import Way
 
 
 def start(made: labs.Lab, word: str, chance: random.Random) -> None:
-    """Sets the registers at the beginning: all clean, all random, random at one node in three (`hurt`), or the
-    worst known start."""
+    """Sets the registers of a lab at the beginning, as `word` says: `clean`, all `random`, random at one node in three
+    (`hurt`), or `worst`, the worst known start."""
     if word == "worst":
         registers = {node: (p, m) for node, p, m in shaking.longest_start([node.id for node in made.nodes], made.links)}
         for node in made.nodes:
@@ -38,7 +40,7 @@ def start(made: labs.Lab, word: str, chance: random.Random) -> None:
 
 
 def make(words: argparse.Namespace, people: dict[str, Person], chance: random.Random) -> labs.Lab:
-    """Returns a lab for these students, by the arguments."""
+    """Returns a lab for these students, who are named as in the lab, by the arguments."""
     students = list(people)
     if words.links:
         identifiers, links = networks.from_file(Path(words.links), words.nodes)
@@ -60,7 +62,7 @@ def make(words: argparse.Namespace, people: dict[str, Person], chance: random.Ra
 
 @dataclass(frozen=True)
 class Made:
-    """A new lab with its file, and the program's line about its size."""
+    """A new lab with the file that it is for, and the program's line about its size."""
 
     lab: labs.Lab
     file: Path
@@ -68,7 +70,8 @@ class Made:
 
 
 def files(path: Path, count: int) -> list[Path]:
-    """Returns the files for this number of labs."""
+    """Returns the files for this number of labs: `path` itself, or several with numbers in their names. Raises `Fault`
+    if `path` can't be a file's name."""
     name = path.name.removesuffix(".toml")
     if not name.strip("."):
         raise Fault(f"{path} isn't a file name of the form NAME.toml")
@@ -77,13 +80,13 @@ def files(path: Path, count: int) -> list[Path]:
 
 
 def merge_of(path: Path) -> Path:
-    """Returns the file of the table for a mail merge, which all labs share."""
+    """Returns the file for the table of a mail merge, which all labs share. `path` is the one for a single lab."""
     return path.with_name(f"{path.name.removesuffix('.toml')}-slips.csv")
 
 
 def checked_size(made: labs.Lab, wanted: Path) -> str:
-    """Returns the program's line about a lab's size. Raises `Fault` if the program refuses the lab. Writes it only
-    to a temporary file."""
+    """Returns the program's line about a lab's size. Raises `Fault`, with the name of the file that is wanted, if the
+    program refuses the lab. Writes only a temporary file."""
     with tempfile.TemporaryDirectory() as room:
         file = Path(room, "lab.toml")
         try:
@@ -97,7 +100,8 @@ def checked_size(made: labs.Lab, wanted: Path) -> str:
 
 
 def write(made: Made, way: Way, page: str, done: list[Path]) -> None:
-    """Writes a lab and its slips. Appends each written file or folder to `done`."""
+    """Writes the files of a lab: the lab, its slips, and their page. Appends each written file or folder to `done`.
+    Raises `Fault` if one of them can't be written."""
     for file, content in ((made.file, labs.text(made.lab)), (slips.page_of(made.file), page),
                           (slips.teacher_of(made.file), slips.text(made.lab, made.lab.teacher[0], way))):
         labs.write_new(file, content)
@@ -108,7 +112,8 @@ def write(made: Made, way: Way, page: str, done: list[Path]) -> None:
 
 @contextlib.contextmanager
 def all_or_none() -> Iterator[list[Path]]:
-    """Yields a list for the files and folders that are written. Removes all of them if something fails."""
+    """Yields a list, to which the caller appends the files and folders that it writes. Removes all of them if something
+    fails."""
     done: list[Path] = []
     try:
         yield done
@@ -122,8 +127,8 @@ def all_or_none() -> Iterator[list[Path]]:
 
 
 def new(words: argparse.Namespace) -> int:
-    """Makes the labs and their slips after checking everything, and prints a summary and the next commands.
-    Returns the exit status."""
+    """Makes the labs and their slips, after checking that all of them can be made. Prints a summary and the next
+    commands. Returns the exit status."""
     program()
     people = lists.read(Path(words.students), words).people
     chance = random.Random(words.seed)
@@ -147,7 +152,8 @@ def new(words: argparse.Namespace) -> int:
 
 
 def write_all(words: argparse.Namespace, made: list[Made], rooms: list[str], merge: Path) -> list[Way]:
-    """Writes all labs and slips, or nothing if one of them can't be written. Returns the ways in."""
+    """Writes all labs and slips and the table for a mail merge, or nothing if one of them can't be written. `rooms` has
+    the room of each lab. Returns the way into each network."""
     with all_or_none() as done:
         file = words.certificate or certificate.beside(made[0].file)
         is_new = bool(words.door) and not os.path.lexists(file)
@@ -161,7 +167,8 @@ def write_all(words: argparse.Namespace, made: list[Made], rooms: list[str], mer
 
 
 def print_summary(words: argparse.Namespace, made: list[Made], ways: list[Way], everybody: int) -> None:
-    """Prints the labs with their slips, notes about them, and the table of students."""
+    """Prints the labs with their slips, notes about them, and the table of students. `everybody` is the number of all
+    students."""
     for it in made:
         print(f"{it.file}: {it.size}; slips: {slips.page_of(it.file)} to print, {slips.folder_of(it.file)} for programs")
         print(f"  {dealing.counts(it.lab)}")
@@ -176,7 +183,7 @@ def print_summary(words: argparse.Namespace, made: list[Made], ways: list[Way], 
 
 
 def next_steps(words: argparse.Namespace, made: list[Made], merge: Path) -> str:
-    """Returns the text about what to do next."""
+    """Returns the text that says what to do next, with the commands."""
     every = " ".join(shlex.quote(str(it.file)) for it in made)
     pages = " ".join(str(slips.page_of(it.file)) for it in made)
     door = f" --door {words.door.rpartition(':')[2]}" if words.door else ""
@@ -186,7 +193,8 @@ def next_steps(words: argparse.Namespace, made: list[Made], merge: Path) -> str:
 
 
 def tell_seats(made: labs.Lab, everybody: int, words: argparse.Namespace) -> None:
-    """Prints a note if not all students of the lab can have a seat at once, with the number of labs that would be enough."""
+    """Prints a note if the students of a lab can't all have a seat at once, with the number of labs that would be
+    enough for `everybody`, the number of all students."""
     students = len(made.without_house().students)
     if made.sessions < students + 1 and words.groups_by:
         print(f"note: {made.sessions} sessions for {students} students and a teacher: with more --groups all have a seat")
@@ -196,8 +204,8 @@ def tell_seats(made: labs.Lab, everybody: int, words: argparse.Namespace) -> Non
 
 
 def tell_few(made: labs.Lab) -> None:
-    """Prints a note if the events may run out before the network is stable. The highest limit is enough for each
-    network."""
+    """Prints a note if the events of a lab may run out before its network is stable. The highest limit is enough for
+    each network."""
     if made.events == limits.allowed().events:
         return
     least = bounds.of_lab(made).events
@@ -206,7 +214,8 @@ def tell_few(made: labs.Lab) -> None:
 
 
 def without_node(made: labs.Lab, words: argparse.Namespace) -> str:
-    """Returns a text with the students who have no node and a network that has enough, or an empty text."""
+    """Returns a text that names the students of a lab who have no node, and a network that has enough nodes. Returns an
+    empty text if each student has a node."""
     shown = made.without_house()
     idle = [name for name in shown.students if not shown.nodes_of(name)]
     if not idle:
@@ -217,14 +226,14 @@ def without_node(made: labs.Lab, words: argparse.Namespace) -> str:
 
 
 def tell_idle(made: labs.Lab, words: argparse.Namespace) -> None:
-    """Prints a warning if there are more students than nodes."""
+    """Prints a warning if a lab has more students than nodes."""
     idle = without_node(made, words)
     if idle:
         print(f"WARNING: more students than nodes: {idle}")
 
 
 def refuse_idle(made: list[labs.Lab], words: argparse.Namespace) -> None:
-    """Raises `Fault` if there are more students than nodes."""
+    """Raises `Fault` if one of the labs has more students than nodes."""
     for lab in made:
         idle = without_node(lab, words)
         if idle:

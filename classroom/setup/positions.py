@@ -1,4 +1,5 @@
-"""Finding the line of a table, key or link in the text of a lab, as labs are commonly written."""
+"""Finding the line of a table, key or link in the text of a lab, which is TOML, as labs are commonly written. Lines are
+numbered from 1."""
 from __future__ import annotations
 
 import re
@@ -21,15 +22,16 @@ class Table:
 
 @dataclass
 class Value:
-    """The value of a key, which may go on over several lines until its brackets are closed. Its tables in braces
-    are appended to a list."""
+    """The value of a key, while it is read line by line until its brackets are closed. Its tables in braces are
+    appended to a list."""
 
     name: str = ""  # of the key
     tables: list[Table] = field(default_factory=list)
     brackets: str = ""  # those that are open, the outermost first
 
     def take(self, number: int, text: str) -> None:
-        """Reads a line, or its rest after the key. Ignores tables within other tables in braces."""
+        """Reads a line with this number, or the part of it after the key. Ignores tables within other tables in
+        braces."""
         for found in BRACKET_OR_KEY.finditer(text):
             if found[0] in ("[", "{"):
                 self.brackets += found[0]
@@ -42,13 +44,13 @@ class Value:
 
 
 def without_texts(line: str) -> str:
-    """Returns a line without its comment and without the contents of its strings."""
+    """Returns a line of TOML without its comment and without the contents of its strings."""
     return re.sub(r"#.*", "", re.sub(r'"(\\.|[^"\\])*"|\'[^\']*\'', '""', line))
 
 
 def tables(text: str) -> list[Table]:
-    """Returns the tables of a file in their order. The first is the document itself. Tables in braces are included
-    if they belong to one of its known keys. An unclosed bracket ends at the next header, or at a key outside
+    """Returns the tables in a lab's text, in their order. The first is the document itself. Tables in braces are
+    included if they belong to one of its known keys. An unclosed bracket ends at the next header, or at a key outside
     braces."""
     found, value = [Table("", 1)], Value()
     current = found[0]
@@ -69,13 +71,14 @@ def tables(text: str) -> list[Table]:
 
 
 def table(text: str, name: str, index: int) -> Table | None:
-    """Returns the table with this name and index, counted from 0, or None."""
+    """Returns the table in a lab's text with this name and this index among the tables of that name, counted from 0, or
+    None if there is none."""
     named = [each for each in tables(text) if each.name == name]
     return named[index] if index < len(named) else None
 
 
 def link(text: str, index: int) -> int | None:
-    """Returns the line of the link with this index, counted from 0, or None. Counts brackets to find it."""
+    """Returns the number of the line with the link that has this index, counted from 0, or None if there is none."""
     inside, seen = False, 0
     for number, whole in enumerate(text.splitlines(), 1):
         line = without_texts(whole)

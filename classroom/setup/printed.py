@@ -1,4 +1,5 @@
-"""The page with slips for printing: four on a sheet, with lines to cut along."""
+"""The page with slips for printing: four on a sheet, with lines to cut along. A *slip* has the data that a student
+needs to connect, and the *way* into a network is what all its slips have in common."""
 from __future__ import annotations
 
 import shutil
@@ -36,19 +37,21 @@ NO_SQUARE = "The slips have no QR codes: qrencode isn't installed (Debian's pack
 
 
 def address(way: Way, name: str, key: str) -> str:
-    """Returns the address of the page to play. Name and key are after `#`, so that browsers don't send them."""
+    """Returns the address of the page on which the student `name` plays. Name and key are after `#`, so that browsers
+    don't send them."""
     given = f"#name={quote(name)}&key={quote(key, safe='')}"
     return f"https://{way.door}/{way.network}/{given}" if way.door else f"http://127.0.0.1:{way.page}/{given}"
 
 
 def has_squares(way: Way) -> bool:
-    """Returns whether slips can have QR codes: there is a door, since no other address works on another machine,
-    and qrencode is installed."""
+    """Returns whether slips can have QR codes: there is a door, since no other address works on another machine, and
+    the program qrencode is installed."""
     return bool(way.door) and shutil.which("qrencode") is not None
 
 
 def square(content: str) -> str:
-    """Returns a QR code as SVG. The content is passed by standard input, because others could read arguments."""
+    """Returns a QR code with this content as SVG. Passes the content by standard input, because other users could read
+    arguments. Raises `Fault` if qrencode fails."""
     done = run(["qrencode", "-t", "ASCII", "-m", "0", "-l", "M"], given=content.encode())
     if done.returncode != 0:
         raise Fault(f"qrencode: {done.stderr.decode(errors='replace').strip()}", FAILED)
@@ -60,7 +63,7 @@ def square(content: str) -> str:
 
 
 def forwards(way: Way) -> str:
-    """Returns the ssh command that forwards the ports of the server and of the page to play."""
+    """Returns the ssh command by which a student forwards the ports of the server and of the page to play."""
     return f"ssh -N -L {way.port}:127.0.0.1:{way.port} -L {way.page}:127.0.0.1:{way.page} {way.ssh}"
 
 
@@ -70,7 +73,7 @@ def in_parts(digits: str) -> str:
 
 
 def rows(made: Lab, name: str, way: Way) -> Iterator[tuple[str, str]]:
-    """Yields the names and values on a slip, as HTML."""
+    """Yields the rows of the slip of the student `name`: for each value what it is called, and the value as HTML."""
     yield "name", f"<code>{escape(name)}</code>"
     yield "key", f'<code class="key">{escape(made.students[name])}</code>'
     nodes = made.nodes_of(name)
@@ -81,7 +84,7 @@ def rows(made: Lab, name: str, way: Way) -> Iterator[tuple[str, str]]:
 
 
 def slip(made: Lab, shown: Lab, name: str, way: Way) -> str:
-    """Returns one slip as HTML."""
+    """Returns the slip of the student `name` as HTML. `shown` is the lab without the house."""
     person, link = made.people.get(name, Person(name)), address(way, name, made.students[name])
     room = f" · {escape(way.room)}" if way.room else ""
     listed = "".join(f"<dt>{head}</dt><dd>{value}</dd>" for head, value in rows(shown, name, way))

@@ -1,4 +1,5 @@
-"""`./class key`: gives a student another key and slip during a course."""
+"""`./class key`: gives a student another key and slip during a course. A *slip* has the data that a student needs to
+connect."""
 from __future__ import annotations
 
 import argparse
@@ -17,14 +18,15 @@ from classroom.setup.slips import FIRST_PORT, Way
 
 
 def add_words(words: argparse.ArgumentParser) -> None:
-    """Adds the arguments of `key`."""
+    """Adds the arguments of `key` to its parser."""
     words.add_argument("lab", metavar="LAB", help="the file of the lab, or the folder of a run or a class with this lab")
     words.add_argument("name", metavar="NAME", help="the student's name in the lab")
     words.set_defaults(work=rekey)
 
 
 def changed(path: Path, name: str, key: str) -> str:
-    """Returns the lab's text with another key for one student, and no other change."""
+    """Returns the text of the lab in a file, with another key for the student `name` and no other change. Raises
+    `Fault` if there is no such student, or the key isn't written on a line of its own."""
     before = labs.document(path)
     text = path.read_text(encoding="utf-8-sig")
     index = next((index for index, each in enumerate(before["student"]) if each["name"] == name), None)
@@ -45,8 +47,8 @@ def changed(path: Path, name: str, key: str) -> str:
 
 
 def files_of(word: str) -> tuple[list[Path], Path, Record | None]:
-    """Returns the lab's files that contain the key, the one beside which the slips are, and the record of the
-    run's folder."""
+    """Returns the files of a lab with a student's key, the one beside which the slips are, and the record of the run if
+    `word` names a run's folder. `word` names a lab's file or the folder of a run."""
     path = Path(word)
     if not path.is_dir():
         return [path], path, None
@@ -66,7 +68,8 @@ class Changed:
 
 
 def change(word: str, name: str) -> Changed:
-    """Changes a student's key in the lab, in a run's copy of it, and on the slips."""
+    """Changes the key of the student `name` in the lab, in a run's copy of it, and on the slips. `word` names a lab's
+    file or the folder of a run. Raises `Fault` if the key can't be changed."""
     files, own, record = files_of(word)
     labs.read(files[0])
     key = keys.for_people()
@@ -84,7 +87,8 @@ def change(word: str, name: str) -> Changed:
 
 
 def rekey(words: argparse.Namespace) -> int:
-    """Gives a student of a class that isn't running another key. Returns the exit status."""
+    """Gives a student another key, and prints the files that have it. Returns the exit status. A run that is going on
+    still accepts the old key."""
     words.lab = str(classes.run_of(Path(words.lab), words.name))
     it, record = change(words.lab, words.name), files_of(words.lab)[2]
     print(f"{words.name} has another key in {', '.join(map(str, it.files))}; slip: {it.slip}")

@@ -1,4 +1,5 @@
-"""Transient faults for lessons: random registers, and a start with a long recovery."""
+"""Transient faults for lessons: random registers, and a start with a long recovery. A node has the registers p, which
+points at a neighbour or is null, and m. *Crowds* and *halves* are families of networks (docs/SELF-STABILISATION.md)."""
 from __future__ import annotations
 
 import random
@@ -12,7 +13,7 @@ LEAST = {"crowd": 4, "halves": 2}  # nodes
 
 
 def pairs_of(links: Iterable[Collection[int]]) -> list[tuple[int, int]]:
-    """Returns the links in order, each with its lower end first."""
+    """Returns links in their order, each as a pair with its lower end first."""
     found = []
     for link in links:
         a, b = sorted(link)
@@ -21,7 +22,8 @@ def pairs_of(links: Iterable[Collection[int]]) -> list[tuple[int, int]]:
 
 
 def shaken(nodes: list[int], links: Iterable[Collection[int]], word: str, seed: int | None) -> list[Registers]:
-    """Returns random registers for `word` nodes, or for `all`, drawn with the seed."""
+    """Returns random registers for so many random nodes as `word` says, or for all if it is `all`, drawn with the seed.
+    Raises `Fault` if there aren't so many nodes."""
     count = len(nodes) if word == "all" else int(word)
     if not 1 <= count <= len(nodes):
         raise Fault(f"shake {word}: write a number of nodes from 1 to {len(nodes)}, or all")
@@ -32,9 +34,9 @@ def shaken(nodes: list[int], links: Iterable[Collection[int]], word: str, seed: 
 
 
 def longest_start(nodes: list[int], links: Iterable[Collection[int]]) -> list[Registers]:
-    """Returns the registers from which a crowd may take the most moves, and halves the most rounds
-    (docs/SELF-STABILISATION.md). In other networks m is true at each node, and it points at a higher neighbour
-    that doesn't point back, or else at a lower one that doesn't point at it, or at none. No start has a greater
+    """Returns registers for all nodes from which a run takes long. From those of a crowd a run may take the most moves,
+    and from those of halves the most rounds. In other networks m is true at each node, which points at a higher
+    neighbour if it has one, or else at a lower one that doesn't point back, or at none. No start has a greater
     potential."""
     pairs, order = pairs_of(links), sorted(nodes)
     for word, pointers in (("crowd", of_crowd), ("halves", of_halves)):
@@ -51,11 +53,11 @@ def longest_start(nodes: list[int], links: Iterable[Collection[int]]) -> list[Re
 
 
 def of_crowd(count: int) -> list[int | None]:
-    """Returns the pointers of a crowd's nodes. The first half point at the last nodes in reverse order, and each
-    of the others at the next; the last points at the second."""
+    """Returns the pointers of the nodes 1 to `count` of a crowd. The first half point at the last nodes in reverse
+    order, each later one at the next, and the last at the second."""
     return [count + 1 - node if 2 * node <= count else node + 1 if node < count else 2 for node in range(1, count + 1)]
 
 
 def of_halves(count: int) -> list[int | None]:
-    """Returns the pointers of the nodes of halves: each is null."""
+    """Returns the pointers of `count` nodes of halves, all null."""
     return [None] * count

@@ -17,8 +17,9 @@ FIRST_PORT, FIRST_PAGE = 4711, 4790
 
 @dataclass(frozen=True)
 class Way:
-    """The way into a network, which is the same on all its slips: its name and room, the ports of its server and
-    its page to play, and a door with its fingerprint, or else an account for ssh."""
+    """The way into a network, which is the same on all its slips: its name and room, the ports of its server and of its
+    page to play, and a door with its fingerprint, or else an account for ssh. A *door* is a TLS port for students on
+    other machines."""
 
     port: int
     network: str
@@ -29,14 +30,14 @@ class Way:
     ssh: str = ""
 
     def lines(self) -> list[str]:
-        """Returns the lines of a slip with these values. Those of a door are last."""
+        """Returns the lines of a slip that have these values, without the port. Those of a door are last."""
         told = {"network": self.network, "room": self.room, "page": str(self.page), "ssh": self.ssh, "door": self.door,
                 "fingerprint": self.fingerprint}
         return [f"{word} {value}" for word, value in told.items() if value]
 
     @staticmethod
     def read(lab: Path) -> Way | None:
-        """Returns the way in from a slip beside a lab, or None if there is no readable slip."""
+        """Returns the way that a slip beside a lab has, or None if there is no readable slip."""
         for file in sorted(folder_of(lab).glob("*.slip")):
             try:
                 pairs = [line.partition(" ") for line in plain.read(file, plain.MOST_KEPT).decode().splitlines()]
@@ -49,12 +50,12 @@ class Way:
 
 
 def folder_of(lab: Path) -> Path:
-    """Returns the folder of a lab's slips for programs."""
+    """Returns the folder with the slips of a lab's students, one file each."""
     return lab.with_name(f"{lab.stem}-slips")
 
 
 def page_of(lab: Path) -> Path:
-    """Returns the page with a lab's slips for printing."""
+    """Returns the file of the page with a lab's slips for printing."""
     return lab.with_name(f"{lab.stem}-slips.html")
 
 
@@ -64,20 +65,20 @@ def teacher_of(lab: Path) -> Path:
 
 
 def slip(made: Lab, name: str, port: int) -> list[str]:
-    """Returns the lines of a slip that every client reads."""
+    """Returns those lines of the slip of the student or teacher `name` that every client reads."""
     key = made.students[name] if name in made.students else made.teacher[1]
     nodes = ",".join(map(str, made.nodes_of(name)))
     return [f"port {port}", f"name {name}", f"key {key}", *([f"nodes {nodes}"] if nodes else [])]
 
 
 def text(made: Lab, name: str, way: Way) -> str:
-    """Returns the text of a slip's file."""
+    """Returns the text of the slip's file of the student or teacher `name`."""
     return "".join(f"{line}\n" for line in (*slip(made, name, way.port), *way.lines()))
 
 
 def write_all(made: Lab, way: Way, folder: Path) -> None:
-    """Writes a file for each student into a new folder that no other user can read. Leaves no folder if a file
-    can't be written."""
+    """Writes a slip for each student of a lab into a new folder that no other user can read. Raises `Fault` if one of
+    them can't be written, and leaves no folder then."""
     try:
         folder.mkdir(mode=0o700)
     except OSError as error:
@@ -91,7 +92,8 @@ def write_all(made: Lab, way: Way, folder: Path) -> None:
 
 
 def replace(path: Path, content: str) -> None:
-    """Replaces a file by a new one that no other user can read."""
+    """Replaces a file by a new one with this content that no other user can read. Raises `Fault` if it can't be
+    written."""
     other = path.with_name(f".{path.name}.{os.getpid()}")
     write_new(other, content)
     other.replace(path)
