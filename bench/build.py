@@ -27,7 +27,8 @@ def variables() -> dict[str, str]:
 
 
 def main() -> None:
-    """Copies the sources, since cargo writes beside them, and builds the copy."""
+    """Copies the sources, since cargo writes beside them, and builds the copy. Exits with an error line if that
+    fails."""
     if not WRAPPER.exists():
         refuse("no cargo of Debian's: bench/README.md says what has to be installed")
     environment = variables()

@@ -1,4 +1,5 @@
-"""Eight clients, each a process of its own, that ask a server for the same view over and over."""
+"""Eight clients, each a process of its own, that send a server the same request over and over. They send *bursts* of
+requests, each after the replies to the last one."""
 import multiprocessing
 import socket
 import time
@@ -20,8 +21,8 @@ def free_port() -> int:
 
 
 def ask(port: int, burst: int, bursts: int, begin: Barrier, results: "multiprocessing.Queue[set[bytes]]") -> None:
-    """Greets, waits until all clients have greeted, and sends the bursts. Each burst follows the replies to the
-    last one. Puts the set of replies into `results`."""
+    """Greets at a port, waits at `begin` until all clients have greeted, and sends `bursts` bursts of `burst` requests.
+    Puts the set of different replies into `results`."""
     with socket.create_connection(("127.0.0.1", port)) as it, it.makefile("rb") as lines:
         it.setsockopt(socket.IPPROTO_TCP, socket.TCP_NODELAY, 1)
         it.sendall(HELLO)
@@ -37,8 +38,8 @@ def ask(port: int, burst: int, bursts: int, begin: Barrier, results: "multiproce
 
 
 def time_clients(port: int, burst: int, bursts: int) -> tuple[float, Optional[bytes]]:
-    """Returns the seconds that all clients take together, and the reply that all of them got, or None if the
-    replies differ."""
+    """Runs all clients over the server at a port. Returns the seconds from the first request to the last reply, and the
+    reply that all requests got, or None if the replies differ."""
     begin = multiprocessing.Barrier(CONNECTIONS + 1)
     results: "multiprocessing.Queue[set[bytes]]" = multiprocessing.Queue()
     words = (port, burst, bursts, begin, results)

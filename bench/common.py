@@ -17,17 +17,17 @@ Words = Sequence[Union[str, Path]]
 
 
 def refuse(why: str) -> NoReturn:
-    """Prints the reason, and exits, since nothing was measured."""
+    """Prints the reason why nothing is measured, and exits."""
     sys.exit(f"bench: {why}")
 
 
 def built(program: Path) -> Path:
-    """Returns the path of a program. Exits if it isn't built."""
+    """Returns the path of a program. Exits with an error line if it isn't built."""
     return program if program.exists() else refuse(f"{program} isn't built: bench/README.md says how")
 
 
 def built_in(sessions: int = 4, events: int = 100) -> str:
-    """Returns the lab that the program uses without arguments, with these limits."""
+    """Returns the text of the lab that the program uses without arguments, with these limits."""
     found = re.search(r'r#"(.*?)"#', BUILT_IN.read_text(encoding="utf-8"), re.DOTALL)
     if found is None:
         refuse(f"{BUILT_IN}: no lab")
@@ -43,21 +43,22 @@ def stripped(program: Path, path: Path) -> Path:
 
 
 def require_valgrind() -> None:
-    """Exits if valgrind or strip isn't installed."""
+    """Exits with an error line if valgrind or strip isn't installed."""
     for tool in "valgrind", "strip":
         if shutil.which(tool) is None:
             refuse(f"no {tool} on the path")
 
 
 def replies(words: Words, stdin: Path) -> bytes:
-    """Returns the standard output of a program."""
+    """Returns the standard output of a command line, with a file as standard input. Raises `CalledProcessError` if the
+    command fails."""
     with stdin.open("rb") as lines:
         return subprocess.run(words, stdin=lines, stdout=subprocess.PIPE, check=True).stdout
 
 
 def instructions(words: Words, stdin: Path) -> int:
-    """Returns the number of instructions that a run of a program takes. It doesn't depend on what else runs on the
-    machine."""
+    """Returns the number of instructions that the run of a command line takes, with a file as standard input. The
+    number doesn't depend on what else runs on the machine. Raises `CalledProcessError` if the command fails."""
     call = ["valgrind", "--tool=callgrind", "--callgrind-out-file=/dev/null", *words]
     with stdin.open("rb") as lines:
         run = subprocess.run(call, stdin=lines, stdout=subprocess.DEVNULL, stderr=subprocess.PIPE, check=True)

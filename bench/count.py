@@ -19,8 +19,8 @@ from bench.common import PROGRAM, TYPED, Words, built_in, instructions, require_
 
 @dataclass(frozen=True)
 class Row:
-    """A measurement: its lab, the lines of a number of turns, two lengths in turns, and the number of lines that
-    count as one."""
+    """A measurement: its lab, a function that returns the lines of so many turns, two lengths in turns, and the number
+    of lines that count as one."""
 
     name: str
     lab: Callable[[], str]
@@ -50,15 +50,17 @@ ROWS = (
 
 
 class Counter:
-    """Counts instructions, with all its files in one folder."""
+    """Counts the instructions of runs, whose files are in one folder."""
 
     def __init__(self, folder: Path) -> None:
+        """Copies the two programs into `folder`, which is empty, without their debugging information."""
         self.programs = stripped(PROGRAM, folder / "ours"), stripped(TYPED, folder / "typed")
         self.lab, self.text = folder / "lab", folder / "text"
 
     def call(self, row: Row, index: int) -> Words:
-        """Returns the command line for a row. Index 0 is this program, and 1 the one that is written by hand. For
-        a piped row this program takes no arguments and uses its built-in lab."""
+        """Returns the command line of one of the two programs for a row: of this program for index 0, and of the one
+        that is written by hand for index 1. For a piped row this program takes no arguments and uses its built-in
+        lab."""
         program = self.programs[index]
         if row.words == PIPED:
             return [program] if index == 0 else [program, "script", self.lab, "/dev/stdin"]
@@ -66,13 +68,14 @@ class Counter:
         return [program, *(named.get(word, word) for word in row.words)]
 
     def write(self, row: Row, turns: int) -> int:
-        """Writes the lines of so many turns to the text file. Returns the number of lines."""
+        """Writes the row's lines of so many turns to the file that the programs read. Returns the number of lines."""
         lines = list(row.text(turns))
         self.text.write_text("".join(line + "\n" for line in lines), encoding="ascii")
         return len(lines)
 
     def count(self, row: Row) -> list[float]:
-        """Returns the instructions per line of a row, for this program and for the one that is written by hand."""
+        """Returns the instructions per line of a row, for this program and for the one that is written by hand. Exits
+        if their outputs differ."""
         self.lab.write_text(row.lab(), encoding="ascii")
         less = self.write(row, row.few)
         before = [instructions(self.call(row, index), self.text) for index in range(2)]
@@ -84,7 +87,7 @@ class Counter:
 
 
 def main() -> None:
-    """Prints a table with all rows, or with those that the arguments name."""
+    """Prints a table with all rows, or with those whose names contain one of the arguments."""
     require_valgrind()
     asked = sys.argv[1:]
     rows = [row for row in ROWS if not asked or any(word in row.name for word in asked)]

@@ -29,7 +29,8 @@ PAIRS: list[tuple[str, str, str, str]] = [
 
 
 def count(program: Path, before: str, line: str, script: Path) -> tuple[float, bytes]:
-    """Returns the instructions per line, and the reply to it."""
+    """Returns the instructions that a program takes for each `line`, and the reply to it. `before` are the lines
+    before, and `script` is a file to use."""
     script.write_text(before, encoding="ascii")
     begun = instructions([program], script)
     script.write_text(before + line * LINES, encoding="ascii")
@@ -40,7 +41,7 @@ def count(program: Path, before: str, line: str, script: Path) -> tuple[float, b
 
 
 def main() -> None:
-    """Prints the counts and the difference of each pair."""
+    """Prints the instructions of both lines of each pair, and their difference."""
     require_valgrind()
     with tempfile.TemporaryDirectory() as folder:
         program, script = stripped(PROGRAM, Path(folder, "program")), Path(folder, "script")

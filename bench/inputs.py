@@ -1,4 +1,5 @@
-"""Labs, scripts and journals as input for measurements."""
+"""Labs, scripts and journals as input for measurements. A *turn* is a few lines that are repeated, and each script
+begins with its hellos."""
 from collections.abc import Iterable
 
 from bench.common import built_in
@@ -13,47 +14,48 @@ FIRST, LAST = 65280, 65535
 
 
 def largest_built_in() -> str:
-    """Returns the built-in lab with the largest number of events that a lab may have."""
+    """Returns the text of the built-in lab with the largest number of events that a lab may have."""
     return built_in(events=EVENTS)
 
 
 def lab(owners: dict[int, str], links: Iterable[tuple[int, int]]) -> str:
-    """Returns a lab of these nodes and links."""
+    """Returns the text of a lab with these links. `owners` has the owner of each node."""
     listed = ", ".join(f"[{a}, {b}]" for a, b in links)
     head = largest_built_in().split("[[node]]")[0].replace("[[1, 2], [2, 3]]", f"[{listed}]")
     return head + "\n".join(f'[[node]]\nid = {node}\nowner = "{owner}"\n' for node, owner in owners.items())
 
 
 def ring(nodes: int, reach: int = 1) -> str:
-    """Returns a lab whose nodes form a ring. Each node is linked to the next `reach` nodes on both sides, and
-    three students own the nodes in turn."""
+    """Returns the text of a lab whose nodes form a ring. Each node is linked to the next `reach` nodes on both sides,
+    and three students own the nodes in turn."""
     ids = range(1, nodes + 1)
     links = ((node, (node + step - 1) % nodes + 1) for node in ids for step in range(1, reach + 1))
     return lab({node: PEOPLE[node % 3] for node in ids}, links)
 
 
 def all_links() -> str:
-    """Returns the greatest lab: each of 256 nodes linked to each other one."""
+    """Returns the text of the greatest lab: each of 256 nodes is linked to each other one."""
     ids = range(FIRST, LAST + 1)
     return lab({node: "ben" if node == LAST else "ana" for node in ids}, ((a, b) for a in ids for b in range(FIRST, a)))
 
 
 def sees(turns: int) -> Iterable[str]:
-    """Yields the teacher's hello, and then requests to see three nodes in turn."""
+    """Yields the lines of a script: the teacher's requests to see three nodes in turn."""
     yield TESS
     for turn in range(turns):
         yield f'1 {{"do":"see","node":{turn % 3 + 1}}}'
 
 
 def sees_and_more(turns: int) -> Iterable[str]:
-    """Yields the same as `sees`, with a key in each line that no request has."""
+    """Yields the lines of `sees`, each with a further key that no request has."""
     yield TESS
     for turn in range(turns):
         yield f'1 {{"do":"see","node":{turn % 3 + 1},"x":[]}}'
 
 
 def mixed(turns: int) -> Iterable[str]:
-    """Yields requests to look, a move, a close, and a fault that undoes the close. Three in six lines are granted."""
+    """Yields the lines of a script: requests to look, a move, a close, and a fault that undoes the close. Three in six
+    lines are granted as events."""
     yield from (TESS, ANA)
     for turn in range(turns):
         yield '1 {"do":"see","node":1}'
@@ -65,7 +67,7 @@ def mixed(turns: int) -> Iterable[str]:
 
 
 def granted(turns: int) -> Iterable[str]:
-    """Yields a move and its release, over and over."""
+    """Yields the lines of a script: a move and its release, over and over."""
     yield from (TESS, ANA)
     for _ in range(turns):
         yield '2 {"at":0,"do":"move","node":1,"rule":"seduction"}'
@@ -73,42 +75,42 @@ def granted(turns: int) -> Iterable[str]:
 
 
 def greetings(turns: int) -> Iterable[str]:
-    """Yields a student's hello and bye, over and over."""
+    """Yields the lines of a script: a student's hello and bye, over and over."""
     for _ in range(turns):
         yield BEN
         yield '1 {"do":"bye"}'
 
 
 def looks(turns: int) -> Iterable[str]:
-    """Yields looks at each of 64 nodes in turn."""
+    """Yields the lines of a script: looks at each of 64 nodes in turn."""
     yield TESS
     for turn in range(turns):
         yield f'1 {{"do":"look","node":{turn % 64 + 1}}}'
 
 
 def reports(turns: int) -> Iterable[str]:
-    """Yields the teacher's request for the report, over and over."""
+    """Yields the lines of a script: the teacher's request for the report, over and over."""
     yield TESS
     for _ in range(turns):
         yield '1 {"do":"report"}'
 
 
 def sees_of_all(turns: int) -> Iterable[str]:
-    """Yields requests of ben to see each node of the largest lab in turn."""
+    """Yields the lines of a script: requests of the student ben to see each node of the greatest lab in turn."""
     yield BEN
     for turn in range(turns):
         yield f'1 {{"do":"see","node":{FIRST + turn % 256}}}'
 
 
 def looks_at_last(turns: int) -> Iterable[str]:
-    """Yields looks at ben's node of the largest lab."""
+    """Yields the lines of a script: looks at the node of the student ben in the greatest lab, over and over."""
     yield BEN
     for _ in range(turns):
         yield f'1 {{"do":"look","node":{LAST}}}'
 
 
 def journal(turns: int) -> Iterable[str]:
-    """Yields the journal's lines of a move, a close and a fault that undoes it, over and over."""
+    """Yields the lines of a journal: a move, a close and a fault that undoes it, over and over."""
     for turn in range(turns):
         place, number = 3 * turn, 2 * turn
         yield f"{place + 1} {number} grant ana 1 seduction"

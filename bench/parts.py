@@ -19,7 +19,8 @@ FOUND = re.compile(r"^\s*([\d,]+)\s+(?:\(\s*[\d.]+%\)\s+)?\S*?:(\S.*?)(?: \[[^]]
 
 
 def by_function(words: Words, stdin: Path, room: Path) -> dict[str, int]:
-    """Returns the number of instructions of each function of a run, without those of the functions that it calls."""
+    """Returns the number of instructions of each function in the run of a command line, with a file as standard input.
+    Instructions of the functions that it calls don't count. `room` is a folder for callgrind's output."""
     kept = room / "counts"
     call = ["valgrind", "--tool=callgrind", f"--callgrind-out-file={kept}", *words]
     with stdin.open("rb") as lines:
@@ -42,7 +43,8 @@ def parts_of(row: Row, counter: Counter, room: Path) -> dict[str, float]:
 
 
 def main() -> None:
-    """Prints the functions of each row, the one with the most instructions first."""
+    """Prints the functions of each row, the one with the most instructions first. With arguments, prints only rows
+    whose names contain one of them."""
     require_valgrind()
     wanted = sys.argv[1:]
     with tempfile.TemporaryDirectory() as folder:

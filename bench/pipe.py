@@ -19,7 +19,7 @@ ROUNDS = 41
 
 
 def time_file(lab: Path, script: Path, replies: Path) -> float:
-    """Returns how many seconds the script takes as a file."""
+    """Returns how many seconds the program takes for the script as a file. Writes the replies into another file."""
     with replies.open("wb") as out:
         start = time.perf_counter()
         subprocess.run([PROGRAM, "script", lab, script], stdout=out, check=True)
@@ -27,7 +27,8 @@ def time_file(lab: Path, script: Path, replies: Path) -> float:
 
 
 def time_pipe(script: Path, replies: Path) -> float:
-    """Returns how many seconds the script takes through a pipe."""
+    """Returns how many seconds the program takes for the script through a pipe. Writes the replies into another
+    file."""
     with replies.open("wb") as out:
         start = time.perf_counter()
         with subprocess.Popen(["cat", script], stdout=subprocess.PIPE) as feeder:
@@ -36,7 +37,7 @@ def time_pipe(script: Path, replies: Path) -> float:
 
 
 def main() -> None:
-    """Times both ways in turn."""
+    """Times both ways in turn, and prints the medians."""
     built(PROGRAM)
     with tempfile.TemporaryDirectory() as folder:
         lab, script, by_file, by_pipe = (Path(folder, name) for name in ("lab", "script", "file", "pipe"))

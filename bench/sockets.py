@@ -24,7 +24,7 @@ ROUNDS = 21
 
 @dataclass(frozen=True)
 class Served:
-    """A measurement: requests per second, microseconds of the server's processor time for each, and the reply."""
+    """A measurement: requests per second, microseconds of the server's processor time per request, and the reply."""
 
     rate: float
     used: float
@@ -32,7 +32,8 @@ class Served:
 
 
 def measure(words: Words, port: int, burst: int) -> Served:
-    """Starts a server, sends it the requests of all clients, and returns the measurement."""
+    """Starts a server by a command line, and sends it the requests of all clients at its port. Returns the
+    measurement."""
     with subprocess.Popen(words, stdout=subprocess.PIPE) as server:
         assert server.stdout is not None
         server.stdout.readline()
@@ -47,7 +48,7 @@ def measure(words: Words, port: int, burst: int) -> Served:
 
 
 def servers(lab: Path) -> dict[str, tuple[Words, int]]:
-    """Returns the command line and the port of each server, by its name."""
+    """Returns the command line and the port of each server over a lab, by the server's name."""
     ports, many = [free_port() for _ in range(3)], str(CONNECTIONS)
     return {
         "an echo": ([TYPED, "echo", str(ports[0]), many], ports[0]),

@@ -24,7 +24,8 @@ ACTS = [b'{"a":1,"b":2,"do":"cut"}\n', b'{"a":1,"b":2,"do":"link"}\n']
 
 
 def see_until(port: int, over: threading.Event, times: list[float]) -> None:
-    """Sends requests to see a node until `over` is set. Appends the seconds that each of them took."""
+    """Sends requests to see a node to a port until `over` is set. Appends the seconds that each of them took to
+    `times`."""
     with socket.create_connection(("127.0.0.1", port)) as it, it.makefile("rb") as replies:
         it.setsockopt(socket.IPPROTO_TCP, socket.TCP_NODELAY, 1)
         it.sendall(ANA)
@@ -37,7 +38,7 @@ def see_until(port: int, over: threading.Event, times: list[float]) -> None:
 
 
 def grant_all(desk: int) -> list[float]:
-    """Sends all acts of the teacher and a bye. Returns the seconds that each act took."""
+    """Sends all acts of the teacher and a bye to the desk's port. Returns the seconds that each act took."""
     times = []
     with socket.create_connection(("127.0.0.1", desk)) as it, it.makefile("rb") as replies:
         it.setsockopt(socket.IPPROTO_TCP, socket.TCP_NODELAY, 1)
@@ -59,7 +60,7 @@ def median_and_99th(times: list[float]) -> str:
 
 
 def main() -> None:
-    """Times the teacher and the student at the same time, and prints both."""
+    """Times the requests of the teacher and of the student, which are sent at the same time, and prints both."""
     with tempfile.TemporaryDirectory(dir=sys.argv[1] if sys.argv[1:] else None) as folder:
         lab = Path(folder, "lab")
         lab.write_text(built_in(events=EVENTS), encoding="ascii")

@@ -37,8 +37,8 @@ Times = list[tuple[str, float]]
 
 
 def connection_to(slip: Slip, number: int) -> socket.socket:
-    """Returns a connection to the port of a slip. If the slip has a door, connects through it from an address that
-    no other bot has."""
+    """Returns a connection to the port of a slip. If the slip has a door, connects through it, from an address that
+    depends on `number`."""
     if not slip.door:
         return connected(slip.port, LIMIT)
     plain = socket.create_connection(door_of(slip.door), LIMIT, (f"127.1.{number // 250}.{number % 250 + 1}", 0))
@@ -47,7 +47,8 @@ def connection_to(slip: Slip, number: int) -> socket.socket:
 
 
 def greet(slip: Slip, number: int) -> Client:
-    """Returns a connection after its hello. If there is no room, tries again each second, like a bot."""
+    """Returns a connection by a slip after its hello. If the class has no room, tries again each second, like a bot.
+    `number` is that of `connection_to`."""
     while True:
         try:
             return Client(slip.port, slip.name, slip.key, limit=LIMIT, connection=connection_to(slip, number))
@@ -56,7 +57,8 @@ def greet(slip: Slip, number: int) -> Client:
 
 
 def play(slip: Slip, number: int, times: Times) -> None:
-    """Plays until the class is over. Appends the seconds that each hello and each move took."""
+    """Plays the nodes of a slip until the class is over. Appends to `times` the seconds that each hello and each move
+    took. `number` is that of `connection_to`."""
     begun = time.perf_counter()
     me = greet(slip, number)
     times.append(("hello", time.perf_counter() - begun))
@@ -76,8 +78,8 @@ def play(slip: Slip, number: int, times: Times) -> None:
 
 
 def play_all(slips: list[tuple[int, Slip]], every: "multiprocessing.Queue[int]", results: "multiprocessing.Queue[Times]") -> None:
-    """Plays for several students, each in a thread. Puts the number of students into `every` after all hellos, and
-    the times into `results` at the end."""
+    """Plays for the students of these slips, each in a thread. Puts their number into `every` after all hellos, and the
+    times into `results` at the end."""
     times: Times = []
     threads = [threading.Thread(target=play, args=(slip, number, times)) for number, slip in slips]
     for thread in threads:
@@ -99,7 +101,7 @@ def memory_and_time(process: int) -> tuple[float, float]:
 
 
 def processes(folder: Path) -> dict[str, list[int]]:
-    """Returns the processes of a class, by their role."""
+    """Returns the numbers of the processes of the class in a folder, by their roles."""
     kept = json.loads((folder / "class.json").read_text(encoding="utf-8"))
     records = [record for run in sorted(folder.iterdir()) if (record := Record.read(run)) is not None]
     found = {"servers": [it.server.number for it in records], "desks": [it.run.number for it in records], "the class's desk": [kept["desk"]["number"]]}
@@ -109,7 +111,8 @@ def processes(folder: Path) -> dict[str, list[int]]:
 
 
 def made(room: Path, networks: int, each: int, door: str) -> tuple[list[Path], list[tuple[int, Slip]]]:
-    """Makes the labs of a class. Returns them, and all slips, each with a number."""
+    """Makes the labs of a class with so many networks and students in each, in the folder `room`. Returns their files,
+    and all slips, each with a number. `door` is the address of a door or empty."""
     (room / "names.txt").write_text("".join(f"Student {number}\n" for number in range(networks * each)), encoding="ascii")
     words = ["--groups", str(networks), "--start", "hurt", *(["--door", door] if door else [])]
     subprocess.run([sys.executable, TOP / "class", "new", room / "big.toml", "--students", room / "names.txt", *words], check=True, stdout=subprocess.DEVNULL)
@@ -119,7 +122,8 @@ def made(room: Path, networks: int, each: int, door: str) -> tuple[list[Path], l
 
 
 def measure(desk: "subprocess.Popen[str]", folder: Path, seconds: float) -> None:
-    """Shakes the class now and then for so many seconds. Prints the memory and processor time of its processes."""
+    """Shakes the class in a folder now and then for so many seconds, by typing at its desk. Prints the memory and
+    processor time of its processes."""
     assert desk.stdin is not None
     every = processes(folder)
     before = {name: sum(memory_and_time(it)[1] for it in numbers) for name, numbers in every.items()}
@@ -135,7 +139,7 @@ def measure(desk: "subprocess.Popen[str]", folder: Path, seconds: float) -> None
 
 
 def main() -> None:
-    """Starts the class, and measures it."""
+    """Starts the class, measures it, and prints the results."""
     parser = argparse.ArgumentParser(prog="bench.whole_class")
     parser.add_argument("--networks", type=int, default=20)
     parser.add_argument("--each", type=int, default=15)
@@ -159,7 +163,8 @@ def main() -> None:
 
 
 def run_class(desk: "subprocess.Popen[str]", room: Path, slips: list[tuple[int, Slip]], seconds: float) -> None:
-    """Starts all bots, measures, ends the class, and prints how long hellos and moves took."""
+    """Starts all bots, measures for so many seconds, ends the class, and prints how long hellos and moves took. `desk`
+    is the process of the class's desk."""
     begun = time.monotonic()
     while "\nwords: " not in (room / "prints").read_text(encoding="utf-8"):
         if desk.poll() is not None:

@@ -14,12 +14,12 @@ CLIENTS = (HERE / "client.py", HERE.parent / "classroom/client.py")
 
 
 def metadata() -> dict[str, str]:
-    """Returns the string values of pyproject.toml, by their keys."""
+    """Returns those values of pyproject.toml that are strings, by their keys."""
     return dict(re.findall(r'(?m)^([a-z-]+) = "(.*)"$', (HERE / "pyproject.toml").read_text(encoding="utf-8")))
 
 
 def build_wheel(wheel_directory: str, config_settings: object = None, metadata_directory: object = None) -> str:
-    """Writes the wheel into a folder. Returns its file name."""
+    """Writes the wheel into a folder, as pip asks of a build backend. Returns its file name."""
     values = metadata()
     name = f"{values['name'].replace('-', '_')}-{values['version']}"
     head = f"Metadata-Version: 2.1\nName: {values['name']}\nVersion: {values['version']}\nSummary: {values['description']}\n"
@@ -37,5 +37,5 @@ def build_wheel(wheel_directory: str, config_settings: object = None, metadata_d
 
 
 def digest(content: bytes) -> str:
-    """Returns the digest of a file, in the form that a wheel's RECORD has."""
+    """Returns the SHA-256 of a file's content, in the form that a wheel's RECORD has."""
     return base64.urlsafe_b64encode(hashlib.sha256(content).digest()).decode().rstrip("=")

@@ -11,7 +11,8 @@ from client import Client, Closed, Denied, NoSlip, Refused, Slip, again, enter, 
 
 
 def ask(me: Client, nodes: tuple[int, ...], patience: float) -> None:
-    """Looks at each node again and again, and asks for its enabled rule."""
+    """Looks at each node again and again, and asks for its enabled rule. Returns if nothing was new for `patience`
+    seconds."""
     newest, since = -1, time.monotonic()
     while time.monotonic() - since < patience:
         for node in nodes:
@@ -29,7 +30,8 @@ def ask(me: Client, nodes: tuple[int, ...], patience: float) -> None:
 
 
 def seconds_of(words: list[str]) -> float:
-    """Returns how long a bot waits for something new, by the word that may stand last; for ever without one."""
+    """Returns how long a bot waits for something new, in seconds: the word that may come last among the arguments, or
+    infinity."""
     try:
         seconds = float(words[0]) if words else float("inf")
     except ValueError:
@@ -40,7 +42,8 @@ def seconds_of(words: list[str]) -> float:
 
 
 def play(words: list[str]) -> None:
-    """Plays, and greets again if the connection is lost: what was granted stands."""
+    """Plays the nodes that the arguments name. Greets again if the connection is lost: what was granted stays
+    granted."""
     slip, rest = Slip.of(words)
     if not slip.nodes:
         raise NoSlip(f"no nodes in {words[0]}")

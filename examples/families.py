@@ -5,26 +5,29 @@ import sys
 
 
 def crowd(n: int) -> tuple[list[tuple[int, int]], list[int]]:
-    """Returns the links of the crowd, on which a run may take the most moves, and the pointer of each node."""
+    """Returns the links of the crowd with n nodes, on which a run may take the most moves, and the pointer of each
+    node."""
     links = [(i, j) for i in range(1, n + 1) for j in range(i + 1, n + 1) if i + j > n]
     return links, [n + 1 - i if 2 * i <= n else i + 1 if i < n else 2 for i in range(1, n + 1)]
 
 
 def comb(n: int) -> tuple[list[tuple[int, int]], list[int]]:
-    """Returns those of the comb, the worst tree: its links are its pointers, and the last node points at none (0)."""
+    """Returns the links of the comb with n nodes, the worst tree, and the pointer of each node. Its links are its
+    pointers, and the last node points at none (0)."""
     pointers = [n + 1 - i if 2 * i <= n else i + 1 if i < n else 0 for i in range(1, n + 1)]
     links = {(min(i, p), max(i, p)) for i, p in enumerate(pointers, 1) if p}
     return sorted(links), pointers
 
 
 def halves(n: int) -> tuple[list[tuple[int, int]], list[int]]:
-    """Returns those of the halves, on which a run may take the most rounds: no node points at another."""
+    """Returns the links of the halves with n nodes, on which a run may take the most rounds, and the pointer of each
+    node. No node points at another."""
     lower, upper = range(1, (n + 1) // 2 + 1), range((n + 1) // 2 + 1, n + 1)
     return [(i, j) for i in lower for j in upper if i + j > n], [0] * n
 
 
 def lab(links: list[tuple[int, int]], pointers: list[int]) -> str:
-    """Returns the text of a lab. Each node claims to be married, and nobody is."""
+    """Returns the text of a lab with these links and pointers. Each node claims to be married, and none is."""
     text = f'events = 100000\nsessions = 2\nlinks = {[list(link) for link in links]}\nteacher = {{ name = "tess", key = "slate-40" }}\n'
     text += 'student = [{ name = "ana", key = "rook-17" }]\n'
     for node, pointer in enumerate(pointers, 1):
@@ -36,7 +39,7 @@ FAMILIES = {"crowd": (crowd, 4), "comb": (comb, 4), "halves": (halves, 2)}
 
 
 def main(words: list[str]) -> None:
-    """Prints the lab that the words name."""
+    """Prints the lab that the arguments name."""
     if len(words) != 2 or words[0] not in FAMILIES or not words[1].isdecimal():
         sys.exit(__doc__)
     family, least = FAMILIES[words[0]]

@@ -13,7 +13,8 @@ PAUSE = 0.5  # seconds for the students before each close
 
 
 def owners_of(lab: list[str]) -> dict[int, list[str]]:
-    """Returns the owners of each node, by the lab's file; none if no file is named."""
+    """Returns the owners of each node by the lab's file, which is the first of these arguments. Returns none if there
+    is no argument."""
     if not lab:
         return {}
     try:
@@ -24,7 +25,7 @@ def owners_of(lab: list[str]) -> dict[int, list[str]]:
 
 
 def close_steps(me: Client, owners: dict[int, list[str]]) -> None:
-    """Closes steps to the stable configuration."""
+    """Closes steps until no node is privileged. Prints for whom each step waits, by the owners of the nodes."""
     report, told = me.report(), ""
     while not report.stable:
         time.sleep(PAUSE)
@@ -44,7 +45,7 @@ def close_steps(me: Client, owners: dict[int, list[str]]) -> None:
 
 
 def teach(words: list[str]) -> None:
-    """Holds a seat at the students' port as the teacher."""
+    """Greets as the teacher whom the arguments name, and closes steps."""
     slip, lab = Slip.of(words)
     owners = owners_of(lab)
     with enter(slip) as me:

@@ -1,4 +1,5 @@
-"""Events: the effect of a granted request on the world, and the values in its reply."""
+"""Events: the effect of a granted request on the world, and the values in its reply. The *world* is the network with
+its registers and chosen moves, and a *place* is the number of an event."""
 from typing import Any
 
 from model.requests import Request
@@ -6,7 +7,8 @@ from model.world import World
 
 
 def reply_values(world: World, asked: Request) -> dict[str, Any]:
-    """Returns the values of the reply to a granted request beside its word, from the world before the event."""
+    """Returns the values that the reply to a granted request has beside its word `ok`. `world` is the one before the
+    event."""
     place, number = world.place + 1, world.number
     if asked.do == "move":
         return {"at": number, "place": place, "node": asked.node, "rule": asked.move.rule}
@@ -20,7 +22,7 @@ def reply_values(world: World, asked: Request) -> dict[str, Any]:
 
 
 def apply(world: World, asked: Request) -> None:
-    """Applies the event of a granted request to the world. It takes the next place."""
+    """Applies the event of a granted request to the world, and gives the event the next place."""
     world.place += 1
     if asked.do == "move":
         world.chosen[asked.node] = asked.move

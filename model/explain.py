@@ -18,17 +18,17 @@ MOST = 16 << 20  # bytes of a file
 
 
 def pointer_text(value: int | None) -> str:
-    """Returns a pointer as a text."""
+    """Returns a node's pointer as a text, `null` if it points at none."""
     return "null" if value is None else str(value)
 
 
 def no_update(world: World, i: int) -> str:
-    """Returns why Update isn't enabled at a node: m agrees with whether it is married."""
+    """Returns why Update isn't enabled at node i: m agrees with whether the node is married."""
     return f"m of {i} is {'true and it is' if world.m[i] else 'false and it is not'} married, so there is nothing to update"
 
 
 def no_marriage(world: World, i: int, k: int | None) -> str:
-    """Returns the part of the guard of Marriage with k that fails at a node whose m is right."""
+    """Returns the part of the guard of Marriage with node k that fails at node i, whose m is right."""
     if world.p[i] is not None:
         return f"p of {i} isn't null, it is {world.p[i]}"
     if k not in world.links[i]:
@@ -37,7 +37,7 @@ def no_marriage(world: World, i: int, k: int | None) -> str:
 
 
 def no_seduction(world: World, i: int) -> str:
-    """Returns the part of the guard of Seduction that fails at a node whose m is right."""
+    """Returns the part of the guard of Seduction that fails at node i, whose m is right."""
     if world.p[i] is not None:
         return f"p of {i} isn't null, it is {world.p[i]}"
     suitors = [k for k in world.near(i) if world.p[k] == i]
@@ -52,7 +52,7 @@ def no_seduction(world: World, i: int) -> str:
 
 
 def no_abandonment(world: World, i: int) -> str:
-    """Returns the part of the guard of Abandonment that fails at a node whose m is right."""
+    """Returns the part of the guard of Abandonment that fails at node i, whose m is right."""
     j = world.p[i]
     if j is None:
         return f"p of {i} is null, so there is nobody to abandon"
@@ -62,7 +62,7 @@ def no_abandonment(world: World, i: int) -> str:
 
 
 def failing(world: World, i: int, move: Move) -> str:
-    """Returns the first part of a rule's guard that fails at a node, or an empty text if the guard holds."""
+    """Returns the first part of the guard of a move that fails at node i, or an empty text if the guard holds."""
     if world.guard(i, move):
         return ""
     if move.rule == "update":
@@ -75,7 +75,7 @@ def failing(world: World, i: int, move: Move) -> str:
 
 
 def right_line(world: World, i: int) -> str:
-    """Returns what a correct bot would send for a node now."""
+    """Returns a text with the line that a correct bot would send for node i now."""
     if i in world.chosen:
         return f"a right bot would send nothing for {i}: its move waits for the step to close"
     moves = world.moves(i)
@@ -88,8 +88,8 @@ def right_line(world: World, i: int) -> str:
 
 
 def explained(world: World, asked: Request) -> str:
-    """Returns the explanation of a requested move before it is answered, or an empty text if it isn't a move of an
-    existing node."""
+    """Returns the explanation of a requested move in the world before its answer. Returns an empty text if the request
+    isn't a move of an existing node."""
     if asked.do != "move" or asked.node not in world.links:
         return ""
     parts = [failing(world, asked.node, asked.move)] if asked.at == world.number and asked.node not in world.chosen else []
@@ -97,7 +97,7 @@ def explained(world: World, asked: Request) -> str:
 
 
 def explanations(lab: Lab, script: bytes) -> list[str]:
-    """Returns a line for each denied move of a script, and one for each node that could move at its end."""
+    """Returns a line for each denied move of a script over a lab, and one for each node that could move at its end."""
     run, found = Run(lab), []
     for number, line in enumerate(script.splitlines(), 1):
         read = script_line(lab, line)

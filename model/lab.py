@@ -35,7 +35,7 @@ class Lab:
     sessions: int
 
     def opening(self) -> World:
-        """Returns the world at the beginning of a run."""
+        """Returns a new copy of the world at the beginning of a run."""
         return deepcopy(self.world)
 
     def students(self) -> list[str]:
@@ -43,7 +43,8 @@ class Lab:
         return [name for name in self.keys if name != self.teacher]
 
     def shared(self) -> dict[int, list[str]]:
-        """Returns the nodes with two owners, each with its owners, in the order of nodes and students."""
+        """Returns the nodes with two owners, each with its owners. Nodes are in the order of the file's nodes, and
+        owners in that of its students."""
         both = {i: owners for i, owners in sorted(self.owners.items()) if len(owners) == 2}
         return {i: [name for name in self.students() if name in owners] for i, owners in both.items()}
 
@@ -59,12 +60,13 @@ class Node(NamedTuple):
 
 
 def fault(text: str) -> Fault:
-    """Returns the error for a file that isn't a lab."""
+    """Returns the error to raise for a file that isn't a lab, with its text."""
     return Fault(f"lab: {text}", 2)
 
 
 def is_within(value: Any, depth: int = 0) -> bool:
-    """Returns whether all integers of a document have at most 64 bits, and its values aren't nested too deep."""
+    """Returns whether all integers in a value of a document have at most 64 bits, and its values aren't nested too
+    deep. `depth` is that of the value."""
     if isinstance(value, (dict, list)):
         inner = value.values() if isinstance(value, dict) else value
         return depth <= DEEPEST and all(is_within(item, depth + 1) for item in inner)
@@ -83,7 +85,8 @@ def document(content: bytes) -> dict[str, Any]:
 
 
 def of_kind(value: Any, key: str, kind: type) -> Any:
-    """Returns a value if it has exactly this type. A truth value isn't an integer. Raises `Fault` otherwise."""
+    """Returns the value if its type is exactly `kind`, so that a truth value isn't an integer. Raises `Fault`, which
+    names the key, otherwise."""
     if value is MISSING:
         raise fault(f"{key} is missing")
     if type(value) is not kind:
@@ -92,13 +95,13 @@ def of_kind(value: Any, key: str, kind: type) -> Any:
 
 
 def account_of(table: dict[str, Any], key: str) -> Account:
-    """Returns the name and the key of a teacher or student."""
+    """Returns the name and the key in the table of a teacher or student. Raises `Fault` if they aren't texts."""
     name, secret = table.get("name", MISSING), table.get("key", MISSING)
     return of_kind(name, f"{key}.name", str), of_kind(secret, f"{key}.key", str)
 
 
 def node_of(value: Any) -> Node:
-    """Returns the node in an element of `node`."""
+    """Returns the node in a table of `node`. Raises `Fault` if the table has another form."""
     table = of_kind(value, "node", dict)
     number = of_kind(table.get("id", MISSING), "node.id", int)
     # The kinds of `owner` and `owners` come first, then that one of the two is there.
@@ -114,7 +117,7 @@ def node_of(value: Any) -> Node:
 
 
 def link_of(value: Any) -> Link:
-    """Returns the two ends of a link."""
+    """Returns the two ends of a link in an element of `links`. Raises `Fault` if the element has another form."""
     ends = of_kind(value, "link", list)
     if len(ends) != 2:
         raise fault("link is of the wrong kind")
@@ -128,7 +131,8 @@ def repeated(values: list[Any]) -> list[int]:
 
 
 def faults_of(people: list[Account], nodes: list[Node], links: list[Link], events: int, sessions: int) -> Iterator[str]:
-    """Yields the errors of a lab in the order of `docs/LAB.md`. Only the first is ever reported."""
+    """Yields the errors of a lab with these values, in the order of `docs/LAB.md`. Only the first is ever reported. The
+    teacher is the first of `people`."""
     yield from (f"node {x}: owner and owners" for x, node in enumerate(nodes) if node.has_both)
     if not nodes:
         yield "no nodes"
@@ -157,7 +161,7 @@ def faults_of(people: list[Account], nodes: list[Node], links: list[Link], event
 
 
 def read_lab(content: bytes) -> Lab:
-    """Returns the lab in a file. Raises `Fault` with its first error, in the order of `docs/LAB.md`."""
+    """Returns the lab in the bytes of a file. Raises `Fault` with its first error, in the order of `docs/LAB.md`."""
     table = document(content)
     events, sessions = (of_kind(table.get(key, MISSING), key, int) for key in ("events", "sessions"))
     people = [account_of(of_kind(table.get("teacher", MISSING), "teacher", dict), "teacher")]

@@ -1,5 +1,9 @@
 """The policy: who may see and do what. The clauses of each request are checked in order, and the first one that
-fails is the denial."""
+fails is the denial.
+
+The *world* is the network with its registers and chosen moves. A clause is returned as its name for programs, and `who`
+is the name of the one who asks.
+"""
 from model.lab import Lab
 from model.requests import Request
 from model.world import World
@@ -26,12 +30,13 @@ DENIALS = {
 
 
 def visible(lab: Lab, world: World, who: str, i: int) -> bool:
-    """Returns whether a node is visible to someone: to the teacher, its owners and its neighbours' owners."""
+    """Returns whether node i is visible to `who`: to the teacher, its owners and its neighbours' owners."""
     return who == lab.teacher or any(who in lab.owners[j] for j in [i, *world.links[i]])
 
 
 def denial_of_hello(lab: Lab, known: str | None, asked: Request) -> str | None:
-    """Returns the first failing clause of a hello, or None. `known` is the name of the connection, if it has one."""
+    """Returns the first failing clause of a hello, or None if it may be granted. `known` is the name of the connection,
+    if it has greeted."""
     # Clause 1: the connection has no name yet.
     if known is not None:
         return "greeted"
@@ -40,7 +45,7 @@ def denial_of_hello(lab: Lab, known: str | None, asked: Request) -> str | None:
 
 
 def denial_of_view(lab: Lab, world: World, who: str, asked: Request) -> str | None:
-    """Returns the first failing clause of a see, a look or a report, or None."""
+    """Returns the first failing clause of a see, a look or a report, or None if it may be granted."""
     exists = asked.node in world.links
     # See, clause 1: the node exists and is visible to the one who asks.
     if asked.do == "see":
@@ -53,7 +58,7 @@ def denial_of_view(lab: Lab, world: World, who: str, asked: Request) -> str | No
 
 
 def denial_of_move(lab: Lab, world: World, who: str, asked: Request) -> str | None:
-    """Returns the first failing clause of a move, or None."""
+    """Returns the first failing clause of a move, or None if it may be granted."""
     # Clause 1: the node exists and is the asker's own.
     if asked.node not in world.links or who not in lab.owners[asked.node]:
         return "not-owner"
@@ -68,7 +73,8 @@ def denial_of_move(lab: Lab, world: World, who: str, asked: Request) -> str | No
 
 
 def denial_of_act(lab: Lab, world: World, who: str, asked: Request) -> str | None:
-    """Returns the first failing clause of a close, a fault, a release, a link or a cut, or None."""
+    """Returns the first failing clause of a close, a fault, a release, a link or a cut, or None if it may be
+    granted."""
     # Clause 1 of each: the teacher asks.
     if who != lab.teacher:
         return "not-teacher"
@@ -97,7 +103,8 @@ def denial_of_act(lab: Lab, world: World, who: str, asked: Request) -> str | Non
 
 
 def denial(lab: Lab, world: World, who: str, asked: Request) -> str | None:
-    """Returns the first failing clause of a request of the teacher or a student, or None if it may be granted."""
+    """Returns the first failing clause of a request of the teacher or a student other than a hello, or None if it may
+    be granted."""
     if asked.do in ("see", "look", "report"):
         return denial_of_view(lab, world, who, asked)
     return (denial_of_move if asked.do == "move" else denial_of_act)(lab, world, who, asked)

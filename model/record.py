@@ -1,4 +1,6 @@
-"""The record: each line with its reply, in a file for each seat, and its verification with a journal."""
+"""The record: each line with its reply, in a file for each seat, and its verification with a journal. A *seat* serves
+one connection after another, and an *entry* is a line with its reply, or a mark. A *place* is the number of an
+event."""
 import re
 from dataclasses import dataclass, field
 from pathlib import Path
@@ -26,7 +28,7 @@ FRESH, OPEN, OVER, CUT, PAUSED, RESUMING = "fresh", "open", "over", "cut", "paus
 
 
 def is_command(line: bytes) -> bool:
-    """Returns whether a line is a request that the clauses decide."""
+    """Returns whether a line is a request other than a hello or a bye, so that the clauses decide about it."""
     asked = read_request(line)
     return asked is not None and asked.do not in ("hello", "bye")
 
@@ -66,21 +68,22 @@ class Record:
         return not self.is_cut and not self.is_paused
 
     def whole(self, lab: Lab) -> list[str]:
-        """Returns the word `whole` and the names whose record is complete, the teacher first."""
+        """Returns the word `whole` and the names of those whose lines are all recorded, the teacher first."""
         return ["whole", *(name for name in lab.keys if not self.is_cut and name not in self.lacking)]
 
 
 class Seat:
-    """The record of a seat, read entry by entry along the events of a journal."""
+    """The record of a seat while it is read: entry by entry, along the events of a journal."""
 
     def __init__(self, lab: Lab, events: list[Event], number: int, record: Record) -> None:
+        """Begins before the first entry of the seat with this number. Adds what it reads to `record`."""
         self.lab, self.events, self.number, self.record = lab, events, number, record
         self.world = lab.opening()  # after the events that had been seen
         self.known: str | None = None  # who is known in the session
         self.stage = FRESH
 
     def entry(self, text: bytes, at: int) -> Entry | str:
-        """Returns the entry that begins at a byte of the text, or the reason why there is none."""
+        """Returns the entry that begins at the byte `at` of the text, or the reason why there is none."""
         said, mark = SAID.match(text, at), MARK.match(text, at)
         if said and self.is_stamp(said) and said.group(1, 2) == said.group(5, 6):
             return Entry(said[3], int(said[2]), said.end(), said[4], said[7])
@@ -93,15 +96,16 @@ class Seat:
         return "torn" if not newline or is_asked and b"\n" not in rest else "not an entry"
 
     def is_stamp(self, found: re.Match[bytes]) -> bool:
-        """Returns whether an entry has the seat's number, and a number of events within 64 bits."""
+        """Returns whether the parts of an entry's line have the seat's number, and a number of events that fits into 64
+        bits."""
         return int(found[1]) == self.number and int(found[2]) <= GREATEST
 
     def advance(self) -> None:
-        """Applies the next event of the journal."""
+        """Applies the next event of the journal to the seat's world."""
         apply(self.world, self.events[self.world.place].asked)
 
     def take(self, entry: Entry) -> str | None:
-        """Takes the next entry of the seat. Returns the reason if it is impossible, or None."""
+        """Checks the next entry of the seat. Returns the reason why it is impossible, or None if it isn't."""
         if entry.seen < self.world.place:
             return "goes back"
         if entry.seen > len(self.events):
@@ -133,7 +137,7 @@ class Seat:
         return None
 
     def may_rise(self, entry: Entry) -> bool:
-        """Returns whether more events may have been seen at an entry than at the one before."""
+        """Returns whether the number of events at an entry may be greater than at the entry before."""
         # Recording pauses at a line that isn't recorded; it resumes, or is cut, after what isn't recorded.
         if self.stage in (FRESH, PAUSED, CUT) or entry.mark in (b"!", b"+") or entry.mark == b"-" and self.known is not None:
             return True
@@ -144,7 +148,8 @@ class Seat:
         return entry.mark == b">" and entry.reply != NO_MEMORY and self.known is not None and is_command(entry.line)
 
     def judge(self, entry: Entry) -> str | None:
-        """Takes an answered line. Returns the reason if no line may come now or its reply is wrong, or None."""
+        """Checks an entry with an answered line. Returns the reason if no line may come now or its reply is wrong, or
+        None."""
         if self.stage in (OVER, CUT, PAUSED):
             return "not the session's end"
         before = self.known
@@ -156,7 +161,8 @@ class Seat:
         return why
 
     def check(self, entry: Entry) -> str | None:
-        """Takes an answered line. Returns the reason if its reply isn't that of the rules, or None."""
+        """Checks the reply in an entry with an answered line. Returns the reason if the reply isn't the one that the
+        rules give, or None."""
         place = self.world.place
         found = answer(self.lab, self.world, self.known, entry.line)
         said = Said(self.known, entry.line, entry.reply)
@@ -181,7 +187,8 @@ class Seat:
         return None
 
     def read(self, text: bytes) -> None:
-        """Reads the text of the seat's record. Raises `Fault` with the line of the first impossible entry."""
+        """Checks all entries in the text of the seat's record. Raises `Fault` with the line of the first impossible
+        entry."""
         at = 0
         while at < len(text):
             entry = self.entry(text, at)
@@ -192,7 +199,8 @@ class Seat:
 
 
 def check_places(record: Record, events: int) -> None:
-    """Raises `Fault` unless the seats grant each event once. No seat may grant an event before the record began."""
+    """Raises `Fault` unless the replies of all seats grant each event of the journal once. `events` is the number of
+    events, and no reply may grant one that came before the record began."""
     seen: set[int] = set()
     for place in record.granted:
         if place <= record.begun:
@@ -206,7 +214,8 @@ def check_places(record: Record, events: int) -> None:
 
 
 def read_record(lab: Lab, events: list[Event], folder: Path) -> Record:
-    """Returns the record in a folder, read along the events of a journal. Raises `Fault` if it doesn't pass."""
+    """Returns the record in a folder, checked along the events of a journal. Raises `Fault` if the record doesn't
+    pass."""
     begun = read_file(folder / "begun", "record", MOST_BEGUN).removesuffix(b"\n")
     if not re.fullmatch(rb"[0-9]{1,19}", begun):
         raise Fault("read fault: record", 4)

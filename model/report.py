@@ -1,16 +1,17 @@
-"""What views show: the registers of a node, a look at its neighbours, and the report."""
+"""What views show of the world, which is the network with its registers and chosen moves: the registers of a node, a
+look at its neighbours, and the report. Each view is returned as the values of its reply."""
 from typing import Any
 
 from model.world import World
 
 
 def registers(world: World, i: int) -> dict[str, Any]:
-    """Returns a node and its registers, as `see` shows them."""
+    """Returns node i and its registers, as `see` shows them."""
     return {"node": i, "p": world.p[i], "m": world.m[i]}
 
 
 def look(world: World, i: int) -> dict[str, Any]:
-    """Returns a node with its neighbours, the rule of its chosen move, and its enabled rule."""
+    """Returns node i with its registers and its neighbours, the rule of its chosen move, and its enabled rule."""
     return {
         **registers(world, i),
         "near": [registers(world, j) for j in world.near(i)],
@@ -20,11 +21,11 @@ def look(world: World, i: int) -> dict[str, Any]:
 
 
 def witness(world: World, rules: dict[int, str | None], a: int, b: int) -> tuple[int, str]:
-    """Returns the witness of an open link with the lower end a, and its enabled rule.
+    """Returns the witness of the open link between a and b, where a is the lower end, and its enabled rule. `rules` has
+    the enabled rule of each node.
 
     A walk follows the pointers from a, and then one from b, to the first node that is privileged or points at none. Its
-    end is the witness if a rule other than seduction is enabled there. If neither is, a may seduce.
-    """
+    end is the witness if a rule other than seduction is enabled there. If neither is, a may seduce."""
     for i in (a, b):
         j = world.p[i]
         while rules[i] is None and j is not None:

@@ -30,7 +30,7 @@ class Request:
 
 
 class Malformed(ValueError):
-    """The error that a line isn't a request."""
+    """Raised if a line isn't a request."""
 
 
 def no_constant(word: str) -> NoReturn:
@@ -39,7 +39,8 @@ def no_constant(word: str) -> NoReturn:
 
 
 def finite(text: str) -> float:
-    """Returns the value of a number. Raises `Malformed` if it is beyond the greatest double."""
+    """Returns the value of a number with a point or an exponent. Raises `Malformed` if it is beyond the greatest
+    double."""
     value = float(text)
     if not math.isfinite(value):
         raise Malformed("a number out of range")
@@ -47,13 +48,14 @@ def finite(text: str) -> float:
 
 
 def integer(text: str) -> float | int:
-    """Returns an integer without sign up to the greatest one as an `int`, and any other number as a `float`."""
+    """Returns an integer without a sign up to the greatest 64-bit number as an `int`, and any other number as a
+    `float`. Raises `Malformed` if it is beyond the greatest double."""
     value = finite(text)
     return int(text) if not text.startswith("-") and int(text) <= GREATEST else value
 
 
 def check_letters(value: Any) -> None:
-    """Raises `Malformed` for strings with one half of a surrogate pair alone."""
+    """Raises `Malformed` if a string in a JSON value contains half of a surrogate pair."""
     if isinstance(value, str) and any("\ud800" <= letter <= "\udfff" for letter in value):
         raise Malformed("a lone surrogate")
     if isinstance(value, list):
@@ -62,7 +64,7 @@ def check_letters(value: Any) -> None:
 
 
 def members(items: Iterable[tuple[str, Any]]) -> dict[str, Any]:
-    """Returns an object's members. If a key occurs twice, the last value counts."""
+    """Returns an object's members from its keys and values. If a key occurs twice, the last value counts."""
     found = {}
     for key, value in items:
         check_letters(key)
@@ -72,7 +74,7 @@ def members(items: Iterable[tuple[str, Any]]) -> dict[str, Any]:
 
 
 def depth(text: str) -> int:
-    """Returns the depth of nested brackets in a JSON text."""
+    """Returns how deep the brackets in a JSON text are nested."""
     deepest = now = 0
     for letter in STRING.sub("", text):
         now += (letter in "[{") - (letter in "]}")
@@ -81,7 +83,7 @@ def depth(text: str) -> int:
 
 
 def document(line: bytes) -> dict[str, Any]:
-    """Returns the object in a line of strict JSON."""
+    """Returns the object in a line of strict JSON. Raises `Malformed` if the line has another form."""
     text = line.decode("utf-8")
     if depth(text) > DEEPEST:
         raise Malformed("nested too deep")
@@ -94,14 +96,16 @@ def document(line: bytes) -> dict[str, Any]:
 
 
 def named(value: dict[str, Any], key: str, *kinds: type) -> Any:
-    """Returns the value of a key. Raises `Malformed` if it is missing or has none of these types."""
+    """Returns the value of a key in an object. Raises `Malformed` if the key is missing or its value has none of these
+    types."""
     if key not in value or type(value[key]) not in kinds:
         raise Malformed(key)
     return value[key]
 
 
 def move_of(value: dict[str, Any]) -> Move:
-    """Returns the rule of a move, and for a marriage its partner."""
+    """Returns the rule of a requested move, with the partner if the rule is a marriage. Raises `Malformed` if they have
+    another form."""
     rule = named(value, "rule", str)
     if rule not in RULES:
         raise Malformed("rule")
@@ -109,7 +113,7 @@ def move_of(value: dict[str, Any]) -> Move:
 
 
 def request_of(value: dict[str, Any]) -> Request:
-    """Returns the request in an object."""
+    """Returns the request in an object. Raises `Malformed` if the object has another form."""
     do = named(value, "do", str)
     if do == "hello":
         return Request(do, name=named(value, "name", str), key=named(value, "key", str))

@@ -1,4 +1,5 @@
-"""A run: the reply to each line of each connection, and scripts."""
+"""A run: the reply to each line of each connection, and scripts. The *world* is the network with its registers and
+chosen moves."""
 import json
 import re
 from typing import Any, NamedTuple
@@ -32,14 +33,16 @@ def text_of(**values: Any) -> str:
 
 
 def denied(world: World, name: str) -> str:
-    """Returns the text of a denial. `stale` also has the current number."""
+    """Returns the text of the reply for a denial by the clause with this name. For `stale` it also has the present
+    number of the world."""
     clause, text = DENIALS[name]
     number = {"at": world.number} if name == "stale" else {}
     return text_of(clause=clause, deny=name, text=text, **number)
 
 
 def answer(lab: Lab, world: World, known: str | None, line: bytes) -> Answer:
-    """Returns the answer to a line of a connection with or without a name. Changes nothing."""
+    """Returns the answer to a line of a connection. `known` is the name that the connection has greeted with, or None.
+    Changes nothing."""
     asked = read_request(line)
     # A line that is no request is refused before any clause is tried.
     if asked is None:
@@ -69,6 +72,7 @@ class Run:
     """The state of a run over a lab: its world, the name of each connection, and its output."""
 
     def __init__(self, lab: Lab) -> None:
+        """Begins a run at the lab's first configuration."""
         self.lab = lab
         self.world = lab.opening()
         self.names: dict[int, str] = {}
@@ -76,7 +80,8 @@ class Run:
         self.journal: list[str] = []
 
     def answer(self, connection: int, line: bytes) -> str:
-        """Returns the reply to a line of a connection, both without newlines, and applies its event."""
+        """Returns the reply to a line of a connection, and applies the line's event. Line and reply have no
+        newlines."""
         found = answer(self.lab, self.world, self.names.pop(connection, None), line)
         if found.known is not None:
             self.names[connection] = found.known
@@ -87,16 +92,16 @@ class Run:
         return found.reply
 
     def printed(self) -> bytes:
-        """Returns all replies in the form of a script's output."""
+        """Returns all replies so far as the output of a script."""
         return "".join(self.replies).encode("ascii")
 
     def written(self) -> bytes:
-        """Returns the journal."""
+        """Returns the bytes of the journal so far."""
         return "".join(self.journal).encode("ascii")
 
 
 def script_line(lab: Lab, line: bytes) -> tuple[int, bytes] | None:
-    """Returns the connection and the request of a script's line, or None if it isn't one."""
+    """Returns the connection's number and the request line in a line of a script, or None if it has another form."""
     found = SCRIPT_LINE.fullmatch(line)
     if found is None or int(found[1]) > lab.sessions or len(found[2]) > LONGEST_REQUEST:
         return None
@@ -104,7 +109,8 @@ def script_line(lab: Lab, line: bytes) -> tuple[int, bytes] | None:
 
 
 def play(lab: Lab, script: bytes) -> tuple[Run, int | None]:
-    """Plays a script to its end or its first wrong line. Returns the run, and the wrong line's number or None."""
+    """Plays a script over a lab to its end or its first wrong line. Returns the run, and the number of the wrong line
+    or None."""
     run = Run(lab)
     *lines, last = script.split(b"\n")
     for k, line in enumerate(lines, 1):

@@ -1,4 +1,5 @@
-"""The stored outputs of scripts, in `examples` and `tests/scripts`. The model writes new ones beside them."""
+"""The stored outputs of scripts, in `examples` and `tests/scripts`, compared with those of the model. The model writes
+its own beside those that differ."""
 import difflib
 import sys
 from pathlib import Path
@@ -11,13 +12,15 @@ FOLDERS = ("examples", "tests/scripts")
 
 
 def lab_of(script: Path) -> Path:
-    """Returns the lab of a script: NAME.toml for NAME.script and NAME-run.script, or else the built-in one."""
+    """Returns the lab's file for a script: NAME.toml for NAME.script and NAME-run.script, or else that of the built-in
+    lab."""
     lab = script.with_name(script.stem.removesuffix("-run") + ".toml")
     return lab if lab.exists() else TOP / "examples/built-in.toml"
 
 
 def renew(stored: Path, content: bytes) -> int:
-    """Writes an output beside the stored one if it differs, and prints the difference. Returns 1 then, else 0."""
+    """Compares a stored output with `content`, the model's. If they differ, writes FILE.new beside it, prints the
+    difference, and returns 1. Returns 0 otherwise."""
     new = stored.with_name(f"{stored.name}.new")
     new.unlink(missing_ok=True)
     old = stored.read_bytes() if stored.exists() else b""
@@ -30,7 +33,7 @@ def renew(stored: Path, content: bytes) -> int:
 
 
 def write_all() -> int:
-    """Plays all scripts. Writes FILE.new for each output that differs from the stored one. Returns the status."""
+    """Plays all scripts, and compares their outputs with the stored ones. Returns the exit status."""
     scripts = [script for folder in FOLDERS for script in sorted((TOP / folder).glob("*.script"))]
     others = 0
     for script in scripts:

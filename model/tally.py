@@ -17,13 +17,13 @@ CHANGES = ("fault", "link", "cut")
 
 
 def none() -> dict[str, int]:
-    """Returns a count of each rule, at zero."""
+    """Returns a new count of moves for each rule, all zero."""
     return dict.fromkeys(RULES, 0)
 
 
 @dataclass
 class Student:
-    """The counts of a student."""
+    """The counts of one student."""
 
     granted: dict[str, int] = field(default_factory=none)
     applied: dict[str, int] = field(default_factory=none)
@@ -32,15 +32,18 @@ class Student:
     shared: int = 0
 
     def words(self) -> list[object]:
-        """Returns the columns. The first and the last place are `-` without a grant."""
+        """Returns the student's columns in the tally. The places of the first and the last grant are `-` if there is
+        none."""
         ends: list[object] = [self.places[0], self.places[-1]] if self.places else ["-", "-"]
         return [*self.granted.values(), *self.applied.values(), self.closes, *ends, self.shared]
 
 
 class Count:
-    """A count of the events of a journal. A move is kept until a close applies it, or something drops it."""
+    """The counts over the events of a journal. A granted move is remembered until a close applies it, or another event
+    drops it."""
 
     def __init__(self, lab: Lab) -> None:
+        """Begins with the lab's students, before the first event."""
         self.students = {name: Student() for name in lab.students()}
         self.shared = {i: {name: none() for name in owners} for i, owners in lab.shared().items()}
         self.chosen: dict[int, tuple[str, str]] = {}
@@ -48,7 +51,7 @@ class Count:
         self.moves = self.moves_since = self.closes_since = 0
 
     def take(self, event: Event) -> None:
-        """Counts an event."""
+        """Counts the next event."""
         asked = event.asked
         self.words[asked.do] += 1
         if asked.do == "move":
@@ -63,7 +66,7 @@ class Count:
             self.chosen.clear()
 
     def grant(self, event: Event) -> None:
-        """Counts a granted move for its student, and at a node with two owners."""
+        """Counts the event of a granted move for its student, and also for its node if that has two owners."""
         node, rule = event.asked.node, event.asked.move.rule
         self.students[event.who].granted[rule] += 1
         self.students[event.who].places.append(event.place)
@@ -85,12 +88,14 @@ class Count:
 
 
 def at_shared(word: str, counts: dict[int, dict[str, dict[str, int]]]) -> list[list[object]]:
-    """Returns a line for each node with two owners: for each owner its name, and a number for each rule."""
+    """Returns a line with this word for each node with two owners: for each owner the name, and a number for each
+    rule."""
     return [[word, i, *(it for name, rules in owners.items() for it in (name, *rules.values()))] for i, owners in counts.items()]
 
 
 def lines_asked(lab: Lab, said: Iterable[Said]) -> list[list[object]]:
-    """Returns the lines about the students' requests: denials by clause, malformed lines, and moves at shared nodes."""
+    """Returns the tally's lines about the students' requests in a record: denials by clause, malformed lines, and moves
+    at shared nodes."""
     denied = {name: dict.fromkeys([*CLAUSES, "malformed"], 0) for name in lab.students()}
     moves = {i: {name: none() for name in owners} for i, owners in lab.shared().items()}
     for it in said:
@@ -108,7 +113,8 @@ def lines_asked(lab: Lab, said: Iterable[Said]) -> list[list[object]]:
 
 
 def lines_by_reply(lab: Lab, said: list[Said], word: str, key: str, columns: tuple[str, ...]) -> list[list[object]]:
-    """Returns a line for each student, with this word: how many of its lines had a reply with each of these words under the key."""
+    """Returns a line with this word for each student: for each of `columns` how many of the student's lines had a reply
+    with this value under the key."""
     counts = {name: dict.fromkeys(columns, 0) for name in lab.students()}
     for it in said:
         found = json.loads(it.reply).get(key)
@@ -119,15 +125,15 @@ def lines_by_reply(lab: Lab, said: list[Said], word: str, key: str, columns: tup
 
 
 def bounds(world: World) -> list[object]:
-    """Returns the line with the most moves, rounds, and grants and closes until a network is stable: 3n + 2 min(L, n²/4),
-    2n (one round fewer if n is odd), and twice the moves."""
+    """Returns the tally's line `bounds` with the most moves, rounds, and grants and closes until a network is stable:
+    3n + 2 min(L, n²/4), 2n (one round fewer if n is odd), and twice the moves."""
     nodes, links = len(world.links), sum(map(len, world.links.values())) // 2
     moves = 3 * nodes + 2 * min(links, nodes * nodes // 4)
     return ["bounds", moves, 2 * nodes - nodes % 2, 2 * moves]
 
 
 def privileged(world: World) -> set[int]:
-    """Returns the nodes at which a rule is enabled."""
+    """Returns the nodes of a world at which a rule is enabled."""
     return {i for i in world.nodes() if world.enabled(i) is not None}
 
 
@@ -152,7 +158,8 @@ def rounds_since(lab: Lab, events: list[Event]) -> int:
 
 
 def tally(lab: Lab, world: World, events: list[Event], record: Record | None) -> str:
-    """Returns the tally of a journal that passes and leads to this world, and of its record if there is one."""
+    """Returns the output of the tally of a journal that passes and leads to this world, and of its record if there is
+    one."""
     count = Count(lab)
     for event in events:
         count.take(event)

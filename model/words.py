@@ -22,16 +22,17 @@ class Ended(NamedTuple):
 
 
 def check(lab: Lab) -> bytes:
-    """Returns the line about a lab's size."""
+    """Returns the output of `check`: the line about a lab's size."""
     links = sum(map(len, lab.world.links.values())) // 2
     return f"ok: {len(lab.owners)} nodes, {links} links, {len(lab.students())} students\n".encode()
 
 
 def script(lab: Lab, file: str, journal: str | None = None) -> bytes:
-    """Returns the replies to a script, and writes its journal into a file, if one is named.
+    """Returns the output of `script`: the replies to the script in a file. Writes its journal into another file, if one
+    is named.
 
-    The proved program keeps what that file had under another name. Here it has to be new or empty.
-    """
+    The proved program keeps what that file had under another name. Here the file has to be new or empty, and `Fault` is
+    raised otherwise."""
     kept = None if journal is None else Path(journal)
     if kept is not None and kept.exists() and (not kept.is_file() or kept.stat().st_size > 0):
         raise Fault("journal fault", 4)
@@ -47,20 +48,20 @@ def script(lab: Lab, file: str, journal: str | None = None) -> bytes:
 
 
 def print_audit(lab: Lab, journal: str) -> bytes:
-    """Returns the output of the audit of a journal."""
+    """Returns the output of `audit` for the journal in a file."""
     world, _ = audit(lab, read_file(Path(journal), "journal", MOST_JOURNAL))
     return audited(world).encode()
 
 
 def print_tally(lab: Lab, journal: str, record: str | None = None) -> bytes:
-    """Returns the tally of a journal, and of its record if there is one."""
+    """Returns the output of `tally` for the journal in a file, and for the record in a folder if one is named."""
     world, events = audit(lab, read_file(Path(journal), "journal", MOST_JOURNAL))
     found = None if record is None else read_record(lab, events, Path(record))
     return tally(lab, world, events, found).encode()
 
 
 def verify(lab: Lab, journal: str, record: str) -> bytes:
-    """Returns the output of the verification of a record."""
+    """Returns the output of `verify` for the record in a folder with the journal in a file."""
     _, events = audit(lab, read_file(Path(journal), "journal", MOST_JOURNAL))
     return verified(lab, read_record(lab, events, Path(record)), events).encode()
 
@@ -82,7 +83,7 @@ WORDS = {
 
 
 def ended(words: list[str]) -> Ended:
-    """Returns the result of a call with these arguments, the same as that of the proved program."""
+    """Runs the command that the arguments name. Returns its result, which is the same as that of the proved program."""
     name, *files = words or [""]
     if name not in WORDS or len(files) not in WORDS[name].counts or any(file.startswith("-") for file in files):
         return Ended(1, b"", b"command line: not understood\n")

@@ -32,19 +32,20 @@ class World:
         return sorted(self.links)
 
     def near(self, i: int) -> list[int]:
-        """Returns the neighbours of a node in rising order."""
+        """Returns the neighbours of node i in rising order."""
         return sorted(self.links[i])
 
     def married(self, i: int) -> bool:
-        """Returns whether a node and one of its neighbours point at each other."""
+        """Returns whether node i and one of its neighbours point at each other."""
         return any(self.p[i] == j and self.p[j] == i for j in self.links[i])
 
     def candidates(self, i: int) -> list[int]:
-        """Returns the neighbours that a node may seduce, in rising order: higher ones that point at none, with m false."""
+        """Returns the neighbours that node i may seduce, in rising order: higher ones that point at none, with m
+        false."""
         return [j for j in self.near(i) if self.p[j] is None and j > i and not self.m[j]]
 
     def guard(self, i: int, move: Move) -> bool:
-        """Returns whether the guard of a rule holds at node i. Each guard reads i and its neighbours only."""
+        """Returns whether the guard of a move holds at node i. Each guard reads node i and its neighbours only."""
         j = self.p[i]
         # Update: m_i differs from married(i).
         if move.rule == "update":
@@ -62,7 +63,7 @@ class World:
         return j is not None and self.p[j] != i and (self.m[j] or j < i)
 
     def effect(self, i: int, move: Move) -> tuple[int | None, bool]:
-        """Returns the registers p and m of node i after a rule."""
+        """Returns the registers p and m of node i after a move."""
         # Update: m_i becomes married(i).
         if move.rule == "update":
             return self.p[i], self.married(i)
@@ -76,13 +77,13 @@ class World:
         return None, self.m[i]
 
     def moves(self, i: int) -> list[Move]:
-        """Returns all moves whose guards hold at a node. There are several only if several neighbours point at it."""
+        """Returns all moves whose guards hold at node i. There are several only if several neighbours point at it."""
         alone = [Move(rule) for rule in RULES if rule != "marriage"]
         marriages = [Move("marriage", j) for j in self.near(i) if self.p[j] == i]
         return [move for move in alone + marriages if self.guard(i, move)]
 
     def enabled(self, i: int) -> str | None:
-        """Returns the rule whose guard holds at a node, or None. There is never more than one."""
+        """Returns the rule whose guard holds at node i, or None if there is none. There is never more than one."""
         rules = {move.rule for move in self.moves(i)}
         assert len(rules) <= 1, f"{rules} are enabled at {i}"
         return rules.pop() if rules else None
@@ -92,7 +93,7 @@ class World:
         return all(self.enabled(i) is None for i in self.links)
 
     def renew(self) -> None:
-        """Begins the next configuration, in which no node has a chosen move."""
+        """Makes the present configuration a new one: counts it, and drops all chosen moves."""
         self.number += 1
         self.chosen = {}
 
@@ -105,18 +106,19 @@ class World:
         self.renew()
 
     def fault(self, i: int, p: int | None, m: bool) -> None:
-        """Sets the registers of a node."""
+        """Sets the registers of node i. Begins a new configuration."""
         self.p[i], self.m[i] = p, m
         self.renew()
 
     def link(self, a: int, b: int) -> None:
-        """Links two nodes. Changes no register."""
+        """Links the nodes a and b, and changes no register. Begins a new configuration."""
         self.links[a].add(b)
         self.links[b].add(a)
         self.renew()
 
     def cut(self, a: int, b: int) -> None:
-        """Removes a link. Sets pointers along it to null, and leaves m unchanged."""
+        """Removes the link between the nodes a and b. Sets pointers along it to null, and leaves m unchanged. Begins a
+        new configuration."""
         self.links[a].remove(b)
         self.links[b].remove(a)
         self.p[a] = None if self.p[a] == b else self.p[a]

@@ -22,7 +22,8 @@ def rule_of(look: Look) -> Rule | None:
 
 
 def play(me: Client, nodes: tuple[int, ...]) -> None:
-    """Looks at each node, and asks for the rule that `rule_of` returns."""
+    """Looks at each of the nodes again and again, and asks for the rule that `rule_of` returns. Runs until an error is
+    raised."""
     while True:
         for node in nodes:
             try:
@@ -40,7 +41,8 @@ def play(me: Client, nodes: tuple[int, ...]) -> None:
 
 
 def main(words: list[str]) -> None:
-    """Connects and plays. Connects again if the connection is lost, until the class is over."""
+    """Connects by the slip that the arguments name, and plays. Connects again if the connection is lost, until the
+    class is over."""
     slip = Slip.read(words[0])
     me = enter(slip)
     while True:

@@ -27,18 +27,18 @@ ALONE = 0.2  # of a proof is done by one process, however many there are
 
 
 def say(line: str) -> None:
-    """Prints a line on standard error if the progress line goes there."""
+    """Prints a line on standard error, where the progress line is too."""
     print(f"mml: {line}", file=sys.stderr, flush=True)
 
 
 def progress_of(crates: Uses, number: int) -> Progress:
-    """Returns the progress of proofs that haven't begun, on `number` processors."""
+    """Returns the progress of a build in which no proof has begun, on so many processors."""
     share = ALONE + (1 - ALONE) / jobs_of(number)
     return Progress(crates, {crate: seconds * share for crate, seconds in expected(crates).items()}, at_once_of(number))
 
 
 def tell_beginning(programs: list[str], progress: Progress) -> None:
-    """Prints what the build does, how long it takes, and what the user can do instead."""
+    """Prints what the build of these programs does, how long it takes, and what the user can do instead."""
     side = processors()
     say(f"building {' and '.join(programs)}, after proving {len(progress.crates)} crates; proofs that this machine has already are reused")
     say(f"if nothing is proved yet, that takes {duration_text(progress.left(0.0))} on {side} processor{'s' if side > 1 else ''}, as measured on "
@@ -46,7 +46,7 @@ def tell_beginning(programs: list[str], progress: Progress) -> None:
 
 
 def tell_failure(log: Path, programs: list[str]) -> None:
-    """Prints why the build failed, and keeps the log."""
+    """Prints why the build failed, by its log, and keeps the log beside the last program."""
     lines = log.read_text(encoding="utf-8", errors="replace").splitlines()
     for line in [it for it in lines if WRONG.search(it)][:MOST_SHOWN] or lines[-MOST_SHOWN:]:
         print(line, file=sys.stderr)
@@ -56,7 +56,7 @@ def tell_failure(log: Path, programs: list[str]) -> None:
 
 
 def build(programs: list[str]) -> int:
-    """Builds programs, and returns the status."""
+    """Builds programs, and returns the status: 0 if all are built, and 1 if not. Prints the progress."""
     crates = needed(programs)
     progress, screen = progress_of(crates, processors()), Screen()
     tell_beginning(programs, progress)
@@ -79,7 +79,7 @@ def build(programs: list[str]) -> int:
 
 
 def main(programs: list[str]) -> int:
-    """Builds programs. A signal stops the build."""
+    """Builds programs, and returns the status. A signal stops the build and then ends this process."""
     end_with_parent()
     raise_on_signals()
     try:

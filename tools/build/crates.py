@@ -1,4 +1,5 @@
-"""The crates that a program is built from, and how long their proofs are expected to take."""
+"""The crates that a program is built from, and how long their proofs are expected to take. A crate is *below* another
+one if that crate uses it, directly or by other crates."""
 from __future__ import annotations
 
 import re
@@ -12,20 +13,21 @@ Uses = dict[str, list[str]]
 
 
 def lines(top: Path = TOP) -> dict[str, str]:
-    """Returns each crate of `crates.txt` with its line, in the file's order: each crate comes after those that it
+    """Returns the line of each crate in `crates.txt`, in the file's order: each crate comes after those that it
     uses."""
     text = (top / "crates.txt").read_text(encoding="utf-8")
     return {found[2]: found[1] for found in re.finditer(r"(?m)^((\w+)[^:\n#]*:.*)$", text)}
 
 
 def needed(programs: list[str]) -> Uses:
-    """Returns these programs and all crates below them, each with the crates that it uses, in the file's order."""
+    """Returns the crates of these programs and all crates below them, each with the crates that it uses, in the file's
+    order."""
     every = lines()
     return with_those_below(programs, {crate: [it for it in line.partition(":")[2].split() if it in every] for crate, line in every.items()})
 
 
 def with_those_below(crates: list[str], uses: Uses) -> Uses:
-    """Returns these crates and all below them."""
+    """Returns these crates and all crates below them, each with the crates that it uses, in the order of `uses`."""
     found, near = set[str](), [*crates]
     while near:
         crate = near.pop()
@@ -36,8 +38,8 @@ def with_those_below(crates: list[str], uses: Uses) -> Uses:
 
 
 def expected(crates: Uses) -> dict[str, float]:
-    """Returns the expected seconds of each crate's proof, from the table. A crate that the table lacks counts as the
-    average."""
+    """Returns the expected seconds of each crate's proof, from the table in seconds.txt. A crate that the table lacks
+    gets the average of the table."""
     table = {}
     for line in SECONDS.read_text(encoding="utf-8").splitlines():
         if line and not line.startswith("#"):

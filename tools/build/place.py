@@ -26,7 +26,7 @@ NOT_SOURCES = shutil.ignore_patterns(".*", "*~")
 
 @dataclass(frozen=True)
 class Place:
-    """A repository, a folder for temporary files, and the output of `rt ci`."""
+    """A repository, a folder for temporary files, and the file with the output of `rt ci` there."""
 
     repository: Path
     temporary: Path
@@ -43,7 +43,7 @@ class Room:
     count: int = 0
 
     def place(self, crates: Uses) -> Place:
-        """Makes a repository of these crates."""
+        """Makes a new repository with these crates, as their sources were at the beginning of the build."""
         self.count += 1
         place = Place(self.folder / str(self.count), self.temporary, self.folder / f"{self.count}.log")
         fill(place.repository, crates, self.folder / "sources" if self.count > 1 else TOP)
@@ -53,15 +53,15 @@ class Room:
 
 
 def homes() -> list[Path]:
-    """Returns the folder for repositories, and the one for temporary files. Repositories are in Git's own folder
-    if there is one: it is on the clone's disk, and no check looks into it. Libraries take gigabytes, which may be
-    too much for temporary files."""
+    """Returns the folder in which repositories are made, and the one for temporary files. Repositories are in Git's own
+    folder if there is one: it is on the clone's disk, and no check looks into it. Libraries take gigabytes, which may
+    be too much for temporary files."""
     git, temporary = TOP / ".git", Path(tempfile.gettempdir())
     return [git if git.is_dir() and os.access(git, os.W_OK) else temporary, temporary]
 
 
 def sweep() -> None:
-    """Removes the folders of builds that were killed."""
+    """Removes the folders of earlier builds that were killed."""
     for folder in [folder for home in homes() for folder in home.glob(f"{PREFIX}*")]:
         of = re.match(rf"{PREFIX}(\d+)-", folder.name)
         if of and not Path(f"/proc/{of[1]}").exists():
@@ -70,7 +70,7 @@ def sweep() -> None:
 
 @contextmanager
 def room() -> Iterator[Room]:
-    """Yields a room for repositories, and removes it at the end."""
+    """Yields the folders of a build, and removes them at the end."""
     sweep()
     folders = []
     try:
@@ -84,8 +84,8 @@ def room() -> Iterator[Room]:
 
 
 def fill(top: Path, crates: Uses, of: Path) -> None:
-    """Copies the sources of crates, with their lines of `crates.txt` and what `HANDLES` allows, from one folder to
-    another."""
+    """Makes a repository at `top`, and copies into it from the folder `of`: the sources of these crates, with their
+    lines of `crates.txt`, and the file HANDLES."""
     (top / ".git").mkdir(parents=True)  # `rt ci` wants to be at the top of a repository.
     every = lines(of)
     (top / "crates.txt").write_text("".join(f"{every[crate]}\n" for crate in crates), encoding="utf-8")
@@ -103,8 +103,8 @@ def fill(top: Path, crates: Uses, of: Path) -> None:
 
 
 def take_library(top: Path, crate: str) -> None:
-    """Moves a library from a repository to this clone, for trying wrong bodies. A library that `rt check` has
-    built here, which has a stamp, stays."""
+    """Moves the library of a crate from the repository at `top` to this clone, for trying wrong bodies. A library that
+    `rt check` has built here, which has a stamp, isn't replaced."""
     made, to = (it / "crates" / crate / "out/rlib" for it in (top, TOP))
     if made.is_dir() and not (to / "stamp").exists():
         to.parent.mkdir(exist_ok=True)
@@ -113,7 +113,8 @@ def take_library(top: Path, crate: str) -> None:
 
 
 def take(top: Path, program: str) -> bool:
-    """Moves a program from a repository to its place in this clone. Returns whether it was there."""
+    """Copies a program from the repository at `top` to its place in this clone. Returns whether the repository had
+    it."""
     made, to = top / "crates" / program / "out" / program, TOP / "crates" / program / "out" / program
     if not made.is_file():
         return False

@@ -12,7 +12,8 @@ OVERRUN = 0.1  # of the time that a proof has taken is expected once more if it 
 
 
 def chains(crates: Uses, seconds: dict[str, float]) -> dict[str, float]:
-    """Returns the length in seconds of the longest chain of proofs that begins with each crate."""
+    """Returns for each crate the length, in seconds, of the longest chain of proofs that begins with the crate's proof.
+    `seconds` has the expected time of each proof."""
     longest = {crate: 0.0 for crate in crates}
     for crate in reversed([*crates]):
         longest[crate] += seconds[crate]
@@ -25,6 +26,8 @@ class Progress:
     """The crates that are proved, and those whose proofs are running, at most `at_once` side by side."""
 
     def __init__(self, crates: Uses, seconds: dict[str, float], at_once: int) -> None:
+        """Begins without a proof. `seconds` has the expected time of each proof, and `at_once` is the most proofs that
+        run side by side."""
         self.crates, self.seconds, self.at_once = crates, seconds, at_once
         self.longest = chains(crates, seconds)
         self.proved, self.kept = set[str](), set[str]()
@@ -32,7 +35,8 @@ class Progress:
         self.took, self.planned = TRUST, TRUST
 
     def can_begin(self, proved: set[str], begun: set[str]) -> list[str]:
-        """Returns the crates whose proofs can begin, in their order."""
+        """Returns the crates whose proofs can begin if these crates are proved and these have begun. The crate with the
+        longest chain is first."""
         left = [crate for crate in self.crates if crate not in proved and crate not in begun]
         return sorted([crate for crate in left if proved.issuperset(self.crates[crate])], key=lambda crate: -self.longest[crate])
 
@@ -46,7 +50,8 @@ class Progress:
         return all(self.longest[crate] >= NEAR * self.longest[it] for it in self.crates if it not in self.proved)
 
     def note(self, crate: str, is_kept: bool, now: float) -> None:
-        """Notes that a crate is proved: now, or by an earlier run if `is_kept` is set."""
+        """Notes at the time `now` that a crate is proved: by a proof that ended now, or by an earlier run if `is_kept`
+        is set."""
         if crate not in self.crates or crate in self.proved:
             return
         begun = self.begun.pop(crate, None)
@@ -58,7 +63,7 @@ class Progress:
         self.proved.add(crate)
 
     def left(self, now: float) -> float:
-        """Returns the expected seconds of the remaining proofs at the pace of this machine."""
+        """Returns the seconds from `now` on until all crates are proved, as expected at the pace of this machine."""
         pace = self.took / self.planned
         ends = {crate: max(self.seconds[crate] * pace - (now - begun), OVERRUN * (now - begun)) for crate, begun in self.begun.items()}
         proved, at = {*self.proved}, 0.0
@@ -71,7 +76,7 @@ class Progress:
         return at
 
     def line(self, now: float) -> str:
-        """Returns the progress line."""
+        """Returns the progress line at the time `now`."""
         count = f"{len(self.proved)} of {len(self.crates)} crates proved"
         count += f", {len(self.kept)} of them earlier" if self.kept else ""
         return f"{count}; {duration_text(self.left(now))} left" if len(self.proved) < len(self.crates) else count

@@ -25,25 +25,25 @@ MEMORY = 4_000_000_000  # bytes that have to be free for one more proof side by 
 
 
 def wanted_processes() -> int:
-    """Returns the number of processes for each proof that the environment asks for, or 0 if `rt` chooses."""
+    """Returns the number of processes for each proof that the environment's RT_JOBS asks for, or 0 if `rt` chooses."""
     number = os.environ.get("RT_JOBS", "")
     return int(number) if number.isdigit() else 0
 
 
 def processors() -> int:
-    """Returns the number of processors for proofs."""
+    """Returns the number of processors that proofs use: as many as RT_JOBS says, or all."""
     return wanted_processes() or len(os.sched_getaffinity(0))
 
 
 def jobs_of(number: int) -> int:
-    """Returns the number of processes with which `rt ci` proves a crate that is alone in its repository, on so
-    many processors."""
+    """Returns the number of processes with which `rt ci` proves a crate that is alone in its repository, on a machine
+    with so many processors."""
     return 1 if wanted_processes() else max(1, min(MOST_JOBS, number // 2))
 
 
 def at_once_of(number: int) -> int:
-    """Returns the number of crates that are proved side by side: one more than fit, since a proof begins and ends
-    as a single process."""
+    """Returns the number of crates that are proved side by side on so many processors: one more than their processes
+    would fill, since a proof begins and ends as a single process."""
     each = jobs_of(number)
     return -(-number // each) + (each > 1)
 
@@ -55,9 +55,10 @@ def has_memory() -> bool:
 
 
 class Proving:
-    """The proofs of crates in a room, with their progress."""
+    """The proofs of a build, with their progress. The room has a repository for each run."""
 
     def __init__(self, room: Room, crates: Uses, progress: Progress, screen: Screen) -> None:
+        """Begins without a run. `screen` shows the progress."""
         self.room, self.crates, self.progress, self.screen = room, crates, progress, screen
         self.runs: dict[str, Run] = {}
 
@@ -76,8 +77,8 @@ class Proving:
                 run.end()
 
     def is_over(self, run: Run, is_look: bool) -> bool:
-        """Follows a run over all crates to its end, or with `is_look` until it proves something. Returns whether
-        it has ended."""
+        """Waits for the end of a run over all crates, or with `is_look` until it proves something. Notes the progress
+        meanwhile. Returns whether the run has ended."""
         while not run.has_ended():
             if is_look and run.is_proving():
                 run.follow(self.progress, self.screen)
@@ -118,7 +119,7 @@ class Proving:
         return self.outcome(whole, self.crates)
 
     def begin(self) -> None:
-        """Begins the next proofs while there is memory."""
+        """Begins the proofs that are next in the order, while there is memory."""
         for crate in self.progress.next():
             if not self.runs or has_memory():
                 place = self.room.place(with_those_below([crate], self.crates))
@@ -126,14 +127,15 @@ class Proving:
                 self.progress.begun[crate] = time.monotonic()
 
     def outcome(self, run: Run, crates: list[str] | Uses) -> Path | None:
-        """Copies the results of a run into the clone. Returns the log if the run failed, or None."""
+        """Copies the results of an ended run, which was to prove these crates, into the clone. Returns the log if the
+        run failed, or None."""
         if run.process.returncode != 0 or not self.progress.proved.issuperset(crates):
             return run.place.log
         self.take(run.place, {*crates})
         return None
 
     def take(self, place: Place, crates: set[str]) -> None:
-        """Copies the libraries and programs of a repository into the clone."""
+        """Copies the libraries and programs of these crates from a repository into the clone."""
         for crate in crates:
             take_library(place.repository, crate)
             take(place.repository, crate)

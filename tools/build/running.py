@@ -29,12 +29,14 @@ class Stopped(Exception):
     """Raised when a signal ends the build."""
 
     def __init__(self, number: int) -> None:
+        """`number` is that of the signal."""
         super().__init__(number)
         self.number = number
 
 
 def raise_on_signals() -> None:
-    """Raises `Stopped` at the signals that end a process, except for those that the caller ignores."""
+    """Makes signals that end a process raise `Stopped` from now on, except for those that the caller of this process
+    ignores."""
     def stop(number: int, _: FrameType | None) -> None:
         """Raises `Stopped`, and ignores all further signals."""
         for each in ENDING:
@@ -52,8 +54,8 @@ def end_with_parent() -> None:
 
 
 def begin_later() -> None:
-    """Does the same as `end_with_parent`, and lowers the priority of this process. If the system shares processors
-    among sessions, only the session's priority has an effect."""
+    """Calls `end_with_parent`, and lowers the priority of this process, which isn't urgent. If the system shares
+    processors among sessions, only the session's priority has an effect, so that is lowered too."""
     end_with_parent()
     os.nice(LATER)
     with contextlib.suppress(OSError):
@@ -83,7 +85,7 @@ class Screen:
         self.shown = line
 
     def close(self, progress: Progress) -> None:
-        """Shows the last line, and ends it."""
+        """Prints the progress once more, and ends its line."""
         self.put(progress.line(time.monotonic()))
         if self.is_terminal:
             print(file=sys.stderr, flush=True)
@@ -93,6 +95,8 @@ class Run:
     """A run of `rt ci` over a repository."""
 
     def __init__(self, place: Place, is_first: bool = True, is_whole: bool = False) -> None:
+        """Starts `rt ci` in a repository. A run that `is_first` has the usual priority, and gets all processors unless
+        it `is_whole`, that is, over all crates."""
         self.place, self.read = place, 0
         words = ["rt"] if is_whole or not is_first else [sys.executable, "-B", str(WIDE)]
         with place.log.open("wb") as output:
@@ -103,7 +107,8 @@ class Run:
             )
 
     def follow(self, progress: Progress, screen: Screen) -> None:
-        """Notes each crate that the output reports as proved, once."""
+        """Notes in the progress each crate that new lines of the output report as proved. Tells the screen if there is
+        one."""
         with self.place.log.open("rb") as it:
             it.seek(self.read)
             whole, newline, _ = it.read().rpartition(b"\n")
@@ -113,7 +118,7 @@ class Run:
             progress.note(found[1], bool(found[2]), time.monotonic())
 
     def has_ended(self) -> bool:
-        """Returns whether the run has ended."""
+        """Returns whether `rt ci` has ended."""
         return self.process.poll() is not None
 
     def lacks_keeping(self) -> bool:
@@ -121,7 +126,7 @@ class Run:
         return bool(NOT_KEPT.search(self.place.log.read_text(encoding="utf-8", errors="replace")))
 
     def is_proving(self) -> bool:
-        """Returns whether a process below the run is proving something."""
+        """Returns whether a process of the prover is working in the repository of the run."""
         here = str(self.place.repository.resolve())
         for process in Path("/proc").glob("[0-9]*"):
             try:
@@ -132,7 +137,8 @@ class Run:
         return False
 
     def end(self) -> None:
-        """Ends the run with all that it started. Processes outside its group are ended by its own guard."""
+        """Ends `rt ci` and the processes of its group. Other processes that it started are ended by a guard of its
+        own."""
         if not self.has_ended():
             os.killpg(self.process.pid, signal.SIGTERM)
             try:

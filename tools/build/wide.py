@@ -12,12 +12,12 @@ import sys
 
 
 def doubled(number: int) -> set[int]:
-    """Returns a set with twice as many processors."""
+    """Returns the numbers of twice as many processors, as a set."""
     return {*range(2 * number)}
 
 
 def main() -> None:
-    """Runs the `rt` on the path with these arguments."""
+    """Runs the `rt` on the path with the arguments of this process."""
     rt = shutil.which("rt")
     if rt is None:
         sys.exit("rt is not on the path")

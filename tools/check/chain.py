@@ -20,7 +20,8 @@ TABLE = "# Seconds of processor that the proof of each crate took: `./check chai
 
 @dataclass(frozen=True)
 class Span:
-    """The beginning and the end of a crate's proof, in seconds of the run, and the processor time that it used."""
+    """The beginning and the end of a crate's proof, in seconds since the run began, and the processor time that the
+    proof used."""
 
     begin: float
     end: float
@@ -31,8 +32,8 @@ Spans = dict[str, Span]
 
 
 def spans_of(checks: Checks) -> Spans:
-    """Returns the proofs of a run, in the order in which they ended. Crates that weren't proved again are left
-    out."""
+    """Returns the proof of each crate in a run, in the order in which the proofs ended. Leaves out crates that weren't
+    proved again."""
     found: Spans = {}
     for check, (crate, kind) in checks.works.items():
         if kind == "proof":
@@ -45,22 +46,22 @@ def spans_of(checks: Checks) -> Spans:
 
 
 def save_spans(spans: Spans, file: Path = KEPT) -> None:
-    """Saves the times of a run for `./check chain`."""
+    """Saves the times of a run's proofs in a file for `./check chain`."""
     file.parent.mkdir(exist_ok=True)
     lines = [f"{crate} {it.begin:.0f} {it.end:.0f} {it.used:.0f}\n" for crate, it in spans.items()]
     file.write_text(HEAD.format(time.strftime("%Y-%m-%d")) + "".join(lines), encoding="utf-8")
 
 
 def saved_spans(file: Path = KEPT) -> Spans:
-    """Returns the times of the last run that proved something, or nothing."""
+    """Returns the times of the last run that proved something, or none if there is no such file."""
     text = file.read_text(encoding="utf-8") if file.exists() else ""
     rows = [line.split() for line in text.splitlines() if not line.startswith("#")]
     return {crate: Span(float(begin), float(end), float(used)) for crate, begin, end, used in rows}
 
 
 def chain(spans: Spans, crate: str) -> list[str]:
-    """Returns the crates that a crate waited for, lowest first: for each crate, the last one proved among those
-    that it uses."""
+    """Returns the crates for which a crate waited, the first one first, and the crate itself. Before each crate comes
+    that one of those which it uses whose proof ended last."""
     found, every = [crate], uses()
     while below := [it for it in every.get(found[0], []) if it in spans]:
         found.insert(0, max(below, key=lambda it: spans[it].end))
@@ -68,7 +69,7 @@ def chain(spans: Spans, crate: str) -> list[str]:
 
 
 def lines_of(spans: Spans, crate: str) -> list[str]:
-    """Returns the table of the chain to a crate."""
+    """Returns the lines of the table of the chain to a crate."""
     crates = chain(spans, crate)
     lines = [f"the chain to {crate}, in seconds{'':12}waits   takes    ends processor"]
     before = 0.0
@@ -82,18 +83,19 @@ def lines_of(spans: Spans, crate: str) -> list[str]:
 
 
 def chain_tables(spans: Spans, crates: list[str]) -> str:
-    """Returns the chains to these crates, or to the crate that was proved last, as tables."""
+    """Returns the tables of the chains to these crates as a text. If there are none, returns that of the crate that was
+    proved last."""
     wanted = [it for it in crates if it in spans] or [*spans][-1:]
     return "\n\n".join("\n".join(lines_of(spans, it)) for it in wanted)
 
 
 def short(spans: Spans) -> str:
-    """Returns the chain to the last crate as a line."""
+    """Returns the chain to the crate that was proved last as one line."""
     crates = chain(spans, [*spans][-1])
     each = ", ".join(f"{it} {spans[it].end - spans[it].begin:.0f}" for it in crates)
     return f"the longest chain, in seconds: {each}; it ended after {spans[crates[-1]].end:.0f}: ./check chain says more"
 
 
 def table(spans: Spans) -> str:
-    """Returns the lines for `tools/build/seconds.txt`."""
+    """Returns the text of `tools/build/seconds.txt`: the time of each proof."""
     return TABLE + "\n".join(f"{crate} {max(1, round(spans[crate].used))}" for crate in uses() if crate in spans)

@@ -1,4 +1,5 @@
-"""A whole check, from its first line to its last."""
+"""A whole check, from its first line to its last. A check has *stages*, which run one after another, and a stage has
+*parts*, which run side by side. A part that runs *beside* uses only the processors that others leave idle."""
 from __future__ import annotations
 
 import os
@@ -19,25 +20,28 @@ Stages = list[list[Part]]
 
 
 def is_gate() -> bool:
-    """Returns whether no part may be left out."""
+    """Returns whether this check is one that accepts a change, so that no part may be left out. The environment's CI
+    says so."""
     return bool(os.environ.get("CI"))
 
 
 def tell(line: str) -> None:
-    """Prints a line at once."""
+    """Prints a line, and flushes the output."""
     print(line, flush=True)
 
 
 class Count:
-    """The number of tests that passed and failed, the time of each part, and the parts that were left out."""
+    """The number of tests that passed and failed, the processor time of each part, and the parts that were left out."""
 
     def __init__(self, left_out: list[str]) -> None:
+        """`left_out` has the parts that the command line leaves out, as texts."""
         self.passed, self.failed = 0, 0
         self.minutes: dict[str, float] = {}
         self.left_out = left_out
 
     def add(self, done: Done) -> bool:
-        """Prints the result of a part, and its whole output if it failed. Returns whether it passed."""
+        """Counts a part that has ended, and prints its result, with its whole output if it failed. Returns whether it
+        passed."""
         it = result(done)
         self.passed += it.passed
         self.failed += it.failed
@@ -49,7 +53,7 @@ class Count:
         return not it.failed
 
     def with_needs(self, parts: list[Part]) -> list[Part]:
-        """Returns the parts whose needs are met. Reports the others, or counts them as failed if no part may be left
+        """Returns the parts whose needs are met. Notes the others as left out, or as failed if no part may be left
         out."""
         lacks = missing(parts)
         for name, need in lacks.items():
@@ -63,7 +67,7 @@ class Count:
         return [it for it in parts if not set(it.needs) & set(lacks)]
 
     def close(self, crew: Crew) -> int:
-        """Prints the parts that were left out, the time in all, and the last line. Returns the status."""
+        """Prints the parts that were left out, the processor times, and the last line. Returns the status."""
         for line in self.left_out:
             tell(f"left out: {line}")
         tell(figures(crew.checks, self.minutes).rstrip("\n"))
@@ -78,7 +82,8 @@ class Count:
 
 
 def begin(stages: Stages, processors: int) -> None:
-    """Installs missing packages if no part may be left out, and prints how long the check will take."""
+    """Installs missing packages if no part may be left out. Prints how long the check will take on so many
+    processors."""
     if is_gate():
         install([part for stage in stages for part in stage])
     names = [stage[0].name if len(stage) == 1 else "scripts" for stage in stages]
@@ -88,8 +93,8 @@ def begin(stages: Stages, processors: int) -> None:
 
 
 def run(stages: Stages, crew: Crew, count: Count) -> None:
-    """Runs the stages one after another. Parts that run beside start with the first stage. Stops if the proofs
-    fail, because there is no program then."""
+    """Runs the stages one after another, and counts each part. Parts that run beside start with the first stage. Stops
+    if the proofs fail, because there is no program then."""
     beside = [it for stage in stages for it in stage if it.is_beside]
     for number, stage in enumerate(stages):
         here = [it for it in stage if not it.is_beside]
@@ -105,13 +110,14 @@ def run(stages: Stages, crew: Crew, count: Count) -> None:
 
 
 def forget_records() -> None:
-    """Removes the records beside programs that `rt ci` has built again, since they describe older programs."""
+    """Removes the records of the sources that programs were built from, after `rt ci` has built the programs again."""
     for record in TOP.glob("crates/*/out/*.sources"):
         record.unlink()
 
 
 def check(stages: Stages, left_out: list[str], room: Path) -> int:
-    """Runs the stages with temporary files in a folder. Leaves no process and no file, however it ends."""
+    """Runs the stages with temporary files in the folder `room`, and returns the status. `left_out` has the parts that
+    the command line leaves out. At the end no process and no file is left."""
     processors = len(os.sched_getaffinity(0))
     adopt_orphans()
     crew, count = Crew(room, processors), Count(left_out)

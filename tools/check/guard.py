@@ -1,5 +1,5 @@
-"""The process that the user has started. It stays alive beside the process that does the check. If one of the two is
-killed, the other cleans up."""
+"""The process that the user has started, the *guard*. It stays alive beside its child, which does the check. If one of
+the two is killed, the other cleans up."""
 from __future__ import annotations
 
 import os
@@ -17,8 +17,8 @@ PATIENCE = 8.0  # seconds that processes of a check that was killed have to clea
 
 
 def guarded(work: Callable[[Path], int]) -> int:
-    """Runs some work in a child with its own folder, and returns its status. Passes signals to the child. If the
-    child is killed, ends all processes below it. If this process is killed, the child is asked to end."""
+    """Calls `work` in a child with a new folder for temporary files, and returns its status. Passes signals to the
+    child. If the child is killed, ends all processes below it. If the guard is killed, the child gets a signal."""
     adopt_orphans()
     room = Path(tempfile.mkdtemp(prefix="check-"))
     signal.pthread_sigmask(signal.SIG_BLOCK, ALL)
@@ -38,7 +38,8 @@ def guarded(work: Callable[[Path], int]) -> int:
 
 
 def work_below(guard: int, room: Path, work: Callable[[Path], int]) -> None:
-    """Does the work in the child, in its own session, and exits."""
+    """Calls `work` in this process, the child, in a session of its own, and exits with its status. `guard` is the
+    number of the parent, and `room` the folder."""
     status = 1
     try:
         os.setsid()
@@ -57,7 +58,7 @@ def work_below(guard: int, room: Path, work: Callable[[Path], int]) -> None:
 def forward_signals(child: int) -> None:
     """Passes the signals that end a check to a child from now on, except for those that the caller ignores."""
     def hand_on(number: int, _: object) -> None:
-        """Sends the signal to the child, unless the child has ended."""
+        """Sends the signal to the child. Does nothing if the child has ended."""
         try:
             os.kill(child, number)
         except ProcessLookupError:

@@ -1,6 +1,8 @@
 """Checks that README.md names the toolchain of this check, and no other logic.
 
     python3 -B -m tools.check.kit
+
+The *logic* is the part of the toolchain's version that says which proofs it accepts.
 """
 from __future__ import annotations
 
@@ -16,8 +18,8 @@ KIT = re.compile(r"`([^`]+ logic ([0-9a-f]+))`")
 
 
 def fault(readme: str, version: str) -> str:
-    """Returns what is wrong with the toolchain on a page, or an empty text. All its versions must be of one logic,
-    and include this one."""
+    """Returns what is wrong with the versions of the toolchain that a page names, or an empty text. All must be of one
+    logic, and one of them must be `version`."""
     lines = NAMED.findall(readme)
     named = KIT.findall(lines[0]) if len(lines) == 1 else []
     if not named:
@@ -28,7 +30,7 @@ def fault(readme: str, version: str) -> str:
 
 
 def main() -> None:
-    """Compares the page with the toolchain. Exits with status 1 if they differ."""
+    """Compares README.md with the version of the toolchain. Exits with status 1 if they differ."""
     version = subprocess.run(["rt", "version"], capture_output=True, text=True, check=True).stdout.strip()
     wrong = fault((TOP / "README.md").read_text(encoding="utf-8"), version)
     if wrong:

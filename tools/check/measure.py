@@ -22,7 +22,7 @@ Work = tuple[str, str]
 
 
 def work_of(pid: int, part: str) -> Work | None:
-    """Returns the crate and the kind of a check, or None if they aren't known yet."""
+    """Returns the crate and the kind of the check that a process does in a part, or None if they aren't known yet."""
     with open(f"/proc/{pid}/cmdline", encoding="utf-8", errors="replace") as it:
         words = it.read().split("\0")
     if "--crate-name" not in words:
@@ -34,7 +34,7 @@ def work_of(pid: int, part: str) -> Work | None:
 
 
 class Checks:
-    """The checks below the running parts, with the processor time that each has used."""
+    """The processes that check a crate in the running parts, with the processor time that each has used."""
 
     def __init__(self) -> None:
         self.works: dict[Check, Work] = {}
@@ -44,7 +44,8 @@ class Checks:
         self.looked = 0.0
 
     def look(self, parts: dict[int, str]) -> None:
-        """Reads the processor times of all checks, at most twice a second."""
+        """Reads the processor times of all checks, at most twice a second. `parts` has the name of each running part,
+        by its process."""
         if time.monotonic() < self.looked + PAUSE:
             return
         self.looked = time.monotonic()
@@ -64,7 +65,7 @@ class Checks:
             self.note(check, used, part_of[check])
 
     def note(self, check: Check, used: float, part: str) -> None:
-        """Notes the processor time of a check if its crate is known."""
+        """Notes the processor time that a check has used, if its crate is known."""
         try:
             work = self.works.get(check) or work_of(check[0], part)
         except (OSError, ValueError):
@@ -80,7 +81,7 @@ class Checks:
         return int(check[1]) / TICKS
 
     def minutes(self) -> dict[Work, float]:
-        """Returns the processor minutes by crate and kind."""
+        """Returns the processor minutes of all checks, by crate and kind."""
         sums: dict[Work, float] = {}
         for check, used in self.used.items():
             work = self.works[check]
@@ -89,7 +90,8 @@ class Checks:
 
 
 def check_above(pid: int, found: dict[int, Process], parts: dict[int, str]) -> tuple[Check | None, str]:
-    """Returns the check to which a process belongs, and its part."""
+    """Returns the check to which a process belongs, and the name of its part. Returns None and an empty text if the
+    process belongs to no part. `found` has the data of all processes."""
     check = None
     while pid in found and pid not in parts:
         if found[pid].name == "rattle":
@@ -99,7 +101,8 @@ def check_above(pid: int, found: dict[int, Process], parts: dict[int, str]) -> t
 
 
 def figures(checks: Checks, parts: dict[str, float]) -> str:
-    """Returns the tables of crates and of parts, with their processor minutes."""
+    """Returns the text of two tables, of crates and of parts, with their processor minutes. `parts` has the minutes of
+    each part."""
     sums = checks.minutes()
     crates = sorted({crate for crate, _ in sums})
     of_kind = {kind: sum(it for (_, its), it in sums.items() if its == kind) for kind in KINDS}

@@ -21,7 +21,7 @@ NEVER_INSTALLED = "openssh-server"  # Its installation would start a server.
 
 @dataclass(frozen=True)
 class Need:
-    """A requirement of parts: its test, its text, and the Debian packages that meet it."""
+    """A requirement of parts: what it is, its test, and the Debian packages that meet it."""
 
     what: str
     is_there: Callable[[], bool]
@@ -61,12 +61,12 @@ def is_built_or_named() -> bool:
 
 
 def has_tests() -> bool:
-    """Returns whether the test program of a crate exists."""
+    """Returns whether any crate's test program is built."""
     return any(TOP.glob("crates/*/out/*_tests"))
 
 
 def can_be_fetched() -> bool:
-    """Returns whether the package that is never installed is here or can be downloaded."""
+    """Returns whether the package NEVER_INSTALLED is installed or can be downloaded."""
     return is_installed(NEVER_INSTALLED) or apt("--print-uris", "install", NEVER_INSTALLED)
 
 
@@ -97,7 +97,7 @@ NEEDS = {
 
 
 def apt(*words: str) -> bool:
-    """Runs the package manager without output. Returns whether it succeeded."""
+    """Runs Debian's package manager with these arguments and without output. Returns whether it succeeded."""
     try:
         return subprocess.run([*APT, *words], stdin=subprocess.DEVNULL, capture_output=True, check=False).returncode == 0
     except OSError:
@@ -105,20 +105,21 @@ def apt(*words: str) -> bool:
 
 
 def missing(parts: list[Part]) -> dict[str, Need]:
-    """Returns the needs of these parts that aren't met, by name."""
+    """Returns the needs of these parts that aren't met, by their names. Needs of only a few tests of a part count
+    too."""
     is_built.cache_clear()
     names = dict.fromkeys(name for part in parts for name in (*part.needs, *part.likes))
     return {name: NEEDS[name] for name in names if not NEEDS[name].is_there()}
 
 
 def instruction(need: Need) -> str:
-    """Returns a need as an instruction for the reader."""
+    """Returns a need with the packages that are missing, as an instruction for the reader."""
     lacking = [it for it in need.packages if not is_installed(it)] or [*need.packages]
     return f"{need.what} (Debian's {' '.join(lacking)})" if lacking else need.what
 
 
 def install(parts: list[Part]) -> None:
-    """Tries to install the packages that these parts need or can use."""
+    """Tries to install the packages that these parts or a few of their tests need."""
     needs = [NEEDS[name] for part in parts for name in (*part.needs, *part.likes) if NEEDS[name].packages]
     packages = {it for need in needs if not need.is_there() for it in need.packages if not is_installed(it)}
     if packages and os.geteuid() == 0 and apt("update"):
@@ -126,7 +127,7 @@ def install(parts: list[Part]) -> None:
 
 
 def fetch(folder: Path) -> None:
-    """Downloads the package that is never installed, with its dependencies, into a folder."""
+    """Downloads the package NEVER_INSTALLED, with its dependencies, into a folder. Exits if that isn't possible."""
     (folder / "partial").mkdir(parents=True, exist_ok=True)
     words = ["-o", f"Dir::Cache::archives={folder}", "-o", "APT::Sandbox::User=root", "--download-only", "install", NEVER_INSTALLED]
     if not (apt(*words) or apt("update") and apt(*words)):

@@ -1,4 +1,6 @@
-"""The parts of a check: their command lines, the time that they take, and what they need."""
+"""The parts of a check: their command lines, the time that they take, and what they need. A part that runs *beside*
+uses only the processors that others leave idle. A crate is *below* another one if that crate uses it, directly or by
+other crates."""
 from __future__ import annotations
 
 import re
@@ -12,7 +14,7 @@ ALL = 1_000_000  # wider than any machine: such a part runs alone
 
 @dataclass(frozen=True)
 class Part:
-    """A part of a check: its call, its times, and its needs."""
+    """A part of a check: its command line, its times, and its needs."""
 
     name: str
     command: tuple[str, ...]
@@ -30,17 +32,17 @@ class Part:
         return max(self.least, self.work / min(self.width, processors))
 
     def over(self, crates: list[str], share: float) -> Part:
-        """Returns the same part for some crates only. `share` is their share of its work."""
+        """Returns the same part for these crates only, which have this share of its work."""
         return replace(self, command=(*self.command, *crates), work=self.work * share, least=self.least * share)
 
 
 def module(name: str, *words: str, of: str = "tests") -> tuple[str, ...]:
-    """Returns the call of a module, of tests or of tools."""
+    """Returns the command line that runs the module `name` of tests or of tools, with these arguments."""
     return ("python3", "-B", "-m", f"{of}.{name}", *words)
 
 
 def cases(*names: str, python: str = "python3") -> tuple[str, ...]:
-    """Returns the command line for modules of test cases."""
+    """Returns the command line that runs modules of test cases."""
     return (python, "-B", "-m", "unittest", "-v", *(f"tests.{name}" for name in names))
 
 
@@ -56,7 +58,7 @@ LAST_CRATES = 5  # minutes of the wrong bodies of the crates that are proved las
 
 
 def classroom() -> Iterator[Part]:
-    """Yields a part for each module of tests/classroom. Each starts its own servers, and some start a browser."""
+    """Yields a part for each module of tests/classroom. Most of them start servers of their own, and some a browser."""
     for it in sorted((TOP / "tests/classroom").glob("test_*.py")):
         text = it.read_text(encoding="utf-8")
         needs = (*BUILT, "python3", *["browser"] * ("tests.classroom.browser" in text), *["pictures"] * ('"rsvg-convert"' in text))
@@ -121,30 +123,30 @@ def with_those_below(crates: list[str]) -> set[str]:
 
 
 def share(crates: set[str], pattern: str) -> float:
-    """Returns the share of some crates in the size of all files that match a pattern."""
+    """Returns the share that some crates have in the size of all crates' files that match a pattern."""
     sizes = {it: sum(file.stat().st_size for file in (TOP / "crates" / it).glob(pattern)) for it in uses()}
     whole = sum(sizes.values())
     return sum(sizes[it] for it in crates) / whole if crates and whole else 1.0
 
 
 def proofs_of(crates: list[str]) -> Part:
-    """Returns the part that proves some crates and those below them, or all crates."""
+    """Returns the part that proves these crates and those below them, or all crates if there are none."""
     return PROOFS.over(crates, share(with_those_below(crates), PROVED))
 
 
 def wrong_of(crates: list[str]) -> Part:
-    """Returns the part that tries the wrong bodies of some crates, or of all."""
+    """Returns the part that tries the wrong bodies of these crates, or of all crates if there are none."""
     return WRONG.over(crates, share({*crates}, EDITS))
 
 
 def wrong_beside() -> Part:
-    """Returns the part that tries the wrong bodies of all crates while they are proved."""
+    """Returns the part that tries the wrong bodies of all crates beside their proofs."""
     return replace(WRONG, command=(*WRONG.command, "--as-proved"), least=min(WRONG.least, LAST_CRATES), is_beside=True)
 
 
 def minutes_of(stages: list[list[Part]], processors: int) -> list[float]:
-    """Returns the expected minutes of each stage. A part that runs beside counts only for the time that the others
-    don't leave idle."""
+    """Returns the expected minutes of each stage of parts, on so many processors. A part that runs beside counts only
+    for the time that other parts don't leave idle."""
     takes = [minutes([part for part in stage if not part.is_beside], processors) for stage in stages]
     idle = sum(takes) * processors - sum(part.work for stage in stages for part in stage if not part.is_beside)
     for number, stage in enumerate(stages):
@@ -155,8 +157,8 @@ def minutes_of(stages: list[list[Part]], processors: int) -> list[float]:
 
 
 def minutes(parts: list[Part], processors: int) -> float:
-    """Returns the expected minutes of some parts. Those as wide as the machine run one after another, and the
-    others side by side."""
+    """Returns the expected minutes of some parts on so many processors. Parts that keep all processors busy run one
+    after another, and the others side by side."""
     alone = [it.minutes(processors) for it in parts if it.width >= processors]
     beside = [it for it in parts if it.width < processors]
     shared = sum(it.width * it.minutes(processors) for it in beside) / processors

@@ -17,8 +17,8 @@ PAUSE = 0.05
 
 @dataclass(frozen=True)
 class Process:
-    """A process: its name, parent, state and start, the seconds that it and its ended children have used, and its
-    memory."""
+    """A process: its name, its parent, its state and its start, the seconds that the process and its ended children
+    have used, and its memory."""
 
     name: str
     parent: int
@@ -29,7 +29,7 @@ class Process:
 
 
 def process(pid: int) -> Process:
-    """Returns the system's data about a process."""
+    """Returns the system's data about the process with that number."""
     with open(f"/proc/{pid}/stat", encoding="utf-8", errors="replace") as it:
         text = it.read()
     name = text[text.index("(") + 1 : text.rindex(")")]
@@ -39,7 +39,7 @@ def process(pid: int) -> Process:
 
 
 def processes() -> dict[int, Process]:
-    """Returns the system's data about all processes. Skips those that end in the meantime."""
+    """Returns the system's data about all processes, by their numbers. Skips processes that end in the meantime."""
     found = {}
     for pid in map(int, filter(str.isdigit, os.listdir("/proc"))):
         try:
@@ -50,7 +50,7 @@ def processes() -> dict[int, Process]:
 
 
 def below(top: int) -> list[int]:
-    """Returns the descendants of a process that haven't ended."""
+    """Returns the numbers of the descendants of a process that haven't ended."""
     found = processes()
     near = {top}
     while True:
@@ -61,7 +61,7 @@ def below(top: int) -> list[int]:
 
 
 def set_process(option: int, value: int) -> None:
-    """Calls `prctl`."""
+    """Calls the system's `prctl` with an option and a value."""
     if ctypes.CDLL(None, use_errno=True).prctl(option, value, 0, 0, 0) != 0:
         raise OSError(ctypes.get_errno(), "prctl")
 
@@ -72,14 +72,16 @@ def adopt_orphans() -> None:
 
 
 def end_with_parent(parent: int) -> None:
-    """Asks the system to send this process a signal when its parent ends."""
+    """Asks the system to send this process SIGTERM when its parent ends, and sends it at once if the parent isn't
+    `parent` any longer."""
     set_process(PR_SET_PDEATHSIG, signal.SIGTERM)
     if os.getppid() != parent:
         os.kill(os.getpid(), signal.SIGTERM)
 
 
 def send(pids: list[int], number: signal.Signals, to: Callable[[int, int], None] = os.kill) -> None:
-    """Sends a signal to processes, or to groups by `os.killpg`. Ignores those that have ended."""
+    """Sends a signal to the processes with these numbers, or to groups if `to` is `os.killpg`. Ignores those that have
+    ended."""
     for pid in pids:
         try:
             to(pid, number)
@@ -88,7 +90,7 @@ def send(pids: list[int], number: signal.Signals, to: Callable[[int, int], None]
 
 
 def reap() -> None:
-    """Waits for the children that have ended, so that they don't stay as zombies."""
+    """Collects the statuses of the children that have ended, so that they don't stay as zombies."""
     try:
         while os.waitpid(-1, os.WNOHANG)[0] != 0:
             continue
@@ -97,7 +99,7 @@ def reap() -> None:
 
 
 def wait_until_gone(pids: Callable[[], Iterable[int]], seconds: float) -> bool:
-    """Waits until none of these processes is left, at most `seconds`. Returns whether none is left."""
+    """Waits until `pids` returns no process, at most so many seconds. Returns whether there is none."""
     until = time.monotonic() + seconds
     while set(pids()) & set(below(os.getpid())):
         if time.monotonic() > until:
@@ -108,10 +110,10 @@ def wait_until_gone(pids: Callable[[], Iterable[int]], seconds: float) -> bool:
 
 
 def end_all(groups: list[int], patience: float) -> None:
-    """Ends all processes below this one. Asks the leaders of these groups first, which clean up, then all others,
-    and kills those that stay."""
+    """Ends all processes below this one. First asks the leaders of these groups, which clean up, then all others, and
+    kills those that stay for `patience` seconds."""
     def rest() -> list[int]:
-        """Returns the processes below this one that are left."""
+        """Returns the numbers of the processes below this one that haven't ended."""
         return below(os.getpid())
 
     send(groups, signal.SIGTERM, os.killpg)

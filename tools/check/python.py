@@ -21,21 +21,21 @@ CALLS = (("class", "bench", "classroom", "model", "tests", "tools"), ("check",),
 
 
 def python_files() -> list[str]:
-    """Returns the Python files that Git tracks, or would."""
+    """Returns the Python files that Git tracks or would track."""
     listed = subprocess.run(["git", "ls-files", "-co", "--exclude-standard"], cwd=TOP, capture_output=True, text=True, check=True)
     files = [file for file in listed.stdout.splitlines() if (TOP / file).is_file()]
     return [file for file in files if file.endswith(".py") or file in ("class", "check")]
 
 
 def faults_of(command: list[str]) -> list[str]:
-    """Returns the output of a tool that has failed, line by line."""
+    """Returns the lines that a tool has printed if it failed, and none if it succeeded."""
     environment = {**os.environ, "MYPYPATH": "classroom"} if command[-1].startswith(("examples", "student")) else None
     done = subprocess.run(command, cwd=TOP, capture_output=True, text=True, check=False, env=environment)
     return [line for line in (done.stdout + done.stderr).splitlines() if line] if done.returncode else []
 
 
 def main() -> None:
-    """Runs both tools. Exits with status 1 if one of them finds a fault."""
+    """Runs the checkers of types and of style. Exits with status 1 if one of them finds a fault."""
     files = python_files()
     with tempfile.TemporaryDirectory() as kept:
         mypy = ["mypy", "--config-file", "pyproject.toml", "--cache-dir", kept]

@@ -11,8 +11,8 @@ SUM = re.compile(r"(\d+) passed, (\d+) failed(?: \(.*\))?")  # `rt ci` says of s
 
 @dataclass(frozen=True)
 class Result:
-    """The number of tests of a part that passed and failed, and the last line of its output. A part that doesn't count
-    its tests counts as one."""
+    """The number of tests of a part that passed and failed, and the line that sums them up. A part that doesn't count
+    its tests counts as one test."""
 
     passed: int
     failed: int
@@ -20,7 +20,8 @@ class Result:
 
 
 def of_cases(output: str) -> str | None:
-    """Returns the line that sums up a run of test cases, without the skipped ones, or None if the output isn't one."""
+    """Returns the line that sums up a run of test cases, without the skipped ones. Returns None if the output isn't
+    that of such a run."""
     ran = re.search(r"^Ran (\d+) tests? in (.*)$", output, re.MULTILINE)
     if ran is None:
         return None
@@ -29,12 +30,13 @@ def of_cases(output: str) -> str | None:
 
 
 def last_line(output: str) -> str:
-    """Returns the last line that isn't blank."""
+    """Returns the last line of an output that isn't blank, or an empty text."""
     return next((line for line in reversed(output.splitlines()) if line.strip()), "")
 
 
 def result(done: Done) -> Result:
-    """Returns the result of a part. A part fails if its output reports no test, or reports that none ran."""
+    """Returns the result of a part that has ended. A part fails if its status isn't 0, or if its output reports no
+    test."""
     line = of_cases(done.output) or last_line(done.output)
     counted = SUM.fullmatch(line)
     passed, failed = (int(counted[1]), int(counted[2])) if counted else (int(done.status == 0), 0)
@@ -46,5 +48,5 @@ def result(done: Done) -> Result:
 
 
 def not_tried(output: str) -> list[str]:
-    """Returns the reasons why test cases were skipped."""
+    """Returns the reasons why test cases were skipped, from the output of a part."""
     return sorted(set(re.findall(r"^.* skipped [\"'](.*)[\"']$", output, re.MULTILINE)))

@@ -21,7 +21,7 @@ PATIENCE = 8.0  # seconds that parts have to clear up if they are ended
 
 @dataclass(frozen=True)
 class Done:
-    """The end of a part: its status, its time, and its output."""
+    """A part that has ended: its status, its time, and its output."""
 
     part: Part
     status: int
@@ -32,7 +32,7 @@ class Done:
 
 @dataclass
 class Running:
-    """A part that is running."""
+    """A part that is running, with its process and its output so far."""
 
     part: Part
     process: subprocess.Popen[bytes]
@@ -41,8 +41,8 @@ class Running:
     shown: int = 0
 
     def show(self) -> list[str]:
-        """Reads the complete lines that are new in the output. Prints those that match `shows`. Returns the words that
-        this part hands on to other parts, from all new lines."""
+        """Reads the complete lines that are new in the output, and prints those that match the part's `shows`. Returns
+        the words in these lines that match `hands_on`, for the parts that run beside."""
         if not self.part.shows:
             return []
         with self.output.open("rb") as output:
@@ -57,7 +57,8 @@ class Running:
         return [it[1] for line in lines if wanted and (it := re.search(wanted, line))]
 
     def send_words(self, words: list[str], is_all: bool = False) -> None:
-        """Sends words to a part that runs beside, if it still reads. With `is_all` they are the last."""
+        """Writes words to the standard input of a part that runs beside, if it still reads. With `is_all` these are the
+        last ones."""
         if self.process.stdin:
             with contextlib.suppress(BrokenPipeError):
                 self.process.stdin.write("".join(f"{it}\n" for it in words).encode())
@@ -67,21 +68,22 @@ class Running:
 
 
 class Crew:
-    """The parts that are running, on a number of processors."""
+    """The parts that are running side by side."""
 
     def __init__(self, room: Path, processors: int) -> None:
+        """`room` is the folder for temporary files, and `processors` their number."""
         self.room, self.processors = room, processors
         self.running: dict[int, Running] = {}
         self.begun = 0
         self.checks = Checks()
 
     def fits(self, part: Part) -> bool:
-        """Returns whether enough processors are free for a part. A part that runs beside needs none."""
+        """Returns whether enough processors are free for a part to begin. A part that runs beside needs none."""
         taken = sum(min(it.part.width, self.processors) for it in self.running.values() if not it.part.is_beside)
         return part.is_beside or taken + min(part.width, self.processors) <= self.processors
 
     def begin(self, part: Part) -> None:
-        """Starts a part with its own folder for temporary files."""
+        """Starts a part with its own folder for temporary files, and its output in a file."""
         self.begun += 1
         folder = self.room / str(self.begun)
         folder.mkdir(mode=0o711)
@@ -95,7 +97,8 @@ class Crew:
             self.running[process.pid] = Running(part, process, output)
 
     def ended(self) -> Iterator[Done]:
-        """Yields the parts that have ended, and removes processes that they left and that have ended too."""
+        """Yields the parts that have ended since the last call. Also collects the statuses of other processes that they
+        have left."""
         while True:
             try:
                 pid, status, used = os.wait4(-1, os.WNOHANG)
@@ -113,15 +116,16 @@ class Crew:
                 yield Done(it.part, it.process.returncode, time.monotonic() - it.begun, minutes, text)
 
     def show(self, of: Running, is_all: bool = False) -> None:
-        """Prints the lines of a part that are to be shown, and passes their words to the parts that run beside."""
+        """Prints the lines of a running part that are to be shown, and sends its words to the parts that run beside.
+        With `is_all` these are the last words."""
         words = of.show()
         for it in self.running.values():
             if words or is_all:
                 it.send_words(words, is_all)
 
     def run(self, parts: list[Part]) -> Iterator[Done]:
-        """Runs parts to their ends, and yields each as it ends. The first part that fits begins first. Ends when
-        only parts that run beside are left, unless there are no others."""
+        """Runs parts to their ends, and yields each as it ends. Whenever processors are free, the first part that fits
+        begins. Ends when only parts that run beside are left, or if `parts` is empty when these have ended too."""
         waiting = list(parts)
         is_last = not parts
         while waiting or any(is_last or not it.part.is_beside for it in self.running.values()):
@@ -137,7 +141,7 @@ class Crew:
                 time.sleep(POLL)
 
     def end(self) -> list[str]:
-        """Ends the parts that are still running. Returns their names."""
+        """Ends the parts that are still running. Returns the names of these parts."""
         names = [it.part.name for it in self.running.values()]
         end_all([*self.running], PATIENCE)
         return names

@@ -13,12 +13,13 @@ class Killed(Exception):
     """Raised when a signal ends the check."""
 
     def __init__(self, number: int) -> None:
+        """`number` is that of the signal."""
         super().__init__(number)
         self.number = number
 
 
 class Heed:
-    """Raises `Killed` at a signal: at once, or at the end of a block that mustn't be interrupted."""
+    """The handler of signals: raises `Killed` at once, or at the end of a block that mustn't be interrupted."""
 
     def __init__(self) -> None:
         self.is_held = False
@@ -30,7 +31,7 @@ class Heed:
             raise Killed(number)
 
     def begin(self) -> None:
-        """Starts to handle the signals. Those that the caller of the check ignores stay ignored."""
+        """Handles signals from now on. Signals that the caller of the check ignores stay ignored."""
         for number in ALL:
             if signal.getsignal(number) is not signal.SIG_IGN:
                 signal.signal(number, self)
@@ -42,7 +43,7 @@ class Heed:
 
     @contextmanager
     def held(self) -> Iterator[None]:
-        """Delays signals until the end of a block."""
+        """Delays the exception for a signal until the end of a block."""
         self.is_held = True
         try:
             yield

@@ -1,4 +1,5 @@
-"""The command line of `./check`."""
+"""The command line of `./check`. A check has *stages*, which run one after another, and a stage has *parts*, which run
+side by side."""
 from __future__ import annotations
 
 import argparse
@@ -19,12 +20,12 @@ LEFT_OUT = {
 
 
 def taking(least: float) -> str:
-    """Returns the text about how long a subcommand takes."""
+    """Returns a text about how long a subcommand takes that needs so many minutes."""
     return f"some {least + 0.5:.0f} minutes on four processors"
 
 
 def parser() -> argparse.ArgumentParser:
-    """Returns the parser of all subcommands."""
+    """Returns the parser of the command line with all subcommands."""
     whole = sum(minutes_of([[PROOFS], QUICK, [wrong_beside()]], 4))
     every = argparse.ArgumentParser(
         prog="check", description=f"Tests all of it, {taking(whole)}: proofs, scripts, wrong bodies.",
@@ -45,7 +46,8 @@ def parser() -> argparse.ArgumentParser:
 
 
 def tell_chain(names: list[str], is_table: bool) -> int:
-    """Prints the chain of the last run, or the table, and returns the exit status."""
+    """Prints the chains of proofs to these crates in the last run, or the table of times if `is_table` is set. Returns
+    the status."""
     spans = chain.saved_spans()
     if not spans:
         print("check: no ./check has proved anything in this tree", file=sys.stderr)
@@ -55,14 +57,15 @@ def tell_chain(names: list[str], is_table: bool) -> int:
 
 
 def unknown(word: str | None, names: list[str]) -> str:
-    """Returns an error text for unknown names, or an empty text."""
+    """Returns an error text about the first of these names that is no part or crate, whichever the subcommand `word`
+    takes. Returns an empty text if there is none."""
     known = [it.name for it in QUICK] if word == "quick" else [*uses()] if names else []
     wrong = [it for it in names if it not in known]
     return f"there is no {'part' if word == 'quick' else 'crate'} {wrong[0]}; there are: {', '.join(known)}" if wrong else ""
 
 
 def stages_of(word: str | None, names: list[str]) -> tuple[Stages, list[str]]:
-    """Returns the stages that a subcommand asks for, in order, and the parts that it leaves out."""
+    """Returns the stages for the subcommand `word` and its arguments, and texts about the parts that it leaves out."""
     if word == "quick":
         return [[it for it in QUICK if not names or it.name in names]], [] if names else [*LEFT_OUT.values()]
     if word == "proofs":
@@ -73,7 +76,7 @@ def stages_of(word: str | None, names: list[str]) -> tuple[Stages, list[str]]:
 
 
 def main(words: list[str] | None = None) -> int:
-    """Runs the subcommand, and returns the exit status."""
+    """Runs the subcommand that the arguments name, those of the command line if `words` is None. Returns the status."""
     every = parser()
     asked = every.parse_args(words)
     names: list[str] = getattr(asked, "names", [])

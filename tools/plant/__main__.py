@@ -36,7 +36,7 @@ LAST = 300  # characters of what a test says last
 
 
 def words() -> argparse.Namespace:
-    """Returns the arguments of the command line."""
+    """Returns the parsed arguments of the command line."""
     parser = argparse.ArgumentParser(prog="tools.plant", description=__doc__, formatter_class=argparse.RawDescriptionHelpFormatter)
     parser.add_argument("plants", nargs="*", metavar="PLANT", help="try these alone")
     parser.add_argument("--prove", action="store_true", help="ask the prover, and run no test")
@@ -53,7 +53,8 @@ def all_plants(tree: Tree) -> list[Plant]:
 
 
 def chosen(every: list[Plant], names: list[str]) -> list[Plant]:
-    """Returns the plants with these names. A name is a plant's or a crate's."""
+    """Returns the plants with these names, each the name of a plant or of a crate. Raises `PlantFault` if there is none
+    of a name."""
     for name in names:
         if not any(name in (it.name, it.crate) for it in every):
             raise PlantFault(f"{name}: there is no such plant, nor a crate that has one")
@@ -61,7 +62,7 @@ def chosen(every: list[Plant], names: list[str]) -> list[Plant]:
 
 
 def sees(plant: Plant, program: Path) -> tuple[bool, str]:
-    """Returns whether a plant's test fails over the program with the plant, and the test's last line."""
+    """Runs the test of a plant over the program with the plant. Returns whether the test fails, and its last line."""
     given = {**os.environ, "MML_HOST": str(program)}
     done = subprocess.run([sys.executable, "-B", "-m", plant.module, plant.test], cwd=TOP, env=given, stdin=subprocess.DEVNULL,
                           stdout=subprocess.PIPE, stderr=subprocess.STDOUT, text=True, errors="replace", timeout=LIMIT, check=False)
@@ -70,7 +71,8 @@ def sees(plant: Plant, program: Path) -> tuple[bool, str]:
 
 
 def try_each(tree: Tree, plants: list[Plant]) -> int:
-    """Builds the program with each plant in turn, runs its test, and prints the result. Returns the status."""
+    """Builds the program with each plant that has a test in turn, runs the test, and prints the result. Returns the
+    status: 1 if a test doesn't fail."""
     missed, tested = 0, [plant for plant in plants if plant.test]
     with tempfile.TemporaryDirectory(prefix="mml-plant-") as room:
         for plant in tested:
@@ -84,7 +86,8 @@ def try_each(tree: Tree, plants: list[Plant]) -> int:
 
 
 def try_proofs(tree: Tree, plants: list[Plant]) -> int:
-    """Prints the prover's verdict on each plant. Returns the status."""
+    """Asks the prover about each plant that names its function, and prints its verdict. Returns the status: 1 if the
+    prover accepts one or doesn't decide."""
     counts = Counter[str]()
     for plant, verdict in prove_all(tree, plants):
         counts[verdict] += 1
@@ -94,7 +97,8 @@ def try_proofs(tree: Tree, plants: list[Plant]) -> int:
 
 
 def try_drawn(tree: Tree, crates: list[str], number: int, seed: int) -> int:
-    """Draws plants, and prints the prover's verdict on each. Returns the status."""
+    """Draws plants in `number` functions of these crates, and prints the prover's verdict on each. Returns the status:
+    1 if the prover accepts one or doesn't decide. Raises `PlantFault` if there is no such crate."""
     if unknown := [crate for crate in crates if crate not in tree.uses]:
         raise PlantFault(f"{unknown[0]}: there is no such crate")
     counts = Counter[str]()
@@ -107,7 +111,7 @@ def try_drawn(tree: Tree, crates: list[str], number: int, seed: int) -> int:
 
 
 def main() -> int:
-    """Runs what the arguments ask for."""
+    """Does what the arguments ask for. Returns the status. Exits with an error line if that isn't possible."""
     asked = words()
     try:
         tree = tree_at(TOP)

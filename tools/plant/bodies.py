@@ -13,7 +13,8 @@ GENERICS = re.compile(r"<[^<>]*>")
 
 @dataclass(frozen=True)
 class Body:
-    """A function: its path below its crate, and the lines between its braces, counted from 0."""
+    """The body of a function: its file, the function's path below its crate, and its lines, counted from 0. `end` is
+    the line of the closing brace."""
 
     file: str
     function: str
@@ -22,14 +23,15 @@ class Body:
 
 
 def module_of(file: str) -> str:
-    """Returns the path of a file's module below its crate, followed by `::`, or an empty text for the crate's
-    root."""
+    """Returns the path of the module in a source file below its crate, followed by `::`. Returns an empty text for the
+    crate's root."""
     path = file.removeprefix("src/").removesuffix(".rt")
     return "" if path in ("lib", "main") else path.replace("/", "::") + "::"
 
 
 def type_of(what: str) -> str:
-    """Returns the prover's name of an `impl`: the type, and the trait after it if there is one."""
+    """Returns the prover's name of an `impl`, whose header has `what` after this word: the type, and the trait after it
+    if there is one."""
     while GENERICS.search(what):
         what = GENERICS.sub("", what)
     first, _, second = what.partition(" for ")
@@ -38,7 +40,8 @@ def type_of(what: str) -> str:
 
 
 def header_end(lines: list[str], start: int, indent: str) -> int | None:
-    """Returns the line of the brace that opens a function's body, or None if it has no body."""
+    """Returns the number of the line with the brace that opens the body of the function whose header begins at the line
+    `start`. Returns None if the function has no body."""
     if lines[start].endswith("{"):
         return start
     for number in range(start + 1, len(lines)):
@@ -52,7 +55,7 @@ def header_end(lines: list[str], start: int, indent: str) -> int | None:
 
 
 def impl_header(lines: list[str], start: int) -> str:
-    """Returns the header of an `impl` in one line."""
+    """Returns the header of the `impl` that begins at the line `start`, in one line."""
     header = lines[start]
     for line in lines[start + 1 :]:
         if header.endswith("{"):
@@ -62,7 +65,7 @@ def impl_header(lines: list[str], start: int) -> str:
 
 
 def bodies_of_file(file: str, lines: list[str]) -> Iterator[Body]:
-    """Yields the bodies of a file's functions, without tests."""
+    """Yields the bodies of the functions in a file with these lines. Leaves out tests."""
     owner, number = "", 0
     while number < len(lines):
         line = lines[number]
@@ -80,7 +83,7 @@ def bodies_of_file(file: str, lines: list[str]) -> Iterator[Body]:
 
 
 def bodies_of(folder: Path) -> list[Body]:
-    """Returns the bodies of a crate's functions, file by file."""
+    """Returns the bodies of the functions in a crate's folder, file by file. Leaves out tests."""
     found: list[Body] = []
     for path in sorted((folder / "src").rglob("*.rt")):
         file = path.relative_to(folder).as_posix()

@@ -23,17 +23,18 @@ EXCHANGED = (
 
 
 def code_of(line: str) -> str:
-    """Returns a line with its string literals blanked out. Its length stays the same."""
+    """Returns a line with its string literals replaced by spaces, so that it keeps its length."""
     return STRING.sub(lambda found: " " * len(found[0]), line)
 
 
 def is_balanced(text: str) -> bool:
-    """Returns whether a text closes as many brackets of each kind as it opens."""
+    """Returns whether a text has as many closing brackets of each kind as opening ones."""
     return all(text.count(opened) == text.count(closed) for opened, closed in (("(", ")"), ("[", "]"), ("{", "}")))
 
 
 def exchanges(line: str) -> Iterator[str]:
-    """Yields the line with one operator, truth value or question replaced."""
+    """Yields the line with one operator, truth value or method such as `is_some` replaced by its opposite or its
+    like."""
     code = code_of(line)
     for old, new in EXCHANGED:
         for found in re.finditer(re.escape(old), code):
@@ -42,7 +43,8 @@ def exchanges(line: str) -> Iterator[str]:
 
 
 def spans(line: str, variants: dict[str, list[str]]) -> Iterator[tuple[int, int, str]]:
-    """Yields replacements of parts of the line, each with the beginning and the end of the part."""
+    """Yields replacements of single parts of a line, each as the part's beginning, its end, and the new text.
+    `variants` has the variants without values of each enum."""
     code = code_of(line)
     for found in NUMBER.finditer(code):
         yield found.start(), found.end(), str(int(found[0]) + 1)
@@ -57,8 +59,8 @@ def spans(line: str, variants: dict[str, list[str]]) -> Iterator[tuple[int, int,
 
 
 def changes_of(line: str, variants: dict[str, list[str]]) -> list[str]:
-    """Returns all lines that one small change makes of a line. `variants` has the names of each enum's plain
-    variants."""
+    """Returns all lines that one small change makes of a line. `variants` has the variants without values of each
+    enum."""
     if not line.strip() or line.strip().startswith(ASIDE):
         return []
     found = [*exchanges(line), *(line[:begin] + new + line[end:] for begin, end, new in spans(line, variants))]
@@ -68,7 +70,7 @@ def changes_of(line: str, variants: dict[str, list[str]]) -> list[str]:
 
 
 def variants_of(text: str) -> dict[str, list[str]]:
-    """Returns the plain variants of each enum in a text."""
+    """Returns the variants without values of each enum in the text of a source file."""
     found = {}
     for enum in re.finditer(r"^(?:pub(?:\(\w+\))? )?enum (\w+)[^{]*\{\n(.*?)^\}", text, re.MULTILINE | re.DOTALL):
         found[enum[1]] = re.findall(r"^    ([A-Z]\w*),", enum[2], re.MULTILINE)

@@ -27,15 +27,15 @@ AT = re.compile(r"(?:\./)?(src/\S+?):(\d+):\d+: error")
 
 
 def candidates(body: Body, lines: list[str], variants: dict[str, list[str]]) -> list[tuple[str, str]]:
-    """Returns the possible changes of a body: a line that occurs once in its file, and its replacement, which is empty
-    or doesn't occur there. So several bodies of a file can be changed at once."""
+    """Returns the possible changes of a body in a file with these lines: a line that occurs once in the file, and its
+    replacement, which is empty or doesn't occur there. So several bodies of a file can be changed at once."""
     text = "\n".join(lines)
     once = [line for line in lines[body.first : body.end] if line.strip() and text.count(line) == 1]
     return [(line, changed) for line in once for changed in changes_of(line, variants) if not changed or changed not in text]
 
 
 def drawn_in(crate: str, folder: Path, chance: random.Random) -> list[list[Plant]]:
-    """Returns some plants for each function of a crate that can be changed. The functions and plants are in random
+    """Returns some plants for each function of a crate that can be changed, a list for each function, in random
     order."""
     texts = {body.file: (folder / body.file).read_text(encoding="utf-8") for body in bodies_of(folder)}
     variants = {name: kinds for text in texts.values() for name, kinds in variants_of(text).items()}
@@ -50,8 +50,8 @@ def drawn_in(crate: str, folder: Path, chance: random.Random) -> list[list[Plant
 
 
 def draw(tree: Tree, crates: list[str], number: int, seed: int) -> list[list[Plant]]:
-    """Returns the plants of at most `number` functions, spread as evenly as possible over the functions of these
-    crates."""
+    """Returns plants for at most `number` functions, a list for each. The functions are spread as evenly as possible
+    over those of these crates."""
     chance = random.Random(seed)
     every = [plants for crate in crates for plants in drawn_in(crate, tree.folder(crate), chance)]
     chosen = set(chance.sample(range(len(every)), min(number, len(every))))
@@ -59,15 +59,16 @@ def draw(tree: Tree, crates: list[str], number: int, seed: int) -> list[list[Pla
 
 
 def culprits(plants: list[Plant], bodies: list[Body], errors: list[str]) -> list[Plant]:
-    """Returns the plants in whose functions the errors are, or all plants if the errors don't show which. No plant
-    changes the number of lines."""
+    """Returns the plants in whose bodies the errors of a check are. Returns all plants if the errors don't show which.
+    Plants don't change the number of lines, so the lines in the errors are those of `bodies`."""
     places = [(found[1], int(found[2]) - 1) for error in errors if (found := AT.match(error))]
     guilty = {body.function for body in bodies for file, number in places if body.file == file and body.first - 1 <= number <= body.end}
     return [plant for plant in plants if plant.function in guilty] or plants
 
 
 def sift(tree: Tree, crate: str, plants: list[Plant], running: Running) -> Iterator[tuple[Plant, bool]]:
-    """Yields each plant of a crate, and whether the crate still passes the check of names and types."""
+    """Yields each of these plants of a crate, and whether the crate with this plant passes the check of names and
+    types."""
     todo, bodies = [plants], bodies_of(tree.folder(crate))
     while todo:
         tried = todo.pop()
@@ -89,8 +90,8 @@ def sift(tree: Tree, crate: str, plants: list[Plant], running: Running) -> Itera
 
 
 def programs(tree: Tree, crate: str, drawn: list[list[Plant]], running: Running) -> Iterator[tuple[Plant, bool]]:
-    """Yields for each function its first plant that passes the check of names and types, and True. If none does,
-    yields its last plant and False."""
+    """Yields for each function its first plant with which the crate passes the check of names and types, and True. If
+    there is none, yields its last plant and False. `drawn` has the plants of each function."""
     todo = drawn
     while todo:
         passed = dict(sift(tree, crate, [plants[0] for plants in todo], running))
@@ -100,7 +101,7 @@ def programs(tree: Tree, crate: str, drawn: list[list[Plant]], running: Running)
 
 
 def look(tree: Tree, crate: str, texts: dict[str, str], running: Running) -> str:
-    """Returns the output of a check of names and types, over a copy of a crate with other texts."""
+    """Returns the output of a check of names and types, over a copy of a crate in which files have these texts."""
     with tempfile.TemporaryDirectory(prefix="mml-plant-") as room:
         copy, kept = Path(room) / "copy", Path(room) / "kept"
         kept.mkdir()
@@ -112,8 +113,9 @@ def look(tree: Tree, crate: str, texts: dict[str, str], running: Running) -> str
 
 
 def asked(tree: Tree, crate: str, drawn: list[list[Plant]], kept: str, running: Running) -> Iterator[tuple[Plant, str]]:
-    """Yields the verdict on one plant of each function of a crate. One check of names and types and one proof are
-    enough if each plant compiles, and none hinders another."""
+    """Yields for each function of a crate one of its plants, and the prover's verdict on it. One check of names and
+    types and one proof are enough if each plant compiles, and none hinders another. `kept` is the name under which the
+    prover keeps a library's contents."""
     sifted = [*programs(tree, crate, drawn, running)]
     yield from ((plant, NO_PROGRAM) for plant, is_program in sifted if not is_program)
     todo = [[plant for plant, is_program in sifted if is_program]]
@@ -132,7 +134,8 @@ def asked(tree: Tree, crate: str, drawn: list[list[Plant]], kept: str, running: 
 
 
 def proved(tree: Tree, crate: str, plants: list[Plant], kept: str, running: Running) -> Told:
-    """Returns the prover's output about the functions with these plants, all in one copy of the crate."""
+    """Returns the prover's output about the functions with these plants, which are all in one copy of the crate. `kept`
+    is the name under which the prover keeps a library's contents."""
     edits = [replace(plant.edit, wanted=(Refusal(plant.function, ANY),)) for plant in plants]
     texts: dict[str, str] = {}
     for edit in edits:
@@ -144,8 +147,8 @@ def proved(tree: Tree, crate: str, plants: list[Plant], kept: str, running: Runn
 
 
 def ask_all(tree: Tree, drawn: list[list[Plant]]) -> Iterator[tuple[Plant, str]]:
-    """Yields the verdict on one plant of each function, crate by crate. The prover works on as many crates at the same
-    time as the variable `RT_JOBS` says. Raises `PlantFault` at the beginning if a library isn't built."""
+    """Yields for each function one of its plants, and the prover's verdict on it, crate by crate. Raises `PlantFault`
+    at the beginning if a library isn't built."""
     crates = list(dict.fromkeys(plants[0].crate for plants in drawn))
     if missing := list(dict.fromkeys(name for crate in crates for name in tree.missing(crate))):
         raise PlantFault(f"not built, which `rt ci` or `rt check` does: {', '.join(missing)}")

@@ -29,7 +29,8 @@ class PlantFault(Exception):
 
 @dataclass(frozen=True)
 class Plant:
-    """A bug: its function, and the module and name of the test that finds it. Unknown parts are empty."""
+    """A bug: its change of the sources, the function that has it, and the module and name of the test that finds it.
+    Parts that the file lacks are empty."""
 
     crate: str
     edit: Edit
@@ -39,12 +40,14 @@ class Plant:
 
     @property
     def name(self) -> str:
-        """Returns the name of the plant."""
+        """Returns the name of the plant, CRATE/NAME."""
         return f"{self.crate}/{self.edit.name.removesuffix('.edit')}"
 
 
 def marked(name: str, text: str, mark: str) -> list[str]:
-    """Returns the words of the line with a mark, or empty ones if there is no such line."""
+    """Returns the words after a mark such as `# seen:` in the text of a plant's file, as many as WORDS has for it. They
+    are empty if there is no such line. Raises `PlantFault` if the line has another form. `name` is that of the plant,
+    for the error."""
     found = [line.removeprefix(mark).split() for line in text.splitlines() if line.startswith(mark)]
     if len(found) > 1 or any(len(words) != len(WORDS[mark]) for words in found):
         raise PlantFault(f"{name}: not one line '{mark} {' '.join(WORDS[mark])}'")
@@ -52,7 +55,7 @@ def marked(name: str, text: str, mark: str) -> list[str]:
 
 
 def parse_plant(crate: str, name: str, text: str) -> Plant:
-    """Returns the plant in a file's text."""
+    """Returns the plant in the text of a file. Raises `PlantFault` if the text isn't a plant."""
     (function,), (module, test) = (marked(f"{crate}/{name}", text, mark) for mark in WORDS)
     if not function and not test:
         raise PlantFault(f"{crate}/{name}: neither a line '{IN} FUNCTION' nor a line '{SEEN} MODULE TEST'")
@@ -64,7 +67,8 @@ def parse_plant(crate: str, name: str, text: str) -> Plant:
 
 
 def planted(plant: Plant, folder: Path) -> dict[str, str]:
-    """Returns the changed texts of the files of a plant."""
+    """Returns the texts of the files of a crate's folder that a plant changes, after the change. Raises `PlantFault` if
+    the change doesn't fit them."""
     try:
         return apply_edit(plant.edit, {}, folder)
     except EditFault as fault:
@@ -72,7 +76,7 @@ def planted(plant: Plant, folder: Path) -> dict[str, str]:
 
 
 def plants_of(crate: str, folder: Path) -> list[Plant]:
-    """Returns the plants of a crate, in the order of their names. Raises `PlantFault` if one doesn't fit the
+    """Returns the plants in a crate's folder, in the order of their names. Raises `PlantFault` if one doesn't fit the
     sources."""
     found = [parse_plant(crate, path.name, path.read_text(encoding="utf-8")) for path in sorted((folder / "plants").glob("*"))]
     for plant in found:

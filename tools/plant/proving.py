@@ -18,16 +18,17 @@ ANY = "any"
 
 
 def verdict(function: str, told: Told) -> str:
-    """Returns the verdict of a check on the plant in a function."""
+    """Returns the verdict of a check, whose output is given, on the plant in a function: REFUSED, LET_THROUGH or
+    UNDECIDED."""
     if function in told.open_goals:
         return REFUSED
     return LET_THROUGH if function in told.proved else UNDECIDED
 
 
 def prove_crate(tree: Tree, crate: str, plants: list[Plant], kept: str, running: Running) -> Iterator[tuple[Plant, str]]:
-    """Yields the verdict on each plant of a crate that names its function. `kept` is the name under which the prover
-    keeps the contents of a library. Raises `PlantFault` if a library below isn't built, or if a check doesn't
-    finish."""
+    """Yields each of these plants of a crate, which name their functions, and the prover's verdict on it. `kept` is the
+    name under which the prover keeps the contents of a library. Raises `PlantFault` if a library below the crate isn't
+    built, or if a check doesn't finish."""
     if missing := tree.missing(crate):
         raise PlantFault(f"{crate}: not built, which `rt ci` or `rt check` does: {', '.join(dict.fromkeys(missing))}")
     named = {plant.edit.name: plant for plant in plants if plant.function}
@@ -44,7 +45,7 @@ def prove_crate(tree: Tree, crate: str, plants: list[Plant], kept: str, running:
 
 
 def prove_all(tree: Tree, plants: list[Plant]) -> Iterator[tuple[Plant, str]]:
-    """Yields the verdicts on plants, crate by crate."""
+    """Yields each plant that names its function, and the prover's verdict on it, crate by crate."""
     running, kept = Running(), find_name(tree)
     for crate in dict.fromkeys(plant.crate for plant in plants if plant.function):
         yield from prove_crate(tree, crate, [plant for plant in plants if plant.crate == crate], kept, running)

@@ -36,7 +36,7 @@ TOP = Path(__file__).resolve().parents[2]
 
 
 def words() -> argparse.Namespace:
-    """Returns the arguments of the command line."""
+    """Returns the parsed arguments of the command line."""
     parser = argparse.ArgumentParser(prog="tools.wrong", description=__doc__, formatter_class=argparse.RawDescriptionHelpFormatter)
     parser.add_argument("crates", nargs="*", metavar="CRATE", help="try these alone")
     parser.add_argument("--jobs", type=int, metavar="N", help="at most N checks side by side (else RT_JOBS, or the processors)")
@@ -48,7 +48,8 @@ def words() -> argparse.Namespace:
 
 
 def crates_of(tree: Tree, names: list[str]) -> list[str]:
-    """Returns the crates with these names, or all that have wrong bodies. The one that takes longest is first."""
+    """Returns the crates with these names, or all that have wrong bodies if there are no names. The one that takes
+    longest is first."""
     for name in names:
         if name not in tree.uses or not tree.has_edits(name):
             sys.exit(f"tools.wrong: {name} is no crate with wrong bodies")
@@ -58,7 +59,7 @@ def crates_of(tree: Tree, names: list[str]) -> list[str]:
 
 
 def say_rounds(tree: Tree, crates: list[str]) -> None:
-    """Prints which edits are tried together."""
+    """Prints for these crates which edits are tried together."""
     for crate in crates:
         edits, faults = read_edits(tree.folder(crate))
         for number, it in enumerate(rounds_of(edits, tree.folder(crate)), 1):
@@ -68,7 +69,7 @@ def say_rounds(tree: Tree, crates: list[str]) -> None:
 
 
 def tried_of(tree: Tree, crates: list[str], asked: argparse.Namespace) -> Iterator[Tried]:
-    """Yields the result of each crate, either at once or as the crates are proved."""
+    """Yields the result of each crate: of all at once, or as the crates are proved if `asked` says so."""
     lanes = lane_count(asked.jobs)
     if not asked.as_proved:
         yield from try_crates(tree, crates, lanes, asked.logs, Running())
@@ -81,7 +82,8 @@ def tried_of(tree: Tree, crates: list[str], asked: argparse.Namespace) -> Iterat
 
 
 def try_all(tree: Tree, crates: list[str], asked: argparse.Namespace) -> int:
-    """Tries the edits of crates. Prints a line for each crate, and how many passed. Returns the status."""
+    """Tries the edits of crates, and prints a line for each crate and how many passed. Returns the status: 1 if one
+    failed."""
     done = []
     if asked.logs:
         asked.logs.mkdir(parents=True, exist_ok=True)
@@ -98,7 +100,7 @@ def try_all(tree: Tree, crates: list[str], asked: argparse.Namespace) -> int:
 
 
 def main() -> int:
-    """Prints what is tried together, or tries it. Returns the status."""
+    """Prints which edits are tried together, or tries them, as the arguments say. Returns the status."""
     asked = words()
     for it in (signal.SIGINT, signal.SIGTERM, signal.SIGHUP):
         signal.signal(it, lambda number, _: sys.exit(128 + number))

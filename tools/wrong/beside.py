@@ -15,7 +15,8 @@ FIRST_TO_END = 500
 
 
 def give_way() -> None:
-    """Lowers the priority of this process, for processors and when the system runs out of memory."""
+    """Lowers the priority of this process for processors. Also makes it the first to be ended if the system runs out of
+    memory."""
     os.nice(LAST_IN_TURN)
     changes = {"oom_score_adj": FIRST_TO_END}
     if os.getsid(0) == os.getpid():
@@ -27,7 +28,7 @@ def give_way() -> None:
 
 
 def keep_library(tree: Tree, crate: str) -> None:
-    """Keeps a copy of a crate's library, because `rt ci` restores the old one at its end."""
+    """Keeps a copy of a crate's library, because `rt ci` puts the older one back at its end."""
     if not (tree.left(crate) / "format").is_file():
         return
     try:
@@ -38,7 +39,8 @@ def keep_library(tree: Tree, crate: str) -> None:
 
 
 def as_proved(tree: Tree, crates: list[str], names: Iterable[str], running: Running) -> Iterator[str]:
-    """Yields each of these crates after it and all below it have been named, and the others when the names end."""
+    """Yields each of these crates once the crate and all below it have been named, and the others when the names end.
+    `names` are the crates that are proved, as they come."""
     left, proved = [*crates], set[str]()
     for name in map(str.strip, names):
         if name in tree.uses and name not in proved:

@@ -1,4 +1,4 @@
-"""Checks that run side by side, and are ended by a signal to this process."""
+"""Checks of crates by the prover that run side by side, and are ended by a signal to this process."""
 from __future__ import annotations
 
 import os
@@ -23,12 +23,12 @@ WITH_THIS_PROCESS = ("setpriv", "--pdeathsig", "KILL")
 
 
 class Stopped(Exception):
-    """Raised if no more checks may begin."""
+    """Raised if `Running.stop` was called, so that no check may begin."""
 
 
 @dataclass(frozen=True)
 class Ended:
-    """The status and output of a check, and its processor time."""
+    """A check that has ended: its status, its output, and its processor time in seconds."""
 
     status: int
     output: str
@@ -37,7 +37,8 @@ class Ended:
 
 @dataclass
 class Running:
-    """The running checks. Beside proofs there are at most a given number, and none if memory is short."""
+    """The running checks. While proofs run too, there are at most `beside` checks, and none begins if memory is
+    short."""
 
     beside: int | None = None
     lock: threading.Condition = field(default_factory=threading.Condition)
@@ -45,17 +46,18 @@ class Running:
     is_over: bool = False
 
     def may_begin(self) -> bool:
-        """Returns whether another check may begin."""
+        """Returns whether another check may begin now."""
         return self.beside is None or len(self.checks) < self.beside and free_memory() > MOST_HELD + LEFT_FREE
 
     def go_on_alone(self) -> None:
-        """Notes that no proofs are running any longer."""
+        """Notes that no proofs are running any longer, so that checks may use all processors."""
         with self.lock:
             self.beside = None
             self.lock.notify_all()
 
     def run(self, words: list[str], folder: Path, is_alone: bool = False) -> Ended:
-        """Runs one check to its end. With `is_alone`, waits until no proofs are running."""
+        """Runs the command line of a check in a folder, and returns its result. Waits until the check may begin, and
+        with `is_alone` until no proofs are running. Raises `Stopped` if no check may begin any longer."""
         with tempfile.TemporaryFile() as output:
             with self.lock:
                 while not self.is_over and (is_alone and self.beside is not None or not self.may_begin()):
@@ -82,7 +84,8 @@ class Running:
 
 
 def copy_crate(folder: Path, to: Path, texts: dict[str, str]) -> None:
-    """Copies the files that a crate is checked from, with some texts replaced."""
+    """Copies the files of a crate that a check reads from `folder` to `to`. `texts` has other texts for some of
+    them."""
     for part in ("src", "specs", "proofs"):
         if (folder / part).is_dir():
             shutil.copytree(folder / part, to / part)
@@ -91,7 +94,8 @@ def copy_crate(folder: Path, to: Path, texts: dict[str, str]) -> None:
 
 
 def try_round(tree: Tree, crate: str, tried: Round, room: Path, running: Running) -> Ended:
-    """Checks a copy of a crate with the edits of a round. The room has what earlier rounds proved."""
+    """Checks a copy of a crate with the edits of a round, and returns the result. The folder `room` has what earlier
+    rounds proved."""
     copy, kept = room / "copy", room / "kept"
     kept.mkdir(exist_ok=True)
     copy_crate(tree.folder(crate), copy, tried.texts)
@@ -111,6 +115,7 @@ def free_memory() -> int:
 
 
 def lane_count(wanted: int | None) -> int:
-    """Returns the number of checks that run side by side: the wanted one or that of processors, if memory allows."""
+    """Returns the number of checks to run side by side: `wanted`, or that of processors if it is None, but no more than
+    memory allows."""
     jobs = wanted or int(os.environ.get("RT_JOBS") or 0) or len(os.sched_getaffinity(0))
     return max(1, min(jobs, free_memory() // MOST_HELD))

@@ -37,7 +37,7 @@ class Refusal:
     goal: str
 
     def line(self) -> str:
-        """Returns the line of an edit with this refusal."""
+        """Returns the line that an edit's file has for this refusal."""
         return f"{MARK} {self.function} {self.goal}"
 
 
@@ -60,7 +60,7 @@ class Edit:
     first: int = 1
 
     def functions(self) -> set[str]:
-        """Returns the functions that must be refused."""
+        """Returns the functions that the prover must refuse because of this edit."""
         return {it.function for it in self.wanted}
 
 
@@ -72,12 +72,13 @@ class Round:
     texts: dict[str, str]
 
     def functions(self) -> set[str]:
-        """Returns the functions that must be refused because of one of the edits."""
+        """Returns the functions that the prover must refuse because of one of the edits."""
         return {function for edit in self.edits for function in edit.functions()}
 
 
 def refusal_of(name: str, text: str) -> Refusal:
-    """Returns the refusal in a marked line."""
+    """Returns the refusal in the text after `# refused:`. `name` is that of the edit, for an error. Raises `EditFault`
+    if the text has another form."""
     words = text.split()
     if len(words) != 2:
         raise EditFault(f"{name}: not a line '{MARK} FUNCTION GOAL': {MARK}{text}")
@@ -85,14 +86,16 @@ def refusal_of(name: str, text: str) -> Refusal:
 
 
 def round_of(name: str, text: str) -> int:
-    """Returns the number of a later round in a marked line."""
+    """Returns the number in the text after `# round:`. `name` is that of the edit, for an error. Raises `EditFault` if
+    the text isn't a number above 1."""
     if not text.strip().isdecimal() or int(text) < 2:
         raise EditFault(f"{name}: not a line '{ROUND} NUMBER' of a later round than the first: {ROUND}{text}")
     return int(text)
 
 
 def parse_pairs(name: str, text: str) -> tuple[Pair, ...]:
-    """Returns the replacements in a file's text."""
+    """Returns the replacements in the text of an edit's file. `name` is that of the edit, for an error. Raises
+    `EditFault` if the text has another form."""
     pairs: list[Pair] = []
     file, old = "", ""
     for line in text.split("\n"):
@@ -112,7 +115,7 @@ def parse_pairs(name: str, text: str) -> tuple[Pair, ...]:
 
 
 def parse_edit(name: str, text: str) -> Edit:
-    """Returns the edit in a file's text."""
+    """Returns the edit with this name in the text of a file. Raises `EditFault` if the text has another form."""
     wanted: list[Refusal] = []
     first, rest = 1, list[str]()
     for line in text.split("\n"):
@@ -128,7 +131,8 @@ def parse_edit(name: str, text: str) -> Edit:
 
 
 def apply_edit(edit: Edit, texts: Mapping[str, str], folder: Path) -> dict[str, str]:
-    """Returns the texts after an edit. Files that aren't in `texts` are read from the crate's folder."""
+    """Returns the texts of a crate's files after an edit. Files that aren't in `texts` are read from the crate's
+    folder. Raises `EditFault` if the edit doesn't fit."""
     after = dict(texts)
     for pair in edit.pairs:
         if pair.file not in after:
@@ -144,7 +148,8 @@ def apply_edit(edit: Edit, texts: Mapping[str, str], folder: Path) -> dict[str, 
 
 
 def read_edits(folder: Path) -> tuple[list[Edit], list[str]]:
-    """Returns the edits of a crate in the order of their names, and the faults of those that can't be tried."""
+    """Returns the edits in a crate's folder, in the order of their names, and error texts about those that can't be
+    tried."""
     edits, faults = [], []
     for path in sorted((folder / "wrong").iterdir()):
         try:
@@ -159,8 +164,8 @@ def read_edits(folder: Path) -> tuple[list[Edit], list[str]]:
 
 
 def joined(into: Round, edit: Edit, folder: Path) -> bool:
-    """Adds an edit to a round, unless another edit there changes the same text or is refused in the same function.
-    Returns whether it was added."""
+    """Adds an edit to a round. Does nothing if another edit of the round changes the same text or must be refused in
+    the same function. Returns whether the edit was added."""
     if into.functions() & edit.functions():
         return False
     try:
@@ -172,7 +177,8 @@ def joined(into: Round, edit: Edit, folder: Path) -> bool:
 
 
 def rounds_of(edits: Iterable[Edit], folder: Path) -> list[Round]:
-    """Returns the rounds of a crate's edits. Each edit is in the first allowed round that can take it."""
+    """Returns the rounds for these edits of a crate. Each edit is in the first round that is allowed for it and has
+    room for it."""
     rounds: list[Round] = []
     for edit in sorted(edits, key=lambda it: it.first):
         if not any(joined(it, edit, folder) for it in rounds[edit.first - 1 :]):

@@ -1,4 +1,5 @@
-"""Judges whether a check refused each wrong body of a round at its own goal, and nothing else."""
+"""Judges whether a check refused each wrong body of a round at its own goal, and nothing else. A *round* is a check of
+a crate with several edits, each of which has to be refused at certain goals of certain functions."""
 from __future__ import annotations
 
 from collections.abc import Iterable
@@ -18,18 +19,19 @@ class Judged:
     of_edit: dict[str, list[str]] = field(default_factory=dict)
 
     def failed(self, edits: Iterable[Edit]) -> list[str]:
-        """Returns the edits that have failed. If the round has a fault, these are all."""
+        """Returns the names of those edits that have failed: those with faults, or all if the round has a fault."""
         return [it.name for it in edits if self.of_round or it.name in self.of_edit]
 
 
 def right_lines(function: str, told: Told) -> str:
-    """Returns the possible lines of an edit for a function, those of its contract first."""
+    """Returns the lines that an edit's file could have for a function, by the goals that a check left open there. Those
+    of its contract are first."""
     goals = sorted(told.open_goals.get(function, ()), key=lambda goal: (not goal.startswith("returns"), "clause" not in goal))
     return " or ".join(f"'{Refusal(function, goal).line()}'" for goal in goals[:3])
 
 
 def fault_of(wanted: Refusal, told: Told) -> str | None:
-    """Returns why a function isn't refused at a goal, or None if it is."""
+    """Returns why the wanted refusal isn't in the output of a check, or None if it is."""
     if wanted.goal in told.open_goals.get(wanted.function, ()):
         return None
     if wanted.function in told.proved:
@@ -43,13 +45,13 @@ def fault_of(wanted: Refusal, told: Told) -> str | None:
 
 
 def judge_edits(edits: Iterable[Edit], told: Told) -> dict[str, list[str]]:
-    """Returns the faults of each edit."""
+    """Returns the faults of each edit that has some, by its name."""
     faults = {it.name: [fault for wanted in it.wanted if (fault := fault_of(wanted, told))] for it in edits}
     return {name: found for name, found in faults.items() if found}
 
 
 def judge_others(named: set[str], told: Told) -> list[str]:
-    """Returns the functions that are refused although no edit names them."""
+    """Returns error texts about functions that are refused although they aren't among `named`, which edits name."""
     faults = []
     for function in sorted(told.functions - told.proved - named):
         if function in told.open_goals:
@@ -60,12 +62,14 @@ def judge_others(named: set[str], told: Told) -> list[str]:
 
 
 def is_closure(function: str) -> bool:
-    """Returns whether a line is about a closure or its calls, which the check doesn't count."""
+    """Returns whether a line of the prover's output, which names `function`, is about a closure, which the counts don't
+    include."""
     return "fn" in function.split("::")
 
 
 def judge_counts(named: set[str], told: Told) -> list[str]:
-    """Returns the faults of the check's counts: it must have ended, and its counts must match its lines."""
+    """Returns error texts about the counts in a check's output: the check must have ended, its counts must match its
+    lines, and each function in `named` must have a line."""
     if told.ending is None:
         return [f"the check came to no end: {told.last[:LONGEST]}"]
     asked, proved = told.ending
@@ -80,7 +84,7 @@ def judge_counts(named: set[str], told: Told) -> list[str]:
 
 
 def judge(edits: list[Edit], status: int, told: Told) -> Judged:
-    """Returns the verdict on a round, from its check's status and output."""
+    """Returns the verdict on a round with these edits, from its check's status and output."""
     named = {function for edit in edits for function in edit.functions()}
     faults = [f"an error of no goal: {line[:LONGEST]}" for line in told.errors]
     faults += judge_others(named, told)

@@ -1,4 +1,5 @@
-"""The crates of a repository, and the prover's command line for one of them."""
+"""The crates of a repository, and the prover's command line for one of them. A crate is *below* another one if that
+crate uses it, directly or by other crates. The *kit* is the folder of the toolchain."""
 from __future__ import annotations
 
 import shutil
@@ -12,7 +13,7 @@ class LibraryFault(Exception):
 
 @dataclass(frozen=True)
 class Tree:
-    """A copy of the repository, the kit, the crates with what each uses, and optionally another folder of
+    """A copy of the repository: its folder, the kit, the crates with what each uses, and optionally another folder with
     libraries."""
 
     top: Path
@@ -21,7 +22,7 @@ class Tree:
     libraries: Path | None = None
 
     def folder(self, crate: str) -> Path:
-        """Returns a crate's folder."""
+        """Returns the folder of a crate."""
         return self.top / "crates" / crate
 
     def has_edits(self, crate: str) -> bool:
@@ -29,13 +30,13 @@ class Tree:
         return (self.folder(crate) / "wrong").is_dir()
 
     def library(self, crate: str) -> Path:
-        """Returns the path of a library of the repository or of the kit."""
+        """Returns the path of the library of a crate, or of a library of the kit."""
         if crate in self.uses:
             return self.libraries / f"{crate}.rlib" if self.libraries else self.left(crate)
         return self.kit / "rlibs" / f"{crate}.rlib"
 
     def left(self, crate: str) -> Path:
-        """Returns the path at which `rt` leaves a library of the repository."""
+        """Returns the path at which `rt` leaves the library of a crate."""
         return self.folder(crate) / "out/rlib" / f"{crate}.rlib"
 
     def below(self, crate: str) -> list[str]:
@@ -47,7 +48,7 @@ class Tree:
         return found
 
     def missing(self, crate: str) -> list[str]:
-        """Returns the libraries below a crate that aren't built."""
+        """Returns the names of the libraries below a crate that aren't built."""
         return [it for it in (*self.below(crate), *self.uses[crate]) if not (self.library(it) / "format").is_file()]
 
     def size(self, crate: str) -> int:
@@ -57,7 +58,8 @@ class Tree:
 
 
 def kit_of(command: str = "rt") -> Path:
-    """Returns the kit of a command."""
+    """Returns the folder of the toolchain to which a command on the path belongs. Raises `LibraryFault` if there is no
+    such command."""
     found = shutil.which(command)
     if found is None:
         raise LibraryFault(f"the toolchain's command {command} is not on the path")
@@ -65,7 +67,7 @@ def kit_of(command: str = "rt") -> Path:
 
 
 def parse_uses(text: str) -> dict[str, list[str]]:
-    """Returns the crates in `crates.txt`, each with what it uses."""
+    """Returns each crate in the text of `crates.txt` with the crates and libraries that it uses."""
     uses = {}
     for line in text.splitlines():
         names, colon, used = line.partition("#")[0].partition(":")
@@ -75,13 +77,13 @@ def parse_uses(text: str) -> dict[str, list[str]]:
 
 
 def tree_at(top: Path) -> Tree:
-    """Returns the copy of the repository in a folder."""
+    """Returns the copy of the repository in a folder. Raises `LibraryFault` if the toolchain isn't found."""
     return Tree(top, kit_of(), parse_uses((top / "crates.txt").read_text(encoding="utf-8")))
 
 
 def check_words(tree: Tree, crate: str, functions: set[str], kept: Path) -> list[str]:
-    """Returns the command line of a check of some functions, in a copy of a crate's folder. The check continues
-    from what an earlier one saved."""
+    """Returns the command line by which the prover checks these functions of a crate, in a copy of the crate's folder.
+    The check continues from the proofs that an earlier one saved in the folder `kept`."""
     root = "main" if (tree.folder(crate) / "src/main.rt").is_file() else "lib"
     words = [str(tree.kit / "bin/rattle"), "check", "--crate-name", crate, f"src/{root}.rt"]
     for name in ("std", *tree.uses[crate]):

@@ -1,4 +1,5 @@
-"""The prover's output about each function."""
+"""The prover's output about each function. A *goal* is a condition that the prover has to show for a function, and it
+is *open* if the prover didn't show it."""
 from __future__ import annotations
 
 import re
@@ -18,8 +19,8 @@ ENDING = re.compile(r"only=(\d+) proved=(\d+)")
 
 @dataclass
 class Told:
-    """The output of a check: its functions, the proved ones, the open goals by function, the functions that depend
-    on unproved ones, and other errors."""
+    """The contents of a check's output: the functions with a line, the proved ones, the open goals by function, the
+    functions that depend on unproved ones, and errors that belong to no goal."""
 
     functions: set[str] = field(default_factory=set)
     proved: set[str] = field(default_factory=set)
@@ -30,13 +31,13 @@ class Told:
     last: str = ""
 
     def add_goal(self, function: str, goal: str) -> None:
-        """Adds an open goal of a function."""
+        """Adds an open goal to those of a function."""
         goals = self.open_goals.setdefault(function, [])
         if goal not in goals:
             goals.append(goal)
 
     def add_function(self, name: str, said: str) -> None:
-        """Adds the line of a function."""
+        """Adds the line of a function, which has `said` after the function's name."""
         self.functions.add(name)
         # ("proved, may wait" is of one that waits for others, "proved if its callers give what it asks" of a closure)
         if re.match(r"(proved|assumed)\b", said):
@@ -48,7 +49,8 @@ class Told:
             self.resting.add(name)
 
     def add_error(self, line: str) -> None:
-        """Adds an error. It counts as an open goal if a proof's answer doesn't show the goal any more."""
+        """Adds the line of an error. If the error says that a proof's answer doesn't show a goal any more, adds an open
+        goal instead."""
         found = GOAL.fullmatch(line)
         if RESTS_ON_ANSWER.search(line):
             return
@@ -60,7 +62,7 @@ class Told:
 
 
 def read_output(crate: str, output: str) -> Told:
-    """Returns the parsed output of a check."""
+    """Returns the contents of the output of a check of a crate."""
     told = Told()
     for line in output.splitlines():
         if found := LINE.fullmatch(line):

@@ -1,4 +1,5 @@
-"""Tries the wrong bodies of crates: crates side by side, and the rounds of each crate one after another."""
+"""Tries the wrong bodies of crates: crates side by side, and the rounds of each crate one after another. A *round* is
+one check of a crate with several of its wrong bodies, the edits."""
 from __future__ import annotations
 
 import tempfile
@@ -17,7 +18,7 @@ from tools.wrong.saved import find_name, hand_on
 
 @dataclass
 class Tried:
-    """The result of a crate's edits."""
+    """The result of trying a crate's edits."""
 
     crate: str
     checks: int = 0
@@ -27,13 +28,13 @@ class Tried:
     seconds: float = 0.0
 
     def line(self, with_times: bool) -> str:
-        """Returns the line about a crate."""
+        """Returns the line about the crate, with its processor time if `with_times` is set."""
         failed = f", {self.failed} failed" if self.failed else ""
         times = f", {self.seconds:.0f} processor seconds" if with_times else ""
         return f"{self.crate}: {self.passed} wrong bodies refused{failed}, in {self.checks} checks{times}"
 
     def add_round(self, tried: Round, status: int, output: str) -> None:
-        """Adds the result of a round."""
+        """Adds the result of a round, from the status and the output of its check."""
         judged = judge(tried.edits, status, read_output(self.crate, output))
         failed = judged.failed(tried.edits)
         self.passed += len(tried.edits) - len(failed)
@@ -43,8 +44,8 @@ class Tried:
 
 
 def try_crate(tree: Tree, crate: str, running: Running, logs: Path | None = None, saved: Future[str] | None = None) -> Tried:
-    """Tries the edits of a crate. If the name of the folder for saved modules is known, copies the library's
-    modules there first."""
+    """Tries the edits of a crate, and returns the result. If `saved` has the name of the folder for saved modules,
+    copies the library's modules there before each round. `logs` is a folder for the outputs."""
     folder, tried = tree.folder(crate), Tried(crate)
     edits, tried.faults = read_edits(folder)
     tried.failed = len(tried.faults)
@@ -69,7 +70,8 @@ def try_crate(tree: Tree, crate: str, running: Running, logs: Path | None = None
 
 
 def try_crates(tree: Tree, crates: Iterable[str], lanes: int, logs: Path | None, running: Running) -> Iterator[Tried]:
-    """Tries the edits of crates side by side. Yields the result of each as it is done."""
+    """Tries the edits of crates, at most `lanes` crates side by side, and yields the result of each as it is done.
+    `logs` is a folder for the outputs."""
     with ThreadPoolExecutor(lanes) as pool:
         try:
             saved = pool.submit(find_name, tree)
