@@ -21,8 +21,8 @@ def look(world: World, i: int) -> dict[str, Any]:
 
 
 def witness(world: World, rules: dict[int, str | None], a: int, b: int) -> tuple[int, str]:
-    """Returns the witness of the open link between a and b, where a is the lower end, and its enabled rule. `rules` has
-    the enabled rule of each node.
+    """Returns the witness of the open link with the ends a and b, of which a is the lower one, and the witness's
+    enabled rule. `rules` has the enabled rule of each node.
 
     A walk follows the pointers from a, and then one from b, to the first node that is privileged or points at none. Its
     end is the witness if a rule other than seduction is enabled there. If neither is, a may seduce."""

@@ -87,8 +87,8 @@ class Process:
 
 @dataclass(frozen=True)
 class Record:
-    """The file `run.json`, by which a run's folder tells other programs how to reach the run, and how to continue
-    it."""
+    """The file `run.json` in the folder of a run, from which other programs know how to reach the run, and how to
+    continue it."""
 
     lab: str
     port: int

@@ -129,8 +129,8 @@ def read(path: Path) -> Lab:
 
 
 def with_house_apart(told: str, lab: Lab) -> str:
-    """Returns `told`, the program's line about a lab's size, with the house counted separately. The program counts the
-    house as a student."""
+    """Returns the program's line about a lab's size, changed so that the house is counted separately. The program
+    counts the house as a student."""
     students = len(lab.without_house().students)
     return told.replace(f"{students + 1} students", f"{students} students and the house") if lab.held() else told
 

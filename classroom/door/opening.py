@@ -69,8 +69,8 @@ class OpenDoor:
     """A door that this process has opened."""
 
     def __init__(self, folder: Path, listener: socket.socket, tell: Callable[[str], None]) -> None:
-        """Starts the process that serves the door in `folder`. `listener` is its listening socket, and `tell` prints a
-        line."""
+        """Starts the process that serves the door in `folder`. `listener` is its listening socket, and the callback
+        prints a line."""
         self.folder, self.listener, self.tell = folder, listener, tell
         self.port: int = listener.getsockname()[1]
         self.closes = threading.Event()
@@ -106,7 +106,7 @@ class OpenDoor:
 
 def open_door(place: Place, into: Path, file: Path, tell: Callable[[str], None]) -> OpenDoor:
     """Opens a door at `place` with the certificate in `file`. The door's folder is made in `into`, the folder of the
-    runs. `tell` prints a line. Raises `Fault` if that isn't possible."""
+    runs. The callback prints a line. Raises `Fault` if that isn't possible."""
     certificate.context(file)
     listener = listen(place)
     folder = (into / FOLDER.format(listener.getsockname()[1])).resolve()

@@ -171,7 +171,7 @@ class Passing:
             await near.drain()
 
     async def forward_requests(self, near: asyncio.StreamWriter) -> None:
-        """Forwards all that the other end sends to a local port, and then tells the port that no more comes."""
+        """Forwards all that the other end sends to a local port, and then ends the direction to the port."""
         while more := await self.it.read():
             await self.wait_for_rate(len(more))
             await self.send_to_port(near, more)

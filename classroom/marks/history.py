@@ -166,7 +166,7 @@ def merged(lines: list[Row], between: list[Row]) -> list[Row]:
 
 
 def text(told: list[str], rows: list[Row]) -> str:
-    """Returns the history as text for people. `told` are the lines about the records."""
+    """Returns the history as text for people: first the lines about the records, and then the rows."""
     lines = [*told]
     for row, count in grouped(rows):
         head = f"  {row.after()}, seat {row.seat}{times(count)}"
@@ -197,8 +197,8 @@ def cells(row: Row) -> list[str]:
 
 
 def section(title: str, told: list[str], rows: list[Row], why: dict[tuple[int, str], str] | None = None) -> str:
-    """Returns the rows as a section of the player's page, as HTML. Each row links to its place. `told` are the lines
-    about the records, and `why` has the reasons of denied moves, by the number of events before and the line."""
+    """Returns the rows as a section of the player's page, as HTML, after the lines about the records. Each row links to
+    its place. `why` has the reasons of denied moves, by the number of events before and the line."""
     items = [f'<li><a href="#p={row.at}">{row.after()}</a> {item(row, count)}{reason((why or {}).get((row.place, row.asked), ""))}</li>'
              for row, count in grouped(rows)]
     heads = "".join(f"<p>{escape(line)}</p>" for line in told)
@@ -225,8 +225,8 @@ def guarded_rows(rows: list[Row]) -> list[tuple[int, str]]:
 
 
 def own_page(title: str, name: str, lab_file: Path, journal: Path, told: list[str], lines: list[Row]) -> str:
-    """Returns the page of a student's own run as HTML: the player, and beside it the student's lines. Each denial is at
-    its moment, with the part of the guard that failed. `told` are the lines about the records."""
+    """Returns the page of a student's own run as HTML: the player, and beside it the lines about the records and the
+    student's lines. Each denial is at its moment, with the part of the guard that failed."""
     kept_layout.load(lab_file.parent)
     lab, frames = frames_of(lab_file, journal)
     happened = events(journal.read_text(encoding="ascii"))

@@ -32,7 +32,7 @@ def rows_by_student(folder: Path, lab: labs.Lab) -> tuple[list[str], dict[str, l
 
 def write_pages(folder: Path, tell: Callable[[str], None]) -> None:
     """Writes a page for each student who sent something, with each denial at its moment. If the pages would take too
-    much room, prints by `tell` how to make one."""
+    much room, prints a line about how to make one."""
     lab_file, journal = folder / "lab.toml", folder / "journal"
     lab = labs.read(lab_file)
     told, every = rows_by_student(folder, lab)

@@ -193,7 +193,8 @@ def cross(a: Point, b: Point, c: Point, d: Point) -> bool:
 
 
 def side(a: Point, b: Point, c: Point) -> float:
-    """Returns a number whose sign tells on which side of the line from a to b the point c is."""
+    """Returns a positive number if c is on one side of the line from a to b, a negative one if it is on the other side,
+    and 0 if it is on the line."""
     return (b[0] - a[0]) * (c[1] - a[1]) - (b[1] - a[1]) * (c[0] - a[0])
 
 

@@ -72,7 +72,8 @@ class Web(ThreadingHTTPServer):
             self.free.release()
 
     def handle_error(self, request: Any, client_address: Any) -> None:
-        """Prints an error in a request by `tell`, but each kind only once. That a page has gone away is no error."""
+        """Prints a line about an error in a request, but only one for each kind. That a page has gone away is no
+        error."""
         error = sys.exc_info()[1]
         if error is None or isinstance(error, (ConnectionError, TimeoutError)):
             return

@@ -41,7 +41,7 @@ class Announcer:
     """Prints the events and the state of a run, as lines."""
 
     def __init__(self, lab: labs.Lab, folder: Path, known: Follower, tell: Callable[[str], None]) -> None:
-        """Prints by `tell`. `folder` is that of the run, and `known` has its journal and its report."""
+        """`folder` is that of the run, `known` has its journal and its report, and the callback prints a line."""
         self.lab, self.known, self.tell = lab, known, tell
         self.shown = lab.without_house()
         self.folder = folder

@@ -30,7 +30,7 @@ class Desk:
     """The desk of a run: reads its events, prints them, and runs the teacher's commands."""
 
     def __init__(self, lab: labs.Lab, journal: Path, client: Client, how: Closing, tell: Callable[[str], None]) -> None:
-        """`client` is the desk's connection, `how` the daemon that closes steps, and `tell` prints a line."""
+        """`client` is the desk's connection, `how` the daemon that closes steps, and the callback prints a line."""
         self.lab, self.tell, self.closing = lab, tell, how
         self.known = Follower(lab, journal, client)
         self.announcer = Announcer(lab, journal.parent, self.known, tell)

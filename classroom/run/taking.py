@@ -20,8 +20,8 @@ class Left(Exception):
 
 def take_desk(it: Server, teacher: tuple[str, str], typed: Typed, tell: Callable[[str], None], hung: Callable[[], None]) -> Client:
     """Connects to the desk of the server `it`, with the name and key of the teacher, and returns the connection. Tries
-    again for a minute if that fails, which `tell` prints once. Raises the last error after the minute, or if the server
-    has ended or the run is to end. Raises `Left` if another process wants the desk."""
+    again for a minute if that fails, and prints once that it does. Raises the last error after the minute, or if the
+    server has ended or the run is to end. Raises `Left` if another process wants the desk."""
     end, is_told = time.monotonic() + PATIENCE, False
     while True:
         try:

@@ -244,8 +244,8 @@ def warnings(path: Path) -> Iterator[str]:
 
 
 def size_line(path: Path, told: str) -> str:
-    """Returns `told`, the program's line about a lab's size, with the house counted separately if the lab can be read.
-    The house is a student without a person."""
+    """Returns the program's line about the size of the lab in a file, changed so that the house is counted separately
+    if the lab can be read. The house is a student without a person."""
     try:
         return labs.with_house_apart(told, labs.read(path))
     except Fault:

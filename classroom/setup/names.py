@@ -80,7 +80,7 @@ def with_end(short: str, end: str) -> str:
 
 
 def all_of(people: Iterable[Person], taken: Iterable[str] = ()) -> dict[str, Person]:
-    """Returns a different name in the lab for each of these people, other than the names in `taken`. Where two persons
+    """Returns a different name in the lab for each of these people, other than the names in `taken`. If two persons
     would have the same name, the person's identifier or a number is added. A person without a known letter is called
     `s-` with an identifier or a number."""
     listed = list(people)

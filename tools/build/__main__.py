@@ -27,7 +27,7 @@ ALONE = 0.2  # of a proof is done by one process, however many there are
 
 
 def say(line: str) -> None:
-    """Prints a line on standard error, where the progress line is too."""
+    """Prints a line on standard error, as the progress line is."""
     print(f"mml: {line}", file=sys.stderr, flush=True)
 
 
