@@ -3,7 +3,8 @@ take.
 
 A *bot* is a student's program under test. A *case* is a lab that the bot plays, with troubles during the run. The lab's
 class runs in this process (`classroom.bots.playing`), and its *relay* is the port to which the bot connects. Functions
-that run the class raise `Fails` if the bot has done something wrong, and `Stopped` after an interrupt."""
+that run the class raise `Fails` if the bot has done something wrong, and `Stopped` after an interrupt.
+"""
 from __future__ import annotations
 
 import os

@@ -2,7 +2,8 @@
 that it started.
 
 The process that starts the bot and enforces its limits is its *keeper* (`classroom.bots.keeper`). A bot is *kept apart*
-if it runs in namespaces of its own (`classroom.bots.apart`)."""
+if it runs in namespaces of its own (`classroom.bots.apart`).
+"""
 from __future__ import annotations
 
 import json

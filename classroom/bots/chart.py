@@ -1,7 +1,8 @@
 """The chart of an experiment: moves, closes and rounds by number of nodes, together with the proved bounds.
 
 A *row* is the result of one run. A *panel* shows the rows of one family of networks under one daemon, the part of a run
-that decides which nodes move."""
+that decides which nodes move.
+"""
 from __future__ import annotations
 
 import statistics

@@ -3,7 +3,8 @@ bounds.
 
 A *daemon* decides in which steps, the *closes*, which nodes move. A *setting* is a family of networks with a size, a
 daemon and a start, and a run is a setting with a seed. The *table* is the file of `--csv`, with a *row* for each run,
-and a *part* is one machine's share of the runs."""
+and a *part* is one machine's share of the runs.
+"""
 from __future__ import annotations
 
 import argparse

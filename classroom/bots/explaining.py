@@ -1,7 +1,8 @@
 """Explanations of mistakes by the plain model, a second program with the same rules (`model/`): which part of a guard
 fails, and what a correct bot sends. A guard is the condition under which a node may move.
 
-The explanations help a reader who looks for a mistake, and are marked as the model's. No verdict depends on them."""
+The explanations help a reader who looks for a mistake, and are marked as the model's. No verdict depends on them.
+"""
 from __future__ import annotations
 
 from classroom.bots.playing import Playing

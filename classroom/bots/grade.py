@@ -1,7 +1,8 @@
 """`./class grade`: tries each bot with many labs, daemons and seeds.
 
 A *bot* is a student's program under test. A *case* is a lab, a daemon (which decides when a step ends and who moves)
-and a seed. A bot is *kept apart* if it runs in namespaces of its own and sees few files (`classroom.bots.apart`)."""
+and a seed. A bot is *kept apart* if it runs in namespaces of its own and sees few files (`classroom.bots.apart`).
+"""
 from __future__ import annotations
 
 import argparse

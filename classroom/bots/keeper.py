@@ -4,7 +4,8 @@ line of standard input is a plan, the JSON object with the values of `Plan`.
 The keeper ends the program and all that it started, in whatever session, if the program ends, uses too much memory or
 too much room for files, or consists of more than 64 processes. It also ends the program if standard input ends, as it
 does when the process that started the keeper is gone. Then it prints how the program ended: `ended STATUS` or `killed
-REASON`."""
+REASON`.
+"""
 from __future__ import annotations
 
 import errno

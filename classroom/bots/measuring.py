@@ -2,7 +2,8 @@
 proved program.
 
 A run is made of *steps*. In each the daemon chooses some of the privileged nodes, those with an enabled rule, and they
-move at once."""
+move at once.
+"""
 from __future__ import annotations
 
 import contextlib

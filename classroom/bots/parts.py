@@ -1,6 +1,7 @@
 """Sharing cases or runs among several machines, and joining the results: `--part K/N`, `--merge FILE..`.
 
-Part K of N has every N-th of all cases or runs, from the K-th on."""
+Part K of N has every N-th of all cases or runs, from the K-th on.
+"""
 from __future__ import annotations
 
 import argparse

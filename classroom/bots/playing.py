@@ -1,9 +1,10 @@
 """A class without a server: students' programs play some nodes, the house plays the others, and a daemon closes steps.
 
-The replies to all lines are those of the proved program. The *house* plays the nodes of the students without a program. A
-granted move is *chosen* until a step applies it. The *daemon* decides when a step is closed, and which chosen moves it
-applies. The *report* is the program's reply that lists the privileged nodes, those with an enabled rule. In the functions,
-`asked` has the values of a request, and `told` those of its reply."""
+The replies to all lines are those of the proved program. The *house* plays the nodes of the students without a program.
+A granted move is *chosen* until a step applies it. The *daemon* decides when a step is closed, and which chosen moves
+it applies. The *report* is the program's reply that lists the privileged nodes, those with an enabled rule. In the
+functions, `asked` has the values of a request, and `told` those of its reply.
+"""
 from __future__ import annotations
 
 import json
@@ -135,8 +136,8 @@ class Playing:
     # What programs ask.
 
     def answer(self, connection: int, line: bytes, paused: bool) -> bytes:
-        """Answers a program's line, and records it. `paused` says whether the program waited before this line. Returns the
-        reply that the program gets, or no bytes if the reply is to be lost."""
+        """Answers a program's line, and records it. `paused` says whether the program waited before this line. Returns
+        the reply that the program gets, or no bytes if the reply is to be lost."""
         request = request_of(line)
         if request.get("do") == "move" and request.get("at") == self.report["at"]:
             self.interfere(number_of(request.get("node")), str(request.get("rule")))
@@ -154,16 +155,16 @@ class Playing:
         return shown
 
     def speaker(self, connection: int, reply: dict[str, Any]) -> str:
-        """Returns the student who has greeted on a connection. Notes the name if this reply grants a hello. If nobody has
-        greeted there, returns the first program's student."""
+        """Returns the student who has greeted on a connection. Notes the name if this reply grants a hello. If nobody
+        has greeted there, returns the first program's student."""
         if reply.get("ok") == "hello":
             self.names[connection] = reply["who"]
             self.heard.setdefault(reply["who"], Heard()).greeted += 1
         return self.names.get(connection, self.programs[0])
 
     def take_loss(self, reply: dict[str, Any]) -> bool:
-        """Returns whether the program doesn't get this reply, because `loses` is set and the reply grants a move. Clears
-        `loses` then."""
+        """Returns whether the program doesn't get this reply, because `loses` is set and the reply grants a move.
+        Clears `loses` then."""
         is_lost = self.loses and reply.get("ok") == "move"
         if is_lost:
             self.loses, self.has_lost = False, True
@@ -189,8 +190,8 @@ class Playing:
             self.house_move(node)
 
     def hide_rule(self, who: str, reply: bytes, told: dict[str, Any]) -> bytes:
-        """Returns the bytes of a reply as the program gets them. With `own_rule`, the enabled rule in a look is replaced
-        by null, and this is counted."""
+        """Returns the bytes of a reply as the program gets them. With `own_rule`, the enabled rule in a look is
+        replaced by null, and this is counted."""
         if not self.own_rule or told.get("ok") != "look" or told["rule"] is None:
             return reply
         self.heard[who].conduct.rules_hidden += 1
@@ -202,8 +203,8 @@ class Playing:
             self.conversation += [f"{connection} > {line.decode(errors='backslashreplace')}", f"{connection} < {reply.decode() or '(lost)'}"]
 
     def record_line(self, who: str, asked: dict[str, Any], sent: bytes, told: dict[str, Any]) -> None:
-        """Counts a line of a student's program by its reply. Calls `on_no` if the line wasn't granted. `sent` is the line
-        with its connection's number before it."""
+        """Counts a line of a student's program by its reply. Calls `on_no` if the line wasn't granted. `sent` is the
+        line with its connection's number before it."""
         heard, line = self.heard[who], sent.partition(b" ")[2]
         self.note_row(who, sent, told)
         heard.lines += 1
@@ -267,8 +268,8 @@ class Playing:
         return "; it connected, but no hello was granted" if strangers else f"; it never connected to port {self.relay.port}"
 
     def last_words(self, who: str) -> str:
-        """Returns a text about a program that has fallen silent: when its last line came, the line, and those of its nodes
-        at which it never looked."""
+        """Returns a text about a program that has fallen silent: when its last line came, the line, and those of its
+        nodes at which it never looked."""
         heard = self.heard[who]
         ago = time.monotonic() - heard.last_at
         never = [node for node in self.lab.nodes_of(who) if node not in heard.conduct.seen]
@@ -358,13 +359,13 @@ class Playing:
     # Who plays.
 
     def house_owner(self, node: int) -> str | None:
-        """Returns the first owner of a node that no program plays, or None if programs play for all its owners. The house
-        asks in the name of this owner."""
+        """Returns the first owner of a node that no program plays, or None if programs play for all its owners. The
+        house asks in the name of this owner."""
         return next((name for name in self.lab.owners(node) if name not in self.programs), None)
 
     def move_house(self) -> None:
-        """Asks for moves of the privileged nodes that the house plays: for one if a close applies one move, and otherwise
-        for all. Asks only now and then for a node that a program plays too."""
+        """Asks for moves of the privileged nodes that the house plays: for one if a close applies one move, and
+        otherwise for all. Asks only now and then for a node that a program plays too."""
         nodes = [node for node, _ in self.report["privileged"] if node not in self.chosen and self.house_owner(node)]
         own = [node for node in nodes if len(self.lab.owners(node)) == 1 or not set(self.lab.owners(node)) & set(self.programs)]
         shared = [node for node in nodes if node not in own and self.pace_chance.random() < SHARED]
@@ -393,7 +394,8 @@ class Playing:
             pass
 
     def turn(self) -> None:
-        """Runs the class for a few milliseconds: answers lines, moves the house, and closes a step if the daemon does."""
+        """Runs the class for a few milliseconds: answers lines, moves the house, and closes a step if the daemon
+        does."""
         self.relay.turn(PACE / 2)
         now = time.monotonic()
         if now - self.paced >= PACE:

@@ -1,7 +1,8 @@
 """`./class practise`: a student practises alone, with the house at the other nodes.
 
 The class runs in this process (`classroom.bots.playing`). The *house* plays all nodes but the student's. The student's
-program is a *bot* if the command starts it."""
+program is a *bot* if the command starts it.
+"""
 from __future__ import annotations
 
 import argparse

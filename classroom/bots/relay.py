@@ -2,7 +2,8 @@
 pauses, connections and mistakes.
 
 The relay also imitates what a class's server does during a run: it turns newcomers away, ends with its class, or is
-gone for a while. Each connection, a *caller*, has a number, by which the answering function identifies it."""
+gone for a while. Each connection, a *caller*, has a number, by which the answering function identifies it.
+"""
 from __future__ import annotations
 
 import errno

@@ -1,7 +1,8 @@
 """The files of this machine that a bot, a student's program, sees if it is kept apart from other files: its own, and
 those that its interpreter needs.
 
-A *command* here is the tuple of words that starts a bot."""
+A *command* here is the tuple of words that starts a bot.
+"""
 from __future__ import annotations
 
 import os

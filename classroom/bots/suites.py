@@ -2,7 +2,8 @@
 
 A *case* is a lab that the bot plays, with a daemon, which decides when a step ends and who moves, a seed, and troubles
 during the run. A *plan* describes cases that differ only in daemon and seed. The *house* plays the nodes that aren't
-the bot's."""
+the bot's.
+"""
 from __future__ import annotations
 
 import random

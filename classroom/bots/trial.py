@@ -1,6 +1,7 @@
 """One case of a grade: runs a bot until the class is stable, or until something is wrong.
 
-A *bot* is a student's program. A *case* is a lab that the bot plays, with troubles during the run."""
+A *bot* is a student's program. A *case* is a lab that the bot plays, with troubles during the run.
+"""
 from __future__ import annotations
 
 import tempfile

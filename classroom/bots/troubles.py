@@ -4,7 +4,8 @@ classes too.
 Each trouble is a function here. Most of them *hurt* a node afterwards, that is, set its registers so that it is
 privileged and the bot has to move it, and then run the class until it is stable again. All raise `Fails` if the bot
 does something wrong or is too late, and `Stopped` after an interrupt. The *number* is that of the present
-configuration, and a move is *stale* if it has an earlier one."""
+configuration, and a move is *stale* if it has an earlier one.
+"""
 from __future__ import annotations
 
 import itertools
