@@ -673,6 +673,7 @@ class ByHand:
     """A conversation with a server in which each line is typed."""
 
     def __init__(self, slip: Slip | None, port: int, log: Path | None, limit: float = 30.0) -> None:
+        """Connects through a slip, or to a port, and says hello if there is a slip. Each line is appended to the file `log`, if there is one."""
         self.log, self.port, self.since, self.greeted, self.ended = log, port, time.monotonic(), False, False
         self.connection = connected(port, limit, slip)
         self.answers = self.connection.makefile("rb")

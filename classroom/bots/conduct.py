@@ -3,7 +3,8 @@ wouldn't have sent.
 
 Each rule here is one that `docs/STUDENT.md` asks a bot to keep. Guards, the conditions under which a node may move,
 aren't among them, because the server denies those moves. The *number* of a look or a move is that of the configuration
-in which the program asked. In the functions, `asked` has the values of a request, and `told` those of its reply.
+in which the program asked. In the functions, `asked` has the values of a request, and the next parameter those of its
+reply.
 """
 from __future__ import annotations
 
@@ -71,7 +72,7 @@ class Conduct:
     wrong: str = ""
 
     def take(self, asked: dict[str, Any], told: dict[str, Any], paused: bool) -> None:
-        """Checks one line of the program and the reply that the program got. `told` is empty if the reply was lost, and
+        """Checks one line of the program and the reply that the program got. The reply is empty if it was lost, and
         `paused` says whether the program waited before this line."""
         self.pauses.append(paused)
         node, at = number_of(asked.get("node")), number_of(asked.get("at"))

@@ -3,7 +3,7 @@
 The replies to all lines are those of the proved program. The *house* plays the nodes of the students without a program.
 A granted move is *chosen* until a step applies it. The *daemon* decides when a step is closed, and which chosen moves
 it applies. The *report* is the program's reply that lists the privileged nodes, those with an enabled rule. In the
-functions, `asked` has the values of a request, and `told` those of its reply.
+functions, `asked` has the values of a request, and the next parameter those of its reply.
 """
 from __future__ import annotations
 

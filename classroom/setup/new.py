@@ -40,7 +40,8 @@ def start(made: labs.Lab, word: str, chance: random.Random) -> None:
 
 
 def make(words: argparse.Namespace, people: dict[str, Person], chance: random.Random) -> labs.Lab:
-    """Returns a lab for these students, who are named as in the lab, by the arguments."""
+    """Returns the lab that the arguments describe, for these students by their names in the lab. `chance` makes the
+    random choices."""
     students = list(people)
     if words.links:
         identifiers, links = networks.from_file(Path(words.links), words.nodes)
