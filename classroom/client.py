@@ -401,24 +401,24 @@ class Client:
         self.hang_up()
 
     def close(self) -> Close:
-        """Applies all chosen moves at once, for a teacher."""
+        """Closes the step, which applies all chosen moves at once, for a teacher."""
         it = self.ask(do="close")
         return Close(it["at"], it["place"], tuple(it["moved"]))
 
     def fault(self, node: int, p: int | None, m: bool) -> Edit:
-        """Sets a node's registers, for a teacher."""
+        """Sets the registers p and m of a node, for a teacher."""
         return self._edit(do="fault", node=node, p=p, m=m)
 
     def link(self, a: int, b: int) -> Edit:
-        """Adds a link, for a teacher."""
+        """Adds the link between the nodes a and b, for a teacher."""
         return self._edit(do="link", a=a, b=b)
 
     def cut(self, a: int, b: int) -> Edit:
-        """Removes a link, for a teacher."""
+        """Removes the link between the nodes a and b, for a teacher."""
         return self._edit(do="cut", a=a, b=b)
 
     def release(self, node: int) -> Edit:
-        """Takes a chosen move back, for a teacher."""
+        """Takes the chosen move of a node back, for a teacher."""
         return self._edit(do="release", node=node)
 
     def _edit(self, **request: object) -> Edit:

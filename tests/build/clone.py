@@ -1,5 +1,5 @@
-"""A small clone with a stand-in for `rt`, which proves nothing. It prints what `rt ci` would print, and keeps what
-it has "proved"."""
+"""A small clone with a stand-in for the toolchain's `rt`, which proves nothing. The stand-in prints what `rt ci` would
+print, and keeps what it has "proved". Settings are files that it reads."""
 from __future__ import annotations
 
 import os
@@ -70,6 +70,7 @@ class InClone(unittest.TestCase):
     """A test with a clone, a stand-in `rt` on the path, and a folder for temporary files that has to be empty at the end."""
 
     def setUp(self) -> None:
+        """Makes the clone and the stand-in."""
         room = tempfile.TemporaryDirectory()
         self.addCleanup(room.cleanup)
         self.room = Path(room.name)
@@ -95,16 +96,17 @@ class InClone(unittest.TestCase):
                 "PYTHONDONTWRITEBYTECODE": "1", "RT_JOBS": "1", **more}
 
     def set(self, name: str, text: str) -> None:
-        """Writes a setting for the stand-in."""
+        """Writes the setting `name` for the stand-in."""
         (self.room / name).write_text(text, encoding="utf-8")
 
     def call(self, *words: str | Path, **more: str) -> subprocess.CompletedProcess[str]:
-        """Runs a command of the clone to its end."""
+        """Runs a command of the clone to its end, with `more` in its environment. Returns its result."""
         return subprocess.run(words, cwd=self.clone, stdin=subprocess.DEVNULL, capture_output=True, text=True,
                               env=self.environment(**more), timeout=LIMIT, check=False)
 
     def begun(self, *words: str | Path) -> subprocess.Popen[str]:
-        """Starts a command as the leader of a group, and waits until the stand-in runs in it."""
+        """Starts a command of the clone as the leader of a group of processes, and waits until the stand-in runs in it.
+        Returns its process."""
         (self.room / "pids").unlink(missing_ok=True)
         going = subprocess.Popen(words, cwd=self.clone, stdin=subprocess.DEVNULL, stdout=subprocess.PIPE, stderr=subprocess.PIPE,
                                  text=True, env=self.environment(), start_new_session=True)
@@ -115,7 +117,7 @@ class InClone(unittest.TestCase):
         return going
 
     def pids(self) -> list[int]:
-        """Returns the processes of the running stand-in."""
+        """Returns the numbers of the stand-in's running processes."""
         text = (self.room / "pids").read_text(encoding="utf-8") if (self.room / "pids").exists() else ""
         return [int(it) for it in text.split()]
 
@@ -126,7 +128,7 @@ class InClone(unittest.TestCase):
         return str(error)
 
     def waits(self, holds: object) -> None:
-        """Waits until a condition holds."""
+        """Waits until a function returns a true value. Fails after a time limit."""
         assert callable(holds)
         until = time.monotonic() + LIMIT
         while not holds():
@@ -143,12 +145,12 @@ class InClone(unittest.TestCase):
                 os.kill(pid, signal.SIGKILL)
 
     def program(self, crate: str) -> Path:
-        """Returns the path of a program of the clone."""
+        """Returns the path of a crate's program in the clone."""
         return self.clone / "crates" / crate / "out" / crate
 
 
 def is_there(pid: int) -> bool:
-    """Returns whether a process is running."""
+    """Returns whether a process with this number is running."""
     try:
         return Path(f"/proc/{pid}/stat").read_text(encoding="utf-8").rpartition(") ")[2][0] != "Z"
     except OSError:

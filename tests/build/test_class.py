@@ -31,11 +31,11 @@ class SetsUp(InClone):
         self.set("program", PROGRAM)
 
     def made(self) -> list[str]:
-        """Returns the names of the files that `new` has made."""
+        """Returns the names of the files that `./class new` has made."""
         return sorted(it.name for it in self.clone.glob("maths*"))
 
     def new(self, *words: str, **more: str) -> subprocess.CompletedProcess[str]:
-        """Calls `./class new` to its end."""
+        """Runs `./class new` with these arguments to its end. Returns its result."""
         return self.call("./class", "new", *WORDS, *words, **more)
 
     def test_it_builds_and_goes_on(self) -> None:

@@ -154,7 +154,8 @@ class Beside(InTree):
     """Wrong bodies beside the proofs."""
 
     def wrong_tells(self, proofs: str, last: str = "echo 7 passed, 0 failed") -> str:
-        """Returns the input of the wrong bodies beside proofs with this output, and what the check prints."""
+        """Runs a check in which the proofs are the shell line `proofs` and the wrong bodies end with the line `last`.
+        Returns the standard input of the wrong bodies, and what the check prints."""
         self.stand_in(part("well", WELL), wrong=f'touch "$ROOM/begun"; cat > "$ROOM/told"; {last}', proofs=proofs)
         self.said = self.check().stdout
         return (self.room / "told").read_text(encoding="utf-8")
@@ -200,7 +201,7 @@ class Ends(InTree):
     """A check that is ended, and two at once."""
 
     def ended(self, number: signal.Signals, whole_group: bool) -> None:
-        """Checks that nothing is left of a check that this signal ends."""
+        """Checks that nothing is left of a check after this signal to its process, or to its whole group."""
         for name in ("begun", "pids"):
             (self.room / name).unlink(missing_ok=True)
         self.stand_in(part("well", WELL), part("on", GOES_ON))
@@ -245,8 +246,8 @@ class Ends(InTree):
         self.assertEqual(self.check("quick").returncode, 0)
 
     def killed(self, kill: Callable[[int], None]) -> int:
-        """Checks that nothing is left of a check in which `kill` has killed a process, after another check has
-        run. Returns the status of the first."""
+        """Checks that nothing is left of a check in which `kill` has killed a process, after another check has run.
+        `kill` gets the number of the check's process. Returns the status of the killed check."""
         for name in ("begun", "pids"):
             (self.room / name).unlink(missing_ok=True)
         self.stand_in(part("on", GOES_ON))

@@ -18,25 +18,26 @@ Sources = dict[str, str]  # the text of each module
 
 
 def sources() -> Sources:
-    """Returns all modules of `classroom`."""
+    """Returns the text of each module of `classroom`, by its name."""
     files = sorted((TOP / "classroom").rglob("*.py"))
     return {name_of(file): file.read_text(encoding="utf-8") for file in files}
 
 
 def name_of(file: Path) -> str:
-    """Returns a module's name."""
+    """Returns the dotted name of the module in a file."""
     return ".".join(file.relative_to(TOP).with_suffix("").parts).removesuffix(".__init__")
 
 
 def height(module: str) -> int:
-    """Returns the level of a module, which is that of its package."""
+    """Returns the level of a module, which is that of its package: a module may import from lower levels."""
     if module in (BOTTOM, "classroom"):
         return -1
     return len(PACKAGES) if module == TOPMOST else PACKAGES.index(module.split(".")[1])
 
 
 def origin(module: str, node: ast.ImportFrom, is_package: bool) -> str:
-    """Returns the module from which a statement imports, also if its name begins with dots."""
+    """Returns the dotted name of the module from which a statement of a module imports, also if the statement has a
+    relative name."""
     parts = module.split(".")
     near = parts[:len(parts) + is_package - node.level] if node.level else []
     return ".".join([*near, *([node.module] if node.module else [])])
@@ -44,8 +45,8 @@ def origin(module: str, node: ast.ImportFrom, is_package: bool) -> str:
 
 @cache
 def statements(module: str, text: str, is_package: bool) -> tuple[tuple[str, str], ...]:
-    """Returns each imported name with its module, wherever the statement is. A name that is only known at run time
-    is `?`."""
+    """Returns each name that the text of a module imports, with the module that it is from. A name that is only known
+    at run time is `?`."""
     found: list[tuple[str, str]] = []
     for node in ast.walk(ast.parse(text)):
         if isinstance(node, ast.Import):
@@ -58,14 +59,15 @@ def statements(module: str, text: str, is_package: bool) -> tuple[tuple[str, str
 
 
 def imported(module: str, known: Sources) -> list[str]:
-    """Returns the modules that a module imports."""
+    """Returns the modules of `classroom` that a module imports."""
     is_package = any(it.startswith(f"{module}.") for it in known)
     found = statements(module, known[module], is_package)
     return [f"{whole}.{name}" if f"{whole}.{name}" in known else whole for whole, name in found]
 
 
 def circle(uses: dict[str, list[str]]) -> list[str]:
-    """Returns a cycle of imports as a list of modules, or none if there is no cycle."""
+    """Returns a cycle of imports as a list of modules, or an empty list if there is no cycle. `uses` has the imports of
+    each module."""
     try:
         TopologicalSorter(uses).prepare()
     except CycleError as error:
@@ -74,7 +76,7 @@ def circle(uses: dict[str, list[str]]) -> list[str]:
 
 
 def faults(known: Sources) -> list[str]:
-    """Returns what is wrong with the imports."""
+    """Returns error texts about the imports of these modules that go up or in a circle."""
     found, uses = [], dict[str, list[str]]()
     for module in known:
         every = imported(module, known)
@@ -125,7 +127,7 @@ class Imports(unittest.TestCase):
         self.assertEqual({it.suffix for it in files if it.parent.name != "pages"}, {".py"})
 
     def planted(self, name: str, line: str) -> list[str]:
-        """Returns what is wrong after a line is added to a module."""
+        """Returns the error texts after a line is added to the module `name`."""
         known = sources()
         known[f"classroom.{name}"] += f"\n{line}\n"
         return faults(known)

@@ -65,7 +65,7 @@ class Called(unittest.TestCase):
             shutil.copytree(TOP / name, self.room / name, ignore=shutil.ignore_patterns("__pycache__"))
 
     def called(self, *words: str | Path) -> tuple[int, str, str]:
-        """Returns the exit status, the output and the standard error of a call."""
+        """Runs the model with these arguments. Returns its exit status, its output and its standard error."""
         done = subprocess.run([sys.executable, "-B", "-m", "model", *words], cwd=self.room, capture_output=True, text=True, check=False)
         return done.returncode, done.stdout, done.stderr
 

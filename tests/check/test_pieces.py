@@ -15,7 +15,7 @@ SHELL = ("sh", "-c")
 
 
 def done(output: str, status: int = 0) -> Done:
-    """Returns the outcome of a part with this output and status."""
+    """Returns a part that has ended with this output and status."""
     return Done(Part("it", ("true",), 1, 1), status, 1.0, 0.5, output)
 
 

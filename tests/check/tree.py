@@ -1,4 +1,4 @@
-"""A tree with a `./check` whose parts are scripts of the tests."""
+"""A copy of the repository's tree with a `./check` whose parts are shell lines of the tests."""
 from __future__ import annotations
 
 import os
@@ -28,7 +28,7 @@ Quick = tuple[str, str, int, tuple[str, ...], tuple[str, ...]]
 
 
 def part(name: str, line: str, width: int = 1, needs: tuple[str, ...] = (), likes: tuple[str, ...] = ()) -> Quick:
-    """Returns a part of the stand-in tables."""
+    """Returns a part for the stand-in's table of quick parts, which runs a shell line."""
     return name, line, width, needs, likes
 
 
@@ -36,6 +36,7 @@ class InTree(unittest.TestCase):
     """A test with a tree of its own, and a folder for temporary files that has to be empty at the end."""
 
     def setUp(self) -> None:
+        """Makes the tree."""
         room = tempfile.TemporaryDirectory()
         self.addCleanup(room.cleanup)
         self.room, self.tree, self.temporary = (Path(room.name) / name for name in ("", "tree", "tmp"))
@@ -52,7 +53,8 @@ class InTree(unittest.TestCase):
         needs.write_text(text.replace("\ndef apt(", NEED + "\n\ndef apt("), encoding="utf-8")
 
     def stand_in(self, *quick: Quick, proofs: str = "echo 5 passed, 0 failed", wrong: str = "echo 7 passed, 0 failed") -> None:
-        """Sets the parts, and notes which files exist then."""
+        """Sets the quick parts, and the shell lines of the proofs and of the wrong bodies. Notes which files exist
+        then."""
         tables = TABLES.format(quick=[*quick], proofs=proofs, wrong=wrong)
         (self.tree / "tools/check/parts.py").write_text(self.original + tables, encoding="utf-8")
         self.stood = self.files()
@@ -62,31 +64,33 @@ class InTree(unittest.TestCase):
         return sorted(str(it.relative_to(self.tree)) for it in self.tree.rglob("*"))
 
     def environment(self, **more: str) -> dict[str, str]:
-        """Returns the environment of a check: without a gate, and with its own folder for temporary files if they
-        are checked."""
+        """Returns the environment of a check: without CI, and with its own folder for temporary files if they are
+        checked."""
         kept = {name: it for name, it in os.environ.items() if name != "CI"}
         return {**kept, "TMPDIR": str(self.temporary), "ROOM": str(self.room), **more}
 
     def check(self, *words: str, program: str = "check", **more: str) -> subprocess.CompletedProcess[str]:
-        """Runs the check to its end, and checks that it leaves nothing."""
+        """Runs `./check` with these arguments to its end, and checks that it leaves nothing. Returns its result."""
         done = self.check_beside(*words, program=program, **more)
         self.nothing_left()
         return done
 
     def check_beside(self, *words: str, program: str = "check", **more: str) -> subprocess.CompletedProcess[str]:
-        """Runs the check to its end while another one runs, or after one that was killed and left files."""
+        """Runs `./check` with these arguments to its end, while another check runs, or after one that was killed and
+        left files. Returns its result."""
         return subprocess.run(
             [self.tree / program, *words], cwd="/", stdin=subprocess.DEVNULL, capture_output=True, text=True,
             env=self.environment(**more), timeout=LIMIT, check=False,
         )
 
     def nothing_left(self) -> None:
-        """Checks that there is no temporary file and no new file."""
+        """Checks that the tree has no new file, and the folder for temporary files no file."""
         self.assertEqual([*self.temporary.iterdir()], [])
         self.assertEqual(self.files(), self.stood)
 
     def begun(self, *words: str) -> subprocess.Popen[str]:
-        """Starts the check as the leader of a group, and waits until one of its parts has made the file `begun`."""
+        """Starts `./check` as the leader of a group of processes, and waits until one of its parts has made the file
+        `begun`. Returns its process."""
         going = subprocess.Popen(
             [self.tree / "check", *words], stdin=subprocess.DEVNULL, stdout=subprocess.PIPE, stderr=subprocess.STDOUT,
             text=True, env=self.environment(), start_new_session=True,
@@ -98,7 +102,7 @@ class InTree(unittest.TestCase):
         return going
 
     def waits(self, holds: object) -> None:
-        """Waits until a condition holds."""
+        """Waits until a function returns a true value. Fails after a time limit."""
         assert callable(holds)
         until = time.monotonic() + LIMIT
         while not holds():
@@ -107,14 +111,14 @@ class InTree(unittest.TestCase):
 
 
 def ended(going: subprocess.Popen[str]) -> None:
-    """Ends a check if it is running."""
+    """Kills a check with its group if it is running."""
     if going.poll() is None:
         going.terminate()
         going.communicate(timeout=LIMIT)
 
 
 def is_there(pid: int) -> bool:
-    """Returns whether a process is running."""
+    """Returns whether a process with this number is running."""
     try:
         return Path(f"/proc/{pid}/stat").read_text(encoding="utf-8").rpartition(") ")[2][0] != "Z"
     except OSError:

@@ -1,4 +1,5 @@
-"""The browser that all tests of a process share, and the contents of its page."""
+"""The browser that all tests of a process share, and the contents of its page. `Shown` has the texts and attributes of
+a page by name."""
 from __future__ import annotations
 
 import atexit
@@ -57,7 +58,7 @@ def started() -> Any:
 
 @cache
 def browser() -> Any:
-    """Returns the browser of this process."""
+    """Returns the browser of this process. Starts one at the first call."""
     driver = started()
     atexit.register(driver.quit)
     return driver
@@ -70,7 +71,7 @@ def is_ready(driver: Any) -> bool:
 
 
 def until(driver: Any, holds: Any) -> None:
-    """Waits until the page satisfies a condition."""
+    """Waits until a function of the driver returns a true value. Fails after a time limit."""
     wait: Any = WebDriverWait
     wait(driver, LIMIT, poll_frequency=0.05).until(holds)
 
@@ -82,13 +83,13 @@ def press(driver: Any, *keys: str) -> None:
 
 
 def shown(driver: Any) -> Shown:
-    """Returns the contents of the page."""
+    """Returns the contents of the page, read from its elements."""
     root, nodes, line = driver.execute_script(ATTRIBUTES)
     return root, sorted(nodes, key=lambda node: int(node["node"])), line
 
 
 def told(state: State, frame: Frame) -> Shown:
-    """Returns the contents that a page must show for a state."""
+    """Returns the contents that a page must show for a state of the run. `frame` has the event that led to it."""
     root = {
         "place": str(state.place), "number": str(state.number), "privileged": str(len(state.privileged)),
         "pairs": str(len(state.pairs)),
@@ -152,7 +153,7 @@ def settle(driver: Any) -> None:
 
 
 def pale(driver: Any, on_paper: bool = False) -> tuple[int, list[tuple[str, float]]]:
-    """Returns the number of texts on a page, and those with a contrast below 4.5 to 1."""
+    """Returns the number of texts on a page, and the texts with a contrast below 4.5 to 1, each with its contrast."""
     texts = driver.execute_script(TEXTS, on_paper)
     told = [(text, contrast(front, back)) for text, front, back in texts]
     return len(told), [(text, ratio) for text, ratio in told if ratio < LEAST]
@@ -168,16 +169,19 @@ class Played(unittest.TestCase):
         self.room = Path(room.name)
 
     def call(self, *words: str | Path) -> subprocess.CompletedProcess[str]:
+        """Runs `./class` with these arguments to its end. Returns its result."""
         return subprocess.run([sys.executable, TOP / "class", *words], capture_output=True, text=True, check=False)
 
     def page(self, lab: Path, journal: Path) -> Path:
+        """Makes the page of a run by `./class play`, and returns its file."""
         output = self.room / f"{journal.stem}.html"
         done = self.call("play", lab, journal, "-o", output)
         self.assertEqual((done.returncode, done.stderr), (0, ""))
         return output
 
     def open(self, page: Path, fragment: str = "") -> float:
-        """Opens a page. Returns the seconds until it shows its drawing."""
+        """Opens the file of a page, with a fragment after its address. Returns the seconds until the page shows its
+        drawing."""
         start = time.monotonic()
         self.driver.get("about:blank")
         self.driver.get(page.as_uri() + fragment)
@@ -185,4 +189,5 @@ class Played(unittest.TestCase):
         return time.monotonic() - start
 
     def press(self, key: str) -> None:
+        """Presses a key on the page."""
         press(self.driver, key)

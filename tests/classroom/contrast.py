@@ -5,7 +5,7 @@ LEAST = 4.5  # the contrast of a text
 
 
 def luminance(colour: list[float]) -> float:
-    """Returns the luminance of a colour."""
+    """Returns the luminance of a colour, which has red, green and blue from 0 to 255."""
     parts = [part / 255 for part in colour]
     red, green, blue = (part / 12.92 if part <= 0.04045 else ((part + 0.055) / 1.055) ** 2.4 for part in parts)
     lightness: float = 0.2126 * red + 0.7152 * green + 0.0722 * blue

@@ -36,7 +36,8 @@ LIMIT = 300  # seconds after which something hangs; a slow machine needs a small
 
 
 def words(*given: str | Path, typed: str | None = None, **more: str) -> subprocess.CompletedProcess[str]:
-    """Runs `./class` with these arguments to its end."""
+    """Runs `./class` with these arguments to its end, with `typed` as its input and `more` in its environment. Returns
+    its result."""
     return subprocess.run(
         [sys.executable, TOP / "class", *given], input=typed or "", capture_output=True, text=True, check=False,
         env={**os.environ, **more}, timeout=LIMIT,
@@ -44,7 +45,7 @@ def words(*given: str | Path, typed: str | None = None, **more: str) -> subproce
 
 
 def a_port() -> int:
-    """Returns a free port below those that Linux gives to connections, so that it stays free."""
+    """Returns a free port below the range from which Linux chooses ports by itself, so that the port stays free."""
     while True:
         port = random.randint(20000, 32000)
         with socket.socket() as it:
@@ -58,14 +59,14 @@ def a_port() -> int:
 
 @contextmanager
 def no_server() -> Iterator[int]:
-    """Yields a port on which nobody listens, and reserves it meanwhile."""
+    """Yields a port on which no program listens, and reserves it meanwhile."""
     with socket.socket() as it:
         it.bind(("127.0.0.1", 0))
         yield it.getsockname()[1]
 
 
 def wait_until(holds: Callable[[], object], what: str = "") -> None:
-    """Waits until a condition holds. Raises an error with `what` after a time limit."""
+    """Waits until a function returns a true value. Raises an error with the text `what` after a time limit."""
     end = time.monotonic() + LIMIT
     while not holds():
         assert time.monotonic() < end, what
@@ -73,15 +74,15 @@ def wait_until(holds: Callable[[], object], what: str = "") -> None:
 
 
 def stop(process: int) -> None:
-    """Stops a process, and waits until all its threads are stopped. A thread that waits for a processor would
-    still answer."""
+    """Stops a process by a signal, and waits until all its threads are stopped. A thread that waits for a processor
+    would still answer."""
     os.kill(process, signal.SIGSTOP)
     while any(state(task) != "T" for task in Path(f"/proc/{process}/task").iterdir()):
         time.sleep(0.01)
 
 
 def state(task: Path) -> str:
-    """Returns the letter of a thread's state."""
+    """Returns the letter for the state of a thread, whose folder in /proc is given."""
     return (task / "stat").read_text(encoding="utf-8", errors="replace").rpartition(") ")[2][:1]
 
 
@@ -121,21 +122,21 @@ class Going:
         self.until(ready)
 
     def until(self, pattern: str) -> str:
-        """Reads lines until one matches the pattern. Ends the run if none does."""
+        """Reads lines until one matches the pattern, and returns it. If the run ends before, fails."""
         for line in self.read():
             if re.search(pattern, line):
                 return line
         raise AssertionError(f"no {pattern} in {self.lines}")
 
     def until_each(self, *patterns: str) -> None:
-        """Reads lines until each pattern has matched one, in any order."""
+        """Reads lines until each of these patterns has matched one, in any order."""
         left = list(patterns)
         while left:
             line = self.until("|".join(left))
             left = [pattern for pattern in left if not re.search(pattern, line)]
 
     def read(self) -> Iterator[str]:
-        """Yields the next lines. Ends a run that takes too long."""
+        """Yields the next lines of the run's output. Kills a run that takes too long."""
         assert self.process.stdout is not None
         late = threading.Timer(LIMIT, self.process.terminate)
         late.start()
@@ -147,7 +148,7 @@ class Going:
             late.cancel()
 
     def type(self, line: str) -> None:
-        """Types a line."""
+        """Sends a line to the run's desk, as if it were typed."""
         assert self.process.stdin is not None
         self.process.stdin.write(line + "\n")
         self.process.stdin.flush()
@@ -164,7 +165,7 @@ class Going:
         return self.process.wait(LIMIT)
 
     def server(self) -> int:
-        """Returns the process number of the server."""
+        """Returns the number of the server's process."""
         children = Path(f"/proc/{self.process.pid}/task/{self.process.pid}/children").read_text(encoding="ascii").split()
         assert len(children) == 1
         return int(children[0])
@@ -183,9 +184,10 @@ class Going:
 
 
 class Rows:
-    """The lines that a page receives, and all bytes that came, those of the headers too."""
+    """The lines that the page to play receives after a hello, and all bytes that came, with those of the headers."""
 
     def __init__(self, address: str, name: str, key: str) -> None:
+        """Sends the hello of a student to the page's server at an address."""
         parts = urlsplit(address)
         self.connection = http.client.HTTPConnection("127.0.0.1", parts.port or 0, timeout=LIMIT)
         self.connection.request("POST", "/enter", json.dumps({"name": name, "key": key}), {"Host": parts.netloc})
@@ -194,7 +196,7 @@ class Rows:
         self.bytes = bytes(str(self.answer.headers), "utf-8")
 
     def next(self) -> dict[str, Any]:
-        """Returns the next line that isn't empty."""
+        """Returns the values in the next line that isn't empty."""
         while True:
             line = self.answer.readline()
             self.bytes += line
@@ -203,13 +205,13 @@ class Rows:
                 return row
 
     def at(self, number: int) -> dict[str, Any]:
-        """Returns the line of a configuration."""
+        """Reads up to the line about the configuration with this number, and returns its values."""
         while (row := self.next())["at"] != number:
             pass
         return row
 
     def rest(self) -> list[dict[str, Any]]:
-        """Returns all remaining lines."""
+        """Returns the values in all remaining lines."""
         text = self.answer.read()
         self.bytes += text
         return [json.loads(line) for line in text.splitlines()]
@@ -231,7 +233,7 @@ class InTerminal:
         self.until(b"words: ")
 
     def until(self, wanted: bytes) -> None:
-        """Reads until a text was printed."""
+        """Reads the terminal until a text was printed."""
         while wanted not in self.text:
             if not select.select([self.ours], [], [], LIMIT)[0]:
                 raise AssertionError(f"no {wanted!r} in {self.text!r}")
@@ -251,7 +253,7 @@ class Cycle(InRoom):
     """Runs over the cycle of `examples/`, or a lab with its students."""
 
     def bot(self, going: Going, name: str, *command: str | Path) -> subprocess.Popen[bytes]:
-        """Starts the bot of a student."""
+        """Starts the bot of a student in a run, by default the example in Python. Returns its process."""
         bot = subprocess.Popen(
             [*(command or (sys.executable, EXAMPLES / "bot.py")), self.slip(going.port, name)],
             stdin=subprocess.DEVNULL, stdout=subprocess.DEVNULL, stderr=subprocess.DEVNULL,
@@ -261,13 +263,14 @@ class Cycle(InRoom):
         return bot
 
     def slip(self, port: int, name: str) -> Path:
-        """Writes the slip of a student, and returns its path."""
+        """Writes the slip of a student of the cycle with this port, and returns its path."""
         nodes = ",".join(map(str, read(CYCLE).nodes_of(name)))
         made = self.room / f"{name}-{port}.slip"  # Who was given it before may still be about to read it.
         return made if made.exists() else self.file(made.name, f"port {port}\nname {name}\nkey {KEYS[name]}\nnodes {nodes}\n")
 
     def whole(self, folder: Path) -> int:
-        """Checks that the folder of an ended run is complete and private. Returns the number of its events."""
+        """Checks that the folder of an ended run has all files, and that nobody else can read them. Returns the number
+        of its events."""
         self.assertEqual(folder.stat().st_mode & 0o777, 0o700)
         for name in ("lab.toml", "journal", "audit.txt", "marks.txt", "marks.json", "run.html", "run.txt", "server.txt"):
             self.assertTrue((folder / name).is_file(), name)

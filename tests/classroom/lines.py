@@ -35,19 +35,19 @@ MARKUP = re.compile(r"</?[a-z][^<>]*>?|[\w:-]+=\\?\"[^\"]*\\?\"?")
 
 
 def template(node: ast.JoinedStr | ast.Constant) -> str:
-    """Returns a text with `{}` for each value in it."""
+    """Returns the text of a literal or an f-string in a source, with `{}` for each value in it."""
     if isinstance(node, ast.Constant):
         return str(node.value)
     return "".join(str(part.value) if isinstance(part, ast.Constant) else "{}" for part in node.values)
 
 
 def is_call_of(node: ast.AST, names: tuple[str, ...]) -> bool:
-    """Returns whether a node calls a function of one of these names."""
+    """Returns whether a node of a source calls a function or method of one of these names."""
     return isinstance(node, ast.Call) and ast.unparse(node.func).rpartition(".")[2] in names
 
 
 def texts(node: ast.AST) -> Iterator[str]:
-    """Yields the texts below a node of a source, but for docstrings, regular expressions and the help of options."""
+    """Yields the texts in a node of a source. Leaves out docstrings, regular expressions and the help of options."""
     for child in ast.iter_child_nodes(node):
         is_text = isinstance(child, ast.JoinedStr) or isinstance(child, ast.Constant) and isinstance(child.value, str)
         if isinstance(child, (ast.JoinedStr, ast.Constant)) and is_text:
@@ -74,13 +74,13 @@ class Page(HTMLParser):
 
 
 def literals(source: str) -> Iterator[str]:
-    """Yields the texts of a source in another language than Python, without its comments."""
+    """Yields the texts in a source of another language than Python. Leaves out comments."""
     for found in LITERALS.finditer(COMMENTS.sub("", source)):
         yield VALUE.sub("{}", next(text for text in (*found.groups(), "") if text is not None).replace("\\\n", ""))
 
 
 def texts_of(file: Path) -> Iterator[str]:
-    """Yields the texts of a source."""
+    """Yields the texts in the file of a source, which may be a page or in any language."""
     source = file.read_text(encoding="utf-8")
     if file.suffix == ".py":
         yield from texts(ast.parse(source))

@@ -19,11 +19,11 @@ class Machine:
 
     @property
     def on(self) -> tuple[str, ...]:
-        """Returns the words before a command."""
+        """Returns the words to put before a command that is to run on the machine."""
         return "nsenter", f"--net=/proc/{self.process}/ns/net"
 
     def call(self, *words: str) -> None:
-        """Runs a command on the machine."""
+        """Runs a command on the machine. Raises an error if it fails."""
         subprocess.run([*self.on, *words], check=True, stdin=subprocess.DEVNULL, capture_output=True)
 
 
@@ -36,7 +36,7 @@ def can_be_made() -> bool:
 
 @contextmanager
 def two() -> Iterator[tuple[Machine, Machine]]:
-    """Yields the teacher's machine and that of the students."""
+    """Yields the teacher's machine and that of the students. Removes them at the end."""
     holders = [subprocess.Popen(["unshare", "--net", "sh", "-c", "echo; exec sleep 100000"], stdout=subprocess.PIPE) for _ in range(2)]
     try:
         for it in holders:

@@ -27,7 +27,8 @@ def examples(room: Path) -> list[tuple[Path, Path]]:
 
 
 def lab_text(nodes: int, links: list[tuple[int, int]], events: int) -> str:
-    """Returns a lab in which ana and ben share the nodes with an even identifier, and ana owns the others."""
+    """Returns the text of a lab with these links, in which ana and ben share the nodes with an even identifier, and ana
+    owns the others."""
     rows = [f"events = {events}", "sessions = 2", f"links = {[list(link) for link in links]}"]
     rows += ["[teacher]", 'name = "tess"', 'key = "chalk"']
     for name, key in STUDENTS:
@@ -38,8 +39,8 @@ def lab_text(nodes: int, links: list[tuple[int, int]], events: int) -> str:
 
 
 def many_owners(room: Path, nodes: int) -> Path:
-    """Writes a cycle with this number of nodes: names with the same initial, another name, and two owners for each
-    third node."""
+    """Writes a lab with a cycle of so many nodes, and returns its path. Its owners have names with the same initial or
+    another one, and each third node has two owners."""
     names = [f"student-{number}" for number in range(1, 13)] + ["zoe"]
     lab = room / f"owners-{nodes}.toml"
     rows = ["events = 9", "sessions = 2", "links = [" + ", ".join(f"[{a}, {a % nodes + 1}]" for a in range(1, nodes + 1)) + "]"]
@@ -52,7 +53,8 @@ def many_owners(room: Path, nodes: int) -> Path:
 
 
 def edited_run(room: Path) -> tuple[Path, Path]:
-    """Returns a run with every kind of event: moves, a release, closes, faults, a link and a cut."""
+    """Writes a run with every kind of event: moves, a release, closes, faults, a link and a cut. Returns the lab and
+    the journal."""
     lab, script = room / "edited.toml", room / "edited.script"
     lab.write_text(lab_text(5, [(1, 2), (2, 3), (3, 4), (4, 5)], 100))
     ana, tess = '1 {"do":"hello","name":"ana","key":"a-key"}', '2 {"do":"hello","name":"tess","key":"chalk"}'
@@ -83,8 +85,8 @@ def largest_run(room: Path) -> tuple[Path, Path]:
 
 
 def long_run(room: Path, events: int) -> tuple[Path, Path]:
-    """Writes a run over a path of 15 nodes. It repeats a fault, the move that it enables, and a close. Returns the
-    lab and the journal."""
+    """Writes a run of so many events over a path of 15 nodes. It repeats a fault, the move that this enables, and a
+    close. Returns the lab and the journal."""
     lab, journal = room / "long.toml", room / "long.journal"
     lab.write_text(lab_text(15, [(a, a + 1) for a in range(1, 15)], events))
     rows = []

@@ -17,7 +17,7 @@ KEYWORDS = {
 
 
 def read(name: str) -> Schema:
-    """Returns a schema of `docs/`."""
+    """Returns the schema in a file of `docs/`."""
     found: Schema = json.loads((TOP / "docs" / f"{name}.schema.json").read_text(encoding="utf-8"))
     return found
 

@@ -22,6 +22,7 @@ class GoingClass(Going):
     """The desk of a running class. Its lines are read one by one."""
 
     def __init__(self, test: InRoom, *more: str | Path, **environment: str) -> None:
+        """Starts a class of two networks with these options, and reads up to the line with its commands."""
         self.lines: list[str] = []
         self.process = subprocess.Popen(
             [sys.executable, TOP / "class", *more, "--typed"], stdin=subprocess.PIPE, stdout=subprocess.PIPE,
@@ -35,21 +36,22 @@ class GoingClass(Going):
         self.until("^words: ")
 
     def record(self, name: str) -> Record:
-        """Returns the record in the folder of a network."""
+        """Returns the record of the run of the network with this name."""
         record = Record.read(self.folder / name)
         assert record is not None
         return record
 
     def kill(self, name: str) -> None:
-        """Kills the server of a network."""
+        """Kills the server of the network with this name."""
         os.kill(self.record(name).server.number, signal.SIGKILL)
 
     def state(self, name: str) -> dict[str, Any]:
-        """Returns the state that a network's run wrote last."""
+        """Returns the state that the run of the network with this name wrote last."""
         return state_of(self.folder / name) or {}
 
     def marks(self, name: str) -> dict[str, int]:
-        """Returns the marks in the folder of a network's run."""
+        """Returns the number of applied moves of each student, from the marks in the folder of the network with this
+        name."""
         run: dict[str, int] = json.loads((self.folder / name / "marks.json").read_text(encoding="utf-8"))["runs"][0]
         return run
 
@@ -75,11 +77,11 @@ class Classes(InRoom):
         self.labs = [self.room / "maths-1.toml", self.room / "maths-2.toml"]
 
     def begin(self, *more: str | Path) -> GoingClass:
-        """Starts a class, and returns its desk."""
+        """Starts a class with these options, and returns its desk."""
         return GoingClass(self, "run", *self.labs, "--into", self.room / "runs", "--port", str(a_port()), *more)
 
     def bot(self, desk: GoingClass, network: str, name: str) -> subprocess.Popen[bytes]:
-        """Starts the bot of a student."""
+        """Starts the bot of a student in a network. Returns its process."""
         number = network.rpartition("-")[2]
         text = (self.room / f"maths-{number}-slips" / f"{name}.slip").read_text(encoding="utf-8")
         slip = self.file(f"{name}.{network}.slip", re.sub(r"(?m)^port \d+$", f"port {desk.record(network).port}", text))

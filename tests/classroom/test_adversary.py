@@ -19,7 +19,7 @@ from tests.classroom.help import CYCLE, EXAMPLES, KEYS, Cycle, Going, words
 
 
 def rows(daemon: str, family: str, nodes: int, seeds: range) -> list[Row]:
-    """Returns the rows of runs with a daemon."""
+    """Returns the rows of runs of an experiment under a daemon, one for each seed."""
     return [row for row, _ in runs(Setting(family, nodes, Daemon.of(daemon), "random"), list(seeds))]
 
 
@@ -27,7 +27,7 @@ class Search(unittest.TestCase):
     """The search by itself."""
 
     def over(self, made: labs.Lab) -> tuple[Adversary, list[int]]:
-        """Returns an adversary with its program, and the privileged nodes."""
+        """Returns an adversary with a program over this network, and the privileged nodes."""
         it = Adversary("test")
         self.addCleanup(it.close)
         report = it.bench_over(made).begin(made)

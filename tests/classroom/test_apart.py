@@ -21,12 +21,12 @@ WITHOUT = ("unshare", "-U", "--map-root-user", "sh", "-c", 'echo 0 > /proc/sys/u
 
 
 def can_be_without() -> bool:
-    """Returns whether a program can be run here that can't make namespaces."""
+    """Returns whether programs can be run here in such a way that they can't make namespaces."""
     return shutil.which("unshare") is not None and subprocess.run([*WITHOUT, "true"], capture_output=True, check=False).returncode == 0
 
 
 def spelled(*words: str | Path) -> str:
-    """Returns words for a bot that don't look like a file's path in its command."""
+    """Returns the words of a bot's command as one word for a shell, so that none looks like the path of a file."""
     return " ".join(str(word).encode().hex() for word in words)
 
 
@@ -39,7 +39,8 @@ class Grades(InRoom):
         shutil.copy(EXAMPLES / "path.toml", self.room / "labs")
 
     def grades(self, *faults: str, before: tuple[str, ...] = (), more: tuple[str | Path, ...] = ()) -> str:
-        """Returns the output of a grade of these bots with the three usual daemons."""
+        """Grades the bots with these faults under the three usual daemons. `before` are words before the call, and
+        `more` are options. Returns the output."""
         bots = [f"python3 {FAULTY} {fault}" for fault in faults]
         call: list[str | Path] = [*before, sys.executable, TOP / "class", "grade", *bots, "--labs", self.room / "labs", "--timeout", "60",
                                   "--memory", "200", "--into", self.room / "grades", "--json", self.room / "cases.json", *more]
@@ -87,7 +88,7 @@ class Apart(Grades):
         self.assertEqual(len(seen), 2 * len(files) + 3)
 
     def peeked(self, *bots: str, more: tuple[str | Path, ...] = ()) -> str:
-        """Returns the last line of the first bot."""
+        """Grades these bots, and returns the last line that the first one printed."""
         call: list[str | Path] = [sys.executable, TOP / "class", "grade", *bots, "--labs", self.room / "labs", "--daemon", "central",
                                   "--into", self.room / "grades", "--json", self.room / "cases.json", "--timeout", "60", *more]
         done = subprocess.run(call, stdin=subprocess.DEVNULL, capture_output=True, text=True, check=False, timeout=LIMIT)

@@ -19,7 +19,8 @@ class Attach(Cycle):
     """Runs over the cycle of `examples/`."""
 
     def killed(self, *more: str) -> Going:
-        """Returns a run that was killed after a move, a close and a fault. Its server is still running."""
+        """Starts a run with these options, and kills it after a move, a close and a fault. Returns it. Its server is
+        still running."""
         going = Going(self, CYCLE, "--close", "by-hand", *more)
         server = going.server()
         self.addCleanup(self.end, server)
@@ -35,12 +36,12 @@ class Attach(Cycle):
         return going
 
     def end(self, server: int) -> None:
-        """Ends a server that a test has left running."""
+        """Ends the server with this number, which a test has left running."""
         if Process.of(server).lives():
             os.kill(server, signal.SIGKILL)
 
     def marks(self, folder: Path) -> dict[str, int]:
-        """Returns the number of applied moves of each student."""
+        """Returns the number of applied moves of each student, from the marks in the folder."""
         students = json.loads((folder / "marks.json").read_text(encoding="utf-8"))["runs"][0]["students"]
         return {name: sum(it["applied"].values()) for name, it in students.items()}
 
@@ -112,7 +113,7 @@ class Attach(Cycle):
         self.assertIn("1 events, configuration 1, ", words("mark", going.folder).stdout)
 
     def until_told(self, folder: Path, line: str) -> None:
-        """Waits until `run.txt` has a line."""
+        """Waits until the file `run.txt` in the folder has a line."""
         end = time.monotonic() + LIMIT
         while line not in (folder / "run.txt").read_text(encoding="utf-8"):
             self.assertLess(time.monotonic(), end)

@@ -73,7 +73,7 @@ class Broken(Cycle):
         self.assertGreaterEqual(self.whole(going.folder), 3)
 
     def mounted(self) -> tuple[str, ...]:
-        """Returns words that run a call in which the folder of runs is a small disk."""
+        """Returns the words to put before a call, so that the folder of runs is a small disk in it."""
         (self.room / "runs").mkdir()
         for way in (["unshare", "-m"], ["unshare", "-rm"]):
             words = (*way, "sh", "-c", MOUNT, "sh", str(self.room / "runs"))
@@ -82,7 +82,7 @@ class Broken(Cycle):
         self.skipTest("not tried: a full disk, since nothing can be mounted")
 
     def fill(self, folder: Path) -> None:
-        """Fills the disk of a folder."""
+        """Fills the disk on which a folder is."""
         for turn in range(3):  # What looks whether there is room holds some for a moment.
             with (folder / f"filler{turn}").open("wb", buffering=0) as it:
                 try:
@@ -124,7 +124,8 @@ class Broken(Cycle):
         self.assertEqual(self.whole(going.folder), 60)
 
     def lost(self, act: Callable[[Path], object], status: int = 4) -> Going:
-        """Returns a run of three events that has ended with this status after `act` was done to its journal."""
+        """Starts a run, makes three events, and calls `act` with its journal. Checks that the run ends with this
+        status, and returns it."""
         going = Going(self, CYCLE, "--close", "by-hand", "--beside")
         for number in range(1, 4):
             going.type("fault 1 2 true")

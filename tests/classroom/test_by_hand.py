@@ -55,17 +55,17 @@ class Playing(InRoom):
         self.addCleanup(self.driver.get, "about:blank")
 
     def begin(self, lab: Path = CYCLE, *more: str) -> None:
-        """Starts a run whose steps are closed by hand."""
+        """Starts a run over a lab with these options, whose steps are closed by hand, and opens the page to play."""
         self.going = Going(self, lab, "--close", "by-hand", "--play", str(a_port()), *more)
         self.address = self.going.until("^page to play http").removeprefix("page to play ")
 
     def open(self, more: str = "") -> None:
-        """Loads the page again."""
+        """Loads the page again, with `more` after its address."""
         self.driver.get("about:blank")
         self.driver.get(self.address + more)
 
     def come(self, name: str = "gus", key: str = "") -> None:
-        """Enters a name and a key on the page."""
+        """Enters a name and a key on the page, by default the right one."""
         for field, text in (("name", name), ("key", key or KEYS[name])):
             element = self.driver.find_element("id", field)
             element.clear()
@@ -77,17 +77,17 @@ class Playing(InRoom):
         until(self.driver, lambda driver: driver.execute_script("return document.body.dataset.played === 'true'"))
 
     def is_told(self, text: str) -> None:
-        """Waits until the page shows this text about its connection, and lets the student enter again."""
+        """Waits until the page shows this text about its connection and lets the student enter again."""
         until(self.driver, lambda driver: text in driver.find_element("id", "connection").text)
         until(self.driver, lambda driver: driver.find_element("id", "come").is_displayed() and driver.find_element("id", "come").is_enabled())
 
     def card(self, node: int) -> dict[str, Any]:
-        """Returns what the page shows about a node."""
+        """Returns what the page shows about a node, by name."""
         found: dict[str, Any] = self.driver.execute_script(CARD, str(node))
         return found
 
     def press(self, node: int, rule: str) -> str:
-        """Presses the button of a rule. Returns the reply."""
+        """Presses the button of a rule at a node. Returns the reply that the page shows."""
         self.driver.execute_script("for (const it of document.querySelectorAll('.reply')) it.textContent = ''")
         for card in self.driver.find_elements("css selector", "#nodes section"):
             if card.find_element("class name", "id").text == str(node):
@@ -99,7 +99,7 @@ class Playing(InRoom):
         return reply
 
     def act(self, node: int) -> str:
-        """Presses the large button of a node. Returns the reply."""
+        """Presses the large button of a node. Returns the reply that the page shows."""
         self.driver.execute_script("for (const it of document.querySelectorAll('.reply')) it.textContent = ''")
         for button in self.driver.find_elements("css selector", ".btn.act"):
             if button.text.startswith(f"Node {node}: "):
@@ -109,17 +109,17 @@ class Playing(InRoom):
         return reply
 
     def close(self, number: int) -> None:
-        """Closes the step, and waits until the page shows the configuration after it."""
+        """Closes the step at the desk, and waits until the page shows the configuration with this number."""
         self.going.type("close")
         self.going.until(f"^configuration {number}: ")
         self.shows(number)
 
     def shows(self, number: int) -> None:
-        """Waits until the page shows a configuration."""
+        """Waits until the page shows the configuration with this number."""
         until(self.driver, lambda driver: driver.find_element("id", "number").text == str(number))
 
     def seats(self, wanted: str) -> None:
-        """Waits until `who` at the desk prints this."""
+        """Waits until the command `who` at the desk prints this text."""
         end = time.monotonic() + LIMIT
         while wanted not in (told := self.who()):
             self.assertLess(time.monotonic(), end, told)
@@ -283,7 +283,7 @@ class Wire(InRoom):
     """HTTP requests without a browser."""
 
     def ask(self, hands: str, verb: str, path: str, body: object = None, **head: str) -> tuple[http.client.HTTPResponse, bytes]:
-        """Returns a complete answer."""
+        """Sends a request to the page's server at an address. Returns the answer and its bytes."""
         parts = urlsplit(hands)
         connection = http.client.HTTPConnection("127.0.0.1", parts.port or 0, timeout=LIMIT)
         self.addCleanup(connection.close)
@@ -293,7 +293,7 @@ class Wire(InRoom):
         return answer, answer.read()
 
     def enter(self, address: str, name: str, key: str) -> Rows:
-        """Enters with a name and a key. Returns the lines that the server sends."""
+        """Sends a hello to the page's server at an address. Returns the lines that the server sends from then on."""
         rows = Rows(address, name, key)
         self.addCleanup(rows.connection.close)
         return rows
@@ -405,7 +405,8 @@ class Wire(InRoom):
         self.assertIn("no server at port", text)
 
     def nobody(self, hands: PlayServer) -> tuple[int, str]:
-        """Returns the answer if no server of the class listens."""
+        """Sends a hello to the page's server while no server of a class listens. Returns the status of the answer and
+        its text."""
         with served(self) as other:
             other.show(hands.students, print)
             answer, told = self.ask(other.address, "POST", "/enter", {"name": "gus", "key": "a"})
@@ -421,7 +422,7 @@ class Wire(InRoom):
 
 
 class Host:
-    """A stand-in for a server, which ends each connection when a test asks for it."""
+    """A stand-in for a class's server. It ends each connection when a word about it comes into the list `ends`."""
 
     def __init__(self, ends: list[str]) -> None:
         self.ends, self.go, self.lines = ends, threading.Event(), list[bytes]()
@@ -438,7 +439,7 @@ class Host:
         self.listener.close()
 
     def serve(self) -> None:
-        """Serves one connection after another."""
+        """Serves one connection after another until the listener is closed."""
         for word in [*self.ends, "over"]:
             try:
                 its, _ = self.listener.accept()
@@ -448,7 +449,7 @@ class Host:
                 self.answer(its, word)
 
     def answer(self, its: socket.socket, word: str) -> None:
-        """Answers a hello and looks until the connection is to end."""
+        """Answers a hello on a connection and the looks after it, and then ends the connection as `word` says."""
         for line in its.makefile("rb"):
             self.lines.append(line)
             asked = json.loads(line)
@@ -473,7 +474,7 @@ def served(test: unittest.TestCase) -> Iterator[PlayServer]:
 
 
 def without_number(row: dict[str, Any]) -> dict[str, Any]:
-    """Returns a row without the number of its configuration."""
+    """Returns the values that a page shows, without the number of the configuration."""
     return row | {"at": 0, "picture": re.sub('data-number="[0-9]+"', "", row["picture"])}
 
 

@@ -13,7 +13,7 @@ from tests.common.limits import MOST
 
 
 def table(head: str, *lines: str) -> str:
-    """Returns the text of a table in a lab's file, after an empty line."""
+    """Returns the text of a table with this header in a lab's file, after an empty line."""
     return "\n".join(("", head, *lines, ""))
 
 
@@ -33,7 +33,8 @@ class Check(InRoom):
     """A correct lab, with one change in each test."""
 
     def says(self, status: int, *wanted: str, change: tuple[str, str] = ("", ""), text: str = GOOD) -> str:
-        """Checks the status and the lines."""
+        """Checks the status of `./class check`, and that it prints these lines. The lab is `text` with `change`, an old
+        text and a new one."""
         self.assertTrue(change[0] in text)
         done = words("check", self.file("lab.toml", text.replace(*change, 1) if change[0] else text))
         self.assertEqual(done.returncode, status, done.stdout + done.stderr)
@@ -42,7 +43,7 @@ class Check(InRoom):
         return done.stdout
 
     def warns(self, *wanted: str, change: tuple[str, str]) -> None:
-        """Checks that these are the only warnings."""
+        """Checks that `./class check` prints these warnings and no others. The lab is correct except for `change`."""
         self.assertEqual(self.says(5, *wanted, change=change).count("warning: "), len(wanted))
 
     def test_nothing_to_say(self) -> None:
@@ -151,7 +152,7 @@ class Tables(unittest.TestCase):
     """Finding the lines of tables and keys, and unknown keys."""
 
     def hints(self, *lines: str) -> list[tuple[int, str, str | None]]:
-        """Returns the hints about a file with these lines."""
+        """Returns the hints about unknown keys in a file with these lines."""
         return list(unknown_keys("\n".join(lines) + "\n"))
 
     def check_hints(self, *lines: str) -> None:

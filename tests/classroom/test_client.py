@@ -126,6 +126,7 @@ class Server:
     """A listener that answers each line by the next one of these replies."""
 
     def __init__(self, test: unittest.TestCase, *replies: bytes) -> None:
+        """Listens at a free port, and answers the lines of one connection by these replies in turn."""
         self.lines: list[bytes] = []
         self.listener = socket.create_server(("127.0.0.1", 0))
         self.listener.settimeout(LIMIT)
@@ -143,7 +144,7 @@ class Server:
 
 
 def scripts() -> Iterator[tuple[bytes, dict[str, object]]]:
-    """Returns each line of the scripts with its reply."""
+    """Yields each line of the stored scripts with the values of its reply."""
     for folder in ("tests/scripts", "examples"):
         for script in sorted((TOP / folder).glob("*.script")):
             for line, reply in zip(script.read_bytes().split(b"\n"), script.with_suffix(".out").read_bytes().splitlines()):
@@ -208,7 +209,7 @@ class CommandLine(InRoom):
     """`client.py` as a program."""
 
     def called(self, *given: str) -> tuple[int, str, str]:
-        """Returns the status, the output and the standard error."""
+        """Runs `client.py` with these arguments. Returns the status, the output and the standard error."""
         done = subprocess.run([sys.executable, TOP / "classroom/client.py", *given], capture_output=True, text=True, check=False, timeout=LIMIT)
         return done.returncode, done.stdout, done.stderr
 

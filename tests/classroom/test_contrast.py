@@ -22,7 +22,7 @@ TEXTS = re.compile(r"\btext\b|\.identifier|\.owner|\.mark")
 
 
 def of_a_page(name: str) -> set[tuple[str, str]]:
-    """Returns the colours of all texts for which a style sets one, each with its background."""
+    """Returns the colours of all texts in a page's style, each with the colour of its background."""
     found = {("ink", ground) for ground in GROUNDS}
     for rule in RULE.finditer((colours.STYLE.parent / name).read_text("utf-8")):
         front, back, fill = COLOUR.search(rule["set"]), BACKGROUND.search(rule["set"]), FILL.search(rule["set"])

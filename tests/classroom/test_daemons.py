@@ -75,6 +75,7 @@ class Beside:
     """A stand-in for a desk at which moves are granted while others are released."""
 
     def __init__(self, later: list[int]) -> None:
+        """The moves of the nodes in `later` are granted one by one while others are released."""
         self.closing = Daemon("central")
         self.report = unittest.mock.Mock(privileged=[(node, "update") for node in (1, 2, 3, 4)])
         self.book = unittest.mock.Mock(chosen={3: ("ana", "update"), 1: ("ben", "update")})
@@ -120,7 +121,8 @@ class Desk(Cycle):
     """Runs with the four bots of the cycle."""
 
     def comes_back(self, daemon: str, *words: str) -> Path:
-        """Types the commands, waits after each until the class is stable, and ends. Returns the folder."""
+        """Runs a class under a daemon with its four bots. Types these commands, waits after each until the class is
+        stable, and ends it. Returns the folder."""
         going = Going(self, CYCLE, "--daemon", daemon, *SERVE)
         for name in KEYS:
             self.bot(going, name)
@@ -138,7 +140,8 @@ class Desk(Cycle):
         return going.folder
 
     def steps(self, folder: Path) -> list[tuple[set[int], set[int]]]:
-        """Returns the privileged nodes before each close, and the nodes whose moves it applied."""
+        """Returns for each close in the journal of a folder the nodes that were privileged before, and those whose
+        moves it applied."""
         _, frames = frames_of(folder / "lab.toml", folder / "journal")
         privileged, chosen = set(next(frames).state.privileged), set[int]()
         found = []

@@ -58,7 +58,7 @@ class Completed(unittest.TestCase):
     """Completion by the tab key."""
 
     def offers(self, line: str) -> list[str]:
-        """Returns the completions at the end of a line. The nodes are 1, 12 and 7."""
+        """Returns the completions at the end of a typed line. The nodes are 1, 12 and 7."""
         terminal = object.__new__(Terminal)
         terminal.words, terminal.readline = ["1", "12", "7"], unittest.mock.Mock()
         terminal.readline.get_line_buffer.return_value = line
@@ -203,7 +203,7 @@ class Late(Cycle):
         self.assertTrue(it.has_ended(LIMIT))
 
     def until(self, holds: object) -> None:
-        """Waits until a condition holds."""
+        """Waits until a function returns a true value. Fails after a time limit."""
         end = time.monotonic() + LIMIT
         assert callable(holds)
         while not holds():
@@ -297,7 +297,7 @@ class Disk(InRoom):
         self.assertEqual(told, [[], [], ["the disk has little room"], [], ["the disk is full"], [], [ROOM_AGAIN], []])
 
     def disk(self) -> Room:
-        """Returns the room on the disk of the test's folder."""
+        """Returns the object that watches the disk of the test's folder."""
         room = Room(self.room)
         self.addCleanup(room.close)
         return room
@@ -367,7 +367,7 @@ class NotDone(Cycle):
     """Commands that fail print a line, and leave no folder."""
 
     def says(self, status: int, line: str, *asked: str | Path) -> None:
-        """Checks the status and the only error line."""
+        """Runs `./class` with these arguments. Checks the status, and that the standard error is this line."""
         done = words(*asked)
         self.assertEqual((done.returncode, done.stdout), (status, ""), done.stderr)
         self.assertRegex(done.stderr, f"^{line}\n$")

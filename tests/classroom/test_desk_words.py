@@ -107,12 +107,14 @@ class Buttons(HTMLParser):
     """The buttons of a page, and its data."""
 
     def __init__(self, page: str) -> None:
+        """Reads the text of a page."""
         super().__init__()
         self.names: list[str] = []
         self.data = json.loads(page.partition('data-form="plain">')[2].partition("</script>")[0])
         self.feed(page)
 
     def handle_starttag(self, tag: str, attrs: list[tuple[str, str | None]]) -> None:
+        """Keeps a button or the element with the data."""
         if tag == "button":
             self.names.append(dict(attrs)["id"] or "")
 
@@ -135,7 +137,7 @@ class OnPage(unittest.TestCase):
         self.assertEqual(fields - {name for name in fields if f'id="{name}"' in page}, set())
 
     def filled(self, line: str) -> str:
-        """Returns a button's line with the values of the fields."""
+        """Returns the line of a button with values in place of the fields' names."""
         return re.sub(r"#(\w+)", lambda found: FIELDS[found[1]], line)
 
 

@@ -35,6 +35,8 @@ class Lines:
     line of its own."""
 
     def __init__(self, name: str, last: bytes = b"") -> None:
+        """Listens at a free port. `name` begins each answer, and `last` is sent before hanging up, if it isn't
+        empty."""
         self.name, self.last, self.taken = name, last, list[bytes]()
         self.listener = socket.create_server(("127.0.0.1", 0), backlog=1024)
         self.port: int = self.listener.getsockname()[1]
@@ -108,13 +110,13 @@ class AtDoor(InRoom):
         self.wait(lambda: (kept := routes.Kept.read(self.door.folder)) is not None and kept.process.lives())
 
     def ended(self) -> None:
-        """Ends the door's process."""
+        """Ends the process of the door."""
         self.door.close()
         self.door.child.kill()
         self.door.child.wait()
 
     def wait(self, until: object, seconds: float = LIMIT) -> None:
-        """Waits until a condition holds."""
+        """Waits until a function returns a true value. Fails after so many seconds."""
         end = time.monotonic() + seconds
         assert callable(until)
         while not until():
@@ -135,25 +137,25 @@ class AtDoor(InRoom):
         Record("lab.toml", students, 1, page, "by-hand", None, me, me, play, looks="look-token").write(run)
 
     def lines(self, name: str, last: bytes = b"") -> Lines:
-        """Returns a network that answers lines."""
+        """Makes a network whose server is a `Lines` of this name, and returns that server."""
         it = Lines(name, last)
         self.addCleanup(it.listener.close)
         self.network(name, it.port)
         return it
 
     def slip(self, name: str, fingerprint: str = "") -> Slip:
-        """Returns a slip that leads to a network through the door."""
+        """Returns a slip that leads to the network with this name through the door."""
         return Slip(4711, "gus", "heron-31", (1,), f"127.0.0.1:{self.door.port}", name, fingerprint or self.known)
 
     def files(self, slip: Slip) -> Path:
-        """Writes a slip, and returns its path."""
+        """Writes a slip into a file, and returns its path."""
         path = self.room / "gus.slip"
         path.write_text(f"port {slip.port}\nname gus\nkey heron-31\nnodes 1\ndoor {slip.door}\nnetwork {slip.network}\n"
                         f"fingerprint {slip.fingerprint}\n", encoding="utf-8")
         return path
 
     def raw(self, name: str) -> ssl.SSLSocket:
-        """Returns a TLS connection after its handshake, with or without a server name."""
+        """Returns a TLS connection to the door after its handshake. An empty `name` stands for no server name."""
         context = ssl.SSLContext(ssl.PROTOCOL_TLS_CLIENT)
         context.check_hostname, context.verify_mode = False, ssl.CERT_NONE
         it = context.wrap_socket(socket.create_connection(("127.0.0.1", self.door.port), LIMIT), server_hostname=name or None)
@@ -161,7 +163,8 @@ class AtDoor(InRoom):
         return it
 
     def half_closed(self, name: str, lines: bytes) -> bytes:
-        """Sends lines and the end of TLS, and returns all bytes that come after that."""
+        """Connects to a network through the door, sends lines and the end of TLS, and returns all bytes that come after
+        that."""
         context = ssl.SSLContext(ssl.PROTOCOL_TLS_CLIENT)
         context.check_hostname, context.verify_mode = False, ssl.CERT_NONE
         come, goes, got = ssl.MemoryBIO(), ssl.MemoryBIO(), b""
@@ -188,7 +191,7 @@ class AtDoor(InRoom):
         return got
 
     def asks(self, path: str, host: str = "", method: str = "GET", **more: str) -> tuple[int, bytes]:
-        """Returns the status and the body of an answer."""
+        """Sends a request for a path to the door. Returns the status and the body of the answer."""
         context = ssl.SSLContext(ssl.PROTOCOL_TLS_CLIENT)
         context.check_hostname, context.verify_mode = False, ssl.CERT_NONE
         it = http.client.HTTPSConnection("127.0.0.1", self.door.port, timeout=LIMIT, context=context)
@@ -316,7 +319,7 @@ class Tunnels(AtDoor):
 
     @contextmanager
     def tunnel(self, slip: Path, *more: str) -> Iterator[str]:
-        """Starts a tunnel, and yields its lines after the first."""
+        """Starts a tunnel with a slip, and yields the line that names its port."""
         with subprocess.Popen([sys.executable, CLIENT, "--tunnel", slip, *more], stdout=subprocess.PIPE, stderr=subprocess.PIPE, text=True) as it:
             try:
                 assert it.stdout is not None

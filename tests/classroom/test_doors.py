@@ -31,7 +31,7 @@ class Doors(unittest.TestCase):
         self.port = self.opened(a_port()).server_port
 
     def opened(self, port: int) -> Web:
-        """Returns the server of the page for the projector."""
+        """Returns the server of the page for the projector, at this port or the next free one."""
         pages = open_pages(port, "cycle", read(CYCLE), queue.SimpleQueue())
         pages.show(Present(State(0, 0, frozenset()), "by-hand"), self.told.append)
         self.addCleanup(pages.stop)
@@ -39,7 +39,7 @@ class Doors(unittest.TestCase):
         return pages
 
     def unserved(self) -> Web:
-        """Returns the server of the page before it serves: it listens, and accepts nobody."""
+        """Returns the server of the page for the projector before it answers: it listens, but accepts no connection."""
         return open_pages(a_port(), "cycle", read(CYCLE), queue.SimpleQueue())
 
     def connect(self) -> socket.socket:
@@ -49,7 +49,7 @@ class Doors(unittest.TestCase):
         return it
 
     def asks(self) -> int:
-        """Returns the status of an answer, or 0 if there is none."""
+        """Requests the page. Returns the status of the answer, or 0 if there is none."""
         connection = http.client.HTTPConnection("127.0.0.1", self.port, timeout=LIMIT)
         try:
             connection.request("GET", self.path)
@@ -151,7 +151,7 @@ class DoorsOfHands(Doors):
     path = "/events"
 
     def opened(self, port: int) -> Web:
-        """Returns the server of the page to play by hand."""
+        """Returns the server of the page to play by hand, at this port or the next free one."""
         hands = open_play_page(port, "cycle", read(CYCLE))
         hands.show(1, self.told.append)
         self.addCleanup(hands.stop)
@@ -159,7 +159,7 @@ class DoorsOfHands(Doors):
         return hands
 
     def unserved(self) -> Web:
-        """Returns the server of the page before it serves: it listens, and accepts nobody."""
+        """Returns the server of the page to play by hand before it answers: it listens, but accepts no connection."""
         return open_play_page(a_port(), "cycle", read(CYCLE))
 
 

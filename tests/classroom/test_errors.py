@@ -25,7 +25,7 @@ FULL = 'mount -t tmpfs -o size=64k none "$1" && head -c 1000000 /dev/zero > "$1/
 
 
 def full_disk(test: InRoom) -> tuple[Path, tuple[str, ...]]:
-    """Returns a folder, and the words that run a call in which it is a full disk."""
+    """Returns a folder, and the words to put before a call, so that the folder is a full disk in it."""
     disk = test.room / "disk"
     disk.mkdir()
     for way in (["unshare", "-m"], ["unshare", "-rm"]):
@@ -44,7 +44,8 @@ class Disks(InRoom):
         shutil.copy(EXAMPLES / "path.toml", self.room / "labs")
 
     def grades(self, before: tuple[str, ...], *more: str | Path) -> subprocess.CompletedProcess[str]:
-        """Grades a correct bot and a missing one."""
+        """Grades a correct bot and one that doesn't exist, with `before` as words before the call. Returns the
+        result."""
         given = ("grade", EXAMPLES / "bot.py", "no-such-bot", "--labs", self.room / "labs", "--daemon", "synchronous", "--timeout", "100")
         call: list[str | Path] = [*before, sys.executable, TOP / "class", *given, *more]
         return subprocess.run(call, stdin=subprocess.DEVNULL, capture_output=True, text=True, check=False, timeout=LIMIT)

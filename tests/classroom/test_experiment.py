@@ -28,7 +28,7 @@ TINY = ("--family", "path,star,random", "--nodes", "3..5", "--daemon", "central,
 
 
 def read(path: Path) -> list[dict[str, str]]:
-    """Returns the rows of a table."""
+    """Returns the rows of the table in a file, each with its cells by the columns' names."""
     with path.open(encoding="utf-8", newline="") as it:
         return list(csv.DictReader(it))
 

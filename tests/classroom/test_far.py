@@ -48,7 +48,8 @@ class Far(InRoom):
 
     @contextmanager
     def crowd(self, slips: list[Path]) -> Iterator[subprocess.Popen[bytes]]:
-        """Runs bots with these slips on the students' machine."""
+        """Runs a bot for each of these slips on the students' machine until the caller is done. Yields their
+        process."""
         with subprocess.Popen([*self.students.on, sys.executable, CROWD, self.told, *slips], stdin=subprocess.DEVNULL, stderr=subprocess.PIPE) as it:
             try:
                 yield it
@@ -64,7 +65,7 @@ class Far(InRoom):
         return subprocess.run([*machine.on, sys.executable, "-c", REACHES, TEACHERS, str(port)], check=False, capture_output=True).returncode == 0
 
     def gets(self, path: str) -> tuple[int, int]:
-        """Returns the status and the size of a page, requested from the students' machine."""
+        """Requests a page from the students' machine. Returns the status and the size of the answer."""
         done = subprocess.run([*self.students.on, sys.executable, "-c", GETS, TEACHERS, str(self.port), path], check=False, capture_output=True, text=True)
         status, size = map(int, done.stdout.split())
         return status, size
@@ -120,7 +121,8 @@ class Far(InRoom):
         return path
 
     def networks(self, path: str) -> list[dict[str, Any]]:
-        """Returns the networks in the state of the page for all, requested from the students' machine."""
+        """Returns the networks in the state of the page for all, which is requested from the students' machine at this
+        path."""
         done = subprocess.run([*self.students.on, sys.executable, "-c", GETS.replace("len(answer.read())", "answer.read().decode()"), TEACHERS,
                                str(self.port), f"{path}state"], check=True, capture_output=True, text=True)
         networks: list[dict[str, Any]] = json.loads(done.stdout.removeprefix("200 "))["networks"]

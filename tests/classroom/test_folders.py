@@ -26,25 +26,25 @@ Spoils = Callable[[Path], object]
 
 
 def pipe(path: Path) -> None:
-    """Replaces a file by a pipe that nobody writes to."""
+    """Replaces the file at a path by a pipe that no program writes to."""
     path.unlink(missing_ok=True)
     os.mkfifo(path)
 
 
 def endless(path: Path) -> None:
-    """Replaces a file by a link to a device without an end."""
+    """Replaces the file at a path by a link to a device without an end."""
     path.unlink(missing_ok=True)
     path.symlink_to("/dev/zero")
 
 
 def huge(path: Path) -> None:
-    """Makes a file that is larger than any limit, but uses no room."""
+    """Replaces the file at a path by one that is larger than any limit, but takes no room."""
     with path.open("ab") as it:
         it.truncate(1 << 34)
 
 
 def nowhere(path: Path) -> None:
-    """Replaces a file by a link without a target."""
+    """Replaces the file at a path by a link without a target."""
     path.unlink(missing_ok=True)
     path.symlink_to(path.with_name("none"))
 
@@ -67,13 +67,13 @@ class Hostile(Disputed):
         self.whole_one = self.ended(going)
 
     def copy(self) -> Path:
-        """Makes another copy of the folder."""
+        """Returns another copy of the run's folder."""
         folder = self.room / f"copy-{len(list(self.room.iterdir()))}"
         shutil.copytree(self.whole_one, folder)
         return folder
 
     def says(self, done: subprocess.CompletedProcess[str], status: int, *named: Path | str) -> None:
-        """Checks the status, and that the only line has these texts."""
+        """Checks the status of a call, and that it prints a single line on standard error, which has these texts."""
         told = done.stderr.strip()
         self.assertEqual((done.returncode, told.count("\n"), told.startswith("class: ")), (status, 0, True), told or done.stdout)
         for each in named:

@@ -18,6 +18,7 @@ from tests.classroom.runs import BUILT_IN, PROGRAM, TOP, edited_run, examples
 
 
 def states(lab: Path, journal: Path) -> list[State]:
+    """Returns a copy of the state in each frame of a run."""
     _, frames = frames_of(lab, journal)
     return [frame.state.copy() for frame in frames]
 

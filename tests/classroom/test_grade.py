@@ -51,12 +51,12 @@ PLANS = {plan.name: plan for plan in suites.SMALL}
 
 
 def faulty(fault: str) -> Bot:
-    """Returns the bot with a fault."""
+    """Returns the bot of `faulty.py` with a fault."""
     return Bot.of(f"{sys.executable} {FAULTY} {fault}")
 
 
 def case(bot: Bot, plan: str, limits: Limits, room: Path) -> Result:
-    """Returns the result of a bot in a case of the suite `small`."""
+    """Tries a bot in the case of a plan of the suite `small`. Returns the result."""
     it = PLANS[plan]
     with tempfile.TemporaryDirectory() as own:
         found = try_bot(bot, suites.planned(it, 1, it.daemon), limits, Path(own), room / bot.name / plan, threading.Event())
@@ -65,7 +65,7 @@ def case(bot: Bot, plan: str, limits: Limits, room: Path) -> Result:
 
 
 def left_behind() -> list[str]:
-    """Returns the running processes that a bot has started."""
+    """Returns the numbers of the running processes that a bot has started."""
     found = []
     for each in Path("/proc").iterdir():
         try:
@@ -77,7 +77,7 @@ def left_behind() -> list[str]:
 
 
 def children(process: int) -> list[int]:
-    """Returns the processes that a process started."""
+    """Returns the numbers of the processes that a process started."""
     return sorted(child for child, parent in parents().items() if parent == process)
 
 
@@ -260,7 +260,7 @@ class Calls(InRoom):
         self.assertEqual(whys["kills"], {"it was ended: it killed the process that watches it"})
 
     def fight(self, labs: Path, *more: str) -> dict[str, set[str]]:
-        """Grades such bots together with a correct one. Returns why each of them failed."""
+        """Grades bots that kill or halt their keeper together with a correct bot. Returns why each of them failed."""
         table = self.room / "cases.json"
         faults = ("swaps-output", "halts", "kills", "right")
         done = words("grade", *(f"python3 {FAULTY} {fault}" for fault in faults), "--labs", labs, "--timeout", "60", "--into", self.room / "grades",

@@ -17,7 +17,7 @@ from tests.classroom.several import Classes
 
 
 def ask(address: str, line: str | None = None) -> tuple[int, str]:
-    """Returns the status and the text of an answer. If a line is given, posts it."""
+    """Requests an address, or posts a line to it. Returns the status and the text of the answer."""
     try:
         with urllib.request.urlopen(address, None if line is None else line.encode(), LIMIT) as answer:
             return answer.status, answer.read().decode()
@@ -27,7 +27,7 @@ def ask(address: str, line: str | None = None) -> tuple[int, str]:
 
 
 def two(port: int | None = None) -> ClassState:
-    """Returns the state of a class with two networks, one of which is down."""
+    """Returns the state of a class with two networks, one of which is down. `port` is that of the other one."""
     state = {"configuration": 3, "stable": True, "privileged": [], "pairs": [[1, 2]], "open": 0, "moves": 4, "most": 9, "missing": ["Zoë M."]}
     return ClassState("<maths>", [NetworkState(1, "maths-1", "A", port, "", 15, 4, "runs", "", state),
                                   NetworkState(2, "maths-2", "B", None, "", 15, 4, "down", "its server was killed; resume 2")], ["a line"])
@@ -127,7 +127,7 @@ class OfAClass(Classes):
         self.assertEqual(desk.ends(), 0, desk.lines)
 
     def until_state(self, looks: str, holds: object) -> None:
-        """Reads events until a state satisfies a condition."""
+        """Reads events at the address to look at until `holds` returns a true value for a state."""
         assert callable(holds)
         with urllib.request.urlopen(f"{looks}events", timeout=LIMIT) as news:
             for line in news:

@@ -38,14 +38,14 @@ for (const region of document.querySelectorAll('[aria-live], [role=status]')) {
 
 
 def network(word: str, count: int | None) -> tuple[labs.Lab, Links]:
-    """Returns a lab of a family, and its links."""
+    """Returns a lab of the family `word` with so many nodes, and its links."""
     size, links = family(word, count, 0, random.Random(1))
     nodes = [labs.Node(node, [f"s{node}"]) for node in range(1, size + 1)]
     return labs.Lab(1000, 16, ("t", "key"), {f"s{node}": "key" for node in range(1, size + 1)}, nodes, links), links
 
 
 def state_of(links: Links, nodes: int, privileged: Sequence[Sequence[Any]], pairs: Links, rows: Sequence[Sequence[Any]]) -> dict[str, Any]:
-    """Returns the state of a network in the form that its run writes. All nodes that aren't given are clean."""
+    """Returns the state of a network in the form that its run writes. Nodes that aren't in `rows` are clean."""
     told = {row[0]: row for row in rows}
     return {"configuration": 3, "stable": not privileged, "privileged": privileged, "pairs": [list(pair) for pair in pairs], "open": 2, "moves": 4,
             "most": 70, "events": 9, "limit": 100, "closing": "by-hand", "waiting": [], "missing": ["Zoë M.", "Jonas E."], "idle": [],
@@ -74,12 +74,12 @@ class Page(unittest.TestCase):
         self.addCleanup(self.hall.close)
 
     def open(self, address: str) -> None:
-        """Loads the page again."""
+        """Loads the page at an address again."""
         self.driver.get(address)
         until(self.driver, is_ready)
 
     def texts(self, of: str) -> list[str]:
-        """Returns the visible texts of each network."""
+        """Returns the visible texts of the elements with the class `of`, one for each network."""
         return [it.text for it in self.driver.find_elements("css selector", f"article {of}")]
 
     def test_each_network_is_drawn_as_its_state_is(self) -> None:

@@ -22,14 +22,14 @@ class Slips(InRoom):
     """Labs for four students in two rooms."""
 
     def new(self, *more: str | Path, status: int = 0, **environment: str) -> str:
-        """Makes the labs. Returns the output."""
+        """Makes the labs by `./class new` with these options, and checks the status. Returns the output."""
         students = self.file("list.csv", "Name,Email,Room\nZoë Müller,z@x.example,A 1\nBen,b@x.example,B 2\nCyd,c@x.example,A 1\nDan,,B 2\n")
         done = words("new", self.room / "maths.toml", "--students", students, "--groups-by", "Room", "--family", "path", *more, **environment)
         self.assertEqual(done.returncode, status, done.stdout + done.stderr)
         return done.stdout + done.stderr
 
     def page(self, number: int) -> str:
-        """Returns the page with the slips of a network."""
+        """Returns the text of the page with the slips of the network with this number."""
         return (self.room / f"maths-{number}-slips.html").read_text(encoding="utf-8")
 
     def slips(self) -> dict[str, str]:
@@ -37,7 +37,8 @@ class Slips(InRoom):
         return {file.stem: file.read_text(encoding="utf-8") for file in sorted(self.room.glob("**/*.slip"))}
 
     def path_with(self, **programs: str | None) -> str:
-        """Returns a search path with only these programs. Each has a given text, or is the system's."""
+        """Returns a search path with these programs alone. Each has the given text, or is the system's if there is
+        none."""
         folder = self.room / "path"
         shutil.rmtree(folder, ignore_errors=True)
         folder.mkdir()
@@ -108,7 +109,7 @@ class Anew(Slips):
     """`./class slips`."""
 
     def again(self, *more: str, status: int = 0) -> str:
-        """Makes the slips of both networks again. Returns the output."""
+        """Makes the slips of both networks again with these options, and checks the status. Returns the output."""
         done = words("slips", self.room / "maths-1.toml", self.room / "maths-2.toml", *more)
         self.assertEqual(done.returncode, status, done.stdout + done.stderr)
         return done.stdout + done.stderr

@@ -25,16 +25,17 @@ class Listened(InRoom):
         self.now = self.heard.last
 
     def put(self, seat: int, text: str) -> None:
-        """Appends a text to a seat's file."""
+        """Appends a text to the file of the seat with this number."""
         with (self.folder / f"{seat}.record").open("a", encoding="utf-8", newline="") as it:
             it.write(text)
 
     def say(self, seat: int, place: int, line: str, reply: str, times: int = 1) -> None:
-        """Appends the entries of a line and its reply to a seat's file."""
+        """Appends the entries of a line and its reply to a seat's file, so many times. `place` is the number of events
+        before."""
         self.put(seat, f"{seat} {place} > {line}\n{seat} {place} < {reply}\n" * times)
 
     def greet(self, seat: int, name: str) -> None:
-        """Appends a granted hello to a seat's file."""
+        """Appends the granted hello of a student to a seat's file."""
         self.say(seat, 0, HELLO % (name, "some-key"), f'{{"ok":"hello","who":"{name}"}}')
 
     def news(self, step: int = 0, seconds: float = 1.0) -> list[str]:

@@ -19,7 +19,8 @@ PAUSE = 0.3  # seconds between two looks
 
 
 def play(slip: Slip, told: Path) -> None:
-    """Plays until the class is over or the key has changed."""
+    """Plays the nodes of a slip until the class is over or the slip's key has changed. Appends the name to the file
+    `told` for each hello."""
     me = come(slip)
     while True:
         with told.open("a", encoding="utf-8") as it:
@@ -34,7 +35,7 @@ def play(slip: Slip, told: Path) -> None:
 
 
 def come(slip: Slip) -> Client:
-    """Connects and greets. Tries again while the class hasn't begun."""
+    """Returns a connection by a slip after its hello. Tries again while the class hasn't begun."""
     while True:
         try:
             return enter(slip, 300)
@@ -43,7 +44,7 @@ def come(slip: Slip) -> Client:
 
 
 def turns(me: Client, slip: Slip) -> None:
-    """Asks for the rules that looks show, again and again."""
+    """Looks at the nodes of a slip, and asks for the rules that looks show, again and again."""
     while True:
         for node in slip.nodes:
             try:

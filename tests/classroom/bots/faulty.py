@@ -1,5 +1,6 @@
 #!/usr/bin/env python3
-"""Bots with known faults: faulty.py FAULT WORD.. SLIP. Each is correct except for its fault."""
+"""Bots with known faults: faulty.py FAULT WORD.. SLIP. Each is correct except for its fault, which its docstring
+describes."""
 from __future__ import annotations
 
 import ctypes
@@ -25,7 +26,7 @@ SLEEP = "98765.25"  # what is left behind is known by it
 
 
 def ask(me: Client, look: Look) -> bool:
-    """Asks like a correct bot. Returns whether the move was granted."""
+    """Asks for the enabled rule of a look, like a correct bot. Returns whether the move was granted."""
     try:
         me.move(look)
     except Denied as denied:
@@ -36,7 +37,7 @@ def ask(me: Client, look: Look) -> bool:
 
 
 def entered() -> Client:
-    """Returns a connection after its hello. Tries again if all seats are taken."""
+    """Returns a connection by the slip after its hello. Tries again if all seats are taken."""
     while True:
         try:
             return Client.of(SLIP)
@@ -47,7 +48,8 @@ def entered() -> Client:
 
 
 def once(wants: Callable[[Client, Look], None], pause: float = PAUSE) -> None:
-    """Looks at its nodes again and again on one connection. `wants` is called with each look."""
+    """Looks at the slip's nodes again and again on one connection, with a pause after all nodes. Calls `wants` with
+    each look."""
     with entered() as me:
         while True:
             for node in SLIP.nodes:
@@ -60,7 +62,7 @@ def once(wants: Callable[[Client, Look], None], pause: float = PAUSE) -> None:
 
 
 def loop(wants: Callable[[Client, Look], None], pause: float = PAUSE) -> None:
-    """Plays until the class is over, on one connection after another."""
+    """Does the same as `once` until the class is over, on one connection after another."""
     while True:
         try:
             once(wants, pause)
@@ -322,7 +324,7 @@ def digs() -> None:
 
 
 def tries(what: Callable[[], object]) -> str:
-    """Returns whether an action succeeds, as a text."""
+    """Calls a function, and returns as a text whether it succeeded."""
     try:
         return str(bool(what()))
     except OSError:

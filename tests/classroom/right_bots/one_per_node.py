@@ -13,7 +13,7 @@ from classroom.client import Client, Closed, Denied, Refused, Slip, again, enter
 
 
 def ask(me: Client, node: int) -> None:
-    """Plays a node."""
+    """Looks at a node again and again, and asks for its enabled rule."""
     while True:
         look = me.look(node)
         try:

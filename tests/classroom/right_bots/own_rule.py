@@ -21,6 +21,7 @@ class Connection:
     """A connection that has said hello."""
 
     def __init__(self, slip: dict[str, str]) -> None:
+        """Connects to the port of a slip, whose values are given, and says hello."""
         try:
             self.socket = socket.create_connection(("127.0.0.1", int(slip["port"])), timeout=30)
         except OSError:
@@ -52,7 +53,8 @@ class Connection:
 
 
 def rule_of(look: dict[str, Any]) -> dict[str, object] | None:
-    """Returns the enabled move of a node, computed from its registers and those of its neighbours."""
+    """Returns the values of the enabled move of a node, computed from its registers and those of its neighbours in a
+    look. Returns None if there is none."""
     i, p, m, near = look["node"], look["p"], look["m"], {each["node"]: each for each in look["near"]}
     married = p is not None and near[p]["p"] == i
     if m != married:

@@ -13,7 +13,7 @@ THINKING, WAITING = 0.3, 0.5  # seconds
 
 
 def ask(me: Client, nodes: tuple[int, ...]) -> None:
-    """Looks at one node after another, and waits before each move."""
+    """Looks at one node after another, and waits before it asks for the enabled rule."""
     while True:
         for node in nodes:
             try:
@@ -29,7 +29,7 @@ def ask(me: Client, nodes: tuple[int, ...]) -> None:
 
 
 def play(words: list[str]) -> None:
-    """Plays until the class is over."""
+    """Plays the nodes of the slip in the arguments until the class is over."""
     slip = Slip.read(words[0])
     me = enter(slip)
     while True:

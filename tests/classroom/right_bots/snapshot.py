@@ -11,7 +11,7 @@ from classroom.client import Client, Closed, Denied, Moving, Refused, Slip, agai
 
 
 def ask(me: Client, nodes: tuple[int, ...]) -> None:
-    """Takes a snapshot, asks, and waits."""
+    """Looks at all nodes in one configuration, asks for all enabled rules, and waits."""
     while True:
         try:
             for look in me.snapshot(nodes).values():
@@ -26,7 +26,7 @@ def ask(me: Client, nodes: tuple[int, ...]) -> None:
 
 
 def play(words: list[str]) -> None:
-    """Plays until the class is over."""
+    """Plays the nodes of the slip in the arguments until the class is over."""
     slip = Slip.read(words[0])
     me = enter(slip)
     while True:

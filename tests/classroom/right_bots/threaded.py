@@ -22,7 +22,7 @@ class Bot:
         self.looks: queue.Queue[Look] = queue.Queue()
 
     def looking(self) -> None:
-        """Looks at each node, and queues the looks with an enabled rule. Waits until a queued look has been
+        """Looks at each node, and queues the looks with an enabled rule. Waits until each queued look has been
         handled."""
         while True:
             for node in self.slip.nodes:
@@ -47,7 +47,8 @@ class Bot:
                 self.looks.task_done()
 
     def lasting(self, work: str) -> None:
-        """Runs a thread's work. If the connection is lost, the first thread that notices it connects again."""
+        """Calls the function `work` of this bot until the class is over. If the connection is lost, the first thread
+        that notices it connects again."""
         while True:
             me = self.me
             try:
