@@ -22,7 +22,7 @@ class GoingClass(Going):
     """The desk of a running class. Its lines are read one by one."""
 
     def __init__(self, test: InRoom, *more: str | Path, **environment: str) -> None:
-        """Starts a class of two networks with these options, and reads up to the line with its commands."""
+        """Starts a class by these arguments of `./class`, and reads up to the line with the commands of its desk."""
         self.lines: list[str] = []
         self.process = subprocess.Popen(
             [sys.executable, TOP / "class", *more, "--typed"], stdin=subprocess.PIPE, stdout=subprocess.PIPE,
@@ -50,8 +50,7 @@ class GoingClass(Going):
         return state_of(self.folder / name) or {}
 
     def marks(self, name: str) -> dict[str, int]:
-        """Returns the number of applied moves of each student, from the marks in the folder of the network with this
-        name."""
+        """Returns the marks of the run of the network with this name, as its file `marks.json` has them."""
         run: dict[str, int] = json.loads((self.folder / name / "marks.json").read_text(encoding="utf-8"))["runs"][0]
         return run
 

@@ -55,7 +55,8 @@ class Playing(InRoom):
         self.addCleanup(self.driver.get, "about:blank")
 
     def begin(self, lab: Path = CYCLE, *more: str) -> None:
-        """Starts a run over a lab with these options, whose steps are closed by hand, and opens the page to play."""
+        """Starts a run over a lab with these options, whose steps are closed by hand. Keeps the address of its page to
+        play."""
         self.going = Going(self, lab, "--close", "by-hand", "--play", str(a_port()), *more)
         self.address = self.going.until("^page to play http").removeprefix("page to play ")
 
@@ -422,9 +423,10 @@ class Wire(InRoom):
 
 
 class Host:
-    """A stand-in for a class's server. It ends each connection when a word about it comes into the list `ends`."""
+    """A stand-in for a class's server. It ends a connection when the event `go` is set or a bye comes."""
 
     def __init__(self, ends: list[str]) -> None:
+        """`ends` has the word of the last line on each connection in turn, or an empty text for none."""
         self.ends, self.go, self.lines = ends, threading.Event(), list[bytes]()
         self.listener = socket.create_server(("127.0.0.1", 0))
         self.port: int = self.listener.getsockname()[1]
@@ -449,7 +451,8 @@ class Host:
                 self.answer(its, word)
 
     def answer(self, its: socket.socket, word: str) -> None:
-        """Answers a hello on a connection and the looks after it, and then ends the connection as `word` says."""
+        """Answers a hello on a connection and the looks after it. At the end sends the refusal `word`, unless it is
+        empty."""
         for line in its.makefile("rb"):
             self.lines.append(line)
             asked = json.loads(line)

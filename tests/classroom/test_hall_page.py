@@ -79,7 +79,7 @@ class Page(unittest.TestCase):
         until(self.driver, is_ready)
 
     def texts(self, of: str) -> list[str]:
-        """Returns the visible texts of the elements with the class `of`, one for each network."""
+        """Returns the visible texts of the elements with this selector, one for each network."""
         return [it.text for it in self.driver.find_elements("css selector", f"article {of}")]
 
     def test_each_network_is_drawn_as_its_state_is(self) -> None:

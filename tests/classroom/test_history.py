@@ -52,9 +52,10 @@ DENIED = f"""\
 
 
 class Raw:
-    """A connection that shows the bytes of its lines."""
+    """A connection that sends and returns lines as bytes."""
 
     def __init__(self, port: int, name: str = "", key: str = "") -> None:
+        """Connects to a port, and says hello if there is a name."""
         self.socket = socket.create_connection(("127.0.0.1", port))
         self.replies = self.socket.makefile("rb")
         if name:
@@ -74,7 +75,7 @@ class Raw:
 
 
 def hello(name: str, key: str) -> bytes:
-    """Returns a greeting."""
+    """Returns the line of a hello."""
     return b'{"do":"hello","name":"%s","key":"%s"}\n' % (name.encode(), key.encode())
 
 
@@ -83,7 +84,8 @@ class Disputed(Cycle):
     """A class in which gus claims that the server was wrong."""
 
     def disputed(self, stale: int = 1) -> Going:
-        """Returns a run in which gus moves once, is denied as stale and by the guard, and sends a malformed line."""
+        """Starts a run in which gus moves once, is denied as stale so many times and once by the guard, and sends a
+        malformed line. Returns it."""
         going = Going(self, CYCLE, "--close", "by-hand")
         with Raw(going.port) as wrong:
             self.assertEqual(wrong.ask(hello("gus", "heron-13")), UNKNOWN)
@@ -113,17 +115,17 @@ class Disputed(Cycle):
         return going.folder
 
     def seat(self, folder: Path) -> Path:
-        """Returns the file of the seat that gus had."""
+        """Returns the file of the seat that gus had, in the record of a folder."""
         return next(file for file in (folder / "record").glob("*.record") if b'"who":"gus"' in file.read_bytes())
 
     def history(self, folder: Path, *more: str | Path, name: str = "gus") -> str:
-        """Returns the output of `history`."""
+        """Runs `./class history` about a student of the run in a folder, with these options. Returns the output."""
         done = words("history", folder, name, *more)
         self.assertEqual((done.returncode, done.stderr), (0, ""))
         return done.stdout
 
     def wanted(self, folder: Path) -> str:
-        """Returns the expected history of gus, whatever seats were free."""
+        """Returns the expected history of gus in a folder, whichever seats were free."""
         seat = self.seat(folder).name.partition(".")[0]
         other = next(file.name.partition(".")[0] for file in (folder / "record").glob("*.record") if b"heron-13" in file.read_bytes())
         guessed, greeted = GUESSED.replace("SEAT", other), GREETED.replace("SEAT", seat)
@@ -225,7 +227,7 @@ class Verified(Disputed):
     """Records that were changed, and the verdicts on them."""
 
     def denied(self, folder: Path) -> list[int | None]:
-        """Returns the denied lines of gus in `mark`: by clause, and malformed ones."""
+        """Returns how many lines of gus `./class mark` counts as denied: by clause, and malformed ones."""
         run = json.loads(words("mark", folder, "--json").stdout)["runs"][0]
         gus = run["students"]["gus"]
         return [*(gus[column] for column in COLUMNS), run["whole"]]
@@ -348,7 +350,7 @@ class Verified(Disputed):
 
 
 def squeezed(text: str) -> str:
-    """Returns a text in which each run of spaces is a single space."""
+    """Returns a text in which each sequence of spaces is a single space."""
     return re.sub(r" +", " ", text)
 
 

@@ -21,7 +21,7 @@ class Hosted(Cycle):
     """Runs over the cycle of `examples/`, with three seats, one of which is the desk's, or with all seats."""
 
     def begin(self, sessions: int, *more: str) -> Going:
-        """Starts a run over a lab with this number of seats."""
+        """Starts a run over a lab with this number of seats and these options."""
         text = re.sub(r"(?m)^sessions = \d+", f"sessions = {sessions}", CYCLE.read_text(encoding="utf-8"))
         going = Going(self, self.file("cycle.toml", text), *more)
         self.assertTrue(any(f"for {sessions - 1} students at once; folder" in line for line in going.lines), going.lines)
@@ -35,7 +35,7 @@ class Hosted(Cycle):
                          rf"^listening on port \d+, desk on port \d+\ndone: {events} events, configuration \d+\n$")
 
     def let_in(self, port: int, name: str, key: str) -> Client:
-        """Returns a connection as soon as a seat is free."""
+        """Connects and says hello, and again until a seat is free. Returns the connection."""
         while True:
             try:
                 return Client(port, name, key)

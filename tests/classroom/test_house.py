@@ -35,7 +35,7 @@ class Alone(unittest.TestCase):
         self.told: list[str] = []
 
     def house(self, seconds: float | None) -> House:
-        """Returns a house that plays, because a student has come."""
+        """Returns a house that plays after so many seconds, because a student has come."""
         house = House(self.lab, 1, seconds, self.told.append)
         house.begun = True
         return house
@@ -112,7 +112,7 @@ class Standing(InRoom):
         return self.room / "maths-slips" / f"{name}.slip"
 
     def grants(self, folder: Path) -> dict[str, set[int]]:
-        """Returns the nodes at which each name was granted moves."""
+        """Returns for each name the nodes at which it was granted moves, by the journal in a folder."""
         found: dict[str, set[int]] = {}
         for event in events((folder / "journal").read_text(encoding="ascii")):
             if event.kind == "grant":
@@ -198,7 +198,7 @@ class Standing(InRoom):
         self.assertEqual(self.grants(going.folder), before)
 
     def comes_back_without(self, going: Going, nodes: list[int]) -> None:
-        """Closes steps until the class waits for none of these nodes."""
+        """Closes steps until the class waits for no node outside of these."""
         with Client(going.port, "gus-roy", self.lab.students["gus-roy"]) as me:
             moved = 0
             while True:

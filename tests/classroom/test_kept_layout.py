@@ -15,7 +15,7 @@ from tests.classroom.help import InRoom
 
 
 def lab(word: str, seed: int = 1) -> labs.Lab:
-    """Returns a lab of a family."""
+    """Returns a lab with a network of the family `word`, drawn with the seed."""
     count, links = family(word, None, 0, random.Random(seed))
     return labs.Lab(1000, 2, ("t", "key"), {"s": "key"}, [labs.Node(node, ["s"]) for node in range(1, count + 1)], sorted(links))
 
@@ -32,7 +32,7 @@ class Kept(InRoom):
         self.addCleanup(known.stop)
 
     def forget(self) -> None:
-        """Forgets the known layouts, as a new process does."""
+        """Forgets the layouts that this process has computed or read, as a new process would."""
         springs.KNOWN.clear()
         shapes.kept_shape.cache_clear()
         springs.searched.cache_clear()

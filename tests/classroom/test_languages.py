@@ -29,7 +29,7 @@ def tearDownModule() -> None:
 
 @cache
 def bots() -> dict[str, Command]:
-    """Returns the command of each bot that can run here, by the name of its file."""
+    """Returns the command of each example bot that can run here, by the name of its file. Compiles some of them."""
     found: dict[str, Command] = {}
     for name, program in PROGRAMS.items():
         if shutil.which(program) is None:
@@ -90,7 +90,7 @@ class Bots(Cycle):
         return playing
 
     def are_ended(self, playing: list[tuple[str, subprocess.Popen[str]]], status: int, why: str) -> None:
-        """Checks that all bots end with this status and reason."""
+        """Checks that each of these bots ends with this status, and prints this reason."""
         for name, bot in playing:
             said = bot.communicate(timeout=LIMIT)[1]
             self.assertEqual((bot.returncode, said.partition(": ")[2].partition(" (")[0].rstrip()), (status, why), (name, said))

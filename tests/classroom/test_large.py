@@ -49,24 +49,25 @@ class Large(Played):
         self.driver.set_script_timeout(300)
 
     def spent(self) -> float:
-        """Returns the processor time of the page's tasks in milliseconds, without other processes."""
+        """Returns the processor time that the page's tasks have used so far, in milliseconds."""
         metrics = self.driver.execute_cdp_cmd("Performance.getMetrics", {})["metrics"]
         return 1000 * next(float(metric["value"]) for metric in metrics if metric["name"] == "TaskDuration")
 
     def slowness(self) -> float:
-        """Returns how many times slower this machine is now than the reference machine, or 1 if it is faster."""
+        """Returns how many times slower this machine is at the moment than the machine for which the limits are meant,
+        or 1 if it is faster."""
         start = self.spent()
         self.driver.execute_script(LOAD)
         return max(1.0, (self.spent() - start) / LOADED)
 
     def step(self, place: int) -> float:
-        """Returns the time of a step to a place."""
+        """Steps to a place. Returns the processor time that it takes."""
         start = self.spent()
         self.driver.execute_async_script(STEP, place)
         return self.spent() - start
 
     def opened(self, page: Path) -> float:
-        """Returns the time to open the page, converted to the reference machine."""
+        """Opens a page. Returns the time that it takes, divided by the slowness of this machine."""
         self.driver.get("about:blank")
         slowness = self.slowness()
         self.driver.get(page.as_uri())
@@ -75,7 +76,8 @@ class Large(Played):
         return self.spent() / slowness
 
     def stepped(self, places: list[int]) -> list[float]:
-        """Returns the time of a step to each place, converted to the reference machine."""
+        """Steps to each of these places. Returns the time that each step takes, divided by the slowness of this
+        machine."""
         slowness = self.slowness()
         self.step(places[0] - 1)
         return [self.step(place) / slowness for place in places]

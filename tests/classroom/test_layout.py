@@ -22,20 +22,20 @@ SECONDS = 60  # of a processor for a network of 256 nodes, at most; this machine
 
 
 def network(word: str, size: int = 15) -> tuple[list[int], Links]:
-    """Returns a network of a family."""
+    """Returns the nodes and links of a network of the family `word`."""
     count, links = family(word, None if ":" in word else size, size, random.Random(7))
     return list(range(1, count + 1)), sorted(links)
 
 
 def renamed(nodes: list[int], links: Links, seed: int) -> tuple[list[int], Links]:
-    """Returns the same network with other identifiers."""
+    """Returns the same network with random identifiers, and its nodes in the old order."""
     drawn = random.Random(seed).sample(range(1, 60000), len(nodes))
     names = dict(zip(nodes, drawn))
     return drawn, [(names[a], names[b]) for a, b in links]
 
 
 def viewed(word: str, size: int = 15) -> tuple[View, Links]:
-    """Returns the drawing of a family's network for a screen, with names."""
+    """Returns the drawing of a network of the family `word` for a screen, with names, and its links."""
     nodes, links = network(word, size)
     return view_of({node: [NAMES[node % len(NAMES)]] for node in nodes}, links, WIDE), links
 
@@ -44,7 +44,8 @@ class Shapes(unittest.TestCase):
     """The shape of a network is recognised from its links alone, and is visible."""
 
     def shape(self, word: str, size: int = 15, seed: int = 0) -> tuple[str, Layout, list[int]]:
-        """Returns the kind of a network, its layout, and its nodes in the family's numbering."""
+        """Returns the kind of the shape of a family's network, its layout, and its nodes in the family's order. With a
+        seed, its nodes have random identifiers."""
         nodes, links = network(word, size)
         if seed:
             nodes, links = renamed(nodes, links, seed)
@@ -191,7 +192,7 @@ class Labels(unittest.TestCase):
     """Names and rules overlap no disc, no link and no other label."""
 
     def boxes(self, view: View) -> dict[int, Box]:
-        """Returns the largest box of each label: the name, and the widest rule."""
+        """Returns the box of each label with the name and the widest rule."""
         form, found = view.form, {}
         for node, label in view.labels.items():
             x, y = view.layout.points[node]
@@ -263,7 +264,7 @@ class Labels(unittest.TestCase):
 
 
 def near(box: Box, point: tuple[float, float]) -> float:
-    """Returns the distance of a point from a box."""
+    """Returns the distance between a point and the nearest point of a box."""
     return math.dist(point, (min(max(point[0], box.left), box.right), min(max(point[1], box.top), box.bottom)))
 
 

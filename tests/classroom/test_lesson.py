@@ -37,7 +37,7 @@ class Lesson(InRoom):
         self.lab: Lab = read(self.file_of_lab)
 
     def bots(self, names: list[str]) -> list[subprocess.Popen[str]]:
-        """Starts the bots of these students with their slips."""
+        """Starts the bots of these students with their slips. Returns their processes."""
         started = [
             subprocess.Popen([sys.executable, BOT, self.slip(name)], stdin=subprocess.DEVNULL, stdout=subprocess.DEVNULL,
                              stderr=subprocess.PIPE, text=True)
@@ -62,11 +62,12 @@ class Lesson(InRoom):
             self.assertIn(why[bot.returncode], said)
 
     def journal(self, folder: Path) -> list[str]:
-        """Returns the complete lines of the journal."""
+        """Returns the complete lines of the journal in a folder."""
         return [line.decode("ascii") for line in (folder / "journal").read_bytes().split(b"\n")[:-1]]
 
     def applied(self, folder: Path) -> Counter[str]:
-        """Returns the number of applied moves of each student, counted by the test itself."""
+        """Returns the number of applied moves of each student in the journal of a folder, counted without the
+        program."""
         chosen: dict[str, str] = {}
         found: Counter[str] = Counter()
         for line in self.journal(folder):
@@ -110,8 +111,8 @@ class Lesson(InRoom):
         return going.folder
 
     def full_disk(self, folder: Path) -> None:
-        """Continues until the disk is full. Before, each file has room, including the record of a desk that closed
-        without success."""
+        """Continues the run in a folder until the disk is full. Each file has room before that, also the record of a
+        desk that closed without success."""
         journal = folder / "journal"
         most = max(file.stat().st_size for file in (journal, *(folder / "record").iterdir())) // 1024 + 1
         limited = self.file("host", f'#!/bin/bash\ntrap "" XFSZ\nulimit -f {most}\nexec "{host()}" "$@"\n')
@@ -125,8 +126,8 @@ class Lesson(InRoom):
         self.are_told_of_the_end(bots, 0, 4, 6)
 
     def second_half(self, folder: Path) -> None:
-        """Continues in a terminal, which is closed. The desk is taken over, and all end when the network is
-        stable."""
+        """Continues the run in a folder in a terminal, which is closed. The desk is taken over, and all programs end
+        when the network is stable."""
         terminal = InTerminal(self, "run", "--resume", folder)
         terminal.type(b"fault 3 null true\n", b": fault at node 3: p null, m true; ")
         bots = self.bots(list(self.lab.students))

@@ -30,11 +30,11 @@ class Doors(InRoom):
         self.slip = Slip.read(self.room / "maths-slips/ben.slip")
 
     def begin(self, *more: str) -> Going:
-        """Starts a run with a door."""
+        """Starts a run with a door and these options."""
         return Going(self, self.lab, "--door", f"127.0.0.1:{self.port}", "--close", "by-hand", "--page", str(a_port()), *more)
 
     def door(self, going: Going) -> Kept:
-        """Returns the data in the folder of the run's door."""
+        """Returns the data of the run's door, from its folder."""
         record = Record.read(going.folder)
         assert record is not None and record.door is not None
         kept = Kept.read(Path(record.door))
@@ -42,7 +42,7 @@ class Doors(InRoom):
         return kept
 
     def comes(self) -> Client:
-        """Returns a connection through the door. Tries again until there is one."""
+        """Connects through the door, again and again until that succeeds. Returns the connection."""
         end = time.monotonic() + LIMIT
         while True:
             try:

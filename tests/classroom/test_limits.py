@@ -26,7 +26,7 @@ class Reads(unittest.TestCase):
     """Lines of a program."""
 
     def refuses(self, text: str, what: str) -> None:
-        """Wants a fault that says what is printed."""
+        """Checks that reading this text raises a fault that contains `what`."""
         with self.assertRaises(Fault) as raised:
             limits.parsed(text)
         self.assertEqual((str(raised.exception), raised.exception.status), (f"{BEGIN}{what}: build it again", FAILED))
@@ -70,7 +70,8 @@ class Asks(InRoom):
         limits.allowed.cache_clear()
 
     def program(self, name: str, text: str, status: int = 0) -> str:
-        """Returns a program that prints this text as its limits, takes every lab, and notes its words."""
+        """Writes a program that prints this text as its limits, accepts each lab, and notes its arguments. Returns its
+        path."""
         note = shlex.quote(str(self.room / "calls"))
         path = self.file(name, f"""#!/bin/sh
             echo "$1" >> {note}

@@ -42,14 +42,14 @@ class Mark(InRoom):
     """Journals that scripts make."""
 
     def journal(self, lab: Path, script: Path) -> Path:
-        """Writes the journal of a script, and returns its path."""
+        """Writes the journal of a script over a lab, and returns its path."""
         path = self.room / f"{script.stem}.journal"
         answer = program.call("script", lab, script, path)
         self.assertEqual(answer.status, 0, answer.error)
         return path
 
     def marks(self, lab: Path, *journals: Path) -> list[dict[str, Any]]:
-        """Returns the runs of `--json`."""
+        """Returns the runs in the output of `./class mark --json`."""
         done = words("mark", "--json", lab, *journals)
         self.assertEqual(done.returncode, 0, done.stderr)
         runs: list[dict[str, Any]] = json.loads(done.stdout)["runs"]

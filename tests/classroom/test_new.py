@@ -61,7 +61,8 @@ class Lists(InRoom):
     """Class lists in different forms."""
 
     def people(self, content: bytes, name: str = "list.csv", **words: str) -> list[tuple[str, str]]:
-        """Returns the names and identifiers in a file."""
+        """Returns the names and identifiers of the people in a file with this content. `words` are options that name
+        columns."""
         path = self.room / name
         path.write_bytes(content)
         asked = argparse.Namespace(**{"column": None, "first_name": None, "last_name": None, "id": None} | words)
@@ -96,14 +97,14 @@ class New(InRoom):
     """Labs and slips."""
 
     def new(self, *more: str, students: int = 5, status: int = 0) -> str:
-        """Makes a lab. Returns the output."""
+        """Runs `./class new` for so many students with these options, and checks the status. Returns the output."""
         list_file = self.file("students", "".join(f"Student {number}\n" for number in range(students)))
         done = words("new", self.room / "lab.toml", "--students", list_file, *more)
         self.assertEqual(done.returncode, status, done.stderr)
         return done.stdout + done.stderr
 
     def clean(self) -> None:
-        """Removes all files that were made."""
+        """Removes all files that `new` has made."""
         for file in self.room.glob("lab*"):
             if file.is_dir():
                 shutil.rmtree(file)

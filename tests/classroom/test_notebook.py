@@ -32,7 +32,7 @@ class Notebook(InRoom):
         self.cells: list[dict[str, Any]] = json.loads(NOTEBOOK.read_text(encoding="utf-8"))["cells"]
 
     def done(self, table: Path) -> str:
-        """Returns the output of its cells over a table."""
+        """Runs the notebook's cells over a table. Returns what they print."""
         printed, names = io.StringIO(), dict[str, Any]()
         with unittest.mock.patch.dict(os.environ, RUNS=str(table)), contextlib.redirect_stdout(printed):
             for cell in self.cells:

@@ -42,7 +42,8 @@ class Beginnings(unittest.TestCase):
     """The first lines of a session. The record has them at the place of the seat's last session."""
 
     def listed(self, *said: Entry) -> list[Said]:
-        """Returns the rows of a session, together with a step after ten events and one after forty-one."""
+        """Returns the rows of a session with these entries, together with steps after ten and after forty-one
+        events."""
         part = Vouched(Path("record"), Path("copy"), 0, "ok")
         lines = rows_of([(part, [*said], {"gus"})], "gus", Hider({"heron-31"}, ["gus"]))
         return merged(lines, [Said(10, event="a step"), Said(41, event="another step")])

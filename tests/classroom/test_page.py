@@ -46,7 +46,7 @@ class Live(InRoom):
         until(self.driver, is_ready)
 
     def find(self, name: str) -> None:
-        """Clicks on the element with this name."""
+        """Clicks on the element with this identifier."""
         self.driver.find_element("id", name).click()
 
     def click_node(self, node: int) -> None:
@@ -54,13 +54,13 @@ class Live(InRoom):
         self.driver.find_element("css selector", f'#drawing .node[data-node="{node}"] .identifier').click()
 
     def fill_seconds(self, text: str) -> None:
-        """Types the seconds between closes."""
+        """Types a text into the field with the seconds between closes."""
         seconds = self.driver.find_element("id", "seconds")
         seconds.clear()
         seconds.send_keys(text)
 
     def close_by(self, button: str, seconds: str = "") -> None:
-        """Chooses when steps are closed, and waits until the page shows it."""
+        """Chooses by a button when steps are closed, and waits until the page shows this."""
         if seconds:
             self.fill_seconds(seconds)
         self.find(button)
@@ -68,12 +68,12 @@ class Live(InRoom):
         until(self.driver, lambda driver: driver.find_element("id", "closes").get_attribute("data-closing") == wanted)
 
     def sees(self, event: str) -> Shown:
-        """Waits until this is the newest event on the page. Returns the contents of the page."""
+        """Waits until `event` is the newest event on the page. Returns the contents of the page."""
         until(self.driver, lambda driver: shown(driver)[2].partition(": ")[2] == event)
         return shown(self.driver)
 
     def ask(self, verb: str, path: str, body: str | bytes | None = None, **head: str) -> tuple[int, bytes]:
-        """Returns the status and the bytes of an answer."""
+        """Sends a request to the page's server. Returns the status and the bytes of the answer."""
         connection = http.client.HTTPConnection("127.0.0.1", urlsplit(self.address).port or 0, timeout=60)
         try:
             connection.request(verb, path, body, head)
@@ -94,7 +94,7 @@ class Live(InRoom):
         return folder
 
     def student(self, name: str) -> Client:
-        """Returns a student's connection."""
+        """Returns the connection of the student with this name."""
         client = Client(self.going.port, name, self.keys[name])
         self.addCleanup(client.__exit__, OSError, None, None)
         return client

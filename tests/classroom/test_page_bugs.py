@@ -29,7 +29,7 @@ PLANTS = (
 
 
 def planted(of: type[Played], test: str, old: str, new: str) -> unittest.TestResult:
-    """Runs a test over pages in which a text is replaced."""
+    """Runs a test of the class `of` over pages in which the text `old` is replaced by `new`. Returns its result."""
 
     class Buggy(of):  # type: ignore[valid-type, misc]
         """The same tests over changed pages."""

@@ -38,7 +38,7 @@ class Experiments(InRoom):
     """Tables of experiments."""
 
     def one_run(self) -> bytes:
-        """Returns the table of a single run."""
+        """Measures all runs by a single call. Returns the bytes of its table."""
         whole = self.room / "whole.csv"
         done = words(*RUNS, "--csv", whole)
         self.assertEqual(done.returncode, 0, done.stderr)
@@ -59,7 +59,8 @@ class Experiments(InRoom):
         self.lacks_a_part(files)
 
     def lacks_a_part(self, files: list[Path]) -> None:
-        """Checks that a merge names missing runs, and refuses tables that differ or don't exist."""
+        """Checks that a merge of only some of these files names the missing runs, and that tables which differ or don't
+        exist are refused."""
         done = words(*RUNS, "--merge", *files[:2], "--csv", self.room / "two.csv")
         self.assertEqual(done.returncode, 5)
         self.assertIn("36 of 54 runs, ", done.stdout)
@@ -91,7 +92,7 @@ class Grades(InRoom):
     """Results of grades."""
 
     def results(self, file: Path, number: int, count: int) -> None:
-        """Writes results for a part without running it."""
+        """Writes results for part `number` of `count` into a file, without grading."""
         every = json.loads((self.room / "whole.json").read_text(encoding="utf-8"))
         file.write_text(json.dumps(of(every, (number, count))), encoding="utf-8")
 
@@ -123,8 +124,8 @@ class Grades(InRoom):
         self.assertIn("isn't a case of this command: name the same bots and options as for the parts", other.stderr)
 
     def same(self, file: Path) -> None:
-        """Replaces the results of a part by those of the whole, because the number of moves in a case depends on
-        the time."""
+        """Replaces the results in the file of a part by those of the whole grade, because the number of moves in a case
+        depends on the time."""
         one, = json.loads(file.read_text(encoding="utf-8"))
         every = json.loads((self.room / "whole.json").read_text(encoding="utf-8"))
         own, = (case for case in every if case["daemon"] == one["daemon"])

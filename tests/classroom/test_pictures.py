@@ -22,8 +22,8 @@ BYTES = {2: 3, 6: 4}  # of a point by the kind of PNG: red, green, blue, and per
 
 
 def unfiltered(kind: int, row: bytes, above: bytes, step: int) -> bytes:
-    """Returns the bytes of a row of a PNG after undoing its filter. It needs the pixel to the left, `step` bytes
-    before, and the row above."""
+    """Returns the bytes of a row of a PNG image after undoing its filter of this kind. The filter uses the pixel to the
+    left, which is `step` bytes before, and the row above."""
     if kind == 0:
         return row
     if kind == 2:
@@ -69,7 +69,8 @@ def rendered(picture: Path) -> Counter[str]:
 
 
 def alike(found: Counter[str], colour: str) -> int:
-    """Returns the number of pixels with nearly this colour, since thin lines are mixed with their surroundings."""
+    """Returns the number of pixels whose colour is nearly this one, since the pixels of thin lines are mixed with their
+    surroundings."""
     wanted = bytes.fromhex(colour[1:])
     return sum(count for other, count in found.items() if math.dist(wanted, bytes.fromhex(other[1:])) < NEAR)
 
@@ -78,7 +79,7 @@ class Pictures(InRoom):
     """The files that `--svg` and `--plot` write."""
 
     def has(self, picture: Path, *names: str, theme: str = colours.LIGHT) -> None:
-        """Checks that a picture has these colours, and the background of a page in this theme."""
+        """Checks that a picture has the colours with these names, and the background of a page in this theme."""
         self.assertNotIn("var(", picture.read_text(encoding="utf-8"))
         found = rendered(picture)
         self.assertEqual(found.most_common(1)[0][0], colours.value("--ground", theme), picture)

@@ -145,12 +145,12 @@ class Play(Played):
 
 
 def attributes(picture: Path) -> tuple[dict[str, str], list[dict[str, str]]]:
-    """Returns the data attributes in an SVG file."""
+    """Returns the data attributes of the drawing in an SVG file, and those of each node."""
     return attributes_of(ElementTree.parse(picture).getroot())
 
 
 def attributes_of(root: ElementTree.Element) -> tuple[dict[str, str], list[dict[str, str]]]:
-    """Returns the data attributes in a drawing."""
+    """Returns the data attributes of a drawing's element, and those of each node in it."""
     groups: list[Any] = [group for group in root.iter() if (group.get("class") or "").split(" ")[0] == "node"]
     nodes = [{name[5:]: value for name, value in group.items() if name.startswith("data-")} for group in groups]
     data = {name[5:]: value for name, value in root.items() if name.startswith("data-")}

@@ -23,11 +23,11 @@ class Practise(InRoom):
     """The subcommand."""
 
     def practises(self, *given: str | Path) -> subprocess.CompletedProcess[str]:
-        """Runs `practise` to its end."""
+        """Runs `./class practise` with these arguments to its end. Returns its result."""
         return words("practise", *given, "--into", self.room / "runs")
 
     def folder(self, output: str) -> Path:
-        """Returns the folder of an ended run, from its output."""
+        """Returns the folder of an ended run, which its output names."""
         found = re.search(r"(?m)^page: (\S+)/run.html; all lines and replies: (\S+)$", output)
         assert found is not None, output
         return Path(found[1])

@@ -36,14 +36,14 @@ class Served(unittest.TestCase):
         self.told: list[str] = []
 
     def opened(self, port: int = 20000) -> projector.Pages:
-        """Starts the server of the pages."""
+        """Starts the server of the pages at this port or the next free one."""
         pages = projector.open_pages(port, "cycle, today", self.lab, queue.SimpleQueue())
         self.addCleanup(pages.stop)
         pages.show(self.present, self.told.append)
         return pages
 
     def ask(self, pages: projector.Pages) -> int:
-        """Returns the status of the page, or 0 if there is no answer."""
+        """Requests the page to look at. Returns the status of the answer, or 0 if there is none."""
         connection = http.client.HTTPConnection("127.0.0.1", pages.server_port, timeout=60)
         with contextlib.closing(connection):
             try:

@@ -111,7 +111,7 @@ class Readable(Played):
         self.assertGreater(len(b"".join(printed[0])), 5000)
 
     def drawn(self, document: str) -> list[bytes]:
-        """Returns the graphics streams of a PDF."""
+        """Returns the decompressed streams with the drawings in the text of a PDF document."""
         found = []
         for stream in re.findall(rb"stream\r?\n(.*?)\r?\nendstream", base64.b64decode(document), re.DOTALL):
             try:

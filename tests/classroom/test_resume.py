@@ -27,6 +27,7 @@ class Players:
     """The students of the cycle and a second teacher who disturbs them, played by one thread."""
 
     def __init__(self, port: int, disturbs: bool = True) -> None:
+        """Starts to play at the students' port. If `disturbs` is set, the second teacher causes faults."""
         self.port, self.disturbs = port, disturbs
         self.over, self.told = threading.Event(), 0
         self.thread = threading.Thread(target=self.play)
@@ -62,7 +63,7 @@ class Players:
             self.told = teacher.fault(1, None, True).place
 
     def ended(self) -> int:
-        """Ends the thread. Returns the greatest place in a reply."""
+        """Waits for the end of the thread. Returns the greatest place in a reply."""
         self.over.set()
         self.thread.join()
         return self.told
@@ -73,7 +74,7 @@ class Resume(Cycle):
     """Runs over the cycle of `examples/`."""
 
     def killed(self, going: Going, what: str, number: int = 0) -> None:
-        """Kills the server, or `run` first."""
+        """Kills the server of a run, or the process of `run` and then the server if `what` says so."""
         server = Process.of(number or going.server())
         if what != "host":
             going.process.kill()

@@ -18,7 +18,7 @@ ROW: dict[str, Value] = {"applied": Fraction(7), "nodes": Fraction(2), "student"
 
 
 def value(expression: str) -> str:
-    """Returns the value of an expression for the row above."""
+    """Returns the value of an expression for the row of marks above, as a text."""
     return parsed(Path("rule"), [f"x = {expression}"], list(ROW)).values(ROW)[0]
 
 

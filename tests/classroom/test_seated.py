@@ -52,7 +52,7 @@ def relay(lines: int, what: str, told: str) -> None:
 
 
 def seated(desk: int) -> str:
-    """Greets at a desk as a student, and stays. Returns the reply."""
+    """Says hello at a desk as a student, and keeps the connection open. Returns the reply."""
     it = socket.create_connection(("127.0.0.1", desk), LIMIT)
     it.sendall(json.dumps({"do": "hello", "name": "gus", "key": KEYS["gus"]}).encode() + b"\n")
     reply = it.makefile("rb").readline().decode()
@@ -61,7 +61,7 @@ def seated(desk: int) -> str:
 
 
 def knocked(desk: int) -> str:
-    """Waits until another connection has come to a desk. Returns whether one has."""
+    """Waits until another connection has come to a desk. Returns as a text whether one has come in time."""
     end = time.monotonic() + PATIENT
     while time.monotonic() < end:
         if any(own == desk and state == ESTABLISHED for own, _, state, _ in rows()):
@@ -75,7 +75,8 @@ class Seated(Cycle):
     """Runs over the cycle of `examples/`."""
 
     def relayed(self, what: str) -> str:
-        """Returns a host whose first line is delayed until `what` was done at its desk."""
+        """Writes a program that runs the host, but delays its first line until `what` was done at its desk. Returns its
+        path."""
         text = RELAY.format(top=str(TOP), host=str(host()), what=what, told=str(self.room / "told"))
         it = self.file("relayed", text)
         it.chmod(0o755)

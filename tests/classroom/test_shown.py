@@ -75,7 +75,7 @@ return {
 
 
 def resize(driver: Any, size: tuple[int, int] | None) -> None:
-    """Sets the size of the browser's window, or restores it."""
+    """Sets the size of the browser's window, or restores it if `size` is None."""
     if size is None:
         driver.execute_cdp_cmd("Emulation.clearDeviceMetricsOverride", {})
     else:
@@ -89,7 +89,7 @@ def counted(count: int, word: str) -> str:
 
 
 def meet(a: list[float], b: list[float]) -> bool:
-    """Returns whether two boxes overlap by more than a hair."""
+    """Returns whether two boxes overlap by more than a pixel's fraction."""
     return min(a[2], b[2]) - max(a[0], b[0]) > 1 and min(a[3], b[3]) - max(a[1], b[1]) > 1
 
 
@@ -119,7 +119,7 @@ class Told(InRoom):
         self.students = {name: self.client(name, key) for name, key in self.lab.students.items()}
 
     def client(self, name: str, key: str) -> Client:
-        """Returns a connection."""
+        """Returns the connection of a student or teacher."""
         client = Client(self.going.port, name, key)
         self.addCleanup(client.__exit__, OSError, None, None)
         return client
@@ -180,7 +180,7 @@ class Told(InRoom):
         self.assertEqual(sum(self.driver.execute_script(DRAWN_OPEN)), len(report.open))
 
     def ask_all(self) -> None:
-        """Lets each student ask for the enabled moves."""
+        """Lets each student ask for the enabled moves of the own nodes."""
         for node in self.lab.nodes:
             student = self.students[node.owners[0]]
             look = student.look(node.id)
@@ -316,7 +316,7 @@ class Sizes(Played):
         show_as(self.driver)
 
     def sized(self, size: tuple[int, int]) -> dict[str, Any]:
-        """Returns the positions of all elements in a window of this size, after the right picture has appeared."""
+        """Returns the boxes of all elements in a window of this size, after the right picture has appeared."""
         resize(self.driver, size)
         until(self.driver, lambda driver: driver.execute_script(FOR_WINDOW))
         found: dict[str, Any] = self.driver.execute_script(SIZES)

@@ -40,7 +40,8 @@ WHOLE = (
 
 
 def call(*command: str | Path, typed: str = "", key: str | None = None, slip: str | None = None) -> subprocess.CompletedProcess[str]:
-    """Runs a program to its end, with or without a key or a slip in its environment."""
+    """Runs a command with `typed` as its input to its end, with or without a key or a slip in its environment. Returns
+    its result."""
     given = {"CENDUWA_KEY": key, "CENDUWA_SLIP": slip}
     environment = {name: value for name, value in os.environ.items() if name not in given}
     environment |= {name: value for name, value in given.items() if value is not None}
@@ -138,7 +139,7 @@ class Fake(InRoom):
     """Listeners that aren't servers of a class, or that have no seat."""
 
     def answers(self, line: bytes, times: int = 1) -> int:
-        """Answers this number of connections with a line. Returns the port."""
+        """Listens at a free port, and answers so many connections with a line each. Returns the port."""
         listener = socket.create_server(("127.0.0.1", 0))
         self.addCleanup(listener.close)
 
@@ -160,8 +161,8 @@ class Fake(InRoom):
         return self.file(f"{port}.slip", f"port {port}\nname gus\nkey heron\nnodes 1\n")
 
     def talks(self, *replies: bytes, then: tuple[bytes, ...] = ()) -> int:
-        """Answers each line of one connection with the next reply, and hangs up. Returns the port. `then` are the
-        replies of a second connection."""
+        """Listens at a free port, answers each line of one connection with the next reply, and hangs up. `then` are the
+        replies on a second connection. Returns the port."""
         listener = socket.create_server(("127.0.0.1", 0))
         self.addCleanup(listener.close)
 
@@ -269,7 +270,7 @@ class Fake(InRoom):
             self.is_told(*BY_HAND, slip, *rest)
 
     def is_told(self, *command: str | Path) -> None:
-        """Checks for the error line and the status of wrong arguments."""
+        """Checks that a command prints the error line for wrong arguments, and ends with its status."""
         said = call(*command)
         self.assertEqual((said.returncode, said.stdout), (1, ""), (command, said.stderr))
         self.assertEqual(said.stderr.count("\n"), 1, said.stderr)
@@ -280,7 +281,7 @@ class Talking(Cycle):
     """Programs in a run."""
 
     def edited(self, slip: Path, name: str, old: str, new: str) -> Path:
-        """Writes a slip with a changed line, and returns its path."""
+        """Writes a slip in which a text is replaced into a file of this name, and returns its path."""
         return self.file(name, slip.read_text(encoding="utf-8").replace(old, new))
 
     def test_a_wrong_key_and_a_wrong_node(self) -> None:

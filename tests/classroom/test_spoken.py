@@ -39,11 +39,11 @@ class Spoken(Played):
         self.addCleanup(self.ask_for)
 
     def ask_for(self, motion: str = "no-preference") -> None:
-        """Emulates a reader with or without reduced motion."""
+        """Emulates a reader who prefers reduced motion, or has no preference."""
         self.driver.execute_cdp_cmd("Emulation.setEmulatedMedia", {"features": [{"name": "prefers-reduced-motion", "value": motion}]})
 
     def heard(self, count: int) -> list[str]:
-        """Returns the announced texts after there are this many."""
+        """Waits until so many texts were announced, and returns them."""
         until(self.driver, lambda driver: len(driver.execute_script("return window.heard")) >= count)
         found: list[str] = self.driver.execute_script("return window.heard")
         return found

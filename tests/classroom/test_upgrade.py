@@ -1,8 +1,9 @@
-"""Folders of runs that earlier programs left, in `kept/`: each is marked, played and gone on with.
+"""Folders of runs that earlier programs left, in `kept/`: each is marked, played and continued.
 
-Each is of `./class run` over `examples/cycle.toml`, with bots of three of its students, until both it and its server were killed.
-`first` is of commit 151f29c, the first that called itself 0.9.0, whose program was built without a proof. `archive` is of the
-archive that `./release` made of commit ef46f47; it has a record too, in which gus is denied another's node.
+Each is from `./class run` over `examples/cycle.toml`, with bots of three of its students, until both it and its server
+were killed. `first` is from commit 151f29c, the first that called itself 0.9.0, whose program was built without a
+proof. `archive` is from the archive that `./release` made of commit ef46f47. It has a record too, in which gus is
+denied another's node.
 """
 from __future__ import annotations
 
@@ -27,14 +28,15 @@ class Upgrade(Cycle):
     """Copies of these folders."""
 
     def copied(self, name: str) -> Path:
-        """Returns a private copy of a folder."""
+        """Returns a private copy of the folder with this name."""
         folder = self.room / "runs" / f"2026-11-26T2144-{name}"
         shutil.copytree(KEPT / name, folder)
         folder.chmod(0o700)
         return folder
 
     def marks(self, folder: Path) -> tuple[dict[str, int], int]:
-        """Returns the applied moves of each student, and the number of events, as `mark` counts them."""
+        """Returns the number of applied moves of each student in the folder with this name, and the number of events,
+        as `mark` counts them."""
         done = words("mark", "--json", folder)
         self.assertEqual(done.returncode, 0, done.stderr)
         run = json.loads(done.stdout)["runs"][0]

@@ -35,7 +35,7 @@ class Helped(InRoom):
     """Help and completion."""
 
     def completed(self, *typed: str) -> set[str]:
-        """Returns the completions of bash after these words."""
+        """Returns the completions that bash offers after these words."""
         done = subprocess.run(["bash", "-c", COMPLETE, "bash", *typed], cwd=TOP, capture_output=True, text=True, check=True, timeout=LIMIT)
         self.assertEqual(done.stderr, "")
         return set(done.stdout.split())

@@ -18,15 +18,15 @@ Asked = tuple[int, str, int | None]  # a node, its rule, and with whom
 
 
 def made(family: str, nodes: int) -> labs.Lab:
-    """Returns a network of a family, at its worst start."""
+    """Returns a lab with a network of a family, at its worst start."""
     it = network([labs.Node(node, []) for node in range(1, nodes + 1)], networks.plain(family, nodes))
     start(it, "worst", random.Random(1))
     return it
 
 
 def phases(nodes: int, links: set[tuple[int, int]], last: int) -> list[Asked]:
-    """Returns the moves of one couple after another: all nodes up to `last` seduce the highest free node, it
-    marries the lowest, both update, and the others abandon it."""
+    """Returns the moves of one couple after another in a network. All nodes up to `last` seduce the highest free node,
+    which marries the lowest. Both update, and the others abandon it."""
     asked: list[Asked] = []
     for couple in range(nodes // 2):
         high = nodes - couple

@@ -120,7 +120,7 @@ class Wrong(InRoom):
     """Bots with one mistake each."""
 
     def tries(self, name: str, plan: str) -> Result:
-        """Returns the result of a bot in a case."""
+        """Tries the bot with this name in the case of a plan. Returns the result."""
         it = PLANS[plan]
         bot = Bot.of(f"{sys.executable} {WRONG} {name}")
         with tempfile.TemporaryDirectory() as own:

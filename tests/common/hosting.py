@@ -42,7 +42,7 @@ def lab_of(room: Path, sessions: int, events: int = 1000) -> Path:
 
 
 class Host:
-    """A host that listens or has already ended. It is killed at the end of its `with` block."""
+    """A host's process, which listens or has already ended. It is killed at the end of its `with` block."""
 
     def __init__(
         self, *words: object, word: str = "host", before: Sequence[str] = (),
@@ -95,20 +95,21 @@ class Host:
         return self.end(seconds)
 
     def kilobytes(self) -> int:
-        """Returns the resident memory in kilobytes."""
+        """Returns the resident memory of the host in kilobytes."""
         status = Path(f"/proc/{self.process.pid}/status").read_text(encoding="ascii")
         return int(status.split("VmRSS:", 1)[1].split()[0])
 
     def threads(self) -> int:
-        """Returns the number of threads."""
+        """Returns the number of the host's threads."""
         return len(list(Path(f"/proc/{self.process.pid}/task").iterdir()))
 
     def files(self) -> int:
-        """Returns the number of open files."""
+        """Returns the number of the host's open files."""
         return len(list(Path(f"/proc/{self.process.pid}/fd").iterdir()))
 
     def settles(self, threads: int, files: int, when: str) -> None:
-        """Waits until the host has this number of threads and files. Fails if it doesn't get there."""
+        """Waits until the host has this number of threads and of open files. Fails with the text `when` if it doesn't
+        get there."""
         for _ in range(int(LIMIT / 0.05)):
             if (self.threads(), self.files()) == (threads, files):
                 return
@@ -120,6 +121,7 @@ class Caller:
     """A connection that sends lines and reads replies."""
 
     def __init__(self, port: int, source: str = "127.0.0.1") -> None:
+        """Connects to a port from the address `source` of this machine."""
         self.socket = socket.create_connection(("127.0.0.1", port), LIMIT, (source, 0))
         self.replies = self.socket.makefile("rb")
 
@@ -157,7 +159,8 @@ class Caller:
 
 
 def called(port: int, source: str = "127.0.0.1") -> Caller:
-    """Returns a connection. Tries again while the host doesn't accept any."""
+    """Connects to a port from an address of this machine, and returns the connection. Tries again while the host
+    doesn't accept any."""
     end = time.monotonic() + LIMIT
     while True:
         try:
@@ -188,6 +191,8 @@ class Talk:
     the expected replies and the expected journal."""
 
     def __init__(self, lab: Path, sessions: int, room: Path) -> None:
+        """Begins without a line. The script of the lines will run over this lab with so many sessions, in the folder
+        `room`."""
         self.lab, self.room = lab, room
         self.free = list(range(1, sessions + 1))
         self.numbers: dict[object, int] = {}
@@ -195,7 +200,7 @@ class Talk:
         self.found: list[Optional[bytes]] = []
 
     def heard(self, who: object, line: bytes, reply: Optional[bytes]) -> None:
-        """Notes a line of a connection and its reply, or None if nobody read the reply."""
+        """Notes a line of the connection `who` and its reply, or None if nobody has read the reply."""
         if who not in self.numbers:
             self.numbers[who] = self.free.pop(0)
         number = b"%d " % self.numbers[who]
@@ -215,7 +220,7 @@ class Talk:
         return caller
 
     def gone(self, who: object) -> None:
-        """Notes that a connection has ended without a bye."""
+        """Notes that the connection `who` has ended without a bye."""
         self.heard(who, BYE, None)
         self.free.append(self.numbers.pop(who))
 
@@ -257,6 +262,7 @@ class Bot:
     """A separate process that sends lines, and waits in the middle of one to be killed."""
 
     def __init__(self, talk: Talk, port: int, lines: Sequence[bytes]) -> None:
+        """Starts the process, which sends these lines to a port, the last one without its end. Notes them in `talk`."""
         words = [line.decode().rstrip("\n") for line in lines]
         self.process = subprocess.Popen(
             [sys.executable, "-c", BOT, str(port), *words], stdin=subprocess.DEVNULL, stdout=subprocess.PIPE
@@ -269,7 +275,7 @@ class Bot:
             fail("host: a bot doesn't come to its half line")
 
     def killed(self) -> None:
-        """Kills the process, and notes that its connection has ended."""
+        """Kills the process, and notes in the talk that its connection has ended."""
         self.process.kill()
         self.process.communicate()
         self.talk.gone(self)

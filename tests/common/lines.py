@@ -16,53 +16,53 @@ DENIALS = {
 
 
 def line_of(**members: object) -> bytes:
-    """Returns a line whose keys are sorted."""
+    """Returns the line of a request with these values, whose keys are sorted."""
     return json.dumps(members, separators=(",", ":"), sort_keys=True).encode() + b"\n"
 
 
 def hello(name: str) -> bytes:
-    """Returns the hello of a person in the built-in lab."""
+    """Returns the line of the hello of a person in the built-in lab."""
     return line_of(do="hello", key=KEYS[name], name=name)
 
 
 def look(name: str) -> bytes:
-    """Returns a look at a student's node."""
+    """Returns the line of a look at the node of a student."""
     return line_of(do="look", node=NODES[name])
 
 
 def seduction(at: int, node: int = 1) -> bytes:
-    """Returns a request for a seduction in a configuration."""
+    """Returns the line of a request for a seduction at a node, in the configuration with the number `at`."""
     return line_of(at=at, do="move", node=node, rule="seduction")
 
 
 def fault_at(node: int, m: bool = False) -> bytes:
-    """Returns a fault that sets p of a node to null."""
+    """Returns the line of a fault that sets p of a node to null, and m to this value."""
     return line_of(do="fault", m=m, node=node, p=None)
 
 
 def greeted(name: str) -> bytes:
-    """Returns the reply to a greeting."""
+    """Returns the reply to the granted hello of a person."""
     return line_of(ok="hello", who=name)
 
 
 def seduced(at: int, place: int, node: int = 1) -> bytes:
-    """Returns the reply to a seduction that is granted."""
+    """Returns the reply to a granted seduction at a node."""
     return line_of(at=at, node=node, ok="move", place=place, rule="seduction")
 
 
 def closed(at: int, place: int, *moved: int) -> bytes:
-    """Returns the reply to a close that moved some nodes."""
+    """Returns the reply to a close by which these nodes moved."""
     return line_of(at=at, moved=moved, ok="close", place=place)
 
 
 def denial_of(word: str, **more: object) -> bytes:
-    """Returns a denial with its clause and its text."""
+    """Returns the reply of the denial with this word, with its clause and its text."""
     clause, text = DENIALS[word]
     return line_of(clause=clause, deny=word, text=text, **more)
 
 
 def refusal_of(word: str) -> bytes:
-    """Returns a refusal."""
+    """Returns the reply of the refusal with this word."""
     return line_of(refuse=word)
 
 

@@ -27,14 +27,14 @@ REFUSED = (refusal_of("memory"), refusal_of("journal"))
 
 
 def fail(why: str) -> NoReturn:
-    """Prints a line and exits."""
+    """Prints a line with the reason, and exits with status 1."""
     print(f"FAILED: {why}")
     sys.exit(1)
 
 
 def built(source: str, room: Path) -> Path:
-    """Builds the library of a C source, and returns its path. The source is named by its path below the tests'
-    folder."""
+    """Builds the library of a C source in the folder `room`, and returns its path. The source is named by its path
+    below the tests' folder."""
     rt = shutil.which("rt")
     if rt is None:
         fail("no rt on the path, so no clang")
@@ -51,12 +51,13 @@ class Preloaded:
     """A library, with its environment variables and the counts that it writes into a file."""
 
     def __init__(self, source: str, room: Path, counts: str) -> None:
+        """Builds the library. `counts` is the environment variable that names the file for its counts."""
         self.library = built(source, room)
         self.variable = counts
         self.file = room / f"{self.library.stem}.counts"
 
     def variables(self, told: Mapping[str, str]) -> dict[str, str]:
-        """Returns the environment of a run with the library, and resets its counts."""
+        """Returns the environment of a run with the library and these variables, and resets the library's counts."""
         self.file.write_bytes(bytes(16))
         return {"LD_PRELOAD": str(self.library), self.variable: str(self.file), **told}
 
@@ -67,13 +68,13 @@ class Preloaded:
 
 
 def run(words: list[str], given: bytes, variables: Mapping[str, str], program: Path = PROGRAM) -> Ended:
-    """Runs the program with these arguments and this standard input."""
+    """Runs the program with these arguments, this standard input and these variables. Returns its status and output."""
     done = subprocess.run([program, *words], input=given, capture_output=True, env=variables, timeout=LIMIT, check=False)
     return Ended(done.returncode, done.stdout, done.stderr)
 
 
 def good(words: list[str], given: bytes = b"", program: Path = PROGRAM) -> bytes:
-    """Returns the output of a run without a library. Fails if the run doesn't end well."""
+    """Runs the program without a library, and returns its output. Fails if it doesn't end well."""
     ended = run(words, given, {}, program)
     if ended.status != 0 or ended.error:
         fail(f"a plain run ended with {ended.status}: {words}")
@@ -84,6 +85,7 @@ class Story:
     """A script over a lab, with the expected replies and journal, also for the case that some lines are left out."""
 
     def __init__(self, lab: Path, script: bytes, room: Path) -> None:
+        """Runs the script over the lab once, to get the expected replies and journal."""
         self.lab = lab
         self.lines = script.splitlines(keepends=True)
         self.room = room
@@ -91,11 +93,12 @@ class Story:
         self.audited: dict[bytes, bytes] = {}
 
     def script(self, without: frozenset[int] = frozenset()) -> bytes:
-        """Returns the script without these lines."""
+        """Returns the script without the lines with these numbers."""
         return b"".join(line for index, line in enumerate(self.lines) if index not in without)
 
     def plain(self, without: frozenset[int]) -> tuple[list[bytes], bytes]:
-        """Returns the replies of a run without these lines, with an empty reply for each of them, and its journal."""
+        """Returns the replies of a run without the lines with these numbers, with an empty reply for each of them, and
+        its journal."""
         if without not in self.known:
             script, journal = self.room / "plain.script", self.room / "plain.journal"
             script.write_bytes(self.script(without))
@@ -105,13 +108,13 @@ class Story:
         return self.known[without]
 
     def refused(self, replies: list[bytes]) -> frozenset[int]:
-        """Returns the numbers of the refused lines."""
+        """Returns the numbers of the lines with a refusal among these replies."""
         return frozenset(at for at, reply in enumerate(replies) if reply.endswith(REFUSED))
 
     def expects(self, replies: list[bytes], unasked: frozenset[int], lost: frozenset[int] = frozenset()) -> str:
-        """Returns what is wrong with the replies, or an empty text. A refused line changes nothing, so the other
-        replies must be those of a run without it. `unasked` lines have no reply, and the replies in `lost` aren't
-        checked."""
+        """Returns what is wrong with the replies to the script, or an empty text. A refused line changes nothing, so
+        all other replies must be those of a run without this line. Lines in `unasked` have no reply, and the replies in
+        `lost` aren't checked."""
         refused = self.refused(replies)
         wanted, _ = self.plain(refused | unasked)
         for at, reply in enumerate(replies):
@@ -156,6 +159,7 @@ class Server:
     """The program as it serves a lab, with or without a library. `before` are words before the call."""
 
     def __init__(self, words: Callable[[int], list[str]], variables: Mapping[str, str], before: Sequence[str] = ()) -> None:
+        """Starts the server. `words` returns its arguments for a port, and `before` are words before the call."""
         # A port that somebody took in between would want a second try, whose calls a library counts on from the first's.
         self.held = held_port()
         self.port: int = self.held.getsockname()[1]
@@ -173,6 +177,7 @@ class Server:
             self.ended = self._end()
 
     def _end(self) -> Ended:
+        """Waits for the end of the process. Returns its status and output."""
         try:
             out, error = self.process.communicate(timeout=LIMIT)
         except subprocess.TimeoutExpired:
@@ -192,6 +197,7 @@ class Client:
     """A connection that sends a line, and waits for its reply."""
 
     def __init__(self, port: int) -> None:
+        """Connects to a port, and tries again while no server listens."""
         self.open: Optional[socket.socket] = None
         try:
             self.open = socket.create_connection(("127.0.0.1", port), timeout=LIMIT)
@@ -222,9 +228,9 @@ class Client:
 
 
 def play(story: Story, port: int, in_turn: bool = False) -> tuple[list[bytes], frozenset[int]]:
-    """Plays a script over connections. Sends each line after the reply to the one before, or after that
-    connection's end. With `in_turn`, closes each connection before the next one sends. Returns the replies in the
-    form of a script's output, and the lines without a reply."""
+    """Plays a script over connections to a port. Sends each line after the reply to the one before, or after that
+    connection's end. With `in_turn`, closes each connection before the next one sends. Returns the replies in the form
+    of a script's output, and the numbers of the lines without a reply."""
     asked = [line.split(b" ", 1) for line in story.lines]
     numbers = sorted({number for number, _ in asked})
     clients = {number: Client(port) for number in numbers}
@@ -242,6 +248,6 @@ def play(story: Story, port: int, in_turn: bool = False) -> tuple[list[bytes], f
 
 
 def in_room(work: Callable[[Path], str]) -> None:
-    """Calls a function with a temporary folder, and prints its result."""
+    """Calls a function with a temporary folder, and prints the text that it returns."""
     with tempfile.TemporaryDirectory() as name:
         print(work(Path(name)))

@@ -12,20 +12,21 @@ OF_HOST = ("verify", "tally")
 
 
 def called(*words: str | Path) -> Ended:
-    """Returns the result of a call of the program that has this command."""
+    """Runs the program that has this command with these arguments. Returns its status and output."""
     call: list[str | Path] = [HOST if words[0] in OF_HOST else PROGRAM, *words]
     done = subprocess.run(call, stdin=subprocess.DEVNULL, capture_output=True, env=dict[str, str](), timeout=LIMIT, check=False)
     return Ended(done.returncode, done.stdout, done.stderr)
 
 
 def first_other(found: bytes, wanted: bytes) -> str:
-    """Returns the first line that differs."""
+    """Returns the first line of `found` that differs from the one in `wanted`."""
     pairs = list(zip(found.splitlines() + [b""], wanted.splitlines() + [b""]))
     return next((f"line {k}: {a!r}, not {b!r}" for k, (a, b) in enumerate(pairs, 1) if a != b), "more lines or fewer")
 
 
 def compare(what: str, found: Ended, wanted: Ended) -> None:
-    """Fails if the program's result differs from the model's."""
+    """Fails, and prints the first difference, if the program's result `found` isn't `wanted`, the model's. `what` names
+    the call."""
     if found.out != wanted.out:
         fail(f"{what}: another output than the model's: {first_other(found.out, wanted.out)}")
     if found != wanted:
@@ -33,14 +34,15 @@ def compare(what: str, found: Ended, wanted: Ended) -> None:
 
 
 def agreed(what: str, *words: str | Path) -> Ended:
-    """Returns the result of a call of the program. Fails if the model's result differs."""
+    """Runs the program with these arguments, and returns its result. Fails if the model's result differs. `what` names
+    the call."""
     found = called(*words)
     compare(what, found, ended([str(word) for word in words]))
     return found
 
 
 def agreed_script(what: str, lab: Path, script: Path, journal: Path) -> Ended:
-    """Returns the result of a script. Fails if the model's result or journal differs."""
+    """Runs a script, and returns its result. Fails if the model's result or journal differs. `what` names the call."""
     found = called("script", lab, script, journal)
     second = journal.with_suffix(".second")
     second.unlink(missing_ok=True)

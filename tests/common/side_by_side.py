@@ -13,7 +13,7 @@ Test = Callable[[Path], None]
 
 
 def tried(test: Test) -> float:
-    """Runs a test in its own folder. Returns the seconds that it took."""
+    """Runs a test in a folder of its own. Returns the seconds that it took."""
     begun = time.monotonic()
     with tempfile.TemporaryDirectory() as room:
         test(Path(room))
@@ -21,7 +21,8 @@ def tried(test: Test) -> float:
 
 
 def try_all(of: str, tests: Sequence[Test]) -> None:
-    """Runs all tests, or those whose names contain an argument. Prints their number."""
+    """Runs these tests side by side, or those whose names contain an argument of the command line. Prints their number
+    with the text `of`."""
     if not HOST.is_file():
         fail("no host's program is built")
     chosen = [test for test in tests if not sys.argv[1:] or any(word in test.__name__ for word in sys.argv[1:])]

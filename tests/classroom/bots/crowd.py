@@ -19,8 +19,8 @@ PAUSE = 0.3  # seconds between two looks
 
 
 def play(slip: Slip, told: Path) -> None:
-    """Plays the nodes of a slip until the class is over or the slip's key has changed. Appends the name to the file
-    `told` for each hello."""
+    """Plays the nodes of a slip until the class is over or the slip's key has changed. Appends the name to the file of
+    the second parameter for each hello."""
     me = come(slip)
     while True:
         with told.open("a", encoding="utf-8") as it:
