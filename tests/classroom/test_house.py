@@ -198,7 +198,7 @@ class Standing(InRoom):
         self.assertEqual(self.grants(going.folder), before)
 
     def comes_back_without(self, going: Going, nodes: list[int]) -> None:
-        """Closes steps until the class waits for no node outside of these."""
+        """Closes steps, at least one, until no rule is enabled at any of these nodes."""
         with Client(going.port, "gus-roy", self.lab.students["gus-roy"]) as me:
             moved = 0
             while True:

@@ -26,7 +26,7 @@ class Reads(unittest.TestCase):
     """Lines of a program."""
 
     def refuses(self, text: str, what: str) -> None:
-        """Checks that reading this text raises a fault that contains `what`."""
+        """Checks that reading this text raises the fault about `what`."""
         with self.assertRaises(Fault) as raised:
             limits.parsed(text)
         self.assertEqual((str(raised.exception), raised.exception.status), (f"{BEGIN}{what}: build it again", FAILED))

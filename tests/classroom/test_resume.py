@@ -74,7 +74,8 @@ class Resume(Cycle):
     """Runs over the cycle of `examples/`."""
 
     def killed(self, going: Going, what: str, number: int = 0) -> None:
-        """Kills the server of a run, or the process of `run` and then the server if `what` says so."""
+        """Kills the server of a run. Kills the process of `run` before that, unless `what` is `host`. `number` is that
+        of the server, if it is known."""
         server = Process.of(number or going.server())
         if what != "host":
             going.process.kill()

@@ -85,7 +85,7 @@ class Story:
     """A script over a lab, with the expected replies and journal, also for the case that some lines are left out."""
 
     def __init__(self, lab: Path, script: bytes, room: Path) -> None:
-        """Runs the script over the lab once, to get the expected replies and journal."""
+        """Takes the lines of the script. Runs of it over the lab are made in the folder `room` when they are needed."""
         self.lab = lab
         self.lines = script.splitlines(keepends=True)
         self.room = room
@@ -197,7 +197,7 @@ class Client:
     """A connection that sends a line, and waits for its reply."""
 
     def __init__(self, port: int) -> None:
-        """Connects to a port, and tries again while no server listens."""
+        """Connects to a port. If no server listens there, each reply is empty."""
         self.open: Optional[socket.socket] = None
         try:
             self.open = socket.create_connection(("127.0.0.1", port), timeout=LIMIT)

@@ -45,7 +45,7 @@ MARKS = ("sh not run", "text")
 
 
 def tracked() -> list[str]:
-    """Returns the files of the repository: those that are committed, and new ones that git doesn't ignore."""
+    """Returns the paths of the repository's files: those that are committed, and new ones that git doesn't ignore."""
     listed = subprocess.run(["git", "ls-files", "-co", "--exclude-standard"], cwd=TOP, capture_output=True, text=True, check=True)
     return [path for path in listed.stdout.splitlines() if (TOP / path).exists()]
 
@@ -56,7 +56,7 @@ def is_page(path: str) -> bool:
 
 
 def words_of(files: list[str]) -> set[str]:
-    """Returns all words in the sources, and the parts of their paths."""
+    """Returns all words in the sources among these files, and the parts of their paths."""
     found = set()
     for path in files:
         found |= set(re.findall(r"\w+", path))
@@ -66,21 +66,21 @@ def words_of(files: list[str]) -> set[str]:
 
 
 def laws_of(files: list[str]) -> set[str]:
-    """Returns the names of all laws."""
+    """Returns the names of all laws, the public functions of modules `laws`, among these files."""
     texts = [(TOP / path).read_text(encoding="utf-8") for path in files if re.fullmatch(r"crates/\w+/src/laws(/\w+)?\.rt", path)]
     return {name for text in texts for name in re.findall(r"pub fn (\w+)", text)}
 
 
 def declared_in(text: str) -> set[str]:
-    """Returns the names that a source declares: functions, types, clauses, definitions, and the arguments of `impl
-    From`."""
+    """Returns the names that the text of a source declares: functions, types, clauses, definitions, and the arguments
+    of `impl From`."""
     names = set(re.findall(r"\b(?:fn|struct|enum|trait|type|const|ensures|requires) (\w+)", text))
     names |= set(re.findall(r"^(?:[a-z]+ )*([A-Za-z_]\w*)(?: |$)", text, re.MULTILINE))
     return names | {f"From<{name}>" for name in re.findall(r"impl.* From<(\w+)", text)}
 
 
 def sources_of(files: list[str]) -> dict[str, str]:
-    """Returns the text of the `src/` and `specs/` of each crate."""
+    """Returns for each crate the text of all its files in `src/` and `specs/`."""
     texts: dict[str, str] = {}
     for path in files:
         found = re.match(r"crates/(\w+)/(src|specs)/", path)
@@ -90,7 +90,7 @@ def sources_of(files: list[str]) -> dict[str, str]:
 
 
 def contracts_of(page: str) -> Iterator[str]:
-    """Yields each name in backquotes in the last column of tables whose last head is `Contract`."""
+    """Yields each name in backquotes in the last column of those tables of a page whose last head is `Contract`."""
     inside = False
     for line in (TOP / page).read_text(encoding="utf-8").splitlines():
         cells = [cell.strip() for cell in line.strip().strip("|").split("|")] if line.startswith("|") else []
@@ -101,7 +101,7 @@ def contracts_of(page: str) -> Iterator[str]:
 
 def missing_contracts(page: str, texts: dict[str, str], declared: set[str], laws: set[str]) -> Iterator[str]:
     """Yields the contracts on a page that aren't declared, or that the page of a crate names but the crate doesn't
-    cite."""
+    cite. `texts` has the sources of each crate."""
     crate = re.fullmatch(r"crates/(\w+)/README\.md", page)
     for name in contracts_of(page):
         parts = [name] if name.startswith("From<") else name.split("::")
@@ -112,14 +112,14 @@ def missing_contracts(page: str, texts: dict[str, str], declared: set[str], laws
 
 
 def stands_for_another(text: str) -> bool:
-    """Returns whether a path has a part that the reader replaces, as `NAME.script`, or is a page in capitals at
-    the top."""
+    """Returns whether a path in a text has a part that the reader replaces, such as `NAME.script`, or is a page in
+    capitals at the top."""
     return bool(re.search(r"(?<![A-Z])[A-Z]{3,}(?![A-Z]*\.md)", text))
 
 
 def missing_path(page: str, text: str, files: list[str], folders: set[str]) -> bool:
-    """Returns whether no file and no folder has a path that ends like this. On the page of a crate, its own
-    folders count too."""
+    """Returns whether no file and no folder of the repository has a path that ends like this text. On the page of a
+    crate, the crate's own folders count too."""
     path = text.rstrip("/").removeprefix("./")
     if path.startswith("/") or stands_for_another(path) or path in ELSEWHERE:
         return False
@@ -130,7 +130,8 @@ def missing_path(page: str, text: str, files: list[str], folders: set[str]) -> b
 
 
 def missing_name(text: str, words: set[str], laws: set[str]) -> bool:
-    """Returns whether a name has a word that is in no source."""
+    """Returns whether a name on a page has a word that is in no source, or isn't the name of a law although it looks
+    like one."""
     if text in ELSEWHERE:
         return False
     parts = re.findall(r"\w+", text)
@@ -177,7 +178,8 @@ def blocks_of(page: str) -> Iterator[tuple[str | None, list[str]]]:
 
 
 def is_run(page: str, mark: str | None, lines: list[str], texts: dict[str, str], data: set[str]) -> bool:
-    """Returns whether a test runs a code block, or it is marked, or its text is in `examples/`."""
+    """Returns whether a test runs a code block, or the block is marked, or its text is in `data`, the contents of
+    `examples/`."""
     if mark is not None:
         return mark in MARKS or (page, mark) in RUN_BY and page in texts[RUN_BY[page, mark]]
     commands = [line.removeprefix("$ ") for line in lines if is_command(line)]
@@ -191,7 +193,7 @@ def is_run(page: str, mark: str | None, lines: list[str], texts: dict[str, str],
 
 
 def unrun_blocks(page: str, files: list[str]) -> list[str]:
-    """Returns the first lines of a page's code blocks that no test runs and that aren't marked."""
+    """Returns the first line of each code block of a page that no test runs and that isn't marked."""
     run = {*RUN_BY.values(), *(path for path, _ in RUN_BEFORE.values()), "tests/pages/pages"}
     texts = {path: (TOP / path).read_text(encoding="utf-8") for path in run}
     examples = [path for path in files if path.startswith("examples/")]
@@ -200,7 +202,7 @@ def unrun_blocks(page: str, files: list[str]) -> list[str]:
 
 
 def counted(pages: Iterable[str]) -> dict[str, int]:
-    """Returns the number of words on each page, without code blocks."""
+    """Returns the number of words on each of these pages, without code blocks."""
     texts = {page: re.sub(r"^    .*$", "", FENCE.sub("", (TOP / page).read_text(encoding="utf-8")), flags=re.MULTILINE) for page in pages}
     return {page: sum(bool(re.search(r"\w", word)) for word in text.split()) for page, text in texts.items()}
 

@@ -71,7 +71,7 @@ def groups(text: str) -> list[Group]:
 
 
 def tested_in(crate: str, all_groups: list[Group]) -> str:
-    """Returns the crates and test folders that test a crate, as a text."""
+    """Returns a text with the crates and the folders of tests that test a crate."""
     if crate.startswith(TESTS):
         return ""
     uses = {name: used for group in all_groups for name, used in group.crates.items()}
@@ -81,12 +81,12 @@ def tested_in(crate: str, all_groups: list[Group]) -> str:
 
 
 def text_at(x: int, y: int, text: str, kind: str = "") -> str:
-    """Returns a line of text as SVG."""
+    """Returns a line of text at a point as an SVG element of the class `kind`."""
     return f'<text x="{x}" y="{y}"{f""" class="{kind}" """.rstrip() if kind else ""}>{escape(text)}</text>'
 
 
 def band(group: Group, top: int, all_groups: list[Group]) -> tuple[list[str], int]:
-    """Returns the drawing of a group, and the vertical position of its end."""
+    """Returns the drawing of a group that begins at a height, and the height of its end."""
     rows = -(-len(group.crates) // COLUMNS)
     height = 30 + rows * (HEIGHT + GAP) + GAP
     width = COLUMNS * (WIDTH + GAP) + GAP
@@ -102,8 +102,8 @@ def band(group: Group, top: int, all_groups: list[Group]) -> tuple[list[str], in
 
 
 def way(above: int, below: int, is_next: bool) -> str:
-    """Returns an arrow from the foot of a band to the head of the next, or along the margin past the bands between
-    them."""
+    """Returns an SVG path with an arrow from the foot of a band to the head of another one: straight down if that is
+    the next one, and otherwise along the margin."""
     middle, head = MARGIN + GAP + WIDTH // 2, below + 20
     if is_next:
         return f'<path class="way" d="M{middle} {above} V{below - 2} m-5 -6 l5 6 l5 -6"/>'
@@ -111,7 +111,7 @@ def way(above: int, below: int, is_next: bool) -> str:
 
 
 def drawing(text: str) -> str:
-    """Returns the picture for the text of `crates.txt`."""
+    """Returns the SVG picture for the text of `crates.txt`."""
     all_groups, feet = groups(text), list[int]()
     top, drawn = MARGIN, list[str]()
     for at, group in enumerate(all_groups):
@@ -129,7 +129,7 @@ def drawing(text: str) -> str:
 
 
 def faults() -> list[str]:
-    """Returns what the picture says and isn't true."""
+    """Returns error texts about what the picture shows and isn't true."""
     text = (TOP / "crates.txt").read_text(encoding="utf-8")
     is_so = PICTURE.exists() and PICTURE.read_text(encoding="utf-8") == drawing(text)
     found = [] if is_so else ["docs/crates.svg isn't that of crates.txt: python3 -B -m tests.documents.crates"]

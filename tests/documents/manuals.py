@@ -23,36 +23,38 @@ OF_ITSELF = "-h, --help"
 
 
 def plain(text: str) -> str:
-    """Returns a text as a manual's source has it: hyphens that can be typed, and no line that is a request."""
+    """Returns a text as the source of a man page has it: with hyphens that can be typed, and without a line that would
+    be a command of the format."""
     text = text.replace("\\", r"\e").replace("-", r"\-").replace("~", r"\(ti").replace("^", r"\(ha")
     return re.sub(r"(?m)^([.'])", r"\\&\1", text)
 
 
 def bold(text: str) -> str:
-    """Returns a text in bold."""
+    """Returns a text in bold, as the source of a man page has it."""
     return rf"\fB{plain(text)}\fR"
 
 
 def form(synopsis: str) -> str:
-    """Returns the form of a call: words in bold, and what is replaced, which stands in capitals, in italics."""
+    """Returns the form of a call in the source of a man page: words in bold, and parts to be replaced, which are in
+    capitals, in italics."""
     return re.sub(r"[A-Z]{2,}", lambda found: rf"\fI{found[0]}\fP", plain(synopsis))
 
 
 def head(name: str, what: str) -> Iterator[str]:
-    """Yields the first lines of a page."""
+    """Yields the first lines of the man page `name`."""
     version = (TOP / "VERSION").read_text(encoding="ascii").strip()
     yield f'.TH {name.upper()} 1 "" "Cenduwa {version}" "Cenduwa"'
     yield from (".SH NAME", rf"{name} \- {plain(what)}")
 
 
 def foot(name: str, *pages: str) -> Iterator[str]:
-    """Yields the last lines of a page."""
+    """Yields the last lines of the man page `name`, with the pages to see also."""
     named = ", ".join(rf"\fI{plain(page)}\fP" for page in pages)
     yield from (".SH SEE ALSO", rf".BR {name} (1);", f"{named} of the release.")
 
 
 def mml() -> str:
-    """Returns the page of `mml`, by the lines that it prints for `--help`."""
+    """Returns the source of the page mml(1), made from the lines that `mml --help` prints."""
     done = subprocess.run([TOP / "mml", "--help"], stdin=subprocess.DEVNULL, capture_output=True, text=True, check=True)
     first, *lines = done.stdout.splitlines()
     words = [found.groups() for line in lines if (found := LINE.fullmatch(line))]
@@ -73,7 +75,7 @@ def choices(every: argparse.ArgumentParser) -> dict[str, argparse.ArgumentParser
 
 
 def term(action: argparse.Action) -> str:
-    """Returns the form of an option or a positional argument."""
+    """Returns the form of an option or a positional argument, as the source of a man page has it."""
     value = str(action.metavar or (",".join(map(str, action.choices)) if action.choices else action.dest.upper()))
     if not action.option_strings:
         return form(value if action.metavar else action.dest.upper())
@@ -82,7 +84,7 @@ def term(action: argparse.Action) -> str:
 
 
 def word(name: str) -> Iterator[str]:
-    """Yields the lines of a word of `class`: what it does, its options, an example."""
+    """Yields the lines of the page class(1) about a subcommand: what it does, its options, and an example."""
     yield from (f'.SS "class {plain(name)}"', plain(EACH[name][0][0].upper() + EACH[name][0][1:]) + ".")
     for action in choices(parser(name))[name]._actions:
         if ", ".join(action.option_strings) != OF_ITSELF and action.help != argparse.SUPPRESS:
@@ -91,7 +93,7 @@ def word(name: str) -> Iterator[str]:
 
 
 def classes() -> str:
-    """Returns the page of `class`, by its words."""
+    """Returns the source of the page class(1), made from the parser of its command line."""
     source = [*head("class", "a course on self-stabilising algorithms: labs, classes, marks"), ".SH SYNOPSIS", ".B class",
               r"\fIWORD\fP [\fI..\fP]", ".SH DESCRIPTION", plain(str(parser("").description)), ".SH WORDS"]
     for name in EACH:
@@ -102,7 +104,7 @@ def classes() -> str:
 
 
 def pages() -> dict[Path, str]:
-    """Returns the source of each page."""
+    """Returns the source of each man page, by its path."""
     return {FOLDER / "mml.1": mml(), FOLDER / "class.1": classes()}
 
 

@@ -37,7 +37,7 @@ def text(path: str) -> str:
 
 
 def only(pattern: str, path: str) -> str:
-    """Returns the single match of a pattern in a file."""
+    """Returns the single match of a pattern in a file of the repository. Fails if there is none or more than one."""
     found = re.findall(pattern, text(path), re.MULTILINE)
     if len(found) != 1:
         raise ValueError(f"{path} has {len(found)} times {pattern}")
@@ -45,14 +45,14 @@ def only(pattern: str, path: str) -> str:
 
 
 def default(word: str, option: str) -> str:
-    """Returns the default value of an option of `./class`."""
+    """Returns the default value of an option of a subcommand of `./class`, as a text."""
     needed = {"run": ["run", "lab"], "new": ["new", "lab", "--students", "names"]}
     return str(getattr(parser(word).parse_args(needed[word]), option))
 
 
 def releases() -> Iterator[tuple[str, str]]:
-    """Yields the promises about releases: the archive's name, its requirements, and the limits in the service
-    file."""
+    """Yields the promises about releases, each as a page and a text: the archive's name, its requirements, and the
+    limits in the service file."""
     name = f"cenduwa-{text('VERSION').strip()}-x86_64-linux"
     yield README, f"tar -xzf {name}.tar.gz && cd {name}\n"
     yield OPERATE, f"\nrelease={name}\n"
@@ -69,7 +69,7 @@ def releases() -> Iterator[tuple[str, str]]:
 
 
 def classes() -> Iterator[tuple[str, str]]:
-    """Yields the promises about labs, suites, defaults and statuses."""
+    """Yields the promises about labs, suites, defaults and statuses, each as a page and a text."""
     yield README, f"`examples/` has {WORDS[len(list((TOP / 'examples').glob('*.toml')))]} labs, "
     small, families = WORDS[len(suites.SMALL)], WORDS[len(suites.FAMILIES)]
     yield STUDENT, f"`grade` tries {small} cases, each in a new folder"
@@ -89,7 +89,7 @@ def classes() -> Iterator[tuple[str, str]]:
 
 
 def greatest() -> Iterator[tuple[str, str]]:
-    """The limits of labs, files, lines and connections."""
+    """Yields the promises about the limits of labs, files, lines and connections, each as a page and a text."""
     most = limits.MOST
     yield TEACHER, f"A lab has {most['sessions']} seats, one of them yours"
     yield LAB, f"for example `sessions {most['sessions']} count`"
@@ -118,7 +118,7 @@ def greatest() -> Iterator[tuple[str, str]]:
 
 
 def guesses() -> Iterator[tuple[str, str]]:
-    """Yields the promises about the number of keys, and of guesses in a day."""
+    """Yields the promises about the number of keys, and of guesses in a day, each as a page and a text."""
     count = len(set(KEY_WORDS)) ** keys.WORDS_EACH * 10 ** keys.DIGITS
     wait = only(r"^const DENIAL: u64 = (\d+);", "crates/mml_ports/src/state.rt")
     a_day = 86400 * 1000 / int(wait)
@@ -129,7 +129,8 @@ def guesses() -> Iterator[tuple[str, str]]:
 
 
 def times() -> Iterator[tuple[str, tuple[str, ...]]]:
-    """Yields the texts with which README.md may state the times of checks and builds."""
+    """Yields the texts of which README.md has to contain one: the ways in which it may state the time of a check or a
+    build."""
     proofs, quick = minutes_of([[PROOFS, wrong_beside()], QUICK], PROCESSORS)
     both = needed(["mml_server", "mml_host"])
     build = progress_of(both, PROCESSORS).left(0.0) / 60
@@ -142,6 +143,6 @@ def times() -> Iterator[tuple[str, tuple[str, ...]]]:
 
 
 def faults() -> list[str]:
-    """Returns the promises that aren't on their pages."""
+    """Returns an error text for each promise that isn't on its page."""
     wanted = [(page, (promise,)) for page, promise in (*releases(), *classes(), *greatest(), *guesses())] + [*times()]
     return [f"promised otherwise: {page}: {' or '.join(it.strip() for it in each)}" for page, each in wanted if not any(it in text(page) for it in each)]

@@ -29,7 +29,7 @@ def shown(text: str) -> Iterator[tuple[str, list[str]]]:
 
 
 def pattern(lines: list[str]) -> str:
-    """Returns the regular expression of an output that is shown so."""
+    """Returns the regular expression that matches an output if a page shows it by these lines."""
     text = "".join(f"{line}\n" for line in lines)
     whole = re.sub(r"(?m)^\.\.\.\n", "\0", text)
     found = re.sub(RUN, lambda folder: f"\1{folder[1]}\2", whole)
@@ -38,7 +38,8 @@ def pattern(lines: list[str]) -> str:
 
 
 def differs(command: str, output: str, texts: dict[str, str]) -> str | None:
-    """Returns the first page on which a command's output is shown otherwise, if there is one."""
+    """Returns the first of these pages that shows another output of a command than this one, or None if there is
+    none."""
     for page, text in texts.items():
         for each, lines in shown(text):
             if each == command and lines and not each.startswith(CONVERSATION) and not re.fullmatch(pattern(lines), output):
@@ -47,12 +48,13 @@ def differs(command: str, output: str, texts: dict[str, str]) -> str | None:
 
 
 def pages() -> dict[str, str]:
-    """Returns the text of each page by its path."""
+    """Returns the text of each page, by its path."""
     return {str(path.relative_to(TOP)): path.read_text(encoding="utf-8") for form in PAGES for path in sorted(TOP.glob(form))}
 
 
 def main() -> None:
-    """Exits with status 1 and says where, if a page shows another output."""
+    """Compares the output on standard input with the pages. Exits with status 1 and a line about the first page that
+    shows another one."""
     page = differs(" ".join(sys.argv[1:]), sys.stdin.read(), pages())
     if page:
         sys.exit(f"{page} shows another output of: {' '.join(sys.argv[1:])}")

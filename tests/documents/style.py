@@ -37,7 +37,8 @@ FENCE = re.compile(r"^```.*?^```$", re.MULTILINE | re.DOTALL)
 
 
 def blocks(text: str) -> Iterator[str]:
-    """Yields the parts of a page that are read by themselves, but for headings: paragraphs, items, and the parts of cells."""
+    """Yields the parts of a page's text that are read by themselves, without headings: paragraphs, items, and the parts
+    of cells."""
     text = FENCE.sub("\n\n", text)
     text = re.sub(r"^    .*$", "", text, flags=re.MULTILINE)
     for part in re.split(r"\n\s*\n|\n(?=\s*(?:[-*]|\d+\.) )|\n(?=[|#])", text):
@@ -46,19 +47,19 @@ def blocks(text: str) -> Iterator[str]:
 
 
 def sentences(text: str) -> Iterator[str]:
-    """Yields the sentences of a page; code counts as one word."""
+    """Yields the sentences of a page's text. Code in backquotes counts as one word."""
     for block in blocks(text):
         plain = re.sub(r"!?\[([^\]]*)\]\([^)]*\)", r"\1", re.sub(r"`[^`]*`", "`c`", block.replace("\n", " ")))
         yield from (each for each in re.split(r"(?<=[.!?:])[\"')*]*\s+(?=[\"'(*]*[A-Z0-9`])", plain) if each.strip())
 
 
 def words(sentence: str) -> int:
-    """Returns how many words a sentence has: what has a letter or a digit."""
+    """Returns the number of words in a sentence, those parts that have a letter or a digit."""
     return sum(bool(re.search(r"\w", word)) for word in sentence.split())
 
 
 def found_in(text: str) -> Iterator[tuple[str, str]]:
-    """Yields each sentence of a page that is too long or has a phrase, and what is wrong with it."""
+    """Yields each sentence of a page's text that is too long or has a phrase, and an error text about it."""
     for sentence in sentences(text):
         if words(sentence) > MOST:
             yield sentence, f"{words(sentence)} words"
@@ -68,13 +69,14 @@ def found_in(text: str) -> Iterator[tuple[str, str]]:
 
 
 def allowed() -> list[tuple[str, str]]:
-    """Returns the pages and parts of sentences at which a phrase is right."""
+    """Returns the places at which a phrase is right: for each the page and a part of the sentence."""
     lines = (HERE / "allowed.txt").read_text(encoding="utf-8").splitlines()
     return [(page, part) for page, _, part in (line.partition(" ") for line in lines if line and not line.startswith("#"))]
 
 
 def comments(path: str) -> Iterator[str]:
-    """Yields the comments and docstrings of a source, and the texts of Python that have a space, as messages do."""
+    """Yields the comments and docstrings in the file of a source, and in Python also the texts with a space, as
+    messages have."""
     text = (TOP / path).read_text(encoding="utf-8")
     if path.endswith(".py"):
         for it in tokenize.generate_tokens(io.StringIO(text).readline):
@@ -85,7 +87,8 @@ def comments(path: str) -> Iterator[str]:
 
 
 def phrases_by_folder(files: list[str]) -> Counter[str]:
-    """Returns how often the comments and messages of each crate, and of each folder of Python, have one of `PHRASES`."""
+    """Returns how often the comments and messages of each crate, and of each folder of Python, contain one of
+    `PHRASES`."""
     counts: Counter[str] = Counter()
     for path in files:
         folder = re.match(r"crates/\w+|(?:classroom|examples|model|bench|tools|tests)(?=/)", path)
@@ -95,37 +98,38 @@ def phrases_by_folder(files: list[str]) -> Counter[str]:
 
 
 def limits() -> dict[str, int]:
-    """Returns how many a page or folder may have; one that isn't named has none."""
+    """Returns how many faults each page and folder in `counts.txt` may have. Others may have none."""
     lines = (HERE / "counts.txt").read_text(encoding="utf-8").splitlines()
     return {where: int(number) for number, where in (line.split() for line in lines)}
 
 
 def is_read(page: str) -> bool:
-    """Returns whether a file is a page whose sentences count: the old versions' changes stay as they are."""
+    """Returns whether a file is a page whose sentences count. The changelog isn't, since what it says of older versions
+    isn't changed."""
     return page.endswith(".md") and page != "CHANGELOG.md"
 
 
 def wrong_in(page: str) -> list[str]:
-    """Returns what is wrong in a page, but for the places at which it is allowed."""
+    """Returns the error texts about a page, without those at places where the phrase is allowed."""
     parts = [part for where, part in allowed() if where == page]
     found = found_in((TOP / page).read_text(encoding="utf-8"))
     return [f"{what}: {sentence}" for sentence, what in found if not any(part in sentence for part in parts)]
 
 
 def idle(pages: list[str]) -> list[str]:
-    """Returns the places of `allowed.txt` at which nothing is to be allowed."""
+    """Returns the lines of `allowed.txt` that allow nothing, because no sentence of these pages has a fault there."""
     found = {page: [sentence for sentence, _ in found_in((TOP / page).read_text(encoding="utf-8"))] for page in pages}
     return [f"{page} {part}" for page, part in allowed() if not any(part in sentence for sentence in found.get(page, []))]
 
 
 def counts(files: list[str]) -> dict[str, int]:
-    """Returns how many each page and each folder has."""
+    """Returns the number of faults in each page and each folder that has some."""
     pages = {page: len(wrong_in(page)) for page in files if is_read(page)}
     return {where: count for where, count in sorted({**pages, **phrases_by_folder(files)}.items()) if count}
 
 
 def faults(files: list[str]) -> list[str]:
-    """Returns what is wrong in pages and sources."""
+    """Returns the error texts about these pages and sources: too many faults, and lines that allow nothing."""
     most = limits()
     wrong = [f"nothing to allow: tests/documents/allowed.txt: {place}" for place in idle([page for page in files if is_read(page)])]
     for where, count in counts(files).items():
@@ -136,7 +140,8 @@ def faults(files: list[str]) -> list[str]:
 
 
 def main() -> None:
-    """Prints what is wrong, what some pages have, or the counts."""
+    """Prints the faults of all files, those of the pages in the arguments, or the counts. Exits with status 1 if there
+    is a fault."""
     from tests.documents.__main__ import tracked
 
     if sys.argv[1:] == ["--counts"]:

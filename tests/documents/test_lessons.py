@@ -22,14 +22,15 @@ PARTS = ["Aim", "Board", "Commands", "Worksheet", "Questions", "Handed in"]  # b
 
 
 def tables(path: str) -> list[list[list[str]]]:
-    """Returns the tables of a page, each as its rows with their cells."""
+    """Returns the tables of a page, each as a list of rows with their cells."""
     text = (COURSE / path).read_text(encoding="utf-8")
     found = re.findall(r"(?m)((?:^\|.*\n)+)", text)
     return [[[cell.strip() for cell in line.strip("|").split("|")] for line in table.splitlines()] for table in found]
 
 
 def world(links: list[tuple[int, int]], rows: list[list[str]] | None = None) -> World:
-    """Returns a network with the registers of a table whose first column has p and m, or with clean ones."""
+    """Returns a network with these links. Its registers are those of a table whose first column has p and m, or clean
+    ones if there is no table."""
     nodes = sorted({end for link in links for end in link})
     near = {node: {a + b - node for a, b in links if node in (a, b)} for node in nodes}
     values = {row[0]: row[1:] for row in rows or []}
@@ -38,8 +39,8 @@ def world(links: list[tuple[int, int]], rows: list[list[str]] | None = None) -> 
 
 
 def step(it: World, nodes: list[int] | None = None, partner: int | None = None) -> int:
-    """Moves these nodes, or all privileged ones. A marriage takes `partner` if that is possible. Returns the
-    number of moves."""
+    """Moves these nodes, or all privileged ones if there are none given. A marriage takes `partner` if that is
+    possible. Returns the number of moves."""
     for node in nodes or [node for node in it.nodes() if it.enabled(node)]:
         moves = it.moves(node)
         it.chosen[node] = next((move for move in moves if move.partner == partner), moves[-1])
@@ -49,7 +50,7 @@ def step(it: World, nodes: list[int] | None = None, partner: int | None = None) 
 
 
 def pairs(it: World) -> set[tuple[int, int]]:
-    """Returns the pairs of a world."""
+    """Returns the pairs of nodes that point at each other."""
     return {(i, p) for i, p in it.p.items() if p is not None and i < p and it.p[p] == i}
 
 
@@ -126,7 +127,7 @@ class Shown:
 
 
 def drawn(chance: random.Random) -> World:
-    """Returns a connected network with random registers."""
+    """Returns a random connected network with random registers."""
     count = chance.randint(2, 9)
     links = {(chance.randint(1, node - 1), node) for node in range(2, count + 1)}
     links |= {(a, b) for a in range(1, count) for b in range(a + 1, count + 1) if chance.random() < 0.25}

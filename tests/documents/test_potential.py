@@ -16,14 +16,14 @@ HIGHEST = 5
 
 
 def rows(first: str) -> list[list[str]]:
-    """Returns the cells of the table whose first head is this."""
+    """Returns the rows of the table on the page whose first head is this, each with its cells."""
     table = re.search(rf"(?m)^\| {re.escape(first)} \|.*\n\|[-| ]+\|\n((?:\|.*\n)+)", PAGE)
     assert table, first
     return [[cell.strip() for cell in line.strip("|").split("|")] for line in table[1].splitlines()]
 
 
 def own_part(world: World, i: int) -> int:
-    """Returns the part of a node itself in the potential, from the page's first table."""
+    """Returns the part that node i itself has in the potential, by the page's first table."""
     married, _, down = (row[1:] for row in rows("Own part of i"))
     unmarried = rows("Own part of i")[1][1:]
     column = 0 if world.m[i] else 1
@@ -34,7 +34,8 @@ def own_part(world: World, i: int) -> int:
 
 
 def link_part(world: World, i: int, j: int) -> int:
-    """Returns the part of a node's link to a higher neighbour, from the page's second table."""
+    """Returns the part that the link from node i to the higher node j has in the potential, by the page's second
+    table."""
     both, deceived, waits, settled, rest = (int(row[1]) for row in rows("Part of i for a higher neighbour j"))
     if world.p[i] == j:
         return both if world.p[j] == i else deceived if world.m[j] and not world.married(j) else waits

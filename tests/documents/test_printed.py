@@ -29,7 +29,7 @@ class Printed(unittest.TestCase):
     """A page beside outputs."""
 
     def page(self, command: str, output: str) -> str | None:
-        """Returns the page that shows another output."""
+        """Returns the page that shows another output of a command than this one, or None."""
         return differs(command, output, {"PAGE.md": PAGE})
 
     def test_commands_with_their_lines(self) -> None:

@@ -22,24 +22,25 @@ EINTR, EIO, EAGAIN, ENOMEM, EACCES, EMFILE, ENOSPC = 4, 5, 11, 12, 13, 24, 28
 
 @dataclass(frozen=True)
 class Kind:
-    """An effect on one call: it fails with an error, does nothing (error 0), or transfers one byte."""
+    """An effect on one call of a kind: the call fails with an error, does nothing (error 0), or transfers one byte."""
 
     of: str
     error: int = 0
     is_short: bool = False
 
     def variables(self, nth: int) -> dict[str, str]:
-        """Returns the environment with which the library fails the nth call."""
+        """Returns the environment variables with which the library has this effect on the nth call."""
         end_with = {"FAIL": self.of, "FAIL_AT": str(nth), "FAIL_WITH": str(self.error)}
         return {**end_with, "FAIL_SHORT": "1"} if self.is_short else end_with
 
     @property
     def is_harmless(self) -> bool:
-        """Returns whether the run must go on as without the failure."""
+        """Returns whether a run must go on as without the effect."""
         return self.is_short or self.error == EINTR
 
     def fault(self, line: str, out: bytes = b"") -> Ended:
-        """Returns the expected end after this error: out of memory, or the end with this error line."""
+        """Returns the expected end of a run after this effect: out of memory, or an end with this error line and this
+        output."""
         return end_with("out of memory", 5, out) if self.error == ENOMEM else end_with(line, 4, out)
 
     def __str__(self) -> str:
@@ -58,17 +59,17 @@ Use = Callable[[Kind, int, dict[str, str]], str]
 
 
 def end_with(line: str, status: int = 4, out: bytes = b"") -> Ended:
-    """Returns an end with an error line."""
+    """Returns the expected end of a run with this error line, status and output."""
     return Ended(status, out, line.encode() + b"\n")
 
 
 def wrong(ended: Ended, wanted: Ended) -> str:
-    """Returns what is wrong with an end, or an empty text."""
+    """Returns what is wrong with the end of a run, or an empty text if it is the wanted one."""
     return "" if ended == wanted else f"{ended}, not {wanted}"
 
 
 def unwritten(kind: Kind, ended: Ended, out: bytes) -> str:
-    """Returns what is wrong with an end after a write of this output failed, or an empty text."""
+    """Returns what is wrong with the end of a run after a write of this output had the effect, or an empty text."""
     if ended.out == out or not out.startswith(ended.out):
         return f"no front of what is written plainly: {ended.out!r}"
     return wrong(ended, kind.fault("write fault", ended.out))
@@ -78,16 +79,17 @@ class Reads:
     """The reads of a use in their order: each file is read until it has no more bytes."""
 
     def __init__(self, library: Preloaded, lab: Path) -> None:
+        """`library` counts the calls of a run, and `lab` is the file that is read first."""
         run(["check", str(lab)], b"", library.variables({"FAIL": "read"}))
         self.of_lab = library.counts()[0]
 
     def fault(self, nth: int, then: str) -> str:
-        """Returns the error line for a failure of the nth read. `then` is the file that is read after the lab."""
+        """Returns the error line for an effect on the nth read. `then` names the file that is read after the lab."""
         return "read fault: lab" if nth <= self.of_lab else f"read fault: {then}"
 
 
 def shown(words: list[str], then: str, reads: Reads) -> Use:
-    """Returns a use that prints one line: `check`, or `audit`, which also reads a journal."""
+    """Returns a use of the program that prints one line: `check`, or `audit`, which also reads the journal `then`."""
     out = good(words)
 
     def use(kind: Kind, nth: int, variables: dict[str, str]) -> str:
@@ -135,7 +137,7 @@ def cut_off(story: Story, ended: Ended, journal: bytes, wanted: Ended) -> str:
 
 
 def scripted(story: Story, room: Path, reads: Reads) -> Use:
-    """Returns the use of a script with a journal."""
+    """Returns the use of the program that runs a script and writes its journal."""
     script, journal = room / "faulty.script", room / "faulty.journal"
     script.write_bytes(story.script())
     words = ["script", str(story.lab), str(script), str(journal)]
@@ -164,7 +166,7 @@ def scripted(story: Story, room: Path, reads: Reads) -> Use:
 
 
 def given(story: Story) -> Use:
-    """Returns the use of a script on standard input, which is read as it comes."""
+    """Returns the use of the program that runs a script on standard input, which is read as it comes."""
     replies, _ = story.plain(frozenset())
     out = b"".join(replies)
 
@@ -193,6 +195,7 @@ class Served:
     """Two clients of a server with a journal."""
 
     def __init__(self, story: Story, room: Path, library: Preloaded) -> None:
+        """`room` is the folder for the journal."""
         self.story = story
         self.journal = room / "faulty-served.journal"
         replies, self.kept = story.plain(frozenset())
@@ -294,7 +297,8 @@ class Served:
 
 
 def fail_all(name: str, use: Use, kinds: list[Kind], library: Preloaded) -> str:
-    """Runs a use with a failure of each call in turn. Returns a line with the number of errors."""
+    """Runs a use with each of these effects on each call in turn, until a run has no such call. Returns a line with the
+    number of errors."""
     met = 0
     for kind in kinds:
         for nth in range(1, MOST):

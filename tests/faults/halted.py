@@ -32,7 +32,7 @@ EIO, EMFILE = "5", "24"
 
 
 def failing(library: Preloaded, kind: str, nth: int, error: str) -> dict[str, str]:
-    """Returns the environment in which the nth call of a kind fails."""
+    """Returns the environment variables with which the nth call of a kind fails with this error."""
     return library.variables({"FAIL": kind, "FAIL_AT": str(nth), "FAIL_WITH": error})
 
 

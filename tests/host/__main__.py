@@ -21,12 +21,13 @@ NONE = Ended(0, b"done: 0 events, configuration 0\n", b"")
 
 
 def move(at: int, node: int, rule: str) -> bytes:
-    """Returns the line of a move in a configuration."""
+    """Returns the line that asks for a move of a node by a rule, in the configuration with the number `at`."""
     return line_of(at=at, do="move", node=node, rule=rule)
 
 
 def acts(talk: Talk, student: Caller, teacher: Caller, turn: int) -> None:
-    """Sends a move of ana's, its close, and a fault that makes the move possible again: three events."""
+    """Sends a move of ana's, its close, and a fault that makes the move possible again: three events. `turn` is the
+    number of times before."""
     talk.ask(student, move(2 * turn, 1, "seduction"))
     talk.ask(teacher, CLOSE)
     talk.ask(student, look("ana"))
@@ -112,7 +113,7 @@ def killed_in_a_line(room: Path) -> None:
 
 
 def knocks(port: int, count: int) -> None:
-    """Opens and closes connections."""
+    """Opens and closes so many connections to a port."""
     made = 0
     while made < count:
         try:
@@ -333,7 +334,8 @@ def byes_that_end_nothing(room: Path) -> None:
 
 
 def asks_on(port: int, name: str, asked: threading.Semaphore, wrong: list[str]) -> None:
-    """Sends looks and moves without end, until the host hangs up."""
+    """Sends looks and moves as the student `name` without end, until the host hangs up. Releases `asked` after each,
+    and appends what is wrong to `wrong`."""
     caller, _ = let_in(port, hello(name))
     at = 0
     while True:

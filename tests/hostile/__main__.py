@@ -2,10 +2,13 @@
 
     python3 -m tests.hostile [SECONDS] [host]
 
-The replies to the honest ones are those of a script of the same lines, run alone. The server's memory at
-the end is that after their first hundred lines, and the thread of each connection that was closed has ended,
-and its handles are given back. Before that, clients that send more than is answered, and read late, find all
-that was answered. Beside all this a client of another server is silent for a minute, and is answered then.
+The replies to the honest clients are those of a script of the same lines, run alone. The server's memory at the end is
+that after their first hundred lines. The thread of each closed connection has ended, and its open files are closed.
+Before that, clients that send more than is answered, and read late, find all that was answered. Beside all this a
+client of another server is silent for a minute, and is answered then.
+
+Each hostile client is a function that acts on a port until a time, with random choices, and returns what is wrong or an
+empty text.
 """
 import math
 import random
@@ -40,15 +43,16 @@ Hostile = Callable[[int, float, random.Random], str]
 
 
 def opened(port: int) -> socket.socket:
-    """Returns a connection that sends each piece at once. For a host, it has greeted."""
+    """Returns a connection to a port that sends each piece at once. If the server is a host, the connection has
+    greeted."""
     it = let_in(port, hello("cyd"))[0].socket if OVER_HOST else socket.create_connection(("127.0.0.1", port), LIMIT)
     it.setsockopt(socket.IPPROTO_TCP, socket.TCP_NODELAY, 1)
     return it
 
 
 def begin(it: socket.socket, until: float, draw: random.Random) -> None:
-    """Sends a line and waits for its reply, so that the session's thread has all its memory. Then waits for a
-    random part of the time."""
+    """Sends a line on a connection and waits for its reply, so that the session's thread has all its memory. Then waits
+    for a random part of the time until `until`."""
     it.sendall(SEE)
     with it.makefile("rb") as replies:
         replies.readline()
@@ -123,8 +127,8 @@ def reset(port: int, until: float, draw: random.Random) -> str:
 
 
 def pour(port: int, until: float, draw: random.Random) -> int:
-    """Sends requests without reading their replies, until that time or until the connection ends. Returns the
-    number of bytes that were taken."""
+    """Sends requests on a new connection without reading their replies, until that time or until the connection ends.
+    Returns the number of bytes that were taken."""
     caller, _ = let_in(port, hello("cyd") if OVER_HOST else SEE)
     caller.socket.setblocking(False)
     sent = 0
@@ -161,7 +165,7 @@ def gone(port: int, until: float, draw: random.Random) -> str:
 
 
 def stands() -> str:
-    """Returns no fault. It is called when the process of a hostile client has begun."""
+    """Returns an empty text. It is called to see that the process of a hostile client has begun."""
     time.sleep(0.5)
     return ""
 
@@ -199,6 +203,7 @@ class Honest:
     """Two clients that ask one line after another: a student and the teacher, who is at the desk of a host."""
 
     def __init__(self, story: Story, server: Program) -> None:
+        """Connects both clients to the server. `story` has the expected replies."""
         self.lines = [line.split(b" ", 1) for line in story.lines]
         self.wanted, _ = story.plain(frozenset())
         desk = server.desk if isinstance(server, Host) else server.port
@@ -254,7 +259,7 @@ def served(story: Story, connections: int) -> tuple[Program, Honest]:
 
 
 def ended(honest: Honest, server: Program) -> None:
-    """Checks that the server ends with the events of the honest clients only."""
+    """Checks that the server ends with the events of the honest clients alone."""
     events = sum(b'"place":' in reply for reply in honest.wanted[:honest.at])
     end = honest.end(server)
     if end.status != 0 or end.error or not end.out.startswith(b"done: %d events, " % events):
@@ -262,14 +267,15 @@ def ended(honest: Honest, server: Program) -> None:
 
 
 def answered(futures: list[Future[str]]) -> None:
-    """Checks that no hostile client has found a fault."""
+    """Checks that no hostile client has returned a fault."""
     for future in futures:
         if future.result():
             fail(f"hostile: {future.result()}")
 
 
 def wait_for_threads(server: Program, wanted: int, when: str) -> None:
-    """Waits until the server has one thread for each open connection, beside its constant ones."""
+    """Waits until the server has `wanted` threads for connections, beside its constant ones. Fails with the text `when`
+    if it doesn't get there."""
     for _ in range(int(LIMIT / 0.05)):
         if threads(server) == wanted:
             return
@@ -283,7 +289,7 @@ def handles(server: Program) -> int:
 
 
 def wait_for_handles(server: Program, wanted: int, when: str) -> None:
-    """Waits until the server has this number of open files."""
+    """Waits until the server has so many open files. Fails with the text `when` if it doesn't get there."""
     for _ in range(int(LIMIT / 0.05)):
         if handles(server) == wanted:
             return
@@ -314,6 +320,7 @@ class Silent:
     """A client that sends nothing for a minute, and whose connection stays open."""
 
     def __init__(self, lab: Path) -> None:
+        """Starts another server over a lab, and connects to it."""
         self.server = Server(lambda port: ["serve", str(lab), str(port), "1"], {})
         self.open = opened(self.server.port)
         self.until = time.monotonic() + SILENCE

@@ -46,14 +46,16 @@ def built_in() -> str:
 
 
 def changed(name: str, base: str, row: dict[str, Any]) -> str:
-    """Returns a document in which a text that occurs once is replaced."""
+    """Returns the document `base` with the replacement of a row, whose old text has to occur once. `name` is that of
+    the row, for the error."""
     if base.count(row["old"]) != 1:
         fail(f"{name}: {row['old']!r} doesn't stand once in its document")
     return base.replace(row["old"], row["new"])
 
 
 def document_of(name: str, table: dict[str, Any], row: dict[str, Any], last: str) -> bytes:
-    """Returns the document of a row. It may refer to the last document."""
+    """Returns the bytes of a row's document. `table` has the defaults of all its rows, and `last` is the document of
+    the row before."""
     if "old" in row:
         base = last if row.get("goes_on") else table.get("base", built_in())
         return changed(name, base, row).encode()

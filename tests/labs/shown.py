@@ -17,12 +17,12 @@ PART = 100
 
 
 def hello(name: str, key: str) -> str:
-    """Returns a greeting on the first connection."""
+    """Returns the script's line of a hello on the first connection."""
     return f'1 {json.dumps({"do": "hello", "name": name, "key": key})}\n'
 
 
 def looks(people: Sequence[tuple[str, str]], nodes: list[int]) -> list[str]:
-    """Returns a look at each node by each of these people."""
+    """Returns the script's lines of a look at each node by each of these people, who have names and keys."""
     lines = []
     for name, key in people:
         lines += [hello(name, key), *(f'1 {{"do":"look","node":{i}}}\n' for i in nodes), '1 {"do":"bye"}\n']
@@ -33,6 +33,7 @@ class Shown:
     """A lab in a file, with the program's replies about it."""
 
     def __init__(self, row: Row, room: Path) -> None:
+        """Writes the document of a row into the folder `room`."""
         self.row = row
         self.lab, self.script, self.journal = room / "shown.toml", room / "shown.script", room / "shown.journal"
         self.lab.write_bytes(row.document)
@@ -42,7 +43,7 @@ class Shown:
         fail(f"{self.row.name}: {why}")
 
     def size(self) -> list[str]:
-        """Returns the counts of nodes, links and students, by `check`."""
+        """Returns the counts of nodes, links and students in the output of `check`, as texts."""
         said = run(["check", str(self.lab)], b"", {})
         words = said.out.decode().split()
         if said.status != 0 or len(words) != 7:
@@ -70,13 +71,13 @@ class Shown:
         return replies
 
     def takes(self, node: int, events: int) -> Ended:
-        """Returns the result of the audit of a journal with this number of events."""
+        """Returns the result of the audit of a journal with so many events at a node."""
         lines = (f"{place} {place - 1} fault {node} - false\n" for place in range(1, events + 1))
         self.journal.write_text("".join(lines), encoding="ascii")
         return run(["audit", str(self.lab), str(self.journal)], b"", {})
 
     def limit(self, node: int, events: int) -> None:
-        """Checks that this number of events is allowed, and one more isn't."""
+        """Checks that so many events are allowed, and one more isn't."""
         found = self.takes(node, events)
         if not found.out.startswith(b"ok: %d events, configuration %d, " % (events, events)):
             self.fail(f"fewer events than {events}: {found.error!r}")
@@ -85,7 +86,7 @@ class Shown:
 
 
 def mark(look: Look, node: int) -> str:
-    """Returns the mark of another node in a look: linked, pointed at, or neither."""
+    """Returns the mark of `node` in a look at another node: linked, pointed at, or neither."""
     if not any(other["node"] == node for other in look["near"]):
         return "."
     return ">" if look["p"] == node else "-"

@@ -12,17 +12,17 @@ MOST = f"events = {LIMIT['events']}\n"
 
 
 def student(number: int) -> tuple[str, str]:
-    """Returns a name and a key of the greatest lengths."""
+    """Returns the name and the key of the student with a number, both of the greatest length."""
     return f"s{number:031}", f"{number:064}"
 
 
 def students(count: int) -> str:
-    """Returns the lines of students with the longest names and keys."""
+    """Returns the lines of a lab's file for so many students with the longest names and keys."""
     return "".join('[[student]]\nname = "{}"\nkey = "{}"\n'.format(*student(number)) for number in range(count))
 
 
 def nodes(ids: Iterable[int]) -> str:
-    """Returns the lines of nodes that the first student owns."""
+    """Returns the lines of a lab's file for nodes with these identifiers, which the first student owns."""
     return "".join(f'[[node]]\nid = {node}\nowner = "{student(0)[0]}"\n' for node in ids)
 
 
