@@ -112,8 +112,8 @@ def missing_contracts(page: str, texts: dict[str, str], declared: set[str], laws
 
 
 def stands_for_another(text: str) -> bool:
-    """Returns whether a path in a text has a part that the reader replaces, such as `NAME.script`, or is a page in
-    capitals at the top."""
+    """Returns whether a text has a word in capitals, which the reader replaces, as in `NAME.script`. The names of pages
+    such as README.md don't count."""
     return bool(re.search(r"(?<![A-Z])[A-Z]{3,}(?![A-Z]*\.md)", text))
 
 
@@ -130,8 +130,7 @@ def missing_path(page: str, text: str, files: list[str], folders: set[str]) -> b
 
 
 def missing_name(text: str, words: set[str], laws: set[str]) -> bool:
-    """Returns whether a name on a page has a word that is in no source, or isn't the name of a law although it looks
-    like one."""
+    """Returns whether a name on a page has a word that is in no source, or is that of a law that doesn't exist."""
     if text in ELSEWHERE:
         return False
     parts = re.findall(r"\w+", text)

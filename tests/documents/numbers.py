@@ -37,7 +37,8 @@ def text(path: str) -> str:
 
 
 def only(pattern: str, path: str) -> str:
-    """Returns the single match of a pattern in a file of the repository. Fails if there is none or more than one."""
+    """Returns the single match of a pattern in a file of the repository. Raises `ValueError` if there is none or more
+    than one."""
     found = re.findall(pattern, text(path), re.MULTILINE)
     if len(found) != 1:
         raise ValueError(f"{path} has {len(found)} times {pattern}")
@@ -129,8 +130,7 @@ def guesses() -> Iterator[tuple[str, str]]:
 
 
 def times() -> Iterator[tuple[str, tuple[str, ...]]]:
-    """Yields the texts of which README.md has to contain one: the ways in which it may state the time of a check or a
-    build."""
+    """Yields for each time of a check or a build its page and the texts of which the page has to contain one."""
     proofs, quick = minutes_of([[PROOFS, wrong_beside()], QUICK], PROCESSORS)
     both = needed(["mml_server", "mml_host"])
     build = progress_of(both, PROCESSORS).left(0.0) / 60

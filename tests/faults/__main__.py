@@ -79,7 +79,7 @@ class Reads:
     """The reads of a use in their order: each file is read until it has no more bytes."""
 
     def __init__(self, library: Preloaded, lab: Path) -> None:
-        """`library` counts the calls of a run, and `lab` is the file that is read first."""
+        """Counts the reads of a lab's file, by a run with the library."""
         run(["check", str(lab)], b"", library.variables({"FAIL": "read"}))
         self.of_lab = library.counts()[0]
 

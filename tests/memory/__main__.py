@@ -34,7 +34,8 @@ def fault_and_replies(story: Story, ended: Ended) -> tuple[str, list[bytes]]:
 
 
 def scripted(story: Story, room: Path, name: str) -> Use:
-    """Returns the use of a script: by standard input if it has no name, or else from a file and with a journal."""
+    """Returns the use of a script: on standard input if `name` is empty, and otherwise from a file of this name and
+    with a journal."""
     script, journal, with_words = room / f"{name}.script", room / f"{name}.journal", bool(name)
     script.write_bytes(story.script())
     words = ["script", str(story.lab), str(script), str(journal)] if with_words else []
@@ -56,7 +57,8 @@ def scripted(story: Story, room: Path, name: str) -> Use:
 
 
 def fault_of_end(ended: Ended, replies: list[bytes], audited: bytes) -> str:
-    """Returns what is wrong with the end of a server that gave these replies, or an empty text."""
+    """Returns what is wrong with the end of a server that gave these replies, or an empty text. `audited` is the output
+    of the audit of its journal."""
     done = done_line(audited)
     # If a session got no memory to begin with, its connection is closed, and that is reported at the end.
     wanted = Ended(5, done, b"out of memory\n") if b"" in replies else Ended(0, done, b"")
@@ -65,7 +67,8 @@ def fault_of_end(ended: Ended, replies: list[bytes], audited: bytes) -> str:
 
 
 def first_unanswered_late(story: Story, unasked: frozenset[int]) -> str:
-    """Returns the connection that was closed after the reply to its first line, if there is one."""
+    """Returns a text about a connection that was closed after the reply to its first line, or an empty text. `unasked`
+    has the numbers of the lines without a reply."""
     begun = set()
     for at, line in enumerate(story.lines):
         number = line.split(b" ", 1)[0]
@@ -77,7 +80,7 @@ def first_unanswered_late(story: Story, unasked: frozenset[int]) -> str:
 
 
 def served(story: Story, room: Path) -> Use:
-    """Returns the use of two clients of a server with a journal."""
+    """Returns the use of a server with a journal and two clients."""
     journal = room / "served.journal"
 
     def use(variables: dict[str, str]) -> Tried:
@@ -143,7 +146,7 @@ def refused_hosts(library: Preloaded, room: Path) -> str:
 
 
 def work(room: Path) -> str:
-    """Runs the parts that the arguments name."""
+    """Runs the parts that the arguments name, or all. Returns the lines about them."""
     library = Preloaded("memory/refuse.c", room, "REFUSE_COUNTS")
     parts: dict[str, Callable[[Preloaded, Path], str]] = {
         "uses": refused_uses, "hosts": refused_hosts, "classes": classes, "tests": lambda library, _: refused_tests(library),

@@ -67,6 +67,7 @@ class Play:
     """The lines of a class and their replies."""
 
     def __init__(self, host: Host, begun: Begun) -> None:
+        """`host` is the running host, and `begun` the state from which its class continues."""
         self.host = host
         self.script = list(begun.script)
         self.known = len(self.script)  # lines of the class before, whose replies nobody compares
@@ -76,15 +77,16 @@ class Play:
         self.is_over = self.is_desk_alone = self.is_lost = False
 
     def answered(self, who: bytes, caller: Caller, line: bytes) -> Optional[bytes]:
-        """Returns the reply to a line, nothing if the connection is closed, or None if the students' port isn't
-        served."""
+        """Returns the reply to a line on the connection of the person `who`. Returns no bytes if the connection is
+        closed, and None if the students' port isn't served."""
         caller.send(line)
         if line == hello("ana") and not select.select([caller.socket], [], [], PATIENCE)[0]:
             return None
         return caller.line()
 
     def ask(self, who: bytes, line: bytes) -> str:
-        """Sends a line, and sends it again if it isn't answered. Returns what is wrong, or an empty text."""
+        """Sends a line of the person `who`, and sends it again if it isn't answered. Returns what is wrong, or an empty
+        text."""
         for _ in range(TRIES):
             if self.is_over or (who == STUDENT and self.is_desk_alone):
                 return ""
@@ -135,6 +137,8 @@ class Class:
     """Runs of a command of the host, each in its own folder."""
 
     def __init__(self, word: str, lab: Path, asked: Sequence[tuple[bytes, bytes]], begun: Begun) -> None:
+        """`word` is the command of the host, `asked` has the lines, each after its person, and `begun` is the state to
+        continue from."""
         self.word, self.lab, self.asked, self.begun = word, lab, asked, begun
 
     def run(self, room: Path, library: Preloaded, nth: int) -> Outcome:
@@ -191,8 +195,8 @@ class Class:
 
 
 def fault_of_all(outcomes: Sequence[Outcome]) -> str:
-    """Returns what is wrong with all runs together, or an empty text. `docs/DECISIONS.md` explains why some runs
-    end with `too few threads`, and why one or two runs serve only the desk."""
+    """Returns what is wrong with all runs of a class together, or an empty text. `docs/DECISIONS.md` explains why some
+    runs end with `too few threads`, and why one or two runs serve only the desk."""
     few = [at for at, it in enumerate(outcomes) if it.ended == FEW_THREADS]
     if few and few[-1] - few[0] >= len(few):
         return "the runs that end with `too few threads` aren't those of consecutive requests"
@@ -206,7 +210,7 @@ def fault_of_all(outcomes: Sequence[Outcome]) -> str:
 
 
 def refuse_class(tried: Class, library: Preloaded, room: Path) -> str:
-    """Refuses each request of a command in turn. Returns a line with the number of refusals."""
+    """Runs a class with a refusal of each request for memory in turn. Returns a line with the number of refusals."""
     room.mkdir()
     plain = tried.run(room / "plain", library, 0)
     if plain.fault or plain.lacks:
@@ -227,7 +231,7 @@ def refuse_class(tried: Class, library: Preloaded, room: Path) -> str:
 
 
 def begun_by(first: Class, room: Path, library: Preloaded) -> Begun:
-    """Runs a class without refusals. Returns the state that it leaves."""
+    """Runs the class `first` without refusals. Returns the state that it leaves."""
     if fault := first.run(room, library, 0).fault:
         fail(f"{first.word}, refused nothing: {fault}")
     script = [who + line for who, line in first.asked]
@@ -237,7 +241,7 @@ def begun_by(first: Class, room: Path, library: Preloaded) -> Begun:
 
 
 def classes(library: Preloaded, room: Path) -> str:
-    """Refuses memory to `host` and `resume`. Returns the lines about them."""
+    """Refuses memory to the commands `host` and `resume`. Returns the lines about them."""
     lab = lab_of(room, 4)
     hosted = Class("host", lab, ASKED, Begun(None, ()))
     again = Class("resume", lab, ASKED_LATER, begun_by(hosted, room / "begun", library))

@@ -15,7 +15,7 @@ SAID = [
 
 
 def play(story: Story, host: Host) -> None:
-    """Sends the lines of a story, each on its connection, the first at the desk."""
+    """Sends the lines of a story to a host, each on its connection, the first one at the desk."""
     callers = dict[bytes, Caller]()
     for line in story.lines:
         number, asked = line.split(b" ", 1)
@@ -28,7 +28,7 @@ def play(story: Story, host: Host) -> None:
 
 
 def host_uses(room: Path) -> dict[str, Use]:
-    """Returns the uses of the host's program."""
+    """Returns the uses of the host's program that serve no class, by their names."""
     lab = lab_of(room, 4)
     story = Story(lab, b"".join((number + line) * 2 for number, line in SAID), room)
     journal, record = room / "kept.journal", room / "kept record"
@@ -46,7 +46,7 @@ def host_uses(room: Path) -> dict[str, Use]:
 
 
 def answered(story: Story) -> Use:
-    """Returns the use of a script that is answered line by line."""
+    """Returns the use of a script that the host's program answers line by line."""
     def use(variables: dict[str, str]) -> Tried:
         ended = run(["answer", str(story.lab)], story.script(), variables, HOST)
         replies = ended.out.splitlines(keepends=True)

@@ -22,17 +22,17 @@ Use = Callable[[dict[str, str]], Tried]
 
 
 def memories(replies: list[bytes]) -> int:
-    """Returns the number of replies that say that memory is out."""
+    """Returns how many of these replies are the refusal `memory`."""
     return sum(reply.endswith(b'{"refuse":"memory"}\n') for reply in replies)
 
 
 def done_line(audited: bytes) -> bytes:
-    """Returns the expected last line of a server or a class, by the audit's output for its journal."""
+    """Returns the expected last line of a server or a class, from the output of the audit of its journal."""
     return b"done:" + audited.split(b":", 1)[1].rsplit(b",", 1)[0] + b"\n"
 
 
 def whole(words: list[str], given: bytes = b"", program: Path = PROGRAM) -> Use:
-    """Returns a use that prints the same as a run without refusals, or nothing."""
+    """Returns a use that prints the same as a run of these arguments without refusals, or nothing."""
     wanted = good(words, given, program)
 
     def use(variables: dict[str, str]) -> Tried:
@@ -44,7 +44,8 @@ def whole(words: list[str], given: bytes = b"", program: Path = PROGRAM) -> Use:
 
 
 def refuse_all(name: str, use: Use, library: Preloaded) -> str:
-    """Runs a use with each refusal in turn. Returns a line with the number of refusals."""
+    """Runs a use with each request for memory refused in turn, and with all from it on. Returns a line with the number
+    of refusals."""
     met, told = 0, 0
     for variable, at_most in (("REFUSE", 1), ("REFUSE_FROM", MOST)):
         for nth in range(1, MOST):

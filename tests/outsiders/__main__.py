@@ -37,7 +37,7 @@ def ends(host: Host, teacher: Caller, wanted: Ended = NONE) -> None:
 
 
 def ended_soon(words: list[str | Path]) -> Ended:
-    """Returns the result of a call that ends by itself soon."""
+    """Runs a command that ends by itself soon. Returns its status and output."""
     try:
         done = subprocess.run(words, stdin=subprocess.DEVNULL, capture_output=True, timeout=60, check=False)
     except subprocess.TimeoutExpired:
@@ -181,7 +181,8 @@ def three_hellos(room: Path) -> None:
 
 
 def comes(port: int, line: bytes, taken: list[float]) -> Caller:
-    """Connects with a hello, and again if there is no seat. Appends the seconds that it took."""
+    """Connects to a port with this hello, and again if there is no seat. Appends the seconds that it took to `taken`,
+    and returns the connection."""
     begun = time.monotonic()
     while True:
         caller = Caller(port)
@@ -198,7 +199,7 @@ def comes(port: int, line: bytes, taken: list[float]) -> Caller:
 
 
 def alone(host: Host) -> float:
-    """Returns the longest time of five honest hellos without outsiders."""
+    """Returns the longest of the times that five honest hellos take without outsiders, in seconds."""
     taken: list[float] = []
     for _ in range(5):
         comes(host.port, hello("ana"), taken).close()
@@ -206,14 +207,14 @@ def alone(host: Host) -> float:
 
 
 def waits_little(taken: list[float], quiet: float, most: float = 2.0) -> None:
-    """Checks that most honest clients wait less than so many seconds, or a multiple of the time without outsiders
-    on a slow machine."""
+    """Checks that most of the times in `taken` are less than `most` seconds, or on a slow machine than a multiple of
+    `quiet`, the time without outsiders."""
     if sorted(taken)[len(taken) // 2] > most + 20 * quiet:
         fail(f"outsiders: honest clients wait for a seat: {taken} seconds, alone {quiet}")
 
 
 def until_set(stop: threading.Event, act: Callable[[], None]) -> list[threading.Thread]:
-    """Repeats an action in a thread until `stop` is set."""
+    """Starts threads that call a function again and again until `stop` is set. Returns the threads."""
     def work() -> None:
         while not stop.is_set():
             try:
@@ -286,7 +287,8 @@ def a_third(room: Path) -> None:
 
 
 def told_busy(port: int, count: int) -> float:
-    """Returns the seconds until all of so many simultaneous connections to a full port are answered `busy`."""
+    """Opens so many connections to a full port at the same time. Returns the seconds until all of them are answered
+    `busy`."""
     begun = time.monotonic()
     callers = [Caller(port) for _ in range(count)]
     for caller in callers:
@@ -376,7 +378,8 @@ def one_of_many(room: Path) -> None:
 
 
 def queues(host: Host, caller: Caller) -> str:
-    """Returns the numbers of bytes that wait at the host's end of a connection, to be sent and to be read."""
+    """Returns a text with the numbers of bytes that wait at the host's end of a connection, to be sent and to be
+    read."""
     ends = f":{host.port:04X}", f":{caller.socket.getsockname()[1]:04X}"
     for line in Path("/proc/net/tcp").read_text(encoding="ascii").splitlines()[1:]:
         words = line.split()
@@ -413,7 +416,8 @@ def never_reads(room: Path) -> None:
 
 
 def next_wait(library: Preloaded, caller: Caller, piece: bytes) -> float:
-    """Returns the timeout of the host's next read after these bytes. If they are a line, waits for its reply."""
+    """Sends a piece on a connection, and returns the timeout of the host's next read. If the piece is a line, waits for
+    its reply first."""
     before, end = library.counts()[0], time.monotonic() + LIMIT
     caller.send(piece)
     if piece.endswith(b"\n") and b'"ok"' not in (said := caller.line()):
@@ -503,7 +507,8 @@ def limits_of_files(room: Path) -> None:
 
 
 def limited(kilobytes: int, limit: str = "-s") -> list[str]:
-    """Returns words that run a program with this stack size in kilobytes, and 64 MB of addresses in total."""
+    """Returns the words to put before a call, so that the program has this limit in kilobytes, by default on its stack,
+    and 64 MB of addresses in total."""
     return ["bash", "-c", f'ulimit {limit} {kilobytes} && ulimit -v 65536 && exec "$@"', "bash"]
 
 

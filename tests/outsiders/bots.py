@@ -1,9 +1,10 @@
-"""Two outsiders without a key do what they can against fourteen students' bots, who come and go.
+"""Two outsiders without a key do what they can against the bots of fourteen students, who come and go.
 
     python3 -m tests.outsiders.bots [SECONDS]
 
-The class reaches a stable end while the outsiders are there. It is told how long honest clients wait for a seat,
-and for a reply; that is bounded by what they wait for where nobody disturbs them.
+The class reaches a stable end while the outsiders are there. The output says how long honest clients wait for a seat
+and for a reply. These times are bounded by those without outsiders. Each action of an outsider is a function of the two
+ports.
 """
 import json
 import multiprocessing
@@ -31,7 +32,7 @@ GUESS = line_of(do="hello", key="no-key", name="s-1")
 
 
 def lab_of_bots(room: Path) -> Path:
-    """Returns a cycle in which each student owns a node."""
+    """Writes a lab with a cycle in which each student owns a node, and returns its path."""
     rows = ["events = 100000", "sessions = 16"]
     rows += [f"links = {[[node, node % STUDENTS + 1] for node in range(1, STUDENTS + 1)]}"]
     rows += ['teacher = {name = "tess", key = "chalk"}']
@@ -80,7 +81,7 @@ def stays(ports: tuple[int, int]) -> None:
 
 
 def outsider(ports: tuple[int, int]) -> None:
-    """Does all of that at the same time, over and over."""
+    """Does all actions of an outsider at the same time, over and over."""
     def without_end(act: Callable[[tuple[int, int]], None]) -> None:
         while True:
             try:
@@ -110,6 +111,7 @@ class Honest:
     """A client with a key that connects and leaves."""
 
     def __init__(self, port: int, line: bytes, waits: Waits) -> None:
+        """`line` is its hello. Appends the seconds that it waits to `waits`."""
         self.port, self.line, self.waits = port, line, waits
         found = waits.desk if line == hello("tess") else waits.seats
         begun = time.monotonic()
@@ -121,7 +123,7 @@ class Honest:
         found.append(time.monotonic() - begun)
 
     def greets(self) -> bytes:
-        """Connects, and returns the reply to its hello."""
+        """Connects and says hello. Returns the reply."""
         self.caller = Caller(self.port)
         said = self.caller.ask(self.line)
         if b'"ok"' not in said:
@@ -129,7 +131,7 @@ class Honest:
         return said
 
     def ask(self, line: bytes) -> dict[str, object]:
-        """Returns the reply to a line."""
+        """Sends a line, and connects again if it has lost its seat. Returns the values of the reply."""
         begun = time.monotonic()
         reply = self.caller.ask(line)
         self.waits.replies.append(time.monotonic() - begun)
@@ -141,14 +143,14 @@ class Honest:
 
 @dataclass
 class Class:
-    """A class with bots, and how long they wait at the moment."""
+    """A class with bots, and the waiting times of its clients at the moment."""
 
     host: Host
     waits: Waits = field(default_factory=Waits)
     is_over: threading.Event = field(default_factory=threading.Event)
 
     def bot(self, node: int) -> None:
-        """Runs a student's bot: it asks for enabled moves, and connects again after some looks."""
+        """Runs the bot of a student at a node. It asks for enabled moves, and connects again after some looks."""
         draw = random.Random(node)
         while not self.is_over.is_set():
             it = Honest(self.host.port, line_of(do="hello", key=f"key-{node}", name=f"s-{node}"), self.waits)
@@ -162,7 +164,7 @@ class Class:
             it.caller.close()
 
     def teach(self, seconds: float) -> None:
-        """Closes steps as the teacher, and disturbs a node now and then, for so long."""
+        """Closes steps as the teacher for so many seconds, and disturbs a node now and then."""
         draw, end = random.Random(0), time.monotonic() + seconds
         while time.monotonic() < end:
             it = Honest(self.host.desk, hello("tess"), self.waits)
@@ -184,8 +186,8 @@ class Class:
 
 
 def bounded(waits: Waits, quiet: Waits) -> None:
-    """Checks that almost no honest client waits longer than allowed, or than a multiple of the time without
-    outsiders on a slow machine."""
+    """Checks that almost no honest client waits longer than allowed, or on a slow machine than a multiple of `quiet`,
+    the waiting times without outsiders."""
     for of, found in vars(waits).items():
         most = WAIT + SLOWER * max(vars(quiet)[of])
         late = sum(each > most for each in found)

@@ -19,7 +19,7 @@ SHORT = 80  # bytes of replies that are cut at each byte
 
 @dataclass(frozen=True)
 class Piece:
-    """Lines of the teacher. The last one is a bye."""
+    """Lines of the teacher that are sent as one piece. The last one is a bye."""
 
     name: str
     before: bytes
@@ -43,6 +43,7 @@ class Asker:
     """A student who sends requests without a pause until they aren't answered any more."""
 
     def __init__(self, port: int) -> None:
+        """Connects to a port, and greets as a student."""
         self.caller, _ = let_in(port, hello("ben"))
         self.said: list[tuple[float, bytes]] = []  # when each line was sent, and its reply
         self.thread = threading.Thread(target=self.ask, daemon=True)
@@ -55,7 +56,7 @@ class Asker:
             self.said.append((begun, self.caller.ask(look("ben"))))
 
     def after(self, moment: float) -> list[bytes]:
-        """Returns the replies to lines that were sent after a moment."""
+        """Returns the replies to those lines that were sent after a moment."""
         self.thread.join(SOON)
         if self.thread.is_alive():
             fail("outsiders: after the bye a student is neither answered nor hung up on")
@@ -92,7 +93,8 @@ def ends_all(lab: Path, piece: Piece, parts: list[bytes], variables: Mapping[str
 
 
 def cut_at(library: Preloaded, at: int, is_each: bool) -> dict[str, str]:
-    """Returns the environment of a host whose reply to a bye is cut at a byte."""
+    """Returns the environment of a host whose reply to a bye is written in two pieces, cut at a byte, or byte by byte
+    if `is_each` is set."""
     return library.variables({"CUT": str(at), **({"CUT_EACH": "1"} if is_each else {})})
 
 

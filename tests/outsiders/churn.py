@@ -41,7 +41,7 @@ class Held:
 
     @classmethod
     def of(cls, number: int) -> "Held":
-        """Returns what a process has now."""
+        """Returns the threads, descriptors and memory that the process with this number has now."""
         root = Path(f"/proc/{number}")
         size = int((root / "status").read_text(encoding="ascii").split("VmRSS:", 1)[1].split()[0])
         return cls(len(list((root / "task").iterdir())), len(list((root / "fd").iterdir())), size)
@@ -55,7 +55,7 @@ class Held:
 
 
 def waited(find: Callable[[], object]) -> None:
-    """Waits until `find` returns something."""
+    """Waits until a function returns a true value. Fails after a time limit."""
     end = time.monotonic() + LIMIT
     while not find():
         if time.monotonic() > end:
@@ -67,6 +67,7 @@ class Class:
     """A running class with its page."""
 
     def __init__(self, room: Path) -> None:
+        """Starts the class in the folder `room`."""
         lab, runs = lab_of(room, 16, 100_000), room / "runs"
         words: list[str | Path] = ["run", lab, "--into", runs, "--port", "20000", "--page", "25000", "--typed"]
         self.process = subprocess.Popen(
@@ -81,12 +82,12 @@ class Class:
         self.host, self.port, self.desk = record.server.number, record.port, record.desk
 
     def address(self) -> tuple[str, ...]:
-        """Returns the port and the path of the page after they are printed."""
+        """Returns the port and the path of the page, which the class prints."""
         told = re.search(r"page http://127\.0\.0\.1:(\d+)(/[^/\s]+/)", "".join(self.printed))
         return told.groups() if told else ()
 
     def type(self, line: str) -> None:
-        """Types a line."""
+        """Types a line at the class's desk."""
         assert self.process.stdin is not None
         self.process.stdin.write(line + "\n")
         self.process.stdin.flush()
@@ -99,9 +100,10 @@ class Class:
 
 
 class Comings:
-    """The actions of clients."""
+    """The actions of clients. Each makes random choices, which `draw` determines."""
 
     def __init__(self, it: Class) -> None:
+        """The clients come to the ports and the page of the class `it`."""
         (port, self.path), self.port, self.desk = it.address(), it.port, it.desk
         self.page, self.count = int(port), 0
         self.kinds = [self.asks, self.resets, self.plays, self.is_no_one, self.knocks, self.looks_at_page, self.hears_news,
@@ -118,13 +120,13 @@ class Comings:
         caller.close()
 
     def resets(self, draw: random.Random) -> None:
-        """Resets a connection with unread replies or within a line."""
+        """Resets a connection while replies are unread or within a line."""
         caller, _ = let_in(self.port, hello("cyd"))
         caller.send(look("cyd") * draw.randrange(50) + look("cyd")[:draw.randrange(20)])
         caller.reset()
 
     def plays(self, draw: random.Random) -> None:
-        """Asks for the move of its node."""
+        """Asks for the enabled move of a student's node."""
         name = draw.choice([*NODES])
         caller, _ = let_in(self.port, hello(name))
         seen = json.loads(caller.ask(look(name)) or b"{}")
@@ -156,7 +158,7 @@ class Comings:
         caller.close()
 
     def asked(self, what: str) -> socket.socket:
-        """Returns a connection to the page that has sent a request."""
+        """Returns a connection to the page's server that has sent a request with this first line."""
         it = socket.create_connection(("127.0.0.1", self.page), LIMIT)
         it.sendall(f"GET {self.path}{what} HTTP/1.1\r\nHost: 127.0.0.1:{self.page}\r\nConnection: close\r\n\r\n".encode())
         return it
@@ -182,7 +184,7 @@ class Comings:
                 it.recv(1)
 
     def until(self, end: float, seed: int) -> None:
-        """Runs one action after another until that time."""
+        """Runs one action after another until that time. The seed determines which."""
         draw = random.Random(seed)
         while time.monotonic() < end:
             try:
@@ -194,7 +196,7 @@ class Comings:
 
 
 def comes_to_rest(of: Callable[[], Held], first: Held | None) -> Held:
-    """Waits until a process has what it had first. Returns what it has."""
+    """Waits until a process has what it had first, and returns what it has. Without `first` only waits a moment."""
     end = time.monotonic() + 30
     while True:
         time.sleep(1)
@@ -206,7 +208,7 @@ def comes_to_rest(of: Callable[[], Held], first: Held | None) -> Held:
 
 
 def churn(room: Path, seconds: float) -> None:
-    """Runs clients for so long, and prints after each minute what the processes have."""
+    """Runs clients for so many seconds, and prints after each minute what the processes have."""
     it = Class(room)
     comings = Comings(it)
     first: tuple[Held, Held] | None = None

@@ -17,7 +17,7 @@ SEATED = 0.5  # seconds in which a stranger has got that seat
 
 
 def students(host: Host) -> list[tuple[str, Caller]]:
-    """Returns students after their hello, on all seats but one."""
+    """Returns the connections of students after their hello, each with its name, on all seats but one."""
     return [(name, let_in(host.port, hello(name))[0]) for name in NODES for _ in range(OWN)]
 
 

@@ -19,8 +19,8 @@ NAMED = 150  # others a second, of whom more than sixteen come in a quarter of o
 
 
 def reply_to(port: int, line: bytes, seconds: float) -> bytes:
-    """Connects, sends a line, and closes after the reply. Returns the reply, or nothing if there is none in that
-    time."""
+    """Connects to a port, sends a line, and closes after the reply. Returns the reply, or no bytes if there is none in
+    that time."""
     try:
         with socket.create_connection(("127.0.0.1", port), seconds) as it, it.makefile("rb") as replies:
             it.sendall(line)
@@ -30,8 +30,8 @@ def reply_to(port: int, line: bytes, seconds: float) -> bytes:
 
 
 def greeted_within(port: int, name: str, most: float) -> float:
-    """Connects with a hello, again and again if it is turned away. Returns the seconds that it took, or infinity
-    if it took more than `most`."""
+    """Connects to a port with the hello of a student, again and again if it is turned away. Returns the seconds that it
+    took, or infinity if they are more than `most`."""
     begun = time.monotonic()
     while (left := begun + most - time.monotonic()) > 0:
         said = reply_to(port, hello(name), left)
@@ -43,7 +43,7 @@ def greeted_within(port: int, name: str, most: float) -> float:
 
 
 def nine_in_ten(port: int, name: str, most: float, beside: str) -> None:
-    """Checks that nine of ten hellos are granted within so many seconds."""
+    """Checks that nine of ten hellos are granted within so many seconds. `beside` names the crowd, for the error."""
     late: list[float] = []
     for _ in range(HELLOS):
         taken = greeted_within(port, name, most)
@@ -87,7 +87,7 @@ def crowds_of_braces(room: Path) -> None:
 
 
 def alive(callers: list[Caller], name: str) -> list[Caller]:
-    """Returns the connections of a name that still have their seat."""
+    """Returns those of these connections of a student that still have their seat."""
     return [caller for caller in callers if b'"ok":"look"' in caller.ask(look(name))]
 
 

@@ -77,7 +77,8 @@ def told_guesses(room: Path) -> None:
 
 
 def waits_between(host: Host, library: Preloaded, pause: float, when: str) -> None:
-    """Checks that a host's failing accepts are few, because it waits between two of them."""
+    """Checks that a host calls few failing accepts, because it waits `pause` seconds between two of them. `when` names
+    the situation, for the error."""
     begun, before = time.monotonic(), library.counts()[0]
     time.sleep(SECONDS)
     tries, seconds = library.counts()[0] - before, time.monotonic() - begun

@@ -1,11 +1,11 @@
-"""Outsiders who come so many a second.
+"""Outsiders who come at a rate of so many a second.
 
     python3 -B -m tests.outsiders.load KIND RATE SECONDS PORT..
 
 KIND is what each of them does: `idle` sends nothing, `closing` closes at once, `half` sends half a line, `braces` sends
-`{}`, and `all` is one kind after the other; `names` are two students of the built-in lab, with their keys. Whatever
-they are told, those who don't close at once stay for two seconds. They come to the ports in turn, from many addresses
-of this machine, since one has no port free after a minute. At the end it is told how many came.
+`{}`, and `all` is one kind after the other. `names` are two students of the built-in lab, with their keys. Whatever the
+replies are, those who don't close at once stay for two seconds. They come to the ports in turn, from many addresses of
+this machine, since a single address has no port free after a minute. At the end prints how many came.
 """
 from __future__ import annotations
 
@@ -47,6 +47,7 @@ class Load:
     """All connections of the outsiders."""
 
     def __init__(self, kind: str, ports: list[int]) -> None:
+        """`kind` is what the outsiders do, and `ports` are those that they come to."""
         self.kinds = [(each, piece) for each in (ALL if kind == "all" else (kind,)) for piece in PIECES[each]]
         self.ports = ports
         self.selector = selectors.DefaultSelector()
@@ -112,6 +113,7 @@ class Outsiders:
     """A load in its own process, which runs until the `with` block ends."""
 
     def __init__(self, kind: str, rate: int, ports: list[int], seconds: float = 3600.0) -> None:
+        """`rate` is the number of outsiders a second."""
         words = [kind, str(rate), str(seconds), *map(str, ports)]
         self.process = subprocess.Popen([sys.executable, "-B", "-m", "tests.outsiders.load", *words], cwd=TOP,
                                         stdin=subprocess.PIPE, stdout=subprocess.PIPE, text=True)
@@ -128,7 +130,7 @@ class Outsiders:
 
 
 def main() -> None:
-    """Runs the load of the arguments."""
+    """Runs the load that the arguments describe."""
     kind, rate, seconds, *ports = sys.argv[1:]
     most = resource.getrlimit(resource.RLIMIT_NOFILE)[1]
     resource.setrlimit(resource.RLIMIT_NOFILE, (most, most))

@@ -15,7 +15,7 @@ GUESSES = 8  # by as many connections, of whom each sends the one before it away
 
 
 def slowed(room: Path) -> dict[str, str]:
-    """Returns the environment of a host with a slower clock."""
+    """Builds a library that slows down the clock, and returns the environment of a host with it."""
     return {"LD_PRELOAD": str(built("outsiders/slow.c", room)), "SLOW": str(SLOW)}
 
 

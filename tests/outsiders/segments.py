@@ -28,17 +28,17 @@ class Way:
 
 
 def in_groups(size: int) -> Split:
-    """Returns the split into parts of so many lines."""
+    """Returns the way to split lines into parts of so many lines."""
     return lambda lines: [b"".join(lines[at:at + size]) for at in range(0, len(lines), size)]
 
 
 def in_bytes(lines: list[bytes]) -> list[bytes]:
-    """Returns the bytes one by one."""
+    """Returns the bytes of these lines one by one."""
     return [bytes([byte]) for byte in b"".join(lines)]
 
 
 def cut_near(line: int, off: int) -> Split:
-    """Returns the split into two parts at so many bytes after the end of a line."""
+    """Returns the way to split lines into two parts, `off` bytes after the end of the line with this number."""
     def split(lines: list[bytes]) -> list[bytes]:
         whole, end = b"".join(lines), len(b"".join(lines[:line])) + off
         return [part for part in (whole[:end], whole[end:]) if part]
@@ -54,8 +54,8 @@ def ways() -> list[Way]:
 
 
 def replies_on(port: int, lines: list[bytes], parts: list[bytes] | None) -> list[bytes]:
-    """Returns all replies on a connection to these parts. Without parts, sends whole lines, each after the last
-    reply."""
+    """Returns all replies on a connection on which these parts are sent. Without parts, sends the lines, each after the
+    reply to the one before."""
     caller = Caller(port)
     replies: list[bytes] = []
     if parts is None:
@@ -70,7 +70,8 @@ def replies_on(port: int, lines: list[bytes], parts: list[bytes] | None) -> list
 
 
 def replies_by(lab: Path, split: Split | None) -> tuple[list[bytes], list[bytes], bytes]:
-    """Returns the replies to a student and then to the teacher, and the output of the host at its end."""
+    """Returns the replies to the lines of a student and then of the teacher, split in this way, and the output of the
+    host at its end."""
     with Host(lab, 0, 0) as host:
         student = replies_on(host.port, STUDENTS, split(STUDENTS) if split else None)
         teacher = replies_on(host.desk, TEACHERS, split(TEACHERS) if split else None)

@@ -62,7 +62,7 @@ def waits_line(name: str, found: list[float]) -> str:
 
 
 def lab_of_bots(room: Path) -> Path:
-    """Returns a cycle in which each student owns a node."""
+    """Writes a lab with a cycle in which each student owns a node, and returns its path."""
     rows = ["events = 100000", f"sessions = {STUDENTS + 1}"]
     rows += [f"links = {[[node, node % STUDENTS + 1] for node in range(1, STUDENTS + 1)]}", '[teacher]\nname = "tess"\nkey = "chalk"']
     for node in range(1, STUDENTS + 1):
@@ -76,6 +76,7 @@ class Class:
     """A class with a daemon, and its bots."""
 
     def __init__(self, lab: Path, daemon: str, waits: Waits) -> None:
+        """Starts the class over a lab under a daemon. Appends the waiting times of its clients to `waits`."""
         self.room, self.waits = lab.parent, waits
         words: list[str | Path] = ["run", lab, "--into", self.room / "runs", "--port", "20000", "--daemon", daemon, "--typed", "--beside"]
         self.process = subprocess.Popen(
@@ -90,12 +91,12 @@ class Class:
         self.port, self.desk = (int(re.findall(rf"(?m)^{word} (\d+)(?:,|$)", text)[0]) for word in ("port", "desk"))
 
     def read(self) -> None:
-        """Reads what the class prints."""
+        """Reads the lines that the class prints, until its end."""
         for line in self.process.stdout or ():
             self.lines.append(line.rstrip("\n"))
 
     def until(self, find: Callable[[], bool]) -> None:
-        """Waits until something holds."""
+        """Waits until a function returns true. Fails after a time limit."""
         end = time.monotonic() + LIMIT
         while not find():
             if time.monotonic() > end or self.process.poll() is not None:
@@ -109,13 +110,14 @@ class Class:
         self.process.stdin.flush()
 
     def bot(self, node: int) -> subprocess.Popen[str]:
-        """Starts a bot of the examples."""
+        """Starts a bot of the examples for the student of a node. Returns its process."""
         slip = self.room / f"{self.port}-{node}.slip"
         slip.write_text(f"port {self.port}\nname s-{node}\nkey key-{node}\nnodes {node}\n", encoding="utf-8")
         return subprocess.Popen([sys.executable, TOP / "examples/bot.py", slip], stdout=subprocess.DEVNULL, stderr=subprocess.PIPE, text=True)
 
     def comes_and_goes(self, node: int) -> None:
-        """Runs a student's program that plays for a moment, says bye, and comes again, until the class is over."""
+        """Runs the program of the student of a node, which plays for a moment, says bye, and comes again, until the
+        class is over."""
         with contextlib.suppress(Over):
             while self.process.poll() is None:
                 me = self.greeted(node)
@@ -130,7 +132,7 @@ class Class:
                 me.hang_up()
 
     def greeted(self, node: int) -> Client:
-        """Connects again and again until a seat is free."""
+        """Connects as the student of a node, again and again until a seat is free. Returns the connection."""
         begun = time.monotonic()
         while True:
             try:
@@ -144,7 +146,7 @@ class Class:
                     raise Over("the class has ended") from None
 
     def plays(self, me: Client, node: int) -> None:
-        """Looks once, and asks for the enabled move."""
+        """Looks at the node once, and asks for the enabled move."""
         begun = time.monotonic()
         seen = me.look(node)
         self.waits.replies.append(time.monotonic() - begun)
@@ -182,7 +184,7 @@ class Class:
 
 
 def beside_a_class(room: Path, seconds: float, rate: int) -> None:
-    """Runs a class with each daemon in turn beside outsiders."""
+    """Runs a class under each daemon in turn beside outsiders who come at this rate. Prints the waiting times."""
     for daemon in DAEMONS:
         waits = Waits()
         it = Class(lab_of_bots(room), daemon, waits)
@@ -190,7 +192,8 @@ def beside_a_class(room: Path, seconds: float, rate: int) -> None:
 
 
 def beside_a_host(room: Path, seconds: float, rate: int) -> None:
-    """Runs a host beside outsiders. A client with a key connects each second."""
+    """Runs a host beside outsiders who come at this rate. A client with a key connects each second. Prints each minute
+    what the host has."""
     lab, journal, waits = lab_of(room, 16, 100_000), room / "journal", Waits()
     with Host(lab, 0, 0, journal, room / "record") as host:
         def load(for_so_long: float) -> None:

@@ -56,7 +56,7 @@ def line_by_line(room: Path) -> int:
 
 
 def answered(words: list[str], given: bytes) -> Ended:
-    """Returns the result of a call with a script on its standard input."""
+    """Runs a command with a script on its standard input. Returns its status and output."""
     done = subprocess.run([HOST, *words], input=given, capture_output=True, timeout=LIMIT, check=False)
     return Ended(done.returncode, done.stdout, done.stderr)
 

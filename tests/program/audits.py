@@ -69,6 +69,7 @@ class Auditor:
     """The audits over a lab, with their number."""
 
     def __init__(self, room: Path, lab: Path) -> None:
+        """`lab` is the file that journals are audited over, and `room` the folder for the journals."""
         self.lab, self.journal = lab, room / "audited.journal"
         self.calls = self.passed = 0
 
@@ -81,13 +82,13 @@ class Auditor:
         return found
 
     def wants(self, journal: bytes, line: str) -> None:
-        """Checks for this line of an audit: on standard output with status 0, or as an error with status 3."""
+        """Checks the line of the audit of a journal: on standard output with status 0, or as an error with status 3."""
         found = self.audited(journal)
         if found != said(line):
             fail(f"an audit of {journal!r} says {found}, not {line!r}")
 
     def all_of(self, rows: list[tuple[str, str]]) -> None:
-        """Checks all rows."""
+        """Checks all rows, each a journal and the line of its audit."""
         for text, line in rows:
             self.wants(text.encode(), line)
 

@@ -30,12 +30,13 @@ ABANDONMENT: dict[str, object] = {"rule": "abandonment"}
 
 
 def marriage(partner: int) -> dict[str, object]:
-    """Returns the words of a request for a marriage."""
+    """Returns the values of a request for a marriage with this partner."""
     return {"rule": "marriage", "with": partner}
 
 
 def lab(room: Path, links: list[tuple[int, int]], nodes: list[tuple[int, int | None]]) -> Path:
-    """Writes a lab in which one student owns all nodes and m is true at each, and returns its path."""
+    """Writes a lab with these links, in which one student owns all nodes, each with its pointer, and m is true at each.
+    Returns its path."""
     file = room / "bound.toml"
     listed = ", ".join(f"[{low}, {high}]" for low, high in links)
     rows = (f'{{ id = {node}, owner = "ana", m = true{"" if p is None else f", p = {p}"} }}' for node, p in nodes)
@@ -48,8 +49,8 @@ def lab(room: Path, links: list[tuple[int, int]], nodes: list[tuple[int, int | N
 
 
 def phases(size: int, are_low: range) -> Iterator[Step]:
-    """Yields the steps of one couple after another: the lowest and the highest free node, after the low nodes have
-    seduced it, which then leave."""
+    """Yields the steps of one couple after another, in a network of this size. The low nodes seduce the highest free
+    node, which marries the lowest, and the other low nodes leave."""
     for first in range(1, size // 2 + 1):
         last = size + 1 - first
         suitors = [node for node in are_low if first <= node < last]
@@ -61,7 +62,8 @@ def phases(size: int, are_low: range) -> Iterator[Step]:
 
 
 def output_of(words: list[str | Path], given: bytes = b"") -> str:
-    """Returns the output of the host's program. Fails if it doesn't end well."""
+    """Runs the host's program with these arguments and this input, and returns its output. Fails if it doesn't end
+    well."""
     done = subprocess.run([HOST, *words], input=given, capture_output=True, timeout=LIMIT, check=False)
     if done.returncode != 0 or done.stderr:
         fail(f"{words[0]} ended with {done.returncode}: {done.stderr!r}")
@@ -69,8 +71,8 @@ def output_of(words: list[str | Path], given: bytes = b"") -> str:
 
 
 def played(file: Path, steps: list[Step]) -> list[dict[str, Any]]:
-    """Returns the reports before the first step and after each. Every move is granted, and is the only one of its
-    close."""
+    """Plays these steps over the lab in a file. Returns the reports before the first step and after each. Checks that
+    every move is granted, and is the only one of its close."""
     ask: dict[str, object] = {"do": "report"}
     lines: list[tuple[int, dict[str, object]]] = [
         (1, {"do": "hello", "key": "a-key", "name": "ana"}), (2, {"do": "hello", "key": "chalk", "name": "tess"}), (2, ask),
@@ -110,7 +112,8 @@ class Counted:
 
 
 def counted(file: Path, steps: list[Step]) -> Counted:
-    """Plays a run, and checks that it is stable exactly after its last step. Returns its counts."""
+    """Plays these steps over the lab in a file, and checks that the run is stable exactly after the last step. Returns
+    its counts."""
     reports = played(file, steps)
     if [report["stable"] for report in reports] != [False] * len(steps) + [True]:
         fail(f"{file.name}: not stable where the run ends, or before")

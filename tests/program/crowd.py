@@ -26,7 +26,7 @@ Heard = list[tuple[bytes, bytes]]
 
 
 def lab_text() -> str:
-    """Returns a lab with a cycle, one half ana's and the other ben's."""
+    """Returns the text of a lab with a cycle, of which ana owns one half and ben the other."""
     links = ", ".join(f"[{node}, {node % NODES + 1}]" for node in range(1, NODES + 1))
     owned = [f'{{ id = {node}, owner = "{"ana" if 2 * node <= NODES else "ben"}" }}' for node in range(1, NODES + 1)]
     return (
@@ -37,7 +37,7 @@ def lab_text() -> str:
 
 
 def line_of(**keys: object) -> bytes:
-    """Returns the line of a request."""
+    """Returns the line of a request with these values."""
     return json.dumps(keys, sort_keys=True, separators=(",", ":")).encode() + b"\n"
 
 
@@ -45,13 +45,14 @@ class Player:
     """A client that keeps its lines and their replies."""
 
     def __init__(self, port: int, name: str) -> None:
+        """Connects to a port, and greets as the student or teacher `name`."""
         self.client, self.heard = Client(port), Heard()
         self.name = name
         who, key = HELLOS[name]
         self.ask([line_of(do="hello", key=key, name=who)])
 
     def ask(self, lines: list[bytes]) -> bytes:
-        """Sends several lines at once, and waits for all replies. Returns the last."""
+        """Sends several lines at once, and waits for all replies. Returns the last reply."""
         assert self.client.open is not None
         self.client.open.sendall(b"".join(lines))
         replies = [self.client.replies.readline() for _ in lines]
@@ -59,7 +60,8 @@ class Player:
         return replies[-1]
 
     def moves(self, rng: Random, first: int) -> None:
-        """Asks for moves of its nodes by the last looks, after views of them."""
+        """Asks for random moves of its nodes by its last looks, after views of them. `first` is the lowest of its
+        nodes."""
         half = NODES // 2
         move = line_of(do="see", node=0)
         for _ in range(TURNS):
@@ -87,6 +89,7 @@ class Replay:
     """The plain model after a prefix of a journal."""
 
     def __init__(self, lab: Lab, journal: bytes) -> None:
+        """Begins before the first event of a journal over a lab."""
         self.lab = lab
         _, self.events = audit(lab, journal)
         self.world = lab.opening()
@@ -100,8 +103,8 @@ class Replay:
         return True
 
     def tells(self, line: bytes, reply: bytes) -> bool:
-        """Returns whether the model gives this reply to a line now. A granted event must be the next one of the
-        journal."""
+        """Returns whether the model gives this reply to a line at the present prefix. A granted event must be the next
+        one of the journal."""
         found = answer(self.lab, self.world, self.known, line[:-1])
         if found.reply.encode() + b"\n" != reply:
             return False
@@ -128,7 +131,7 @@ class Replay:
 
 
 def played(server: Server, seed: int) -> list[Player]:
-    """Returns three clients after they have played at the same time."""
+    """Starts three clients of a server, and returns them after they have played at the same time."""
     players = [Player(server.port, name) for name in HELLOS]
     ana, ben, tess = players
     students = [

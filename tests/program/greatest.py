@@ -17,12 +17,12 @@ TESS, WELCOME = '{"do":"hello","key":"chalk","name":"tess"}', '{"ok":"hello","wh
 
 
 def name(number: int) -> str:
-    """Returns the name of a student, of 32 bytes."""
+    """Returns the name of the student with a number, of 32 bytes."""
     return f"s{number:031}"
 
 
 def document() -> str:
-    """Returns the lab's text. Each node belongs to the student with its number and to the next."""
+    """Returns the text of the lab. Each node belongs to the student with its number and to the next one."""
     links = ",\n".join(f"[{a},{b}]" for a in NODES for b in NODES if b < a)
     people = "".join(f'[[student]]\nname = "{name(number)}"\nkey = "{number:064}"\n' for number in range(256))
     nodes = "".join(
@@ -33,8 +33,8 @@ def document() -> str:
 
 
 def report(has_suitors: bool) -> str:
-    """Returns the expected report before or after the moves. Each link is open, and its witness is its lower end,
-    or the last node."""
+    """Returns the text of the expected report before the moves, or after them if `has_suitors` is set. Each link is
+    open, and its witness is its lower end, or the last node."""
     links = [(a, b) for a in NODES for b in NODES if a < b]
     if has_suitors:
         opened = ",".join(f'[{a},{b},{LAST},"marriage"]' for a, b in links)
@@ -56,12 +56,12 @@ class Tale:
     journal: list[str] = field(default_factory=list)
 
     def say(self, connection: int, line: str, reply: str) -> None:
-        """Adds a line and its reply."""
+        """Adds a line on a connection, and its expected reply."""
         self.script.append(f"{connection} {line}\n")
         self.replies.append(f"{connection} {reply}\n")
 
     def leave(self, connection: int) -> None:
-        """Adds a bye."""
+        """Adds a bye on a connection."""
         self.say(connection, '{"do":"bye"}', '{"ok":"bye"}')
 
     def greet(self, connection: int, number: int) -> None:
@@ -77,7 +77,7 @@ class Tale:
         self.journal.append(f"{place} 0 grant {name(number)} {node} seduction\n")
 
     def see(self, connection: int, node: int, p: str) -> None:
-        """Adds a request to see a node after the close."""
+        """Adds a request to see a node after the close. `p` is its expected pointer."""
         line = f'{{"do":"see","node":{node}}}'
         self.say(connection, line, f'{{"at":1,"m":false,"node":{node},"ok":"see","p":{p}}}')
 

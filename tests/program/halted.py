@@ -59,6 +59,7 @@ class Limited:
     """Scripts over the built-in lab, with a limit on the journal's file."""
 
     def __init__(self, room: Path) -> None:
+        """`room` is the folder for the files."""
         self.lab, self.script, self.journal = built_in(room), room / "limited.script", room / "limited.journal"
 
     def run(self, script: bytes, most: int) -> tuple[Ended, bytes]:
@@ -89,7 +90,8 @@ def is_refused(reply: bytes) -> bool:
 
 
 def fault_of(ended: Ended, most: int, replies: list[bytes]) -> str:
-    """Returns what is wrong with a run whose journal took so many bytes, or an empty text."""
+    """Returns what is wrong with a run whose journal had room for `most` bytes, or an empty text. `replies` are those
+    of the whole run."""
     if most >= len(JOURNAL):
         return "" if ended == Ended(0, b"".join(replies), b"") else "it doesn't end well"
     granted = 4 + JOURNAL[:most].count(b"\n")

@@ -25,7 +25,7 @@ student = [{ name = "ana", key = "a-key" }]
 
 
 def lab(room: Path, nodes: Iterable[str], links: str, events: int) -> Path:
-    """Writes a lab with these nodes and links and one session, and returns its path."""
+    """Writes a lab with these nodes and links, one session and this limit of events, and returns its path."""
     file = room / "large.toml"
     file.write_text(
         f"events = {events}\nsessions = 1\n{PEOPLE}links = [{links}]\nnode = [{', '.join(nodes)}]\n", encoding="ascii"
@@ -34,7 +34,7 @@ def lab(room: Path, nodes: Iterable[str], links: str, events: int) -> Path:
 
 
 def report(room: Path, file: Path, wanted: str) -> None:
-    """Checks that the teacher gets this report of a lab, and that a student gets a denial and can go on."""
+    """Checks that the teacher gets this report of the lab in a file, and that a student gets a denial and can go on."""
     script = room / "large.script"
     lines = [HELLO, '{"do":"report"}\n', '{"do":"bye"}\n', '{"do":"hello","key":"a-key","name":"ana"}\n',
              '{"do":"report"}\n', '{"do":"bye"}\n']
@@ -60,7 +60,7 @@ def reports(room: Path) -> None:
 
 
 def exchange(it: socket.socket, lines: list[str], replies: list[str]) -> None:
-    """Sends lines at once, and checks their replies."""
+    """Sends lines at once on a connection, and checks their replies."""
     it.sendall("".join(lines).encode())
     wanted = "".join(replies).encode()
     found = b""
@@ -74,7 +74,8 @@ def exchange(it: socket.socket, lines: list[str], replies: list[str]) -> None:
 
 
 def changes(places: Iterable[int]) -> tuple[list[str], list[str]]:
-    """Returns requests that cut a link and add it again in turn, and their replies."""
+    """Returns requests that cut a link and add it again in turn, and their replies. `places` are those of the
+    events."""
     words = [(place, "cut" if place % 2 else "link") for place in places]
     form = '{{"a":1,"at":{0},"b":2,"dropped":0,"ok":"{1}","place":{0}}}\n'
     return [f'{{"a":1,"b":2,"do":"{word}"}}\n' for _, word in words], [form.format(*it) for it in words]

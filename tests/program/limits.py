@@ -33,7 +33,7 @@ def text_of(path: str) -> str:
 
 
 def number_in(path: str, pattern: str) -> int:
-    """Returns the number that a pattern finds in a file of the repository."""
+    """Returns the number that a pattern with one group finds in a file of the repository."""
     found = re.findall(pattern, text_of(path), re.MULTILINE)
     if len(found) != 1:
         fail(f"{path} has {len(found)} times {pattern}")
@@ -41,7 +41,7 @@ def number_in(path: str, pattern: str) -> int:
 
 
 def of_the_kit() -> Iterator[Copy]:
-    """Yields the copies in a student's client and in the door, which call no program, and in the schemas."""
+    """Yields the copies of limits in a student's client, in the door and in the schemas, which call no program."""
     yield "classroom.client.MOST", client.MOST, MOST["line"]
     yield "classroom.client.GREETING", client.GREETING, MOST["greeting"]
     yield "classroom.client.NEXT_LINE", client.NEXT_LINE, MOST["next-line"]
@@ -53,7 +53,7 @@ def of_the_kit() -> Iterator[Copy]:
 
 
 def of_the_model() -> Iterator[Copy]:
-    """Yields the copies in what is compared with the program: the plain model, and the same rules in another language."""
+    """Yields the copies of limits in the plain model, and in the same rules in another language."""
     yield "model.lab.MOST_NODES", model_lab.MOST_NODES, MOST["nodes"]
     yield "model.lab.MOST_STUDENTS", model_lab.MOST_STUDENTS, MOST["students"]
     yield "model.lab.MOST_EVENTS", model_lab.MOST_EVENTS, MOST["events"]
@@ -71,7 +71,8 @@ def of_the_model() -> Iterator[Copy]:
 
 
 def want_below() -> None:
-    """Fails if what has to fit into a limit is larger: the scripts that `class` makes, and the tasks of the service."""
+    """Fails if something that has to fit into a limit is larger: the scripts that `class` makes, and the tasks of the
+    service."""
     for name, most in (("classroom.core.answering.MOST_SCRIPT", answering.MOST_SCRIPT), ("classroom.pages.replay.SCRIPT_LIMIT", replay.SCRIPT_LIMIT)):
         if most + MOST["line"] > MOST["lab"]:
             fail(f"{name} is {most}, and a script may have {MOST['lab']} bytes")
@@ -82,14 +83,14 @@ def want_below() -> None:
 
 
 def want_no_literal() -> None:
-    """Fails if the launcher, which reads limits from the program, has one as a number."""
+    """Fails if the launcher, which reads limits from the program, has one of them as a number."""
     literals = set(map(int, re.findall(r"\b\d+\b", text_of("mml")))) & {most for most in MOST.values() if most >= LEAST_LITERAL}
     if literals:
         fail(f"mml has {sorted(literals)}, which are limits of the program")
 
 
 def work(_room: Path) -> str:
-    """Asks for the limits, and compares each number that repeats one. Returns how many there are."""
+    """Compares each copy of a limit with the requirement. Returns a line with the number of copies."""
     found = run(["limits"], b"", {}, HOST)
     if found != Ended(0, TEXT.encode(), b""):
         fail(f"limits: {found}")

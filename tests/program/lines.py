@@ -19,7 +19,7 @@ UNKNOWN = '1 {"clause":2,"deny":"unknown","text":"name and key do not match"}\n'
 
 
 def long_bye(length: int, end: str) -> str:
-    """Returns a bye on connection 1 whose request has so many bytes."""
+    """Returns a script's line with a bye on connection 1 whose request has so many bytes, and which ends with `end`."""
     return "1 " + '{"do":"bye"}'.ljust(length) + end
 
 
@@ -53,7 +53,7 @@ ROWS = [
 
 
 def on_each(connections: int, text: str) -> str:
-    """Returns a line with this text for each connection."""
+    """Returns a script's line with this text for each of so many connections."""
     return "".join(f"{connection} {text}\n" for connection in range(1, connections + 1))
 
 
@@ -67,7 +67,8 @@ ON_MANY = [
 
 
 def wants(room: Path, lab: Path, rows: list[tuple[str, str, int | None]]) -> None:
-    """Checks the replies and the end of each row's script."""
+    """Checks the replies and the end of the script in each row. The last value of a row is the number of the wrong
+    line, or None."""
     script = room / "lines.script"
     for text, answers, bad in rows:
         script.write_text(text, encoding="ascii")
@@ -111,7 +112,7 @@ PART = 40
 
 
 def others(rng: Random) -> str:
-    """Returns zero, one or two random members of an object."""
+    """Returns the text of zero, one or two random members of an object."""
     return "".join(rng.choice(KEYS) + rng.choice(VALUES) + "," for _ in range(rng.randrange(3)))
 
 
@@ -131,7 +132,7 @@ def with_array(line: bytes) -> bytes:
 
 
 def number(text: str) -> float:
-    """Returns a number outside 64 bits as a float. Raises an error if it is too large for one."""
+    """Returns a number with a point or an exponent as a float. Raises an error if it is too large for one."""
     if math.isinf(float(text)):
         raise ValueError(text)
     return float(text)
@@ -179,7 +180,7 @@ def as_python_reads(line: bytes) -> bytes:
 
 
 def answered(room: Path, lab: Path, lines: list[bytes]) -> tuple[bytes, bytes]:
-    """Returns the replies to lines of connections, and the journal."""
+    """Runs a script of these lines, and returns its replies and its journal."""
     script, journal = room / "lines.script", room / "lines.journal"
     script.write_bytes(b"".join(line + b"\n" for line in lines))
     found = run(["script", str(lab), str(script), str(journal)], b"", {})

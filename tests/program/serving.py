@@ -15,14 +15,14 @@ ROUNDS = 300
 
 
 def lab_of(room: Path, old: str, new: str) -> Path:
-    """Writes the built-in lab with a text replaced, and returns its path."""
+    """Writes the built-in lab with the text `old` replaced, and returns its path."""
     lab = room / "changed.toml"
     lab.write_text(built_in(room).read_text(encoding="utf-8").replace(old, new, 1), encoding="utf-8")
     return lab
 
 
 def serving(lab: Path, connections: int, *journal: str) -> Server:
-    """Returns a server that listens."""
+    """Starts a server for so many connections, and returns it when it listens."""
     server = Server(lambda port: ["serve", str(lab), str(port), str(connections), *journal], {})
     if not server.listens:
         fail(f"serving: it doesn't listen: {server.end()}")
@@ -30,19 +30,19 @@ def serving(lab: Path, connections: int, *journal: str) -> Server:
 
 
 def ends(server: Server, done: bytes) -> None:
-    """Checks that a server ends well, with this last line."""
+    """Waits for the end of a server, and checks that it ends well, with this last line."""
     ended = server.end()
     if ended != Ended(0, done, b""):
         fail(f"serving: another end: {ended}, not {done!r}")
 
 
 def opened(server: Server) -> socket.socket:
-    """Returns a connection."""
+    """Returns a connection to a server."""
     return socket.create_connection(("127.0.0.1", server.port), LIMIT)
 
 
 def whole(it: socket.socket) -> bytes:
-    """Returns all bytes that a connection receives until its end."""
+    """Returns all bytes that a connection receives until the server ends it."""
     with it.makefile("rb") as replies:
         return replies.read()
 

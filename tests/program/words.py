@@ -138,7 +138,7 @@ TAKEN = [
 
 
 def called(line: str, folder: Path) -> Ended:
-    """Runs the command line in a text in a folder. Returns its result."""
+    """Runs the command line in a text in a folder. Returns its status and output."""
     words: list[str | Path] = [PROGRAM.resolve(), *line.split(" ")]
     done = subprocess.run(
         words, stdin=subprocess.DEVNULL, capture_output=True, cwd=folder, timeout=LIMIT, check=False
@@ -147,7 +147,7 @@ def called(line: str, folder: Path) -> Ended:
 
 
 def wants(line: str, folder: Path, wanted: Ended) -> None:
-    """Checks the result of a command line."""
+    """Checks the status and output of a command line that is run in a folder."""
     ended = called(line, folder)
     if ended != wanted:
         fail(f"{ended}, not {wanted}: {line!r}")
@@ -170,7 +170,8 @@ def words_of(folder: Path) -> int:
 
 
 def writes(words: list[str], given: bytes) -> list[bytes]:
-    """Returns the bytes of each write of a call to its standard output. That is a socket that keeps them apart."""
+    """Runs a command with this input, and returns the bytes of each write to its standard output, a socket that keeps
+    them apart."""
     ours, theirs = socket.socketpair(socket.AF_UNIX, socket.SOCK_SEQPACKET)
     with ours, theirs:
         ours.settimeout(LIMIT)

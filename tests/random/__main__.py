@@ -47,7 +47,7 @@ def hurt(rng: Random, journal: bytes) -> bytes:
 
 
 def audit_hurt(rng: Random, files: Files) -> None:
-    """Audits the journal of a run as it is, and with one byte changed."""
+    """Audits the journal of a run as it is, and with one byte changed, by both programs."""
     journal = files.journal.read_bytes()
     for text in [journal] + [hurt(rng, journal) for _ in range(HURTS if journal else 0)]:
         files.audited(text)

@@ -19,23 +19,23 @@ sessions = 2
 
 
 def single(rng: Random, nodes: list[int]) -> list[int]:
-    """Returns one random privileged node."""
+    """Returns one of these privileged nodes, at random."""
     return [rng.choice(nodes)]
 
 
 def full(rng: Random, nodes: list[int]) -> list[int]:
-    """Returns all privileged nodes."""
+    """Returns all of these privileged nodes."""
     return nodes
 
 
 def drawn(rng: Random, nodes: list[int]) -> list[int]:
-    """Returns a random set of privileged nodes that isn't empty."""
+    """Returns some of these privileged nodes, at random, but at least one."""
     some = [i for i in nodes if rng.random() < 0.5]
     return some or single(rng, nodes)
 
 
 def unfair(rng: Random, nodes: list[int]) -> list[int]:
-    """Returns the highest privileged node. Lower ones wait as long as there is one."""
+    """Returns the highest of these privileged nodes. Lower ones wait as long as there is one."""
     return [max(nodes)]
 
 
@@ -43,7 +43,7 @@ DAEMONS: list[Daemon] = [single, full, drawn, unfair]
 
 
 def lab_of(links: list[Link], found: Registers) -> str:
-    """Returns a lab with these links and registers. One student owns all nodes."""
+    """Returns the text of a lab with these links and registers, in which one student owns all nodes."""
     text = f"{PEOPLE}links = {json.dumps(links)}\nnode = [\n"
     for i, p in found.p.items():
         pointer = "" if p is None else f", p = {p}"
@@ -52,7 +52,7 @@ def lab_of(links: list[Link], found: Registers) -> str:
 
 
 def drawn_lab(rng: Random, count: int) -> str:
-    """Returns a random lab with this number of nodes. Some nodes have a null pointer and m true. One network in
+    """Returns the text of a random lab with so many nodes. Some nodes have a null pointer and m true. One network in
     five has all links, and the others at most two per node."""
     nodes = list(range(1, count + 1))
     every = complete(rng, nodes)
@@ -101,18 +101,19 @@ class Runner:
     """Builds the script of a run: asks for moves and closes steps until no node is privileged."""
 
     def __init__(self, rng: Random, lab: Lab, daemon: Daemon) -> None:
+        """The daemon chooses among the privileged nodes, and `rng` makes all random choices."""
         self.rng, self.daemon = rng, daemon
         self.model = Run(lab)
         self.script: list[str] = []
         self.rounds = 0
 
     def ask(self, connection: int, line: str) -> None:
-        """Appends a line to the script, and applies it to the model."""
+        """Appends a line on a connection to the script, and applies it to the model."""
         self.script.append(f"{connection} {line}\n")
         self.model.answer(connection, line.encode())
 
     def move(self, i: int, move: Move) -> None:
-        """Appends the request for a move."""
+        """Appends the request for a move of node i to the script."""
         asked = {"do": "move", "node": i, "rule": move.rule, "at": self.model.world.number}
         if move.rule == "marriage":
             asked["with"] = move.partner
@@ -143,7 +144,7 @@ def moves_of(world: World) -> dict[int, list[Move]]:
 
 
 def course(rng: Random, document: str, daemon: Daemon) -> Course:
-    """Returns a run over a lab with a daemon."""
+    """Returns a run over the lab with this text, under a daemon."""
     lab = read_lab(document.encode())
     runner = Runner(rng, lab, daemon)
     links = sum(len(near) for near in lab.world.links.values()) // 2

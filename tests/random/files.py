@@ -9,6 +9,7 @@ class Files:
     """A lab and a script in a folder. All results are checked to be the same for the program and the model."""
 
     def __init__(self, what: str, room: Path, lab: str, script: bytes) -> None:
+        """Writes the lab and the script into the folder `room`. `what` names them in errors."""
         self.what = what
         self.lab, self.script, self.journal = room / "drawn.toml", room / "drawn.script", room / "drawn.journal"
         self.lab.write_text(lab, encoding="ascii")

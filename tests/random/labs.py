@@ -38,12 +38,12 @@ def bipartite(rng: Random, nodes: list[int]) -> list[Link]:
 
 
 def tree(rng: Random, nodes: list[int]) -> list[Link]:
-    """Returns links that join each node to an earlier one."""
+    """Returns the links of a random tree, which join each node to an earlier one."""
     return [(rng.choice(nodes[:at]), nodes[at]) for at in range(1, len(nodes))]
 
 
 def grid(rng: Random, nodes: list[int]) -> list[Link]:
-    """Returns the links of a grid."""
+    """Returns the links of a grid with a random width."""
     width = rng.randint(1, len(nodes))
     right = [(at, at + 1) for at in range(len(nodes) - 1) if (at + 1) % width]
     below = [(at, at + width) for at in range(len(nodes) - width)]
@@ -58,7 +58,7 @@ def drawn_links(rng: Random, nodes: list[int]) -> list[Link]:
 
 
 def empty(rng: Random, nodes: list[int]) -> list[Link]:
-    """Returns no links."""
+    """Returns no links, for a network of single nodes."""
     return []
 
 
@@ -68,7 +68,7 @@ FAMILIES: list[Callable[[Random, list[int]], list[Link]]] = [
 
 
 def identifiers(rng: Random, count: int) -> list[int]:
-    """Returns this number of random identifiers, in the order of a file."""
+    """Returns so many different random identifiers, in the order of a file."""
     kind = rng.randrange(4)
     if kind == 0:
         return list(range(1, count + 1))
@@ -123,12 +123,13 @@ def size(rng: Random) -> int:
 
 
 def quoted(text: str) -> str:
-    """Returns a TOML string. For ASCII it is the same as in JSON."""
+    """Returns a text as a TOML string. For ASCII it is the same as in JSON."""
     return json.dumps(text)
 
 
 def node_line(rng: Random, i: int, owners: list[str], found: Registers) -> str:
-    """Returns the lines of a node. Registers that are null or false are left out, except sometimes a false."""
+    """Returns the lines of node i in a lab's file. Registers that are null or false are left out, except sometimes a
+    false."""
     is_short = len(owners) == 1 and rng.random() < 0.8
     owner = f"owner = {quoted(owners[0])}" if is_short else f"owners = {json.dumps(owners)}"
     p = "" if found.p[i] is None else f", p = {found.p[i]}"
@@ -137,7 +138,7 @@ def node_line(rng: Random, i: int, owners: list[str], found: Registers) -> str:
 
 
 def document(rng: Random, nodes: list[int], links: list[Link], found: Registers, events: int, sessions: int) -> str:
-    """Returns the lab's text for a network with its registers."""
+    """Returns the text of a lab for a network with its registers, with random owners, names and keys."""
     people = list(dict.fromkeys(name(rng) for _ in range(rng.choice([2, 2, 3, 4, 6]))))
     students = people[1:] or [people[0] + "x" if len(people[0]) < 32 else "x"]
     ends = [[a, b] if rng.random() < 0.5 else [b, a] for a, b in links]

@@ -22,18 +22,19 @@ ODD_LINES = [
 
 
 def escaped(rng: Random, text: str) -> str:
-    """Returns a JSON string in which each letter may be escaped."""
+    """Returns a text as a JSON string in which each letter may be escaped."""
     letters = (f"\\u{ord(letter):04x}" if rng.random() < 0.3 else json.dumps(letter)[1:-1] for letter in text)
     return '"' + "".join(letters) + '"'
 
 
 def written(rng: Random, value: Any) -> str:
-    """Returns a JSON value in whose strings each letter may be escaped."""
+    """Returns a value as JSON. Each letter of its strings may be escaped."""
     return escaped(rng, value) if isinstance(value, str) else json.dumps(value)
 
 
 def spelled(rng: Random, request: dict[str, Any]) -> bytes:
-    """Returns a request as an object with keys in any order, spaces, escapes, unknown keys and doubled keys."""
+    """Returns the line of a request whose object has its keys in any order, spaces, escapes, unknown keys and doubled
+    keys."""
     items = [[json.dumps(key), json.dumps(value)] for key, value in request.items()]
     kind = rng.randrange(6)
     if kind == 0:

@@ -17,8 +17,8 @@ HELLOS = ['{"do":"hello","key":"s-key","name":"student"}', '{"do":"hello","key":
 
 
 def mesh(count: int) -> str:
-    """Returns a lab with a ring in which each node is also linked to another one further on. One student owns all
-    nodes."""
+    """Returns the text of a lab with a ring of so many nodes, in which each node is also linked to another one further
+    on. One student owns all nodes."""
     ids = range(1, count + 1)
     links = [[i, i % count + 1] for i in ids] + [[i, (i + count // 3) % count + 1] for i in ids]
     nodes = "".join(f'  {{ id = {i}, owner = "student" }},\n' for i in ids)
@@ -29,21 +29,23 @@ class Meshing:
     """Builds a script."""
 
     def __init__(self, rng: Random, lab: Lab) -> None:
+        """`rng` makes all random choices."""
         self.rng = rng
         self.model = Run(lab)
         self.lines: list[str] = []
 
     def ask(self, connection: int, line: str) -> None:
-        """Appends a line, and applies it to the model."""
+        """Appends a line on a connection to the script, and applies it to the model."""
         self.lines.append(f"{connection} {line}\n")
         self.model.answer(connection, line.encode())
 
     def after(self, start: int, steps: int) -> int:
-        """Returns the node that is so many steps after another in the ring."""
+        """Returns the node that is so many steps after `start` in the ring."""
         return (start + steps - 1) % len(self.model.world.links) + 1
 
     def grant(self, start: int) -> Optional[Asked]:
-        """Returns a move of the first node from here on that can move and isn't chosen, or None."""
+        """Returns the request for a move of the first node from `start` on that can move and isn't chosen, or None if
+        there is none."""
         world = self.model.world
         for steps in range(len(world.links)):
             i = self.after(start, steps)
@@ -54,18 +56,18 @@ class Meshing:
         return None
 
     def release(self, start: int) -> Optional[Asked]:
-        """Returns a release of the first chosen node from here on, or None."""
+        """Returns the request for a release of the first chosen node from `start` on, or None if there is none."""
         chosen = self.model.world.chosen
         nodes = [i for i in (self.after(start, steps) for steps in range(len(self.model.world.links))) if i in chosen]
         return {"do": "release", "node": nodes[0]} if nodes else None
 
     def fault(self, start: int) -> Asked:
-        """Returns a fault that sets a node's pointer to a neighbour or to null."""
+        """Returns the request for a fault that sets the pointer of the node `start` to a neighbour or to null."""
         p = self.rng.choice([None, *self.model.world.near(start)])
         return {"do": "fault", "node": start, "p": p, "m": self.rng.random() < 0.5}
 
     def drawn(self) -> Asked:
-        """Returns the next event: mostly a move, and sometimes a close of all chosen moves."""
+        """Returns the next request: mostly a move, and sometimes a close of all chosen moves."""
         world, start = self.model.world, self.rng.choice(self.model.world.nodes())
         kind = self.rng.randrange(16)
         asked: Optional[Asked] = None
@@ -94,7 +96,7 @@ class Meshing:
 
 
 def mesh_script(rng: Random, lab: Lab, events: int) -> bytes:
-    """Returns a script with this number of events."""
+    """Returns a script over a lab with so many events."""
     meshing = Meshing(rng, lab)
     for connection, line in enumerate(HELLOS, 1):
         meshing.ask(connection, line)

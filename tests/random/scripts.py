@@ -20,6 +20,7 @@ class Drawing:
     """Builds a script."""
 
     def __init__(self, rng: Random, lab: Lab) -> None:
+        """`rng` makes all random choices."""
         self.rng, self.lab = rng, lab
         self.model = Run(lab)
         self.nodes = self.model.world.nodes()
@@ -31,7 +32,7 @@ class Drawing:
         return self.rng.choice(self.nodes)
 
     def hello(self) -> Asked:
-        """Returns a hello with a right key, mostly of a person who isn't connected."""
+        """Returns a random hello with a right key, mostly of a person who isn't connected."""
         names = list(self.lab.keys)
         absent = [name for name in names if name not in self.model.names.values()]
         name = self.rng.choice(absent if absent and self.rng.random() < 0.8 else names)
@@ -39,7 +40,8 @@ class Drawing:
         return {"do": "hello", "name": name if self.rng.random() < 0.97 else "nobody", "key": key}
 
     def move(self, who: str) -> Asked:
-        """Returns a move, mostly an enabled one of an own node in the present configuration."""
+        """Returns a random move of the person `who`, mostly an enabled one of an own node in the present
+        configuration."""
         world, rng = self.model.world, self.rng
         own = [i for i in self.nodes if who in self.lab.owners[i]]
         some = rng.sample(own, min(len(own), 8))
@@ -53,14 +55,14 @@ class Drawing:
         return {**asked, "with": move.partner} if move.rule == "marriage" else asked
 
     def fault(self) -> Asked:
-        """Returns a fault, mostly with a pointer that is null or a neighbour."""
+        """Returns a random fault, mostly with a pointer that is null or a neighbour."""
         i = self.node()
         near = self.model.world.near(i) if i in self.model.world.links else []
         p = self.rng.choice([None, *near]) if self.rng.random() < 0.8 else self.node()
         return {"do": "fault", "node": i, "p": p, "m": self.rng.random() < 0.5}
 
     def change(self) -> Asked:
-        """Returns a link or a cut, mostly a possible one."""
+        """Returns a random link or cut, mostly a possible one."""
         do = self.rng.choice(["link", "cut"])
         a, b = self.node(), self.node()
         near = self.model.world.near(a) if a in self.model.world.links else []
@@ -69,7 +71,7 @@ class Drawing:
         return {"do": do, "a": a, "b": b}
 
     def release(self) -> Asked:
-        """Returns a release, mostly of a chosen node."""
+        """Returns a random release, mostly of a chosen node."""
         chosen = list(self.model.world.chosen)
         return {"do": "release", "node": self.rng.choice(chosen) if chosen and self.rng.random() < 0.8 else self.node()}
 
@@ -103,7 +105,8 @@ class Drawing:
 
 
 def drawn_script(rng: Random, lab: Lab, lines: int) -> bytes:
-    """Returns a script with this number of lines. Some end with a wrong line, or without the last newline."""
+    """Returns a random script over a lab with so many lines. Some end with a wrong line, or without the last
+    newline."""
     drawing = Drawing(rng, lab)
     connections = [rng.randint(1, lab.sessions) for _ in range(4)]
     text = b""

@@ -32,7 +32,7 @@ student = [{ name = "ana", key = "a-key" }, { name = "ben", key = "b-key" }]
 
 
 def cycle(count: int) -> str:
-    """Returns a lab with a cycle, the first half of ana and the second of ben."""
+    """Returns the text of a lab with a cycle of so many nodes, of which ana owns the first half and ben the second."""
     links = [[1, count], *([i, i + 1] for i in range(1, count))]
     owners = ("ana" if 2 * i <= count else "ben" for i in range(1, count + 1))
     return PEOPLE + f"links = {links}\n" + "".join(f'[[node]]\nid = {i}\nowner = "{name}"\n' for i, name in enumerate(owners, 1))
@@ -42,16 +42,17 @@ class Numbers:
     """The pseudo-random numbers of `mml_fakes`, from a seed."""
 
     def __init__(self, seed: int) -> None:
+        """Begins with a seed."""
         self.state = seed
 
     def below(self, limit: int) -> int:
-        """Returns the next number, below a limit."""
+        """Returns the next number, which is at least 0 and below a limit."""
         self.state = (self.state * 6364136223846793005 + 1442695040888963407) % 2**64
         return (self.state >> 33) % limit
 
 
 def drawn(numbers: Numbers, world: World, index: int) -> tuple[str, Request]:
-    """Returns the next request and who sends it. Most requests aren't legal."""
+    """Returns the next request in a world and who sends it. Most requests aren't legal."""
     count = len(world.links)
     at = (index // 8 + numbers.below(8)) % count
     i, j = at + 1, (at + count - 2 + numbers.below(6)) % count + 1
@@ -95,7 +96,7 @@ def is_shaped(line: bytes) -> bool:
 
 
 def event_of(lab: Lab, line: bytes) -> str:
-    """Returns the event of a line in Rust's debug form: a grant, a close or a fault."""
+    """Returns the event of a journal's line in Rust's debug form: a grant, a close or a fault."""
     read = read_line(line, lab)
     if read is None:
         return "?" if is_shaped(line) else "."
@@ -130,12 +131,12 @@ def replaced() -> str:
 
 
 def rows(text: str) -> str:
-    """Returns a text as the pieces of a Rust constant."""
+    """Returns a text as the lines of a Rust constant."""
     return "".join(f'    "{text[at : at + ROW]}",\n' for at in range(0, len(text), ROW))
 
 
 def kept(file: str, pattern: str) -> str:
-    """Returns the content of a stored table."""
+    """Returns the content of the stored table that a pattern finds in a file."""
     found = re.search(pattern, (TESTS / file).read_text(encoding="utf-8"), re.DOTALL)
     if found is None:
         fail(f"no table in {file}")

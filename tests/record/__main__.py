@@ -51,29 +51,33 @@ class Files:
     """A lab, a journal and a record in a folder, and the verdict of the program and the model on them."""
 
     def __init__(self, room: Path, lab: str) -> None:
+        """Writes the lab with this text into the folder `room`."""
         self.lab, self.journal, self.folder = room / "lab.toml", room / "run.journal", room / "record"
         self.lab.write_text(lab, encoding="ascii")
         self.folder.mkdir(exist_ok=True)
         self.journal.write_bytes(b"")
 
     def write(self, journal: bytes, texts: dict[int, bytes], begun: int = 0) -> None:
-        """Writes a journal and a record into the folder."""
+        """Writes a journal, and a record with a text for each seat, into the folder. `begun` is the number of events
+        before the record."""
         self.journal.write_bytes(journal)
         (self.folder / "begun").write_text(f"{begun}\n", encoding="ascii")
         for seat, text in texts.items():
             (self.folder / f"{seat}.record").write_bytes(text)
 
     def ended(self, what: str) -> Ended:
-        """Returns the verdict. Fails if the two verdicts differ."""
+        """Returns the verdict of the program on the files. Fails if that of the model differs. `what` names the
+        files."""
         return agreed(what, "verify", self.lab, self.journal, self.folder)
 
     def verified(self, what: str, journal: bytes, texts: dict[int, bytes], begun: int = 0) -> Ended:
-        """Writes a journal and a record, and returns the verdict on them."""
+        """Writes a journal and a record, and returns the verdict on them. `what` names them."""
         self.write(journal, texts, begun)
         return self.ended(what)
 
     def wants(self, what: str, journal: bytes, texts: dict[int, bytes], line: str, begun: int = 0) -> None:
-        """Fails if the verdict has another line."""
+        """Writes a journal and a record, and fails if the verdict on them has another line than this. `what` names
+        them."""
         found = self.verified(what, journal, texts, begun)
         if found != said(line):
             fail(f"{what}: {found}, not {line!r}")
@@ -94,19 +98,20 @@ def see_reply(lab: Lab) -> str:
 
 
 def replaced(text: bytes, old: bytes, new: bytes) -> bytes:
-    """Returns a text in which a part that occurs once is replaced."""
+    """Returns a text in which the part `old`, which occurs once, is replaced."""
     if text.count(old) != 1:
         fail(f"{old!r} stands {text.count(old)} times in the short record")
     return text.replace(old, new)
 
 
 def in_seat(seat: int, other: int, text: bytes) -> bytes:
-    """Returns the record of a seat with the number of another one."""
+    """Returns the record `text` of a seat with the number of another one."""
     return re.sub(rb"(?m)^%d " % seat, b"%d " % other, text)
 
 
 def pauses(lab: Lab, run: Recording) -> list[tuple[str, dict[int, bytes], str]]:
-    """Returns rows with pauses in a third seat, after the short record."""
+    """Returns rows with pauses in a third seat, after the short record. A row has a name, the text of each seat, and
+    the verdict."""
     ana = b'3 2 > {"do":"hello","name":"ana","key":"a-key"}\n3 2 < {"ok":"hello","who":"ana"}\n'
     again = ana.replace(b'{"ok":"hello","who":"ana"}', b'{"clause":1,"deny":"greeted","text":"this connection has a name already"}')
     noise = b'3 2 > x\n3 2 < {"refuse":"malformed"}\n'
@@ -140,7 +145,8 @@ def pauses(lab: Lab, run: Recording) -> list[tuple[str, dict[int, bytes], str]]:
 
 
 def risen(run: Recording) -> list[tuple[str, dict[int, bytes], str]]:
-    """Returns rows with events that a third seat has seen, after the short record."""
+    """Returns rows with events that a third seat has seen, after the short record. A row has a name, the text of each
+    seat, and the verdict."""
     ana = b'3 %d > {"do":"hello","name":"ana","key":"a-key"}\n3 %d < {"ok":"hello","who":"ana"}\n'
     noise, bye = b'3 %d > x\n3 %d < {"refuse":"malformed"}\n', b'3 %d > {"do":"bye"}\n3 %d < {"ok":"bye"}\n'
     first, later = (0, 0), (2, 2)

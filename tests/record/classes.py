@@ -45,8 +45,8 @@ TESS = b"""\
 
 
 def verified(lab: Path, journal: Path, record: Path, line: bytes) -> None:
-    """Checks the line of `verify` for a record, the line with everybody whose lines are all recorded (nobody if
-    the record isn't complete), and the number of earlier events."""
+    """Checks the output of `verify` for a record: its first line, the line with everybody whose lines are all recorded
+    (nobody if the record isn't complete), and the number of earlier events."""
     begun = int((record / "begun").read_bytes())
     line += f"{whole_line(read_lab(lab.read_bytes()), b'not whole' in line, begun=begun)}\n".encode("ascii")
     call: list[str | Path] = [HOST, "verify", lab, journal, record]
@@ -56,7 +56,7 @@ def verified(lab: Path, journal: Path, record: Path, line: bytes) -> None:
 
 
 def texts(record: Path) -> dict[str, bytes]:
-    """Returns the contents of a record's files. Checks that nobody else can read them."""
+    """Returns the contents of a record's files, by their names. Checks that other users can't read them."""
     found = {file.name: file.read_bytes() for file in record.iterdir()}
     modes = {file.stat().st_mode & 0o777 for file in record.iterdir()}
     if record.stat().st_mode & 0o777 != 0o700 or modes != {0o600}:
@@ -65,7 +65,7 @@ def texts(record: Path) -> dict[str, bytes]:
 
 
 def wants(record: Path, lab: Path, said: dict[int, bytes]) -> None:
-    """Checks that the files have these lines of the seats, from the class's beginning."""
+    """Checks that the files of a record have these lines of the seats, from the class's beginning."""
     wanted = {f"{seat}.record": said.get(seat, b"") for seat in range(1, SEATS + 1)}
     found = texts(record)
     if found != {**wanted, "begun": b"0\n", "lab": lab.read_bytes()}:
@@ -73,7 +73,7 @@ def wants(record: Path, lab: Path, said: dict[int, bytes]) -> None:
 
 
 def begin(host: Host) -> tuple[Caller, Caller]:
-    """Returns ana's connection after a move, and that of tess after a hello."""
+    """Returns the connection of ana after a move, and that of the teacher tess after a hello."""
     ana, reply = let_in(host.port, WRONG)
     said = [reply, ana.ask(hello("ana")), ana.ask(MOVE), ana.ask(MOVE)]
     tess, _ = let_in(host.desk, hello("tess"))
@@ -165,7 +165,7 @@ def full_disk(room: Path) -> None:
 
 
 def fills(host: Host, name: str) -> None:
-    """Plays a class whose record is cut to its end."""
+    """Plays a class on a host whose record is cut off, to its end. `name` is that of the limit, for errors."""
     ana, tess = begin(host)
     for _ in range(20):
         if b'"chosen"' not in ana.ask(MOVE):
@@ -180,7 +180,7 @@ def fills(host: Host, name: str) -> None:
 
 
 def cut(lab: Path, journal: Path, record: Path) -> None:
-    """Checks that a record has a mark where it is cut."""
+    """Checks that `verify` accepts a record, and says where it is cut off."""
     text = texts(record)[f"{STUDENT}.record"]
     entries = text.splitlines(keepends=True)
     if len(text) > 1024 or b"".join(entries[:8]) != b"".join(ANA.splitlines(True)[:8]) or entries[-1] != b"%d 1 !\n" % STUDENT:

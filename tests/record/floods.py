@@ -60,7 +60,8 @@ def sessions_in(record: Path) -> list[Session]:
 
 
 def flood(caller: Caller, count: int) -> int:
-    """Sends long malformed lines. Returns how many were answered before the connection ended."""
+    """Sends so many long malformed lines on a connection. Returns how many were answered before the connection
+    ended."""
     done = 0
     while done < count:
         batch = min(BATCH, count - done)
@@ -73,13 +74,13 @@ def flood(caller: Caller, count: int) -> int:
 
 
 def leave(caller: Caller) -> None:
-    """Says bye, and waits until the seat is free."""
+    """Says bye on a connection, and waits until its seat is free."""
     if (caller.ask(BYE), caller.line()) != (BID, b""):
         fail("record: another reply to a bye after a flood")
 
 
 def whole_visit(host: Host, name: str) -> None:
-    """Connects, asks without success, and says bye."""
+    """Connects as a student, asks without success, and says bye."""
     caller, reply = let_in(host.port, hello(name))
     said = caller.ask(CLOSE)
     if b'"ok":"hello"' not in reply or b'"deny"' not in said:
@@ -88,7 +89,8 @@ def whole_visit(host: Host, name: str) -> None:
 
 
 def unknown_flood(host: Host, lines: int, at_once: int) -> int:
-    """Floods without a hello, over as many connections as that takes. Returns the number of answered lines."""
+    """Sends so many lines without a hello, over as many connections as that takes, `at_once` at the same time. Returns
+    the number of answered lines."""
     done = 0
     while done < lines:
         caller, reply = let_in(host.port, LONG)
@@ -98,7 +100,7 @@ def unknown_flood(host: Host, lines: int, at_once: int) -> int:
 
 
 def wants_budget(who: str, sessions: list[Session]) -> None:
-    """Checks that somebody's sessions are recorded up to the budget, and not beyond."""
+    """Checks that the sessions of `who` are recorded up to the budget, and not beyond."""
     size = sum(session.size() for session in sessions)
     if not BUDGET - 2 * ENTRY < size <= BUDGET:
         fail(f"record: {size} bytes are recorded of {who}, who may have {BUDGET}")

@@ -21,7 +21,7 @@ def listed(room: Path) -> Kept:
 
 
 def refuses(room: Path, lab: Path, record: object, ended: Ended = REFUSED, journal: object = "", start: str = "") -> None:
-    """Checks that a host refuses a folder for its record, and changes nothing there."""
+    """Checks that a host refuses a path for its record with this end, and changes nothing in the folder `room`."""
     before = listed(room)
     call = ["bash", "-c", f'cd "$0" && {start or "true"} && exec "$@"', str(room)]
     with Host(lab, 0, 0, journal or room / "run.journal", record, before=call) as host:

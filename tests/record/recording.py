@@ -26,6 +26,7 @@ class Recording:
     """A run with many seats, each with its record."""
 
     def __init__(self, lab: Lab) -> None:
+        """Begins a run over a lab, without a session."""
         self.lab, self.model = lab, Run(lab)
         self.texts: dict[int, bytes] = {seat: b"" for seat in range(1, lab.sessions + 1)}
         self.seen = dict.fromkeys(self.texts, 0)  # How many events have been seen in a seat: all at its last command.

@@ -19,7 +19,8 @@ OTHER_REPLY, OTHER_EVENT, BACK = "not the reply of the rules at place %d", "not 
 
 @dataclass(frozen=True)
 class Told:
-    """An entry in a seat's text: its first byte, the name at that time, and for a line the reply of the rules."""
+    """An entry in a seat's text: its first byte, the name that its connection had at that time, and for a line the
+    reply of the rules."""
 
     seat: int
     start: int
@@ -37,7 +38,7 @@ class Drawn:
     told: list[Told]
 
     def before(self, it: Told) -> list[Told]:
-        """Returns the entries of the seat before an entry."""
+        """Returns the entries of the same seat that come before an entry."""
         return [other for other in self.told if other.seat == it.seat and other.start < it.start]
 
 
@@ -51,7 +52,7 @@ class Hurt:
 
 
 def stamped(seat: int, seen: int, line: bytes, reply: bytes) -> bytes:
-    """Returns the text of the entry of a line."""
+    """Returns the text of the entry of a line with its reply. `seen` is the number of events before it."""
     return b"%d %d > %s\n%d %d < %s\n" % (seat, seen, line, seat, seen, reply)
 
 
@@ -75,7 +76,7 @@ def read(run: Recording) -> Drawn:
 
 
 def changed(drawn: Drawn, it: Told, text: bytes, why: str) -> Hurt:
-    """Returns a seat's text in which an entry is replaced, and the line with the reason."""
+    """Returns the record in which the text of an entry is replaced, with the reason for which it has to be refused."""
     whole = drawn.run.texts[it.seat]
     line = 1 + whole.count(b"\n", 0, it.start)
     return Hurt(it.seat, whole[: it.start] + text + whole[it.entry.end :], f"verify: seat {it.seat}, line {line}: {why}")

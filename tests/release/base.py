@@ -45,7 +45,7 @@ def closure(wanted: list[str], packages: dict[str, dict[str, str]]) -> set[str]:
 
 
 def files(name: str, packages: dict[str, dict[str, str]]) -> list[str]:
-    """Returns the paths of a package's files."""
+    """Returns the paths of the files of the package `name`."""
     lists = [DPKG / "info" / f"{name}.list", DPKG / "info" / f"{name}:{packages[name]['Architecture']}.list"]
     return next(path for path in lists if path.exists()).read_text(encoding="utf-8").splitlines()
 

@@ -34,7 +34,7 @@ KILLS = 80  # of hosts alone; tests/classroom/test_resume.py kills `run`, and bo
 
 
 def kept(journal: Path) -> dict[str, bytes]:
-    """Returns the files beside a journal, and its own content."""
+    """Returns the contents of a journal and of the files beside it, by their names."""
     return {file.name: file.read_bytes() for file in journal.parent.glob(f"{journal.name}*")}
 
 
@@ -45,14 +45,15 @@ def resumed(host: Host) -> bytes:
 
 
 def place_of(line: bytes) -> int:
-    """Returns the place in such a line."""
+    """Returns the place in the line in which a host reports from which place it continues."""
     if not line.startswith(b"resumed at place "):
         fail(f"resume: another line after that on the ports: {line!r}")
     return int(line[17:line.index(b",")])
 
 
 def refused(lab: Path, journal: Path, wanted: Ended, why: str, before: Sequence[str] = ()) -> None:
-    """Checks that a journal is refused with this result, and that no file is changed."""
+    """Checks that `resume` of a journal over a lab has this end, and that no file is changed. `why` names the
+    situation, for the error."""
     was = kept(journal) if journal.is_file() else {}
     with Host(lab, 0, 0, journal, word="resume", before=before) as host:
         ended = None if host.listens else host.end()
@@ -63,7 +64,8 @@ def refused(lab: Path, journal: Path, wanted: Ended, why: str, before: Sequence[
 
 
 def goes_on(lab: Path, journal: Path, line: bytes, error: bytes, why: str) -> None:
-    """Checks that a class continues with this line and this standard error, and ends as it began."""
+    """Checks that a class continues from its journal with this line and this standard error, and ends as it began.
+    `why` names the situation, for the error."""
     with Host(lab, 0, 0, journal, word="resume") as host:
         said = resumed(host) if host.listens else b""
         ended = host.dismissed(let_in(host.desk, hello("tess"))[0]) if host.listens else host.end()
@@ -201,7 +203,7 @@ def told_until_halted(ana: Caller, tess: Caller) -> int:
 
 
 def one_more(lab: Path, journal: Path) -> tuple[int, bytes, Ended]:
-    """Resumes a class for one event. Returns the place, the reply, and the end."""
+    """Resumes a class for one event. Returns the place from which it continued, the reply, and the end."""
     with Host(lab, 0, 0, journal, word="resume") as host:
         place = place_of(resumed(host))
         tess = let_in(host.desk, hello("tess"))[0]

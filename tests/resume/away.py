@@ -1,4 +1,5 @@
-"""A journal's file is removed, moved, replaced or changed while its class is running."""
+"""A journal's file is removed, moved, replaced or changed while its class is running. Each way to do so is a function
+of the journal's path."""
 import os
 import select
 import shutil
@@ -56,7 +57,7 @@ def longer(journal: Path) -> None:
 
 
 def seen_elsewhere(journal: Path) -> None:
-    """Changes neither the file's content nor its path."""
+    """Does something that changes neither the file's content nor its path."""
     os.link(journal, journal.with_name("link"))
     journal.chmod(0o640)
     os.utime(journal)

@@ -17,12 +17,13 @@ class Players:
     """A class, and the greatest place in a reply so far."""
 
     def __init__(self, seed: int) -> None:
+        """`seed` determines the random choices."""
         self.random = random.Random(seed)
         self.told = 0
         self.callers: dict[str, Caller] = {}
 
     def ask(self, name: str, line: bytes) -> dict[str, Any]:
-        """Sends a line of a person. Returns the reply."""
+        """Sends a line of the person `name`. Returns the values of the reply. Raises `Gone` if the host has hung up."""
         reply = self.callers[name].ask(line)
         if not reply:
             raise Gone
@@ -31,7 +32,7 @@ class Players:
         return found
 
     def come(self, host: Host) -> None:
-        """Connects and greets for everybody."""
+        """Connects to a host and greets for all persons."""
         self.callers = {}
         for name in [*NODES, TEACHER]:
             try:

@@ -18,6 +18,7 @@ class Changes:
     """The changes that a host makes to files and folders, and its syncs."""
 
     def __init__(self, room: Path) -> None:
+        """Builds the library that notes changes and syncs, in the folder `room`."""
         self.library, self.log = built("resume/changes.c", room), room / "changes"
 
     def variables(self) -> dict[str, str]:
@@ -58,7 +59,7 @@ def plays(host: Host, changes: Changes, journal: Path) -> tuple[Caller, Caller]:
 
 
 def leaves(host: Host, ana: Caller, tess: Caller) -> Ended:
-    """Sends the last lines of the class. Returns the host's end."""
+    """Sends the last lines of the class on both connections. Returns the host's end."""
     ana.ask(look("ana"))
     if (ana.ask(BYE), ana.line()) != (BID, b""):
         fail("resume: another reply to a student's bye")

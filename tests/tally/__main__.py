@@ -86,7 +86,7 @@ def by_hand(room: Path) -> int:
 
 
 def drawn(room: Path, seed: int) -> bool:
-    """Checks a random journal. Returns whether it has an event."""
+    """Checks the tally of a random journal by the program and the model. Returns whether the journal has an event."""
     rng = Random(seed)
     document = drawn_lab(rng)
     model = read_lab(document.encode())

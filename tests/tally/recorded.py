@@ -76,6 +76,7 @@ class Files:
     """A lab, a journal and a record in a folder."""
 
     def __init__(self, room: Path, lab: str, run: Recording) -> None:
+        """Writes the lab, and the journal and the record of a run, into the folder `room`."""
         self.lab, self.journal, self.folder = room / "recorded.toml", room / "recorded.journal", room / "record"
         self.folder.mkdir(exist_ok=True)
         for old in self.folder.iterdir():
@@ -91,19 +92,19 @@ class Files:
         return agreed(what, "tally", self.lab, self.journal, self.folder)
 
     def bare(self) -> str:
-        """Returns the tally without the record."""
+        """Returns the tally without the record, as the program prints it."""
         return agreed("without a record", "tally", self.lab, self.journal).out.decode()
 
 
 def with_record(tally: str, told: str, refused: str) -> str:
-    """Returns the tally with the lines about the record inserted."""
+    """Returns the output of a tally into which the lines about the record are inserted."""
     front, bounds, end = tally.partition("bounds ")
     end, rounds, number = end.partition("rounds ")
     return front + told + bounds + end + WHOLE + refused + rounds + number
 
 
 def recorded(document: str, talk: Iterable[tuple[int, bytes]]) -> Recording:
-    """Returns the run of a talk, with its record."""
+    """Returns the run of these lines, each on its connection, over the lab with this text, with its record."""
     run = Recording(read_lab(document.encode()))
     for seat, line in talk:
         run.answer(seat, line)
@@ -111,7 +112,7 @@ def recorded(document: str, talk: Iterable[tuple[int, bytes]]) -> Recording:
 
 
 def full(room: Path, document: str) -> int:
-    """Checks a run whose lab has had all its events. Returns the number of checks."""
+    """Checks the tally of a run whose lab has had all its events. Returns the number of checks."""
     document = document.replace("events = 100", "events = 1")
     files = Files(room, document, recorded(document, FULL))
     wanted = Ended(0, with_record(files.bare(), TOLD_FULL, REFUSED_FULL).encode(), b"")
@@ -121,7 +122,8 @@ def full(room: Path, document: str) -> int:
 
 
 def by_hand(room: Path, document: str) -> int:
-    """Checks the run by hand, also with memory refusals, cut, and changed. Returns the number of checks."""
+    """Checks the tally of the run by hand, also with memory refusals, cut off, and changed. Returns the number of
+    checks."""
     run = recorded(document, TALK)
     files = Files(room, document, run)
     wanted = with_record(files.bare(), TOLD, REFUSED)
@@ -183,7 +185,7 @@ def forgetful(rng: Random, text: bytes) -> bytes:
 
 
 def drawn(room: Path, seed: int) -> set[str]:
-    """Checks a random run. Returns the first words of the lines that count something about a student."""
+    """Checks the tally of a random run. Returns the first words of those lines that count something about a student."""
     rng = Random(seed)
     document = drawn_lab(rng)
     run = drawn_run(rng, read_lab(document.encode("ascii")))

@@ -24,6 +24,7 @@ class Run:
     """A run in the making, and the count along its configurations."""
 
     def __init__(self, rng: Random, lab: Lab) -> None:
+        """Begins a run over a lab. `rng` makes all random choices."""
         self.rng, self.lab = rng, lab
         self.world = lab.opening()
         self.recovery = Recovery(privileged(self.world))
@@ -35,12 +36,12 @@ class Run:
         return len(self.lines) >= min(EVENTS, self.lab.events)
 
     def put(self, who: str, asked: Request) -> None:
-        """Lets an event happen."""
+        """Applies the event of a request by `who`, and appends it to the journal."""
         self.lines.append(event_line(self.world, who, asked))
         apply(self.world, asked)
 
     def grant(self, node: int) -> None:
-        """Grants a move at a node to one of its owners."""
+        """Grants the enabled move of a node to one of its owners."""
         move = self.rng.choice(self.world.moves(node))
         self.put(self.rng.choice(self.lab.owners[node]), Request("move", node=node, at=self.world.number, move=move))
 
@@ -52,7 +53,7 @@ class Run:
         self.ended += self.recovery.rounds - before
 
     def change(self) -> None:
-        """Makes a fault, a link or a cut, from which a new count begins."""
+        """Makes a random fault, link or cut, from which a new count begins."""
         self.put(self.lab.teacher, changed(self.rng, self.world))
         self.recovery = Recovery(privileged(self.world))
 
@@ -87,7 +88,7 @@ def changed(rng: Random, world: World) -> Request:
 
 
 def drawn(room: Path, seed: int) -> int:
-    """Tries a drawn run. Returns how many rounds ended in it."""
+    """Checks the rounds of a random run. Returns how many rounds ended in it."""
     rng = Random(f"stepwise {seed}")
     document = drawn_lab(rng)
     run = Run(rng, read_lab(document.encode()))
@@ -107,7 +108,7 @@ def drawn(room: Path, seed: int) -> int:
 
 
 def tried(room: Path, count: int) -> int:
-    """Tries so many drawn runs. Returns how many rounds ended in them."""
+    """Checks the rounds of so many random runs. Returns how many rounds ended in them."""
     rounds = [drawn(room, seed) for seed in range(1, count + 1)]
     if 3 * sum(ended > 1 for ended in rounds) < count:
         fail("fewer than a third of the drawn runs have two rounds")

@@ -37,7 +37,7 @@ class InRoom(unittest.TestCase):
         self.tree = Tree(self.room, self.room, {"low": [], "high": ["low"], "top": ["high"]}, self.room / "kept")
 
     def write(self, crate: str, text: str) -> None:
-        """Writes a library, as `rt` does."""
+        """Writes the library of a crate with this text, as `rt` does."""
         self.tree.left(crate).mkdir(parents=True, exist_ok=True)
         (self.tree.left(crate) / "format").unlink(missing_ok=True)
         (self.tree.left(crate) / "format").write_text(text, encoding="utf-8")
@@ -83,7 +83,7 @@ class Turns(InRoom):
     """The number of checks that run."""
 
     def begin(self, running: Running, line: str, is_alone: bool = False) -> threading.Thread:
-        """Starts a check in a thread."""
+        """Starts a check, the shell line `line`, in a thread. Returns the thread."""
         def run() -> None:
             try:
                 self.ended = running.run(["sh", "-c", line], self.room, is_alone)

@@ -156,8 +156,8 @@ class Drawing(unittest.TestCase):
         self.assertEqual(culprits(plants, bodies, ["error: something"]), plants)
 
     def verdicts(self, drawn: list[list[Plant]], bad: list[Plant], *told: Told) -> dict[str, tuple[Plant, str]]:
-        """Returns the verdict on one plant of each function, if the bad plants don't compile, and the prover says
-        this, check by check."""
+        """Returns the verdict on one plant of each function, by its function. The plants in `bad` don't compile, and
+        the prover's outputs are these, check by check."""
         def look(_: Tree, __: str, texts: dict[str, str], ___: Running) -> str:
             tried = [pair.new for plant in bad for pair in plant.edit.pairs if texts["src/thing.rt"].count(pair.new) != SOURCE.count(pair.new)]
             return "src/thing.rt:1:1: error: it has no such name\n" if tried else ""

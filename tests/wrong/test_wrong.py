@@ -62,12 +62,12 @@ def text_of(edit: Edit) -> str:
 
 
 def kept(name: str) -> str:
-    """Returns a stored output of the prover."""
+    """Returns the stored output of the prover with this name."""
     return (KEPT / name).read_text(encoding="utf-8")
 
 
 def judged(output: str, *edits: Edit, status: int = 1) -> Judged:
-    """Returns the verdicts on edits for this output."""
+    """Returns the verdict on these edits for this output and status of a check."""
     return judge(list(edits), status, read_output(CRATE, output))
 
 
@@ -199,7 +199,7 @@ class Reading(unittest.TestCase):
         (self.folder / "src/lib.rt").write_text("one\ntwo\ntwo\nthree\n", encoding="utf-8")
 
     def write(self, name: str, *lines: str) -> None:
-        """Writes an edit."""
+        """Writes the file of the edit `name` with these lines."""
         (self.folder / "wrong" / name).write_text("".join(f"{it}\n" for it in lines), encoding="utf-8")
 
     def test_a_whole_edit(self) -> None:
@@ -273,7 +273,7 @@ class Trying(unittest.TestCase):
     """The real prover, over a copy of the smallest crate that has wrong bodies."""
 
     def try_edits(self, *edits: Edit) -> Tried:
-        """Returns the verdicts on some edits of the crate."""
+        """Tries these edits of the crate with the real prover. Returns the result."""
         with tempfile.TemporaryDirectory() as room:
             top, folder = Path(room), Path(room) / "crates" / CRATE
             for part in ("src", "proofs"):
