@@ -274,8 +274,7 @@ def answered(futures: list[Future[str]]) -> None:
 
 
 def wait_for_threads(server: Program, wanted: int, when: str) -> None:
-    """Waits until the server has `wanted` threads for connections, beside its constant ones. Fails with the text `when`
-    if it doesn't get there."""
+    """Waits until the server has so many threads. Fails with the text `when` if it doesn't get there."""
     for _ in range(int(LIMIT / 0.05)):
         if threads(server) == wanted:
             return

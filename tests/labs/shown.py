@@ -71,7 +71,7 @@ class Shown:
         return replies
 
     def takes(self, node: int, events: int) -> Ended:
-        """Returns the result of the audit of a journal with so many events at a node."""
+        """Returns the result of the audit of a journal with so many faults at a node."""
         lines = (f"{place} {place - 1} fault {node} - false\n" for place in range(1, events + 1))
         self.journal.write_text("".join(lines), encoding="ascii")
         return run(["audit", str(self.lab), str(self.journal)], b"", {})

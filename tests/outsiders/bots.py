@@ -131,7 +131,8 @@ class Honest:
         return said
 
     def ask(self, line: bytes) -> dict[str, object]:
-        """Sends a line, and connects again if it has lost its seat. Returns the values of the reply."""
+        """Sends a line, and returns the values of its reply. Appends the seconds to the waiting times. Fails if the
+        line is refused."""
         begun = time.monotonic()
         reply = self.caller.ask(line)
         self.waits.replies.append(time.monotonic() - begun)

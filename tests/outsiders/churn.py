@@ -158,7 +158,7 @@ class Comings:
         caller.close()
 
     def asked(self, what: str) -> socket.socket:
-        """Returns a connection to the page's server that has sent a request with this first line."""
+        """Returns a connection to the page's server that has sent a request for the path `what` below the page."""
         it = socket.create_connection(("127.0.0.1", self.page), LIMIT)
         it.sendall(f"GET {self.path}{what} HTTP/1.1\r\nHost: 127.0.0.1:{self.page}\r\nConnection: close\r\n\r\n".encode())
         return it
@@ -196,7 +196,8 @@ class Comings:
 
 
 def comes_to_rest(of: Callable[[], Held], first: Held | None) -> Held:
-    """Waits until a process has what it had first, and returns what it has. Without `first` only waits a moment."""
+    """Waits until a process has what it had `first`, thirty seconds at most, and returns what it has. Without `first`,
+    waits until its number of threads stays the same."""
     end = time.monotonic() + 30
     while True:
         time.sleep(1)

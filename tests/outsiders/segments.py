@@ -70,8 +70,8 @@ def replies_on(port: int, lines: list[bytes], parts: list[bytes] | None) -> list
 
 
 def replies_by(lab: Path, split: Split | None) -> tuple[list[bytes], list[bytes], bytes]:
-    """Returns the replies to the lines of a student and then of the teacher, split in this way, and the output of the
-    host at its end."""
+    """Returns the replies to the lines of a student and then of the teacher, and the output of the host at its end. The
+    lines are split in this way, or sent one by one if it is None."""
     with Host(lab, 0, 0) as host:
         student = replies_on(host.port, STUDENTS, split(STUDENTS) if split else None)
         teacher = replies_on(host.desk, TEACHERS, split(TEACHERS) if split else None)

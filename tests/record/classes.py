@@ -180,7 +180,8 @@ def fills(host: Host, name: str) -> None:
 
 
 def cut(lab: Path, journal: Path, record: Path) -> None:
-    """Checks that `verify` accepts a record, and says where it is cut off."""
+    """Checks that the file of a full seat ends with the mark `!`, and that `verify` reports the record as
+    incomplete."""
     text = texts(record)[f"{STUDENT}.record"]
     entries = text.splitlines(keepends=True)
     if len(text) > 1024 or b"".join(entries[:8]) != b"".join(ANA.splitlines(True)[:8]) or entries[-1] != b"%d 1 !\n" % STUDENT:
