@@ -17,9 +17,9 @@ from typing import IO
 
 from classroom.bots import explaining
 from classroom.bots.apart import World
-from classroom.bots.bots import Bot, Kept, last_line
+from classroom.bots.bots import Bot, RunningBot, last_line
 from classroom.bots.conduct import FLOODS, MINUTE, most_connections, most_open, most_quits
-from classroom.bots.playing import No, Playing
+from classroom.bots.playing import NotGranted, Playing
 from classroom.bots.suites import Case
 from classroom.core.program import call
 from classroom.setup import slips
@@ -62,7 +62,7 @@ class Limits:
 
 
 @dataclass(frozen=True)
-class Room:
+class Surroundings:
     """The surroundings of a bot: its folder, which is empty at first, a file outside all folders for its output,
     and, if it is kept apart, the other files that it sees and those that are hidden."""
 
@@ -74,7 +74,7 @@ class Room:
 class Attempt:
     """One bot in one case, with the class that it plays in."""
 
-    def __init__(self, bot: Bot, case: Case, limits: Limits, room: Room, stop: threading.Event) -> None:
+    def __init__(self, bot: Bot, case: Case, limits: Limits, room: Surroundings, stop: threading.Event) -> None:
         """Opens the class of the case, and writes the bot's slip. Doesn't start the bot. `stop` is set by an
         interrupt."""
         self.bot, self.case, self.limits, self.room, self.stop = bot, case, limits, room, stop
@@ -85,7 +85,7 @@ class Attempt:
         self.doing = ""  # what is done to the bot, for the line of one that ends
         self.playing.on_no = self.note_denial
         self.chance = random.Random(f"{case.name()} faults")
-        self.kept: Kept | None = None
+        self.kept: RunningBot | None = None
         self.slip = room.folder / "bot.slip"
         self.world: World | None = None
         text = "".join(f"{line}\n" for line in slips.slip(case.made, case.who, self.playing.relay.port))
@@ -106,7 +106,7 @@ class Attempt:
         """Returns the nodes of which the bot is the only owner."""
         return [node.id for node in self.case.made.nodes if node.owners == [self.case.who]]
 
-    def note_denial(self, no: No) -> None:
+    def note_denial(self, no: NotGranted) -> None:
         """Records why a line of the bot that wasn't granted is wrong. Ignores denials that correct bots meet too, and
         all after the first that is recorded."""
         if no.word in ALLOWED or self.wrong:
@@ -118,7 +118,7 @@ class Attempt:
         """Starts the bot. If the bot is kept apart, waits for its namespaces, and lets the relay listen at its port
         there. Raises `Fails` if the bot ends meanwhile or the namespaces take too long, and `Stopped` after an
         interrupt."""
-        self.kept = Kept(self.bot, self.slip, self.room.folder, self.limits.seconds, self.limits.megabytes, self.room.output.fileno(), self.world)
+        self.kept = RunningBot(self.bot, self.slip, self.room.folder, self.limits.seconds, self.limits.megabytes, self.room.output.fileno(), self.world)
         end = time.monotonic() + LATEST
         while self.world is not None:
             listener = self.kept.listener()

@@ -78,7 +78,7 @@ def runs_itself(file: Path) -> bool:
         return it.read(2) == b"#!"
 
 
-class Kept:
+class RunningBot:
     """A bot that is running within its limits."""
 
     def __init__(self, bot: Bot, slip: Path, folder: Path, seconds: float | None, megabytes: int, output: int = 2,
@@ -182,7 +182,7 @@ def namespaces_refusal() -> str:
     try:
         with tempfile.TemporaryDirectory() as room, tempfile.TemporaryFile() as output:
             world = World(seen.shown(it.words), (), "", 1024)
-            kept = Kept(it, Path(room, "bot.slip"), Path(room), PATIENCE, 64, output.fileno(), world)
+            kept = RunningBot(it, Path(room, "bot.slip"), Path(room), PATIENCE, 64, output.fileno(), world)
             while not (how := kept.ended()):
                 if (listener := kept.listener()) is not None:
                     listener.close()

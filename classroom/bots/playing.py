@@ -60,7 +60,7 @@ class Heard:
 
 
 @dataclass(frozen=True)
-class No:
+class NotGranted:
     """A line that wasn't granted, and the reason."""
 
     who: str
@@ -112,7 +112,7 @@ class Playing:
         self.conversation: list[str] = []
         self.rows: list[Row] = []  # what programs asked for, and what was denied, for their own pages
         self.owners: list[str] = []  # whose row each of them is
-        self.on_no: Callable[[No], None] = lambda no: None
+        self.on_no: Callable[[NotGranted], None] = lambda no: None
         self.on_step: Callable[[Step], None] = lambda step: None
         self.own_rule = own_rule
         self.is_held = False  # whether no step is closed, whatever is chosen
@@ -218,13 +218,13 @@ class Playing:
             self.note_grant(told["node"], who, told["rule"])
         elif "deny" in told:
             heard.denied[told["deny"]] += 1
-            self.on_no(No(who, told["deny"], self.explain_denial(asked, told), kind_of(asked, told), sent))
+            self.on_no(NotGranted(who, told["deny"], self.explain_denial(asked, told), kind_of(asked, told), sent))
         elif "refuse" in told:
             heard.denied[told["refuse"]] += 1
             note = wrong(line.decode(errors="surrogateescape").replace("\r", " ")) if told["refuse"] == "malformed" else None
             text = f"{told['refuse']}: {note}" if note else told["refuse"]
             kind = text.partition(" (")[0]  # how to mend it may have a number
-            self.on_no(No(who, told["refuse"], f"{text}: {line[:SHOWN_LINE].decode(errors='backslashreplace')}", kind, sent))
+            self.on_no(NotGranted(who, told["refuse"], f"{text}: {line[:SHOWN_LINE].decode(errors='backslashreplace')}", kind, sent))
 
     def note_row(self, who: str, sent: bytes, told: dict[str, Any]) -> None:
         """Appends a row about a line to `rows` if it asked for a move or wasn't granted. The rows are shown on the

@@ -17,9 +17,9 @@ from dataclasses import dataclass, field
 from pathlib import Path
 
 from classroom.bots import explaining
-from classroom.bots.bots import Bot, Kept
+from classroom.bots.bots import Bot, RunningBot
 from classroom.bots.conduct import FLOODS
-from classroom.bots.playing import OWN_RULE, No, Playing, Step
+from classroom.bots.playing import OWN_RULE, NotGranted, Playing, Step
 from classroom.bots.suites import HOUSE, TEACHER, key
 from classroom.client import RULES
 from classroom.core import lab as labs
@@ -121,7 +121,7 @@ class Practice:
     playing: Playing
     tell: Callable[[str], None]
     timeout: float | None
-    kept: list[tuple[str, Kept]] = field(default_factory=list)
+    kept: list[tuple[str, RunningBot]] = field(default_factory=list)
     told: str = ""
     told_at: float = float("-inf")
     stop: bool = False
@@ -134,7 +134,7 @@ class Practice:
         self.most = bounds.of_lab(self.playing.lab).moves  # asked for now, so that it holds up no step
         self.playing.on_no, self.playing.on_step = self.explain, self.print_step
 
-    def explain(self, no: No) -> None:
+    def explain(self, no: NotGranted) -> None:
         """Prints why a line wasn't granted. Does so only for the first line of its kind, and prints the count at the
         tenth, the hundredth and so on."""
         self.times[no.who, no.kind] += 1
@@ -263,7 +263,7 @@ def play(it: ClassWithPrograms, bots: list[Bot], words: argparse.Namespace, fold
         by_hand = f"python3 {os.path.relpath(TOP / 'classroom/client.py')} SLIP"
         tell(f"port {it.playing.relay.port}; play by hand ({by_hand}), or start your program, with the slip {files[0]}")
     for name, bot, slip in zip(names, bots, files):
-        it.kept.append(Kept(bot, slip.resolve(), Path.cwd(), None, MEGABYTES))
+        it.kept.append(RunningBot(bot, slip.resolve(), Path.cwd(), None, MEGABYTES))
         practice.kept.append((name, it.kept[-1]))
     with served(practice, lab, names[0], words.page):
         stable = practice.run()
@@ -298,7 +298,7 @@ class ClassWithPrograms:
     """A class and its running programs, so that all of them can be ended together."""
 
     playing: Playing
-    kept: list[Kept] = field(default_factory=list)
+    kept: list[RunningBot] = field(default_factory=list)
 
     def stop_programs(self) -> None:
         """Ends the programs."""

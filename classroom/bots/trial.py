@@ -11,7 +11,7 @@ from dataclasses import dataclass, field
 from pathlib import Path
 
 from classroom.bots import troubles
-from classroom.bots.attempt import Attempt, Fails, Limits, NotStarted, Room, Seen, Stopped
+from classroom.bots.attempt import Attempt, Fails, Limits, NotStarted, Seen, Stopped, Surroundings
 from classroom.bots.bots import Bot
 from classroom.bots.suites import Case
 from classroom.core.program import Fault
@@ -39,7 +39,7 @@ def try_bot(bot: Bot, case: Case, limits: Limits, own: Path, folder: Path, stop:
     that it sees if it is kept apart, and `stop` is set by an interrupt. Returns the result, or None after an
     interrupt."""
     with tempfile.TemporaryFile() as output:
-        return run_attempt(Attempt(bot, case, limits, Room(own, output, seen), stop), folder)
+        return run_attempt(Attempt(bot, case, limits, Surroundings(own, output, seen), stop), folder)
 
 
 def run_attempt(attempt: Attempt, folder: Path) -> Result | None:

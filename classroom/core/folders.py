@@ -44,7 +44,7 @@ def of_folder(folder: Path) -> Run:
     """Returns the lab and the journal in the folder of a run. Raises `Fault` if one of them is missing, or if a file
     that a run reads or writes isn't a plain file."""
     for name in FILES:
-        plain.want(folder / name)
+        plain.require_plain(folder / name)
     if not (folder / "lab.toml").is_file() or not (folder / "journal").is_file():
         raise Fault(f"{folder}: this isn't the folder of a run, which has lab.toml and journal")
     return folder / "lab.toml", folder / "journal"

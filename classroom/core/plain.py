@@ -50,7 +50,7 @@ def tail(path: Path, most: int) -> bytes:
         return it.read(most) or b""
 
 
-def want(path: Path) -> None:
+def require_plain(path: Path) -> None:
     """Raises `Fault` if the path is that of something other than a plain file, or of a link whose target is missing. A
     path at which nothing is raises no error."""
     if os.path.lexists(path) and not path.is_file():

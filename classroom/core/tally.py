@@ -38,7 +38,7 @@ DENIED = ("clause1", "clause2", "clause3", "clause4", "malformed")
 
 
 @dataclass
-class Asked:
+class RecordCounts:
     """The numbers that the record of a run adds to its tally."""
 
     # How many lines of each student each clause denied, and how many were malformed.
@@ -50,7 +50,7 @@ class Asked:
     # The names of the students whose lines are all recorded.
     all_of: frozenset[str] | None = None
 
-    def add(self, other: Asked) -> None:
+    def add(self, other: RecordCounts) -> None:
         """Adds the numbers of a further record of the same run."""
         for name, counts in other.denied.items():
             self.denied.setdefault(name, Counter()).update(counts)
@@ -79,7 +79,7 @@ class Tally:
     bounds: Bounds = Bounds(0, 0, 0)
     students: dict[str, Marks] = field(default_factory=dict)
     shared: dict[int, dict[str, Counter[str]]] = field(default_factory=dict)
-    asked: Asked | None = None
+    asked: RecordCounts | None = None
 
 
 def of(lab: Path, journal: Path, files: tuple[int, ...] = (), record: Path | None = None) -> Tally:
@@ -112,7 +112,7 @@ def of_texts(lab: str, journal: str) -> Tally:
 
 def read(text: str) -> Tally:
     """Returns the tally in the program's output."""
-    tally, asked = Tally(), Asked()
+    tally, asked = Tally(), RecordCounts()
     for line in text.splitlines():
         word, *rest = line.split(" ")
         if word == "student":

@@ -42,7 +42,7 @@ class Redirect(BadRequest):
 
 
 @dataclass(frozen=True)
-class Asked:
+class RequestHead:
     """The head of a request: its method, its path, and its header fields by their names in lower case."""
 
     method: str
@@ -50,7 +50,7 @@ class Asked:
     heads: dict[str, str]
 
     @staticmethod
-    def read(head: bytes) -> Asked:
+    def read(head: bytes) -> RequestHead:
         """Returns the parsed head of a request. Raises `BadRequest` if the head can't be parsed or has another method
         than METHODS."""
         first, *rest = head.decode("latin-1").removesuffix("\r\n\r\n").split("\r\n")
@@ -65,7 +65,7 @@ class Asked:
             raise BadRequest("400 Bad Request", "not understood")
         if words[0] not in METHODS:
             raise BadRequest("405 Method Not Allowed", "a page can only be read")
-        return Asked(words[0], words[1], heads)
+        return RequestHead(words[0], words[1], heads)
 
     def body_size(self) -> int:
         """Returns the number of bytes that follow the head. Raises `BadRequest` if they are more than MOST_BODY."""
@@ -98,7 +98,7 @@ class Asked:
         return "\r\n".join([*own, *kept, *size, "", ""]).encode("latin-1")
 
 
-def page_of(asked: Asked, path: str, record: Record) -> tuple[int, str]:
+def page_of(asked: RequestHead, path: str, record: Record) -> tuple[int, str]:
     """Returns the port of the page that is asked for, and the path there. `path` is the path below the network's name,
     and `record` has the ports of the network's pages. A path with `look` and the right token leads to the page to look
     at, and any other path to the page to play. No path leads to a page on which the teacher acts. Raises `BadRequest`

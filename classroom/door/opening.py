@@ -17,7 +17,7 @@ from classroom.core.folders import Process
 from classroom.core.program import TOP, Fault
 from classroom.core.statuses import FAILED
 from classroom.door import certificate
-from classroom.door.routes import Kept, announce, forget, network
+from classroom.door.routes import DoorData, announce, forget, network
 
 BACKLOG = 256
 TIMES = 5  # that a door is opened again
@@ -113,7 +113,7 @@ def open_door(place: Place, into: Path, file: Path, tell: Callable[[str], None])
     try:
         folder.mkdir(0o700, parents=True, exist_ok=True)
         forget(folder)
-        Kept(place.address, place.port, str(file.resolve()), Process(0, "")).write(folder)
+        DoorData(place.address, place.port, str(file.resolve()), Process(0, "")).write(folder)
     except OSError as error:
         listener.close()
         raise Fault(f"{folder}: {error.strerror}", FAILED) from None
@@ -123,7 +123,7 @@ def open_door(place: Place, into: Path, file: Path, tell: Callable[[str], None])
 def reopen(folder: Path, tell: Callable[[str], None]) -> OpenDoor | None:
     """Opens the door of a folder again, at its earlier address. Returns None if the door is still open. Raises `Fault`
     if the folder has no door or the address can't be used."""
-    kept = Kept.read(folder)
+    kept = DoorData.read(folder)
     if kept is None:
         raise Fault(f"{folder}: this run had no door: open one by --door [ADDRESS:]PORT", FAILED)
     if kept.process.lives():

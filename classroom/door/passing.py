@@ -8,7 +8,7 @@ import socket
 import ssl
 from dataclasses import dataclass
 
-from classroom.door.asking import MOST_HEAD, Asked, BadRequest, page_of
+from classroom.door.asking import MOST_HEAD, BadRequest, RequestHead, page_of
 from classroom.door.bounds import Bounds, Handshake
 from classroom.door.routes import Routes
 from classroom.door.secured import CHUNK, TAKING, WAITING, Secured
@@ -111,7 +111,7 @@ class Passing:
         if there is no such page."""
         async with asyncio.timeout(ASKING):
             head, rest = await self.head(first)
-            asked = Asked.read(head)
+            asked = RequestHead.read(head)
             self.door.routes.reload()
             asked.require_host(self.door.hosts | self.door.routes.hosts() | {self.it.address}, self.door.port)
             name, path = asked.network()

@@ -30,7 +30,7 @@ def network(lab: Path) -> str:
 
 
 @dataclass(frozen=True)
-class Network:
+class Route:
     """A route: the run of a network, and the host names that the network's slips have for the door."""
 
     name: str
@@ -39,18 +39,18 @@ class Network:
     announced: float  # when, as the system's clock has it
 
     @staticmethod
-    def read(file: Path) -> Network | None:
+    def read(file: Path) -> Route | None:
         """Returns the network in a route's file, or None if the file isn't complete."""
         try:
             it = json.loads(plain.read(file, plain.MOST_KEPT))
             hosts = tuple(map(str, it["hosts"]))
-            return Network(file.name.removesuffix(NETWORK), Path(str(it["folder"])), hosts, file.stat().st_mtime)
+            return Route(file.name.removesuffix(NETWORK), Path(str(it["folder"])), hosts, file.stat().st_mtime)
         except (Fault, OSError, ValueError, KeyError, TypeError, RecursionError):
             return None
 
 
 @dataclass(frozen=True)
-class Kept:
+class DoorData:
     """The data of a door, as they are in its folder: its address, its certificate and its process."""
 
     address: str
@@ -59,11 +59,11 @@ class Kept:
     process: Process
 
     @staticmethod
-    def read(folder: Path) -> Kept | None:
+    def read(folder: Path) -> DoorData | None:
         """Returns the data of the door in a folder, or None if they aren't complete."""
         try:
             it = json.loads(plain.read(folder / DOOR, plain.MOST_KEPT))
-            return Kept(str(it["address"]), int(it["port"]), str(it["certificate"]), Process(**it["process"]))
+            return DoorData(str(it["address"]), int(it["port"]), str(it["certificate"]), Process(**it["process"]))
         except (Fault, ValueError, KeyError, TypeError, RecursionError):
             return None
 
@@ -114,12 +114,12 @@ class Routes:
     """The networks in a door's folder. The file of a run is read again only if it has changed."""
 
     folder: Path
-    networks: dict[str, Network] = field(default_factory=dict)
+    networks: dict[str, Route] = field(default_factory=dict)
     records: dict[str, tuple[tuple[int, int], Record | None]] = field(default_factory=dict)
 
     def reload(self) -> None:
         """Reads the files of the routes again."""
-        found = [Network.read(file) for file in sorted(self.folder.glob(f"*{NETWORK}"))]
+        found = [Route.read(file) for file in sorted(self.folder.glob(f"*{NETWORK}"))]
         self.networks = {it.name: it for it in found if it is not None and NAME.fullmatch(it.name)}
 
     def record(self, name: str) -> Record | None:
@@ -156,7 +156,7 @@ class Routes:
         """Returns the host names that the slips of all networks have for the door."""
         return {host for network in self.networks.values() for host in network.hosts}
 
-    def is_about_to_begin(self, network: Network) -> bool:
+    def is_about_to_begin(self, network: Route) -> bool:
         """Returns whether a network's route is less than NEW seconds old, and its run hasn't written its ports yet."""
         try:
             has_told = (network.folder / RECORD).stat().st_mtime >= network.announced

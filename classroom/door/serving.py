@@ -21,7 +21,7 @@ from classroom.core.folders import Process
 from classroom.door.bounds import Bounds, origin
 from classroom.door.certificate import context
 from classroom.door.passing import Door, serve_connection
-from classroom.door.routes import DOOR, Kept, Routes, forget
+from classroom.door.routes import DOOR, DoorData, Routes, forget
 
 LOOK = 0.5  # seconds between two looks at which networks there are
 PATIENCE = 10.0  # seconds that a door stays open after its last network has ended
@@ -95,7 +95,7 @@ def own_names() -> set[str]:
 
 def serve(folder: Path, listener: socket.socket) -> None:
     """Serves the door in a folder to its end. Writes the process into the folder. Exits if the folder has no door."""
-    kept = Kept.read(folder)
+    kept = DoorData.read(folder)
     if kept is None:
         raise SystemExit(f"{folder / DOOR}: no door")
     soft, hard = resource.getrlimit(resource.RLIMIT_NOFILE)
@@ -106,7 +106,7 @@ def serve(folder: Path, listener: socket.socket) -> None:
     listener.setblocking(False)
     door = Door(Routes(folder), Bounds(), speaks, listener.getsockname()[1], own_names() | ({kept.address} if kept.address else set()))
     door.routes.reload()
-    Kept(kept.address, door.port, kept.certificate, Process.of(os.getpid())).write(folder)
+    DoorData(kept.address, door.port, kept.certificate, Process.of(os.getpid())).write(folder)
     with asyncio.Runner() as runner:
         runner.get_loop().set_exception_handler(lambda *_: None)  # A connection's errors are its own.
         runner.run(Serving(listener, door).run())

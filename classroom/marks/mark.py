@@ -21,7 +21,7 @@ from classroom.core.journal import RULES, events, split
 from classroom.core.printable import guarded, printable
 from classroom.core.program import Fault
 from classroom.core.statuses import LAB, WARNED
-from classroom.core.tally import DENIED, Asked
+from classroom.core.tally import DENIED, RecordCounts
 from classroom.marks import columns, second, totals
 from classroom.marks.columns import CLAUSES, MORE
 from classroom.marks.comeback import recoveries
@@ -42,7 +42,7 @@ class Recorded:
     """The verdict on a record as a line, and the counts of its lines unless the record is refused."""
 
     line: str
-    asked: Asked | None = None
+    asked: RecordCounts | None = None
 
     @property
     def is_refused(self) -> bool:
@@ -65,10 +65,10 @@ class Run:
     records: list[Recorded]
 
     @property
-    def asked(self) -> Asked | None:
+    def asked(self) -> RecordCounts | None:
         """Returns the counts of all records of the run together. Returns None if there is no record or one is
         refused."""
-        together = Asked()
+        together = RecordCounts()
         for it in self.records:
             if it.asked is None:
                 return None
@@ -156,7 +156,7 @@ def recorded(journal: Path) -> list[Recorded]:
         return [Recorded(f"{part.record.name}: {part.line}", asked_in(part)) for part in parts]
 
 
-def asked_in(part: Vouched) -> Asked | None:
+def asked_in(part: Vouched) -> RecordCounts | None:
     """Returns the counts of a record's lines, or None if the record is refused. If its server hasn't ended, the counts
     are marked as incomplete for all students."""
     asked = tally.of(part.lab, part.journal, record=part.copy).asked if part.status == 0 else None

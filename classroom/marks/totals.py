@@ -14,7 +14,7 @@ from classroom.core.journal import RULES
 from classroom.core.lab import Lab
 from classroom.core.lists import People, Person
 from classroom.core.printable import guarded, printable
-from classroom.core.tally import DENIED, Asked, Marks
+from classroom.core.tally import DENIED, Marks, RecordCounts
 from classroom.marks.columns import MORE, with_more
 from classroom.marks.rule import Rule, Value
 
@@ -77,7 +77,7 @@ class Marked:
     lab: Lab
     network: str
     students: dict[str, Marks]
-    asked: Asked | None
+    asked: RecordCounts | None
 
 
 Runs = list[Marked]

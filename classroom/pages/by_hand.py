@@ -20,7 +20,7 @@ from classroom.client import Client, Closed, Denied, Refused, wrong_keys
 from classroom.core.lab import Lab
 from classroom.pages.page import assembled
 from classroom.pages.seat import Seat
-from classroom.pages.web import Asked, Web, opened
+from classroom.pages.web import PageRequest, Web, opened
 
 PAUSE = 0.25  # seconds between two looks
 STILL_HERE = 10.0  # seconds without news after which a page gets a line that there are none
@@ -83,7 +83,7 @@ class PlayServer(Web):
         self.close()
 
 
-class PlayRequest(Asked):
+class PlayRequest(PageRequest):
     """A request of a student's page."""
 
     server: PlayServer

@@ -11,7 +11,7 @@ import threading
 from collections.abc import Iterator
 from contextlib import contextmanager
 
-from classroom.pages.web import Asked, Web
+from classroom.pages.web import PageRequest, Web
 
 STILL_HERE = 10.0  # seconds without news after which a page is told that there are none
 MOST_BYTES = 200  # of a line that a page sends
@@ -65,7 +65,7 @@ class TwoAddresses(Web):
         self.close()
 
 
-class AtAddress(Asked):
+class AtAddress(PageRequest):
     """A request at one of the two addresses."""
 
     server: TwoAddresses

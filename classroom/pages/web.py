@@ -31,7 +31,7 @@ class Web(ThreadingHTTPServer):
     daemon_threads = True
     request_queue_size = BACKLOG
 
-    def __init__(self, port: int, asked: type[Asked], title: str) -> None:
+    def __init__(self, port: int, asked: type[PageRequest], title: str) -> None:
         """Listens at the port, but doesn't answer before `open`. `asked` is the class that handles a request. Raises
         `OSError` if the port is taken."""
         super().__init__(("127.0.0.1", port), asked)
@@ -106,7 +106,7 @@ class DeadlineReader(io.RawIOBase):
         return self.connection.recv_into(buffer)
 
 
-class Asked(BaseHTTPRequestHandler):
+class PageRequest(BaseHTTPRequestHandler):
     """A request to a server of pages. Subclasses answer it."""
 
     def log_message(self, format: str, *words: Any) -> None:

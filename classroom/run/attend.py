@@ -82,7 +82,7 @@ def unlinked_file(folder: Path) -> IO[bytes] | None:
         return None
 
 
-class Room:
+class DiskRoom:
     """The room for a journal's lines: on the disk, and by the limit on the size of the server's files."""
 
     def __init__(self, folder: Path, server: int | None = None) -> None:
@@ -141,7 +141,7 @@ class Room:
         return [line] if line and kind != before else []
 
 
-def turn(desk: Desk, room: Room, until_stable: bool) -> str:
+def turn(desk: Desk, room: DiskRoom, until_stable: bool) -> str:
     """Reads new events, lets the house play, and prints all news of a desk. Connects to the desk first if its
     connection was lost. Returns the reason if the run ends, and an empty text otherwise."""
     if not desk.reconnect():
@@ -199,7 +199,7 @@ def run_typed(desk: Desk, line: str | None, hung: Callable[[], None]) -> str:
     return "" if desk.command(line) else "end"
 
 
-def attend(desk: Desk, it: Server, until_stable: bool, typed: Typed, room: Room, hung: Callable[[], None]) -> str:
+def attend(desk: Desk, it: Server, until_stable: bool, typed: Typed, room: DiskRoom, hung: Callable[[], None]) -> str:
     """Closes steps and runs typed commands until the run ends. Returns the reason: `stable`, `full`, `journal`, `end`,
     `clock`, `left` or `died`. Calls `hung` if the terminal is closed."""
     with contextlib.closing(Striker()) as striker:

@@ -12,7 +12,7 @@ WARNINGS = (10, 5, 1)  # minutes before the end
 LATEST = timedelta(hours=12)  # An hour that is over counts as tomorrow's if that is so near.
 
 
-def hour(word: str) -> str:
+def time_of_day(word: str) -> str:
     """Returns the time of day in an argument such as `10:45`. Raises `ArgumentTypeError` for any other text."""
     found = re.fullmatch(r"(\d{1,2}):(\d\d)", word, re.ASCII)
     if not found or int(found[1]) > 23 or int(found[2]) > 59:

@@ -29,7 +29,7 @@ from classroom.core.shown_names import ShownNames
 from classroom.core.statuses import FAILED, WARNED
 from classroom.pages import by_hand, kept_layout, projector
 from classroom.run import letting, renewing, server
-from classroom.run.attend import TICK, Room, attend
+from classroom.run.attend import TICK, DiskRoom, attend
 from classroom.run.clock import Clock
 from classroom.run.closing import Closing, spelled
 from classroom.run.connected import Connected
@@ -222,7 +222,7 @@ def hold(run: Running, it: server.Server) -> int | None:
     except (Closed, Refused, Denied) as error:
         run.tell(f"the server: {error}")
         return give_up(it, run, LATE if isinstance(error, Over) else TICK)
-    with contextlib.closing(Room(run.folder, it.process.number)) as room:
+    with contextlib.closing(DiskRoom(run.folder, it.process.number)) as room:
         why = attend(desk, it, run.until == "stable", run.typed, room, run.hung)
     return take_leave(it, desk, why, run)
 

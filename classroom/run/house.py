@@ -16,7 +16,7 @@ WAITS = "the house waits for a first student"
 HOW = "`./class new` with --stand-in makes a lab in which the house is the second owner of each node"
 
 
-def want_house(lab: Lab, file: object) -> None:
+def require_house(lab: Lab, file: object) -> None:
     """Raises `Fault`, which names the lab's file, if the lab has no house."""
     if not lab.held():
         raise Fault(f"{file}: the house can't stand in, since no node has `{HOUSE}` as its second owner: {HOW}")

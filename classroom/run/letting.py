@@ -12,7 +12,7 @@ from classroom.client import door_of
 from classroom.core.program import CLASS
 from classroom.door import certificate, opening
 from classroom.door.opening import Place
-from classroom.door.routes import ALL, Kept, announce_all, network
+from classroom.door.routes import ALL, DoorData, announce_all, network
 
 WHERE = "[ADDRESS:]PORT"
 
@@ -77,7 +77,7 @@ def page_lines(folder: str | None, lab: Path, looks: str | None) -> Iterator[str
 def place_of(folder: str | None, lab: Path) -> Place | None:
     """Returns the address and port of the door, or None if there is none. The address is the one in the slips of the
     lab."""
-    kept = Kept.read(Path(folder)) if folder is not None else None
+    kept = DoorData.read(Path(folder)) if folder is not None else None
     if kept is None:
         return None
     hosts = [door_of(slip.door)[0] for slip in opening.slips_of(lab) if slip.door]

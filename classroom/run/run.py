@@ -13,7 +13,7 @@ from classroom.core.counts import seconds
 from classroom.core.folders import Record, going, new_folder, of_folder
 from classroom.core.program import CLASS, Fault
 from classroom.run import class_again, closing, house, letting, server
-from classroom.run.clock import end_of, hour
+from classroom.run.clock import end_of, time_of_day
 from classroom.run.daemons import FORMS
 from classroom.run.holding import Running, to_the_end
 from classroom.run.several import side_by_side
@@ -42,9 +42,9 @@ def add_desk_words(words: argparse.ArgumentParser) -> None:
     """Adds the options that all commands with a desk have to a parser."""
     words.add_argument("--daemon", "--close", dest="close", type=closing.mode, metavar="D", help=f"{FORMS} (when-idle:2)")
     words.add_argument("--stand-in", type=seconds_with_unit, metavar="20s",
-                       help="let the house ask for a move if a rule could be applied at a node for this time and nobody asked for it; the house begins "
-                            "when a first student has said hello")
-    words.add_argument("--ends", type=hour, metavar="HH:MM", help="end the run at this time of the day, and warn before it")
+                       help="let the house ask for a move if a node has been privileged for this time without a move of its student; it begins when a first "
+                            "student has greeted")
+    words.add_argument("--ends", type=time_of_day, metavar="HH:MM", help="end the run at this time of the day, and warn before it")
     words.add_argument("--anonymous", action="store_true", help="show numbers in place of names on the pages for the projector")
     words.add_argument("--until", choices=["stable"], help="end the run when no rule can be applied at any node")
     words.add_argument("--page", type=port, nargs="?", const=4780, metavar="PORT",
@@ -98,7 +98,7 @@ def run_lab(words: argparse.Namespace) -> int:
 def check_stand_in(words: argparse.Namespace, lab: labs.Lab, file: Path) -> None:
     """Raises `Fault` if the arguments ask for --stand-in, and the lab in a file has no house or --serve is used."""
     if words.stand_in is not None:
-        house.want_house(lab, file)
+        house.require_house(lab, file)
         if getattr(words, "serve", False):
             raise Fault("--stand-in isn't for --serve: each move of the house takes a connection")
 

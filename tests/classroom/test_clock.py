@@ -12,7 +12,7 @@ from classroom.core.lists import Person
 from classroom.core.program import host
 from classroom.core.shown_names import ShownNames, display_names, short
 from classroom.run import wording
-from classroom.run.clock import Clock, hour, kept_end, next_time
+from classroom.run.clock import Clock, kept_end, next_time, time_of_day
 from tests.classroom.help import CYCLE, EXAMPLES, Cycle, Going, words
 
 NOW = datetime(2026, 11, 24, 10, 2, 30)
@@ -26,10 +26,10 @@ class Clocks(unittest.TestCase):
         self.assertEqual(next_time("00:30", datetime(2026, 11, 24, 23, 0)), datetime(2026, 11, 25, 0, 30))
         with self.assertRaisesRegex(ValueError, "^--ends 09:45: it is 10:02 already$"):
             next_time("09:45", NOW)
-        self.assertEqual((hour("9:05"), hour("23:59")), ("09:05", "23:59"))
+        self.assertEqual((time_of_day("9:05"), time_of_day("23:59")), ("09:05", "23:59"))
         for word in ("24:00", "10:60", "10", "10:5", "x", "10:45:00"):
             with self.assertRaises(argparse.ArgumentTypeError):
-                hour(word)
+                time_of_day(word)
 
     def test_a_run_that_goes_on_keeps_an_end_that_is_to_come(self) -> None:
         self.assertEqual(kept_end("2026-11-24T10:45:00", NOW), datetime(2026, 11, 24, 10, 45))

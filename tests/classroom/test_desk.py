@@ -23,7 +23,7 @@ from classroom.core import lab as labs
 from classroom.core.printable import printable
 from classroom.core.program import host
 from classroom.run import server
-from classroom.run.attend import Room, attend
+from classroom.run.attend import DiskRoom, attend
 from classroom.run.daemons import Daemon
 from classroom.run.desk import Desk
 from classroom.run.taking import greet
@@ -179,7 +179,7 @@ class Late(Cycle):
         lines: list[str] = []
         desk = Desk(lab, self.room / "journal", greet(it, lab.teacher), Daemon("by-hand"), lines.append)
         typed, found = Typed(), []
-        room = Room(self.room)
+        room = DiskRoom(self.room)
         self.addCleanup(room.close)
         holding = threading.Thread(target=lambda: found.append(attend(desk, it, False, typed, room, lambda: None)))
         stop(it.process.number)
@@ -296,13 +296,13 @@ class Disk(InRoom):
         told = self.told(self.disk(), 10**9, 65536, 65535, 4096, 0, 0, 10**9, 10**9)
         self.assertEqual(told, [[], [], ["the disk has little room"], [], ["the disk is full"], [], [ROOM_AGAIN], []])
 
-    def disk(self) -> Room:
+    def disk(self) -> DiskRoom:
         """Returns the object that watches the disk of the test's folder."""
-        room = Room(self.room)
+        room = DiskRoom(self.room)
         self.addCleanup(room.close)
         return room
 
-    def told(self, room: Room, *free: int) -> list[list[str]]:
+    def told(self, room: DiskRoom, *free: int) -> list[list[str]]:
         """Returns the beginnings of the lines that are printed for each number of free bytes in turn."""
         told = []
         for left in free:
@@ -322,13 +322,13 @@ class Disk(InRoom):
             resource.setrlimit(resource.RLIMIT_FSIZE, before)
         self.assertEqual(self.told(room, 10**9), [[ROOM_AGAIN]])
         self.assertEqual(list(self.room.iterdir()), [])
-        self.assertEqual(self.told(Room(self.room / "none"), 10**9), [[]])
+        self.assertEqual(self.told(DiskRoom(self.room / "none"), 10**9), [[]])
 
     def test_a_limit_on_the_files_of_the_server(self) -> None:
         server = subprocess.Popen(["sleep", "1000"], preexec_fn=lambda: resource.setrlimit(resource.RLIMIT_FSIZE, (100_000, 100_000)))
         self.addCleanup(server.wait)
         self.addCleanup(server.kill)
-        journal, room = self.file("journal", ""), Room(self.room, server.pid)
+        journal, room = self.file("journal", ""), DiskRoom(self.room, server.pid)
         self.addCleanup(room.close)
         told = []
         for size in (34_464, 34_465, 50_000, 99_900, 100_000):
@@ -336,7 +336,7 @@ class Disk(InRoom):
             told.append([line.partition(":")[0] for line in room.limit_news()])
         self.assertEqual(told, [[], ["the journal may only grow by 65535 more bytes, since there is a limit on the server's files (ulimit -f)"], [],
                                 ["the journal has reached the limit on the server's files, so nothing more is granted (ulimit -f)"], []])
-        unbounded = Room(self.room, os.getpid())
+        unbounded = DiskRoom(self.room, os.getpid())
         self.addCleanup(unbounded.close)
         self.assertEqual(unbounded.limit_news(), [])
 

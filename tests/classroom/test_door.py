@@ -22,7 +22,7 @@ from classroom.client import Client, Closed, NoDoor, NoServer, NoSlip, Over, Ref
 from classroom.core.folders import Process, Record
 from classroom.core.program import Fault
 from classroom.door import bounds, certificate, opening, routes
-from classroom.door.asking import Asked, BadRequest
+from classroom.door.asking import BadRequest, RequestHead
 from classroom.door.bounds import Bounds, Handshake, Meter, origin
 from classroom.door.opening import Place
 from tests.classroom.help import EXAMPLES, LIMIT, InRoom
@@ -107,7 +107,7 @@ class AtDoor(InRoom):
         self.known = certificate.make_if_missing(self.room / "door.pem", "localhost")
         self.door = opening.open_door(Place("127.0.0.1", 0), self.room, self.room / "door.pem", self.told.append)
         self.addCleanup(self.ended)
-        self.wait(lambda: (kept := routes.Kept.read(self.door.folder)) is not None and kept.process.lives())
+        self.wait(lambda: (kept := routes.DoorData.read(self.door.folder)) is not None and kept.process.lives())
 
     def ended(self) -> None:
         """Ends the process of the door."""
@@ -558,10 +558,10 @@ class Counts(unittest.TestCase):
             self.assertEqual(origin(address), of)
 
     def test_heads(self) -> None:
-        asked = Asked.read(b"POST /maths/move HTTP/1.1\r\nHost: a\r\nContent-Length: 12\r\nX-Any: 1\r\n\r\n")
+        asked = RequestHead.read(b"POST /maths/move HTTP/1.1\r\nHost: a\r\nContent-Length: 12\r\nX-Any: 1\r\n\r\n")
         self.assertEqual(asked.head_for_page(80, "/move"), b"POST /move HTTP/1.0\r\nHost: 127.0.0.1:80\r\nConnection: close\r\nContent-Length: 12\r\n\r\n")
         with self.assertRaises(BadRequest):
-            Asked.read(b"GET http://a/ HTTP/1.1\r\n\r\n")
+            RequestHead.read(b"GET http://a/ HTTP/1.1\r\n\r\n")
 
     def test_places_and_names(self) -> None:
         for word, place in (("4700", Place("", 4700)), ("class.example:4700", Place("class.example", 4700)), ("[::1]:4700", Place("::1", 4700))):

@@ -78,10 +78,10 @@ class Doors(unittest.TestCase):
             """Raises an error with another text each time."""
             raise ValueError(f"the {next(numbers)}th")
 
-        with mock.patch("classroom.pages.web.Asked.reject_foreign_host", fails):
+        with mock.patch("classroom.pages.web.PageRequest.reject_foreign_host", fails):
             for _ in range(5):
                 self.assertEqual(self.asks(), 0)
-        with mock.patch("classroom.pages.web.Asked.reject_foreign_host", side_effect=KeyError("another")):
+        with mock.patch("classroom.pages.web.PageRequest.reject_foreign_host", side_effect=KeyError("another")):
             self.assertEqual(self.asks(), 0)
         self.assertEqual([line.partition(": ")[2] for line in self.told], ["ValueError: the 0th", "KeyError: 'another'"])
 

@@ -11,7 +11,7 @@ from pathlib import Path
 from classroom.client import Client, Closed, NoServer, Refused, Slip
 from classroom.core.folders import Record
 from classroom.core.program import host
-from classroom.door.routes import Kept
+from classroom.door.routes import DoorData
 from classroom.run.run import ports_for
 from tests.classroom.help import LIMIT, Going, InRoom, a_port, wait_until, words
 from tests.classroom.several import GoingClass
@@ -33,11 +33,11 @@ class Doors(InRoom):
         """Starts a run with a door and these options."""
         return Going(self, self.lab, "--door", f"127.0.0.1:{self.port}", "--close", "by-hand", "--page", str(a_port()), *more)
 
-    def door(self, going: Going) -> Kept:
+    def door(self, going: Going) -> DoorData:
         """Returns the data of the run's door, from its folder."""
         record = Record.read(going.folder)
         assert record is not None and record.door is not None
-        kept = Kept.read(Path(record.door))
+        kept = DoorData.read(Path(record.door))
         assert kept is not None
         return kept
 

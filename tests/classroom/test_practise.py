@@ -139,8 +139,8 @@ class Practise(InRoom):
     def test_no_program_goes_on_while_record_and_page_are_made(self) -> None:
         """These may take long, and nobody would answer a program meanwhile."""
         given = ["practise", f"python3 {FAULTY} right", "--nodes", "3", "--into", str(self.room / "runs")]
-        code = ("import sys; from classroom import words; from classroom.bots import bots, practise; kept = []; began = bots.Kept.__init__\n"
-                "bots.Kept.__init__ = lambda self, *given: (kept.append(self), began(self, *given))[1]\n"
+        code = ("import sys; from classroom import words; from classroom.bots import bots, practise; kept = []; began = bots.RunningBot.__init__\n"
+                "bots.RunningBot.__init__ = lambda self, *given: (kept.append(self), began(self, *given))[1]\n"
                 "practise.write_run = lambda *_: print('ended', [each.process.poll() is not None for each in kept])\n"
                 "sys.exit(words.main(sys.argv[1:]))")
         done = subprocess.run([sys.executable, "-c", code, *given], cwd=TOP, capture_output=True, text=True, check=False, timeout=LIMIT)

@@ -14,7 +14,7 @@ from tools.check.parts import PROOFS, TOP, Part, minutes_of
 from tools.check.processes import adopt_orphans
 from tools.check.results import not_tried, result
 from tools.check.running import Crew, Done
-from tools.check.signals import HEED, Killed
+from tools.check.signals import HANDLER, Killed
 
 Stages = list[list[Part]]
 
@@ -122,19 +122,19 @@ def check(stages: Stages, left_out: list[str], room: Path) -> int:
     adopt_orphans()
     crew, count = Crew(room, processors), Count(left_out)
     try:
-        HEED.begin()
+        HANDLER.begin()
         room.chmod(0o711)  # `rt ci` runs programs as nobody, in folders below.
         begin(stages, processors)
         run(stages, crew, count)
         return count.close(crew)
     except Killed as killed:
-        HEED.end()
+        HANDLER.end()
         unfinished = crew.end()
         tell(f"check: ended by {signal.Signals(killed.number).name}, in {', '.join(unfinished) or 'its beginning'}")
         count.failed += max(1, len(unfinished))
         count.close(crew)
         return 128 + killed.number
     finally:
-        HEED.end()
+        HANDLER.end()
         crew.end()
         shutil.rmtree(room, ignore_errors=True)

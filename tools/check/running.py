@@ -13,7 +13,7 @@ from pathlib import Path
 from tools.check.measure import PROVING, Checks
 from tools.check.parts import TOP, Part
 from tools.check.processes import end_all
-from tools.check.signals import HEED
+from tools.check.signals import HANDLER
 
 POLL = 0.1
 PATIENCE = 8.0  # seconds that parts have to clear up if they are ended
@@ -89,7 +89,7 @@ class Crew:
         folder.mkdir(mode=0o711)
         output = self.room / f"{self.begun}.output"
         more = {"TMPDIR": str(folder), "PYTHONDONTWRITEBYTECODE": "1"}
-        with output.open("wb") as it, HEED.held():
+        with output.open("wb") as it, HANDLER.held():
             process = subprocess.Popen(
                 part.command, cwd=TOP, stdin=subprocess.PIPE if part.is_beside else subprocess.DEVNULL, stdout=it,
                 stderr=subprocess.STDOUT, bufsize=0, env={**os.environ, **more}, start_new_session=True,

@@ -18,7 +18,7 @@ class Killed(Exception):
         self.number = number
 
 
-class Heed:
+class SignalHandler:
     """The handler of signals: raises `Killed` at once, or at the end of a block that mustn't be interrupted."""
 
     def __init__(self) -> None:
@@ -53,4 +53,4 @@ class Heed:
             raise Killed(self.came)
 
 
-HEED = Heed()
+HANDLER = SignalHandler()
