@@ -341,7 +341,8 @@ def comparison(sign: str, left: Expression, right: Expression) -> Expression:
 def arithmetic(sign: str, left: Expression, right: Expression) -> Expression:
     """Returns the expression that adds, subtracts, multiplies or divides two values, as the sign says."""
     def result(one: Known, other: Known) -> Fraction:
-        """Returns the result for two values."""
+        """Returns the sum, difference, product or quotient of two values. Raises `Wrong` if one isn't a number, or for
+        a division by 0."""
         a, b = number(one), number(other)
         if sign == "/" and b == 0:
             raise Wrong("a division by 0")

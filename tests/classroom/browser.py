@@ -163,6 +163,7 @@ class Played(unittest.TestCase):
     """Opens the pages of runs."""
 
     def setUp(self) -> None:
+        """Opens the browser."""
         self.driver: Any = browser()
         room = tempfile.TemporaryDirectory()
         self.addCleanup(room.cleanup)

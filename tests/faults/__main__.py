@@ -44,6 +44,7 @@ class Kind:
         return end_with("out of memory", 5, out) if self.error == ENOMEM else end_with(line, 4, out)
 
     def __str__(self) -> str:
+        """Returns a text that names the effect."""
         how = "cut short" if self.is_short else f"failed with {self.error}" if self.error else "took nothing"
         return f"{self.of} {how}"
 
@@ -93,6 +94,7 @@ def shown(words: list[str], then: str, reads: Reads) -> Use:
     out = good(words)
 
     def use(kind: Kind, nth: int, variables: dict[str, str]) -> str:
+        """Runs the command with this effect on the nth call. Returns what is wrong, or an empty text."""
         ended = run(words, b"", variables)
         if kind.is_harmless:
             return wrong(ended, Ended(0, out, b""))
@@ -106,7 +108,7 @@ def shown(words: list[str], then: str, reads: Reads) -> Use:
 
 
 def journal_fault(story: Story, ended: Ended, journal: bytes, nth: int) -> str:
-    """Returns what is wrong with a script after its nth write to the journal failed, or an empty text."""
+    """Returns what is wrong with the run of a script whose nth write to the journal failed, or an empty text."""
     replies = ended.out.splitlines(keepends=True)
     granted = [b'"place":' in reply for reply in replies]
     return (
@@ -127,7 +129,8 @@ def answered(story: Story, ended: Ended) -> tuple[list[bytes], frozenset[int]]:
 
 
 def cut_off(story: Story, ended: Ended, journal: bytes, wanted: Ended) -> str:
-    """Returns what is wrong with a script of which only the first lines were read, or an empty text."""
+    """Returns what is wrong with the run of a script of which only the first lines were read, or an empty text.
+    `wanted` is the expected end of the run."""
     replies, unread = answered(story, ended)
     return (
         wrong(Ended(ended.status, b"", ended.error), wanted)
@@ -146,6 +149,7 @@ def scripted(story: Story, room: Path, reads: Reads) -> Use:
     puts = kept.count(b"\n")
 
     def use(kind: Kind, nth: int, variables: dict[str, str]) -> str:
+        """Runs the script with this effect on the nth call. Returns what is wrong, or an empty text."""
         journal.unlink(missing_ok=True)
         ended = run(words, b"", variables)
         found = journal.read_bytes() if journal.exists() else b""
@@ -171,6 +175,7 @@ def given(story: Story) -> Use:
     out = b"".join(replies)
 
     def use(kind: Kind, nth: int, variables: dict[str, str]) -> str:
+        """Runs the script with this effect on the nth call. Returns what is wrong, or an empty text."""
         ended = run([], story.script(), variables)
         if kind.is_harmless:
             return wrong(ended, Ended(0, out, b""))
@@ -215,6 +220,7 @@ class Served:
         return Server(lambda port: [*words, str(port), "2", str(self.journal)], variables)
 
     def __call__(self, kind: Kind, nth: int, variables: dict[str, str]) -> str:
+        """Runs the server with this effect on the nth call. Returns what is wrong, or an empty text."""
         server = self.server(variables)
         if not server.listens:
             return self.unserved(kind, nth, server.end())

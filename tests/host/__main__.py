@@ -188,6 +188,7 @@ def deadlines(room: Path) -> None:
         told: list[list[bytes]] = [[] for _ in kept]
 
         def watch(at: int) -> None:
+            """Watches one kind of connection to its end."""
             times[at] = ends_after(callers[at][0], begun, callers[at][1], 3.0, told[at])
 
         waits = [threading.Thread(target=watch, args=[at]) for at in range(len(kept))]
@@ -486,6 +487,7 @@ def few_descriptors(room: Path) -> None:
             together = threading.Barrier(30)
 
             def client(name: str) -> None:
+                """Plays a student until the own lines are answered."""
                 together.wait()
                 replies: tuple[bytes, ...] = ()
                 while replies[2:] != (BID, b""):  # Of a name with more than four seats the newest leaves for a newcomer.

@@ -42,6 +42,7 @@ def scripted(story: Story, room: Path, name: str) -> Use:
     given = b"" if with_words else story.script()
 
     def use(variables: dict[str, str]) -> Tried:
+        """Runs the script with refusals. Returns its end and what is wrong."""
         journal.unlink(missing_ok=True)
         ended = run(words, given, variables)
         if ended == OUT_OF_MEMORY:
@@ -84,6 +85,7 @@ def served(story: Story, room: Path) -> Use:
     journal = room / "served.journal"
 
     def use(variables: dict[str, str]) -> Tried:
+        """Runs the server with refusals. Returns its end and what is wrong."""
         journal.unlink(missing_ok=True)
         server = Server(lambda port: ["serve", str(story.lab), str(port), "2", str(journal)], variables)
         if not server.listens:

@@ -217,6 +217,7 @@ def refuse_class(tried: Class, library: Preloaded, room: Path) -> str:
         fail(f"{tried.word}, refused nothing: {plain.fault}: {plain.ended}")
 
     def run(nth: int) -> Outcome:
+        """Runs the class with a refusal of the nth request. Returns the outcome."""
         outcome = tried.run(room / str(nth), library, nth)
         if outcome.fault:
             fail(f"{tried.word}, REFUSE={nth}: {outcome.fault}: {outcome.ended}")

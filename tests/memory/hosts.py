@@ -48,6 +48,7 @@ def host_uses(room: Path) -> dict[str, Use]:
 def answered(story: Story) -> Use:
     """Returns the use of a script that the host's program answers line by line."""
     def use(variables: dict[str, str]) -> Tried:
+        """Runs the script with refusals. Returns its end and what is wrong."""
         ended = run(["answer", str(story.lab)], story.script(), variables, HOST)
         replies = ended.out.splitlines(keepends=True)
         if ended == OUT_OF_MEMORY:

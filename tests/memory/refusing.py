@@ -36,6 +36,7 @@ def whole(words: list[str], given: bytes = b"", program: Path = PROGRAM) -> Use:
     wanted = good(words, given, program)
 
     def use(variables: dict[str, str]) -> Tried:
+        """Runs the command with refusals. Returns its end and what is wrong."""
         ended = run(words, given, variables, program)
         fault = "" if ended in (OUT_OF_MEMORY, Ended(0, wanted, b"")) else "another end than a plain run's"
         return Tried(ended, fault, 0)

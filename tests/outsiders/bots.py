@@ -103,6 +103,7 @@ class Waits:
     replies: list[float] = field(default_factory=list)
 
     def __str__(self) -> str:
+        """Returns a line about the waiting times."""
         return ", ".join(f"{len(found)} for {of}: {sorted(found)[len(found) // 2]:.3f} seconds, at most {max(found):.2f}"
                          for of, found in vars(self).items())
 

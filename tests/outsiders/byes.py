@@ -65,8 +65,9 @@ class Asker:
 
 
 def ends_all(lab: Path, piece: Piece, parts: list[bytes], variables: Mapping[str, str], how: str, stays: bool = False) -> None:
-    """Checks that after the reply to the bye only `over` is sent, and that the host ends by itself. The teacher's
-    connection stays open until the students are answered or, if `stays` is set, until the host has ended."""
+    """Sends the lines of `piece` to a host in these parts. Checks that after the reply to the bye only `over` is sent,
+    and that the host ends by itself. The teacher's connection stays open until the students are answered or, if `stays`
+    is set, until the host has ended. `how` describes the parts, for the error."""
     with Host(lab, 0, 0, variables=variables) as host:
         ana, _ = let_in(host.port, hello("ana"))
         if b'"place":1' not in ana.ask(seduction(0)):

@@ -51,6 +51,7 @@ class Held:
         return (self.threads, self.files) == (first.threads, first.files) and self.kilobytes <= first.kilobytes * 1.1 + MORE
 
     def __str__(self) -> str:
+        """Returns a line about what the process has."""
         return f"{self.threads} threads, {self.files} files, {self.kilobytes} kB"
 
 

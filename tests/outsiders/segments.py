@@ -40,6 +40,7 @@ def in_bytes(lines: list[bytes]) -> list[bytes]:
 def cut_near(line: int, off: int) -> Split:
     """Returns the way to split lines into two parts, `off` bytes after the end of the line with this number."""
     def split(lines: list[bytes]) -> list[bytes]:
+        """Returns the two parts."""
         whole, end = b"".join(lines), len(b"".join(lines[:line])) + off
         return [part for part in (whole[:end], whole[end:]) if part]
     return split

@@ -48,6 +48,7 @@ class Waits:
     replies: list[float] = field(default_factory=list)
 
     def __str__(self) -> str:
+        """Returns a line about the waiting times."""
         return "; ".join(waits_line(name, found) for name, found in vars(self).items())
 
 

@@ -160,6 +160,7 @@ class Members(list[object]):
     """The keys and values of an object in a list, so that no value is lost if a key occurs twice."""
 
     def __init__(self, pairs: list[tuple[str, object]]) -> None:
+        """Takes the members of an object as Python's JSON reader passes them."""
         super().__init__(part for pair in pairs for part in pair)
         self.last = dict(pairs)
 

@@ -107,7 +107,7 @@ def wants_budget(who: str, sessions: list[Session]) -> None:
 
 
 def wants_whole(name: str, found: list[Session], count: int) -> None:
-    """Checks that each visit of a client that doesn't flood is recorded completely."""
+    """Checks that so many visits of a student who doesn't flood are recorded, each of them completely."""
     visits = [session for session in found if session.is_of(name)]
     if len(visits) != count or any((len(v.said), v.marks) != (6, [b".\n"]) for v in visits):
         fail(f"record: beside a flood {name}'s visits are recorded as {[(len(v.said), v.marks) for v in visits]}")

@@ -90,6 +90,7 @@ def is_denied(it: Told) -> bool:
 def replied(reply: bytes, is_granted: bool) -> Callable[[Drawn, Told], Iterator[Hurt]]:
     """Returns a function that yields seats in which a grant, or a denial, is recorded as this refusal."""
     def hurts(drawn: Drawn, it: Told) -> Iterator[Hurt]:
+        """Yields the seat in which the reply of an entry is replaced by the refusal."""
         if it.found is not None and it.found.event is not None if is_granted else is_denied(it):
             yield changed(drawn, it, stamped(it.seat, it.entry.seen, it.entry.line, reply), OTHER_REPLY % it.entry.seen)
     return hurts
