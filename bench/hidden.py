@@ -14,7 +14,7 @@ from bench.common import PROGRAM, instructions, require_valgrind, refuse, replie
 
 LINES = 2_000
 ANA = '1 {"do":"hello","key":"a-key","name":"ana"}\n'
-# A word, what is asked before, and two lines: of what isn't shown, and of what isn't there.
+# The word of a denial, the lines before, and two lines that get it: one names something that isn't shown, and one something that doesn't exist.
 PAIRS: list[tuple[str, str, str, str]] = [
     ("see", ANA, '1 {"do":"see","node":3}\n', '1 {"do":"see","node":9}\n'),
     ("look", ANA, '1 {"do":"look","node":3}\n', '1 {"do":"look","node":9}\n'),

@@ -30,8 +30,8 @@ from classroom.client import Client, Closed, Denied, Refused, Slip, connected, d
 from classroom.core.folders import Record
 
 PROCESSES = 8
-LOOKS, SHAKES = 0.1, 10.0  # seconds between two
-LIMIT = 600.0  # seconds in which everybody is greeted
+LOOKS, SHAKES = 0.1, 10.0  # seconds between two looks of a bot, and between two shakes
+LIMIT = 600.0  # seconds in which all bots have to be greeted
 TICKS = os.sysconf("SC_CLK_TCK")
 Times = list[tuple[str, float]]
 

@@ -24,11 +24,11 @@ READ_ONLY, NO_SETUID, NO_DEVICES, NO_PROGRAMS, BIND, DEEP, PRIVATE = 1, 2, 4, 8,
 DETACH, HERE, ALL_BELOW, MOUNT_SETATTR = 2, -100, 0x8000, 442
 DEATH_SIGNAL, DROP_BOUND, NO_NEW_RIGHTS, AMBIENT, CLEAR_ALL = 1, 24, 38, 47, 4  # of <sys/prctl.h>
 RIGHTS_VERSION, MOST_RIGHTS = 0x20080522, 64
-SET_FLAGS, UP = 0x8914, 1  # of an interface of the network
-HOST = "/.host"  # where all that was there is seen until the program starts
+SET_FLAGS, UP = 0x8914, 1  # the call that sets the flags of a network interface, and the flag that enables it
+HOST = "/.host"  # where the files of the host are visible until the program starts
 DEVICES = ("null", "zero", "full", "random", "urandom")
 LINKS = (("fd", "/proc/self/fd"), ("stdin", "/proc/self/fd/0"), ("stdout", "/proc/self/fd/1"), ("stderr", "/proc/self/fd/2"))
-OF_KERNEL = ("sys", "sysrq-trigger", "irq", "bus", "fs")  # below /proc, what the superuser could change
+OF_KERNEL = ("sys", "sysrq-trigger", "irq", "bus", "fs")  # files and folders below /proc that the superuser could change
 OWN = ("/tmp", "/dev/shm")  # folders that programs expect to write to
 MOST_FILES = 16_384
 SPARE = 16  # megabytes beyond the limit, so that reaching it is seen
@@ -40,8 +40,8 @@ class World:
     """The files and the server's port that a program sees if it is kept apart, and its slip, the file with the data to
     connect."""
 
-    shown: tuple[tuple[str, str], ...]  # files and folders that it reads: the path at which it sees each, and its own path
-    hidden: tuple[str, ...]  # what of these it doesn't see
+    shown: tuple[tuple[str, str], ...]  # the files and folders that it can read: the path at which it sees each, and the path on the host
+    hidden: tuple[str, ...]  # the paths among these that are covered
     slip: str
     port: int  # the port of its server
 

@@ -36,8 +36,8 @@ IN_PIECES = "; replies are long here and arrive in pieces: a bot reads until the
 ON = "; a bot keeps running until the class is over"
 AGAIN = "a bot connects again, says hello and looks again; if no server listens, it tries again for a minute"
 LATEST = 120.0  # seconds in which a bot's namespaces are made
-MOST_KEPT = 1 << 20  # bytes of what a bot printed
-Seen = tuple[tuple[tuple[str, str], ...], tuple[str, ...]]  # what is shown, where and what, and what of it is hidden
+MOST_KEPT = 1 << 20  # bytes of a bot's output that are kept
+Seen = tuple[tuple[tuple[str, str], ...], tuple[str, ...]]  # what a bot sees: pairs of a path there and a path of this machine, and the paths that are covered
 
 
 class Fails(Exception):
@@ -82,7 +82,7 @@ class Attempt:
         self.playing.relay.piece = case.piece
         self.heard = self.playing.heard[case.who]
         self.wrong = ""
-        self.doing = ""  # what is done to the bot, for the line of one that ends
+        self.doing = ""  # what is being done to the bot, for the error line if it ends
         self.playing.on_no = self.note_denial
         self.chance = random.Random(f"{case.name()} faults")
         self.kept: RunningBot | None = None

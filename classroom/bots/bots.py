@@ -28,7 +28,7 @@ from classroom.core.program import TOP, Fault
 KEEPER = f"import sys; sys.path.insert(0, {str(TOP)!r}); from classroom.bots.keeper import main; main()"
 KEPT = ("PATH", "LANG", "LC_ALL", "JAVA_HOME")
 RUN_BY = {".py": [sys.executable], ".java": ["java", "-XX:TieredStopAtLevel=1", "-XX:+UseSerialGC"], ".js": ["node"]}
-SHOWN = 400  # bytes of what a bot printed last
+SHOWN = 400  # bytes at the end of a bot's output in which its last line is searched
 PATIENCE = 30.0  # seconds that a keeper has to end its bot
 AGAIN = 0.1  # seconds after which a keeper is sent the signal to go on again: its bot may stop it again
 

@@ -14,9 +14,9 @@ from classroom.core import bounds
 from classroom.core.bounds import MOVES
 from classroom.pages import colours
 
-WIDE, HIGH = 360, 346  # of a panel
+WIDE, HIGH = 360, 346  # the width and height of a panel
 LEFT, RIGHT, ABOVE, BELOW = 48, 14, 78, 38
-LINE = 16  # between two lines of text
+LINE = 16  # the distance of two lines of text
 KEY = 86
 MEASURES: list[tuple[str, str, Callable[[Row], int]]] = [
     ("moves", "--point", lambda row: row.moves),

@@ -13,11 +13,11 @@ from dataclasses import dataclass, field
 from typing import Any
 
 MOST_AGAIN = 2  # moves for nodes that it knows to be chosen, and `stale` answers for one node under one number
-MOST_BEHIND, SHARE = 9, 4  # moves under another number than that of the last look, and one in how many they may be: threads may cross
-MOST_ACROSS = 4  # moves on a new connection by a look on one that was lost, but for those that were sent before: threads may cross
-FLOOD = 200  # lines over which pauses are counted
-RATE = 50  # lines a second for each node and one more, at rest
-QUITS = 4  # connections that a bot may end by itself, beside one for each node
+MOST_BEHIND, SHARE = 9, 4  # moves that may have another number than the last look, and at most one in so many: lines of threads may overtake each other
+MOST_ACROSS = 4  # moves that may be sent on a new connection by a look on a lost one: lines of threads may overtake each other
+FLOOD = 200  # the number of last lines among which pauses are counted
+RATE = 50  # lines a second that are allowed while nothing changes, for each node and once more
+QUITS = 4  # connections that a bot may end by itself, in addition to one for each node
 MINUTE = 60.0
 FLOODS = "it floods the server: it sends line after line without a pause; a bot waits when it has looked at its nodes"
 
@@ -56,19 +56,19 @@ class Conduct:
     """The behaviour of one student's program, on all of its connections."""
 
     looked: set[tuple[int, int]] = field(default_factory=set)  # node and number of each look
-    before: set[tuple[int, int]] = field(default_factory=set)  # the same of connections that were lost
+    before: set[tuple[int, int]] = field(default_factory=set)  # node and number of each look on a lost connection
     unanswered: set[tuple[int, int]] = field(default_factory=set)  # node and number of each move whose reply was lost
     across: int = 0  # moves on a new connection by a look on one that was lost
-    newest: dict[int, int] = field(default_factory=dict)  # by node the number of its last look
-    behind: int = 0  # moves under another number than that
-    asked: int = 0  # moves
+    newest: dict[int, int] = field(default_factory=dict)  # the number of the last look, by node
+    behind: int = 0  # moves with another number than that of the last look at their node
+    asked: int = 0  # moves that it asked for
     seen: set[int] = field(default_factory=set)  # nodes that it looked at
-    recent: set[int] = field(default_factory=set)  # the same since the class has come to rest
-    chosen: dict[int, int] = field(default_factory=dict)  # by node the number under which it knows of a chosen move
+    recent: set[int] = field(default_factory=set)  # nodes that it looked at since the class has come to rest
+    chosen: dict[int, int] = field(default_factory=dict)  # the number at which a reply said that the node has a chosen move, by node
     in_vain: int = 0  # moves for nodes that it knew to be chosen
     stale: Counter[tuple[int, int]] = field(default_factory=Counter)  # `stale` answers by node and number
-    pauses: deque[bool] = field(default_factory=lambda: deque(maxlen=FLOOD))  # whether one was before the last lines
-    rules_hidden: int = 0  # looks in which the rule was blanked
+    pauses: deque[bool] = field(default_factory=lambda: deque(maxlen=FLOOD))  # whether there was a pause before the line, for each of the last lines
+    rules_hidden: int = 0  # looks in which the enabled rule was replaced by null
     wrong: str = ""
 
     def take(self, asked: dict[str, Any], told: dict[str, Any], paused: bool) -> None:

@@ -90,7 +90,7 @@ def settings(words: argparse.Namespace) -> list[Setting]:
             except Fault as fault:
                 if family.startswith(SIZED) or "no family" in str(fault):
                     raise
-                continue  # no network of that family is so small
+                continue  # The family has no network of this size.
             found += [Setting(spelled, len(network.nodes), how, words.start) for how in words.daemon]
     if not found:
         raise Fault("no family has a network of these sizes")

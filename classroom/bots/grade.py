@@ -33,9 +33,9 @@ from classroom.core.statuses import FAILED, WARNED
 from classroom.run.daemons import daemons
 
 MOST_AT_ONCE = 16  # bots that run side by side
-ROOMS: set[Path] = set()  # the folders of bots that run
-LONG = 0.5  # seconds that writing the results takes at most if they are written after each case
-SPARING = 9  # times as long as writing took they aren't written, if it takes longer
+ROOMS: set[Path] = set()  # the folders of the running bots
+LONG = 0.5  # seconds: if writing the results takes longer, they aren't written after each case
+SPARING = 9  # how many times as long as writing took to wait before the next time
 
 
 def add_words(words: argparse.ArgumentParser) -> None:
@@ -107,7 +107,7 @@ def results_of(bots: list[Bot], cases: list[Case], words: argparse.Namespace, to
                 return try_bot(bot, case, limits, room, folder_of(top, bot, case), stop, seen_by[bot.name] if seen_by else None)
         except OSError as error:
             why += f"{error.filename or tempfile.gettempdir()}: {error.strerror}; name another folder by the variable TMPDIR"
-        except Exception as error:  # It takes no other result away.
+        except Exception as error:  # An error in one case must not lose the results of others.
             why += f"{type(error).__name__}: {error}"
         return Result(bot.name, case.lab, case.daemon.spelled(), case.seed, False, why)
 
@@ -151,7 +151,7 @@ class Written:
         pairs = [(bot.name, case.name()) for bot in bots for case in cases]
         self.order = {pair: index for index, pair in enumerate(pairs)}
         self.results = results
-        self.next = 0.0  # when they are written again
+        self.next = 0.0  # the time from which on the results are written again
 
     def add(self, result: Result) -> None:
         """Adds a result, and writes the files anew. If writing takes long, writes them only now and then."""

@@ -26,12 +26,12 @@ from typing import Any
 from classroom.bots import apart
 from classroom.core.processes import PAUSE, below, kill, reap_orphans
 
-LOOK = 0.05  # seconds between two looks at what is to be kept
-SELDOM = 1.0  # seconds between two looks at all files of a folder
+LOOK = 0.05  # seconds between two checks of the limits
+SELDOM = 1.0  # seconds between two measurements of all files in a folder
 MOST_PROCESSES = 64
-FILE_BYTES = 16 << 20  # of one file
+FILE_BYTES = 16 << 20  # the size of one file
 FOLDER_MEGABYTES = 64
-LEAST = 1 << 12  # bytes for which each file counts, also an empty one
+LEAST = 1 << 12  # bytes that each file counts at least, also an empty one
 Identity = tuple[int, int]
 
 
@@ -44,7 +44,7 @@ class Plan:
     folder: str
     megabytes: int
     seconds: int
-    channel: int = -1  # the address of the listener in a world of its own
+    channel: int = -1  # the descriptor of the socket through which the listener in its namespaces is sent
     world: apart.World | None = None
 
     @staticmethod
@@ -156,7 +156,7 @@ class Watch:
     def __init__(self, plan: Plan) -> None:
         """Notes which file has the program's output, since that file doesn't count."""
         self.plan = plan
-        self.output = identity(os.fstat(2))  # which isn't memory
+        self.output = identity(os.fstat(2))  # the file of the output, which doesn't count as memory
         self.seldom = 0.0
 
     def memory(self, every: set[int]) -> int:
@@ -164,7 +164,7 @@ class Watch:
         memory."""
         if not self.plan.seconds:
             return sum(map(resident, every))
-        own = os.stat("/").st_dev if self.plan.world else -1  # counted as room for files
+        own = os.stat("/").st_dev if self.plan.world else -1  # the device of the own root, whose files count as files and not as memory
         files: dict[Identity, int] = {}
         for process in every:
             files |= sizes_of_unnamed_files(process)

@@ -22,8 +22,8 @@ from classroom.core.statuses import FAILED, WARNED
 Part = tuple[int, int]
 Case = tuple[str, str]  # a bot's name and a case's
 Each = TypeVar("Each")
-MOST = 64 << 20  # bytes of a part's results
-MOST_NAMED = 3  # cases that no part has
+MOST = 64 << 20  # bytes of the file with a part's results
+MOST_NAMED = 3  # missing cases that are named
 
 
 def part(word: str) -> Part:

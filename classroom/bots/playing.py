@@ -30,16 +30,16 @@ from classroom.marks.history import Row, own_page
 from classroom.run.adversary import Adversary
 from classroom.run.daemons import Daemon, Sight, applied
 
-TEACHER, HOUSE, FIRST = 1, 2, 3  # connections of the script; from the third on programs have them
+TEACHER, HOUSE, FIRST = 1, 2, 3  # the numbers of connections: the teacher's, the house's, and the first one of a program
 PACE = 0.02  # seconds between two looks of the house at its nodes
-SHARED = 0.05  # how often the house asks at such a look for a node that a program plays too
-KEPT_LINES = 20_000  # of a conversation
-KEPT_ROWS = 2_000  # of a program's own page
-SHOWN, SHOWN_LINE = 40, 120  # characters of a word and of a line that was asked
-OWN_RULE = "with --own-rule no look shows the rule whose guard holds: a program has to find it from p, m and near (docs/STUDENT.md)"
+SHARED = 0.05  # the probability that at such a look the house asks for a node that a program plays too
+KEPT_LINES = 20_000  # lines of a conversation that are kept
+KEPT_ROWS = 2_000  # rows of all programs' own pages that are kept
+SHOWN, SHOWN_LINE = 40, 120  # characters of a word and of a line that are shown in explanations
+OWN_RULE = "with --own-rule no look shows the enabled rule: a program has to decide by p, m and near, as STUDENT.md says"
 MEMORY = b'{"refuse":"memory"}'
-RULE = re.compile(rb',"rule":"[a-z]+"}$')  # at the end of a look
-PATIENCE = 0.5  # seconds without a grant after which the random daemon tosses
+RULE = re.compile(rb',"rule":"[a-z]+"}$')  # the enabled rule at the end of a reply to a look
+PATIENCE = 0.5  # seconds without a grant after which the random daemon tosses its coins
 
 
 @dataclass
@@ -50,13 +50,13 @@ class Heard:
     asked: int = 0
     granted: int = 0
     moved: int = 0
-    rules: Counter[str] = field(default_factory=Counter)  # what was granted
+    rules: Counter[str] = field(default_factory=Counter)  # the granted moves, by rule
     wanted: set[str] = field(default_factory=set)  # the rules that it asked for
     greeted: int = 0
     denied: Counter[str] = field(default_factory=Counter)
     conduct: Conduct = field(default_factory=Conduct)
-    last: str = ""  # the last line
-    last_at: float = 0.0  # when it came
+    last: str = ""  # the last line that came
+    last_at: float = 0.0  # the time at which it came
 
 
 @dataclass(frozen=True)
@@ -66,8 +66,8 @@ class NotGranted:
     who: str
     word: str
     text: str
-    kind: str  # what it has in common with others that want no other words
-    line: bytes = b""  # the line with its connection, as a script has it
+    kind: str  # a text that is the same for all lines with the same explanation
+    line: bytes = b""  # the line after the number of its connection, as in a script
 
 
 @dataclass(frozen=True)
@@ -110,17 +110,17 @@ class Playing:
         self.names: dict[int, str] = {}
         self.chosen: dict[int, tuple[str, str]] = {}
         self.conversation: list[str] = []
-        self.rows: list[Row] = []  # what programs asked for, and what was denied, for their own pages
-        self.owners: list[str] = []  # whose row each of them is
+        self.rows: list[Row] = []  # the lines that the programs' own pages show
+        self.owners: list[str] = []  # the student whose program sent the line of each row
         self.on_no: Callable[[NotGranted], None] = lambda no: None
         self.on_step: Callable[[Step], None] = lambda step: None
         self.own_rule = own_rule
-        self.is_held = False  # whether no step is closed, whatever is chosen
-        self.links = lab.links  # as they are
-        self.overtakes = 0  # moves that come next, before each of which a step is closed
-        self.turns = 0  # moves that come next, before each of which their node is changed so that another rule is enabled
-        self.short: Counter[str] = Counter()  # by `do` how many of the next lines are refused as if out of memory
-        self.forestalls = False  # whether the house asks for a node at once before another owner of it does
+        self.is_held = False  # whether steps stay open, regardless of the daemon
+        self.links = lab.links  # the present links
+        self.overtakes = 0  # the number of next moves before each of which a step is closed
+        self.turns = 0  # the number of next moves before each of which their node is set so that another rule is enabled
+        self.short: Counter[str] = Counter()  # how many of the next lines with a `do` are refused as if out of memory
+        self.forestalls = False  # whether the house asks for the move of a shared node just before its other owner does
         self.loses, self.has_lost = False, False  # whether the next granted move's reply is lost, and whether one was
         self.closes = self.moves = self.since_moves = 0
         self.news = self.closed = self.paced = time.monotonic()
@@ -133,7 +133,7 @@ class Playing:
             self.program.close()
             raise
 
-    # What programs ask.
+    # Lines of programs.
 
     def answer(self, connection: int, line: bytes, paused: bool) -> bytes:
         """Answers a program's line, and records it. `paused` says whether the program waited before this line. Returns
@@ -223,7 +223,7 @@ class Playing:
             heard.denied[told["refuse"]] += 1
             note = wrong(line.decode(errors="surrogateescape").replace("\r", " ")) if told["refuse"] == "malformed" else None
             text = f"{told['refuse']}: {note}" if note else told["refuse"]
-            kind = text.partition(" (")[0]  # how to mend it may have a number
+            kind = text.partition(" (")[0]  # The correction in parentheses may contain a number.
             self.on_no(NotGranted(who, told["refuse"], f"{text}: {line[:SHOWN_LINE].decode(errors='backslashreplace')}", kind, sent))
 
     def note_row(self, who: str, sent: bytes, told: dict[str, Any]) -> None:
@@ -289,7 +289,7 @@ class Playing:
         if who is not None and who not in self.names.values():
             self.heard[who].conduct.forget_looks()
 
-    # What is granted.
+    # Granted moves, and changes of the network.
 
     def note_grant(self, node: int, who: str, rule: str) -> None:
         """Notes that a move of a node by the student `who` was granted, so that the node is chosen."""
@@ -356,7 +356,7 @@ class Playing:
         self.news = self.closed = time.monotonic()
         self.on_step(Step(told["at"], moved, self.report))
 
-    # Who plays.
+    # Moves of the house, and the whole class.
 
     def house_owner(self, node: int) -> str | None:
         """Returns the first owner of a node that no program plays, or None if programs play for all its owners. The

@@ -39,10 +39,10 @@ from classroom.setup import slips
 from classroom.setup.new import start
 
 QUIET = 10.0  # seconds without news after which it prints for whom the class waits
-MEGABYTES = 4096  # of a program at home
-PAGE_PORT = 4790  # at which the page to play by is served, or the next that is free
+MEGABYTES = 4096  # the memory limit of a program at home
+PAGE_PORT = 4790  # the port of the page to play by, or the first one from which a free one is searched
 REST = 0.3  # seconds that a stable class is held, for late lines
-SEED = 5503  # over seven nodes in a cycle, hurt, both nodes that it deals out need all four rules, whoever is quick
+SEED = 5503  # With this seed and the default network and start, both of the student's nodes need all four rules.
 
 
 def add_words(words: argparse.ArgumentParser) -> None:
@@ -125,13 +125,13 @@ class Practice:
     told: str = ""
     told_at: float = float("-inf")
     stop: bool = False
-    times: Counter[tuple[str, str]] = field(default_factory=Counter)  # of a kind of lines that weren't granted
+    times: Counter[tuple[str, str]] = field(default_factory=Counter)  # how many lines of a student and a kind weren't granted
     floods: set[str] = field(default_factory=set)
 
     def __post_init__(self) -> None:
         """Begins to count the moves and rounds, and to listen to the events of the class."""
         self.recovery = Recovery(node for node, _ in self.playing.report["privileged"])
-        self.most = bounds.of_lab(self.playing.lab).moves  # asked for now, so that it holds up no step
+        self.most = bounds.of_lab(self.playing.lab).moves  # computed at the beginning, so that no step has to wait for it
         self.playing.on_no, self.playing.on_step = self.explain, self.print_step
 
     def explain(self, no: NotGranted) -> None:

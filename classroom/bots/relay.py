@@ -15,11 +15,11 @@ from collections.abc import Callable
 
 from classroom.core import limits
 
-MOST_WAITING = 1 << 16  # bytes of replies that aren't taken, from which on nothing more is read
-PAUSE = 2  # turns without a line are a pause
+MOST_WAITING = 1 << 16  # bytes of unsent replies from which on no more lines of a caller are read
+PAUSE = 2  # so many turns without a line are a pause
 Answer = Callable[[int, bytes, bool], bytes]
 BUSY, OVER = b'{"refuse":"busy"}\n', b'{"refuse":"over"}\n'
-MOST_CALLS = 1000  # of which it is kept when they came
+MOST_CALLS = 1000  # connections whose times are kept
 APART = 0.02  # seconds between two pieces of a reply that is sent in pieces
 
 
@@ -31,8 +31,8 @@ class Caller:
         self.socket, self.number = its, number
         self.rest, self.out = b"", b""
         self.is_leaving = False  # Whether it ends when its replies are taken.
-        self.quiet = PAUSE + 1  # turns without a line of its; the first line comes after a pause
-        self.held = 0.0  # until when the next piece of a reply waits
+        self.quiet = PAUSE + 1  # turns since its last line; its first line counts as one after a pause
+        self.held = 0.0  # the time before which no more of a reply is sent
 
 
 class Relay:
@@ -47,12 +47,12 @@ class Relay:
         self.free = list(numbers)
         self.longest = limits.allowed().line
         self.callers: list[Caller] = []
-        self.came = 0  # how many were let in
-        self.calls: deque[float] = deque(maxlen=MOST_CALLS)  # when somebody connected
-        self.busy = False  # whether everybody is turned away
+        self.came = 0  # the number of accepted connections
+        self.calls: deque[float] = deque(maxlen=MOST_CALLS)  # the times of the last connections, accepted or not
+        self.busy = False  # whether all new connections are answered `busy`
         self.piece = 0  # the most bytes of a reply that are sent at once; 0 is no limit
-        self.overlong = False  # whether somebody was hung up on whose line had no end
-        self.quits = 0  # how many connections were ended by who called
+        self.overlong = False  # whether a caller's line was longer than the limit
+        self.quits = 0  # the number of connections that the callers ended
         self.listener = socket.create_server(("127.0.0.1", port), backlog=32)
         self.listener.setblocking(False)
         self.port: int = self.listener.getsockname()[1]
@@ -194,7 +194,7 @@ class Relay:
         try:
             self.listener.bind(("127.0.0.1", self.port))
         except OSError as error:
-            if error.errno != errno.EINVAL:  # which is that it has the port still
+            if error.errno != errno.EINVAL:  # EINVAL: the socket is still bound to the port.
                 raise
         self.listener.listen(32)
         self.selector.register(self.listener, selectors.EVENT_READ)

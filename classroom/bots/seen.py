@@ -15,10 +15,10 @@ from classroom.core.program import TOP
 
 SYSTEM = ("/usr", "/bin", "/sbin", "/lib", "/lib32", "/lib64", "/libx32", "/nix/store", "/gnu/store")
 OF_ETC = ("alternatives", "ld.so*", "java*", "python*", "node*", "localtime", "passwd", "group", "nsswitch.conf", "hosts", "ssl/certs")
-OF_PROGRAMS = ("bin", "sbin", "shims")  # folders of an installation that have its programs
-BESIDE = ("lib", "lib64", "libexec")  # what it has beside these
+OF_PROGRAMS = ("bin", "sbin", "shims")  # the names of folders in which an installation has its programs
+BESIDE = ("lib", "lib64", "libexec")  # the names of folders that an installation has beside these
 CLIENT = "client.py"  # which students copy beside their bots
-APART = "=:,"  # between paths in a word
+APART = "=:,"  # the letters that separate paths in a word of a command
 
 
 def link_steps(path: Path) -> list[Path]:

@@ -38,8 +38,8 @@ class Plan:
     family: str
     nodes: int | None
     start: str
-    own: int  # how many nodes are the bot's alone
-    shared: int = 0  # how many it shares with the house
+    own: int  # the number of nodes that the bot owns alone
+    shared: int = 0  # the number of nodes that the bot shares with the house
     troubles: tuple[str, ...] = ()
     daemon: Daemon = USUAL[0]
     named: tuple[int, ...] = ()  # the identifiers of its nodes, in rising order; those from 1 on if there are none
@@ -66,8 +66,8 @@ class Case:
 
 
 IDLE = Daemon("when-idle", 0.2)
-LINKED, HUB = "linked", "hub"  # of Plan.takes
-DIGITS = (8, 9, 10, 11)  # as texts they are in another order
+LINKED, HUB = "linked", "hub"  # values of Plan.takes
+DIGITS = (8, 9, 10, 11)  # identifiers that are in another order if they are compared as texts
 SMALL = [
     Plan("path-4", "path", 4, "clean", 2, 0, (RELEASE, MEMORY, OVER), Daemon("central")),
     Plan("cycle-5", "cycle", 5, "hurt", 2, 0, (OVERTAKE, TURN, RULES), Daemon("synchronous")),

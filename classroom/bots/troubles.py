@@ -23,13 +23,13 @@ from classroom.core import networks
 from classroom.core.program import Fault
 
 QUIET = 0.6  # seconds that a bot is watched at rest
-LATE = 0.2  # seconds after which it is looked at what a bot asks at rest
-RESTING, LONGEST_REST, LONG_OPEN, GONE, TURNED_AWAY = 12.0, 65.0, 2.0, 8.0, 3.0  # seconds
+LATE = 0.2  # seconds of rest after which a bot's requests are counted
+RESTING, LONGEST_REST, LONG_OPEN, GONE, TURNED_AWAY = 12.0, 65.0, 2.0, 8.0, 3.0  # All are in seconds.
 MOST_FAULTS = 4  # nodes of the bot that are hurt one after another
-OVERTAKES, ROUNDS = 5, 8  # moves that a step overtakes, and faults after which it is given up to find as many
-TURNS = 2  # moves before which their node is changed
-DRAWS, TRIES = 20, 12  # configurations at a node, and how often one is drawn for each
-LOOKED = 0.15  # seconds after its look in which a bot asks, if it asks at all
+OVERTAKES, ROUNDS = 5, 8  # moves before which a step is closed, and the most faults that are made for these
+TURNS = 2  # the number of moves before which their node is set to other registers
+DRAWS, TRIES = 20, 12  # the number of different configurations at a node, and the most draws for each
+LOOKED = 0.15  # seconds after a look within which a bot asks for a move, if it does
 
 
 def run(attempt: Attempt) -> None:
