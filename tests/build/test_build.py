@@ -161,7 +161,7 @@ class Builds(InClone):
         while b"5 of 5 crates proved" not in said:
             said += os.read(ours, 1000)
         self.assertEqual(going.wait(LIMIT), 0)
-        shown = said.decode().replace("\r\n", "\n").rpartition("proof\n")[2].split("\r")
+        shown = said.decode().replace("\r\n", "\n").rpartition("without proofs\n")[2].split("\r")
         self.assertGreater(len(shown), 2, said)
         self.assertTrue(all(re.match(r"mml: \d of 5 crates proved", line) for line in shown[1:]), shown)
         self.assertFalse(any("\n" in line for line in shown[:-1]), shown)
