@@ -276,7 +276,8 @@ def print_results(own: list[Row], asked: int, words: argparse.Namespace, broken:
     bound."""
     if own:
         print(table(own))
-    print(f"WARNING: {len(broken)} runs exceed a proved bound, which is an error of the program: please report it. Their folders are: {', '.join(map(str, broken))}" if broken else
+    print(f"WARNING: {len(broken)} runs exceed a proved bound, which is an error of the program: please report it. "
+          f"Their folders are: {', '.join(map(str, broken))}" if broken else
           f"{len(own)} of {asked} runs, all within the proved bounds; table: {words.csv}")
     if own and words.plot:
         with naming_file(words.plot, "name another file by --plot: the same command draws the table"):

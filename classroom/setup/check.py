@@ -167,7 +167,8 @@ def key_warnings(lab: labs.Lab) -> Iterator[str]:
         if key in examples:
             yield f"{name}'s key is that of an example lab, which everybody can read: write another key"
         elif bits(key) < (ENOUGH_DRAWN if is_drawn(key) else ENOUGH_BITS):
-            yield f"{name}'s key has {bits(key):.0f} bits at most, and can be guessed in {effort(key)} or sooner: write a longer key (64 bits are few, 128 are enough)"
+            yield (f"{name}'s key has {bits(key):.0f} bits at most, and can be guessed in {effort(key)} or sooner: "
+                   "write a longer key (64 bits are few, 128 are enough)")
 
 
 def network_warnings(lab: labs.Lab) -> Iterator[str]:

@@ -125,7 +125,8 @@ class Attach(Cycle):
         self.assertEqual((done.returncode, done.stderr), (1, f"class: {going.folder}: process {going.process.pid} controls this run already\n"))
         self.assertEqual(going.ended(), 0, going.lines)
         done = words("attach", going.folder)
-        self.assertEqual((done.returncode, done.stderr), (1, f"class: {going.folder}: its server has ended: {CLASS} run --resume {going.folder} continues the run\n"))
+        self.assertEqual((done.returncode, done.stderr), (
+            1, f"class: {going.folder}: its server has ended: {CLASS} run --resume {going.folder} continues the run\n"))
         self.assertEqual(words("attach", self.room / "none").returncode, 1)
 
 

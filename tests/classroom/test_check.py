@@ -81,7 +81,8 @@ class Check(InRoom):
         drawn = "amber-lilac-tonic-42"
         self.assertAlmostEqual(bits(drawn), 36 + math.log2(100))
         cases = ((drawn, ""), ("ant-ant-ant-11", ""), ("amber-lilac-tonic-gravel", ""),
-                 ("amber-lilac-tonic-4", "39 bits at most, and can be guessed in 261 years"), ("amber-lilac-42", "31 bits at most, and can be guessed in 233 days"),
+                 ("amber-lilac-tonic-4", "39 bits at most, and can be guessed in 261 years"),
+                 ("amber-lilac-42", "31 bits at most, and can be guessed in 233 days"),
                  ("amber", "12 bits at most, and can be guessed in 49 seconds"), ("1111-1111-1111-1111", "38 bits at most, and can be guessed in 105 years"),
                  ("Amber-lilac", "48 bits at most, and can be guessed in 77930 years"))
         for key, warning in cases:

@@ -276,7 +276,8 @@ class Refused(InRoom):
         going = Going(self, CYCLE, "--close", "by-hand")
         for word in ("play", "stop"):
             going.type(f"{word} gus")
-            going.until("^no node has a second owner who could play for gus: `./class new` with --stand-in makes a lab in which the house is the second owner of each node$")
+            going.until("^no node has a second owner who could play for gus: `./class new` with --stand-in makes a lab "
+                        "in which the house is the second owner of each node$")
 
     def test_no_third_owner(self) -> None:
         students = self.file("students", "Ana\nBen\n")
