@@ -1,5 +1,4 @@
-"""Events: the effect of a granted request on the world, and the values in its reply. The *world* is the network with
-its registers and chosen moves, and a *place* is the number of an event."""
+"""Events: what a granted request does to the world (network, registers, chosen moves), and the values in its reply. A *place* is an event's number."""
 from typing import Any
 
 from model.requests import Request
@@ -7,8 +6,7 @@ from model.world import World
 
 
 def reply_values(world: World, asked: Request) -> dict[str, Any]:
-    """Returns the values that the reply to a granted request has beside its word `ok`. `world` is the one before the
-    event."""
+    """Returns the values that the reply to a granted request has beside its word `ok`. `world` is the one before the event."""
     place, number = world.place + 1, world.number
     if asked.do == "move":
         return {"at": number, "place": place, "node": asked.node, "rule": asked.move.rule}

@@ -88,8 +88,7 @@ def right_line(world: World, i: int) -> str:
 
 
 def explained(world: World, asked: Request) -> str:
-    """Returns the explanation of a requested move in the world before its answer. Returns an empty text if the request
-    isn't a move of an existing node."""
+    """Returns the explanation of a requested move in the world before its answer. Returns an empty text if the request isn't a move of an existing node."""
     if asked.do != "move" or asked.node not in world.links:
         return ""
     parts = [failing(world, asked.node, asked.move)] if asked.at == world.number and asked.node not in world.chosen else []
@@ -112,8 +111,7 @@ def explanations(lab: Lab, script: bytes) -> list[str]:
 
 
 def main(words: list[str]) -> int:
-    """Prints the explanations for a script. Returns the exit status: 1 for wrong arguments, or the status of an
-    error."""
+    """Prints the explanations for a script. Returns the exit status: 1 for wrong arguments, or the status of an error."""
     if len(words) != 2:
         print(__doc__, file=sys.stderr)
         return 1

@@ -12,8 +12,7 @@ class Fault(Exception):
 
 
 def read_file(file: Path, what: str, most: int) -> bytes:
-    """Returns the bytes of a file. Raises `Fault` if the file can't be read or has more than `most` bytes. `what` names
-    the file's kind in the error."""
+    """Returns the bytes of a file. Raises `Fault` if the file can't be read or has more than `most` bytes. `what` names the file's kind in the error."""
     try:
         with file.open("rb") as it:
             content = it.read(most + 1)

@@ -43,8 +43,7 @@ class Lab:
         return [name for name in self.keys if name != self.teacher]
 
     def shared(self) -> dict[int, list[str]]:
-        """Returns the nodes with two owners, each with its owners. Nodes are in the order of the file's nodes, and
-        owners in that of its students."""
+        """Returns the nodes with two owners, each with its owners. Nodes are in the order of the file's nodes, and owners in that of its students."""
         both = {i: owners for i, owners in sorted(self.owners.items()) if len(owners) == 2}
         return {i: [name for name in self.students() if name in owners] for i, owners in both.items()}
 
@@ -65,8 +64,7 @@ def fault(text: str) -> Fault:
 
 
 def is_within(value: Any, depth: int = 0) -> bool:
-    """Returns whether all integers in a value of a document have at most 64 bits, and its values aren't nested too
-    deep. `depth` is that of the value."""
+    """Returns whether all integers in a value of a document have at most 64 bits, and its values aren't nested too deep. `depth` is that of the value."""
     if isinstance(value, (dict, list)):
         inner = value.values() if isinstance(value, dict) else value
         return depth <= DEEPEST and all(is_within(item, depth + 1) for item in inner)
@@ -85,8 +83,7 @@ def document(content: bytes) -> dict[str, Any]:
 
 
 def of_kind(value: Any, key: str, kind: type) -> Any:
-    """Returns the value if its type is exactly `kind`, so that a truth value isn't an integer. Raises `Fault`, which
-    names the key, otherwise."""
+    """Returns the value if its type is exactly `kind`, so that a truth value isn't an integer. Raises `Fault`, which names the key, otherwise."""
     if value is MISSING:
         raise fault(f"{key} is missing")
     if type(value) is not kind:
@@ -131,8 +128,7 @@ def repeated(values: list[Any]) -> list[int]:
 
 
 def faults_of(people: list[Account], nodes: list[Node], links: list[Link], events: int, sessions: int) -> Iterator[str]:
-    """Yields the errors of a lab with these values, in the order of `docs/LAB.md`. Only the first is ever reported. The
-    teacher is the first of `people`."""
+    """Yields the errors of a lab in the order of `docs/LAB.md`, of which the first is reported. The first of `people` is the teacher."""
     yield from (f"node {x}: owner and owners" for x, node in enumerate(nodes) if node.has_both)
     if not nodes:
         yield "no nodes"

@@ -35,8 +35,7 @@ def visible(lab: Lab, world: World, who: str, i: int) -> bool:
 
 
 def denial_of_hello(lab: Lab, known: str | None, asked: Request) -> str | None:
-    """Returns the first failing clause of a hello, or None if it may be granted. `known` is the name of the connection,
-    if it has greeted."""
+    """Returns the first failing clause of a hello, or None if it may be granted. `known` is the name of the connection, if it has greeted."""
     # Clause 1: the connection has no name yet.
     if known is not None:
         return "greeted"
@@ -73,8 +72,7 @@ def denial_of_move(lab: Lab, world: World, who: str, asked: Request) -> str | No
 
 
 def denial_of_act(lab: Lab, world: World, who: str, asked: Request) -> str | None:
-    """Returns the first failing clause of a close, a fault, a release, a link or a cut, or None if it may be
-    granted."""
+    """Returns the first failing clause of a close, a fault, a release, a link or a cut, or None if it may be granted."""
     # Clause 1 of each: the teacher asks.
     if who != lab.teacher:
         return "not-teacher"
@@ -103,8 +101,7 @@ def denial_of_act(lab: Lab, world: World, who: str, asked: Request) -> str | Non
 
 
 def denial(lab: Lab, world: World, who: str, asked: Request) -> str | None:
-    """Returns the first failing clause of a request of the teacher or a student other than a hello, or None if it may
-    be granted."""
+    """Returns the first failing clause of a request of the teacher or a student other than a hello, or None if it may be granted."""
     if asked.do in ("see", "look", "report"):
         return denial_of_view(lab, world, who, asked)
     return (denial_of_move if asked.do == "move" else denial_of_act)(lab, world, who, asked)

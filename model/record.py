@@ -96,8 +96,7 @@ class Seat:
         return "torn" if not newline or is_asked and b"\n" not in rest else "not an entry"
 
     def is_stamp(self, found: re.Match[bytes]) -> bool:
-        """Returns whether the parts of an entry's line have the seat's number, and a number of events that fits into 64
-        bits."""
+        """Returns whether the parts of an entry's line have the seat's number, and a number of events that fits into 64 bits."""
         return int(found[1]) == self.number and int(found[2]) <= GREATEST
 
     def advance(self) -> None:
@@ -148,8 +147,7 @@ class Seat:
         return entry.mark == b">" and entry.reply != NO_MEMORY and self.known is not None and is_command(entry.line)
 
     def judge(self, entry: Entry) -> str | None:
-        """Checks an entry with an answered line. Returns the reason if no line may come now or its reply is wrong, or
-        None."""
+        """Checks an entry with an answered line. Returns the reason if no line may come now or its reply is wrong, or None."""
         if self.stage in (OVER, CUT, PAUSED):
             return "not the session's end"
         before = self.known
@@ -161,8 +159,7 @@ class Seat:
         return why
 
     def check(self, entry: Entry) -> str | None:
-        """Checks the reply in an entry with an answered line. Returns the reason if the reply isn't the one that the
-        rules give, or None."""
+        """Checks the reply in an entry with an answered line. Returns the reason if the reply isn't the one that the rules give, or None."""
         place = self.world.place
         found = answer(self.lab, self.world, self.known, entry.line)
         said = Said(self.known, entry.line, entry.reply)
@@ -187,8 +184,7 @@ class Seat:
         return None
 
     def read(self, text: bytes) -> None:
-        """Checks all entries in the text of the seat's record. Raises `Fault` with the line of the first impossible
-        entry."""
+        """Checks all entries in the text of the seat's record. Raises `Fault` with the line of the first impossible entry."""
         at = 0
         while at < len(text):
             entry = self.entry(text, at)
@@ -199,8 +195,7 @@ class Seat:
 
 
 def check_places(record: Record, events: int) -> None:
-    """Raises `Fault` unless the replies of all seats grant each event of the journal once. `events` is the number of
-    events, and no reply may grant one that came before the record began."""
+    """Raises `Fault` unless the seats' replies grant each of the journal's `events` events once, and none from before the record."""
     seen: set[int] = set()
     for place in record.granted:
         if place <= record.begun:
@@ -214,8 +209,7 @@ def check_places(record: Record, events: int) -> None:
 
 
 def read_record(lab: Lab, events: list[Event], folder: Path) -> Record:
-    """Returns the record in a folder, checked along the events of a journal. Raises `Fault` if the record doesn't
-    pass."""
+    """Returns the record in a folder, checked along the events of a journal. Raises `Fault` if the record doesn't pass."""
     begun = read_file(folder / "begun", "record", MOST_BEGUN).removesuffix(b"\n")
     if not re.fullmatch(rb"[0-9]{1,19}", begun):
         raise Fault("read fault: record", 4)

@@ -39,8 +39,7 @@ def no_constant(word: str) -> NoReturn:
 
 
 def finite(text: str) -> float:
-    """Returns the value of a number with a point or an exponent. Raises `Malformed` if it is beyond the greatest
-    double."""
+    """Returns the value of a number with a point or an exponent. Raises `Malformed` if it is beyond the greatest double."""
     value = float(text)
     if not math.isfinite(value):
         raise Malformed("a number out of range")
@@ -48,8 +47,7 @@ def finite(text: str) -> float:
 
 
 def integer(text: str) -> float | int:
-    """Returns an integer without a sign up to the greatest 64-bit number as an `int`, and any other number as a
-    `float`. Raises `Malformed` if it is beyond the greatest double."""
+    """Returns an integer from 0 to 2^64 - 1 as an `int`, and any other number as a `float`. Raises `Malformed` beyond the greatest double."""
     value = finite(text)
     return int(text) if not text.startswith("-") and int(text) <= GREATEST else value
 
@@ -96,16 +94,14 @@ def document(line: bytes) -> dict[str, Any]:
 
 
 def named(value: dict[str, Any], key: str, *kinds: type) -> Any:
-    """Returns the value of a key in an object. Raises `Malformed` if the key is missing or its value has none of these
-    types."""
+    """Returns the value of a key in an object. Raises `Malformed` if the key is missing or its value has none of these types."""
     if key not in value or type(value[key]) not in kinds:
         raise Malformed(key)
     return value[key]
 
 
 def move_of(value: dict[str, Any]) -> Move:
-    """Returns the rule of a requested move, with the partner if the rule is a marriage. Raises `Malformed` if they have
-    another form."""
+    """Returns the rule of a requested move, with the partner if the rule is a marriage. Raises `Malformed` if they have another form."""
     rule = named(value, "rule", str)
     if rule not in RULES:
         raise Malformed("rule")

@@ -1,5 +1,4 @@
-"""A run: the reply to each line of each connection, and scripts. The *world* is the network with its registers and
-chosen moves."""
+"""A run: the reply to each line of each connection, and scripts. The *world* is the network with registers and chosen moves."""
 import json
 import re
 from typing import Any, NamedTuple
@@ -18,8 +17,7 @@ SCRIPT_LINE = re.compile(rb"([1-9][0-9]?) (.*)", re.DOTALL)
 
 
 class Answer(NamedTuple):
-    """The reply to a line, the name of its connection afterwards, the request if it was granted as an event, and
-    whether the reply is a view."""
+    """The reply to a line, the name of its connection afterwards, the request if it was granted as an event, and whether the reply is a view."""
 
     reply: str
     known: str | None
@@ -33,16 +31,14 @@ def text_of(**values: Any) -> str:
 
 
 def denied(world: World, name: str) -> str:
-    """Returns the text of the reply for a denial by the clause with this name. For `stale` it also has the present
-    number of the world."""
+    """Returns the text of the reply for a denial by the clause with this name. For `stale` it also has the present number of the world."""
     clause, text = DENIALS[name]
     number = {"at": world.number} if name == "stale" else {}
     return text_of(clause=clause, deny=name, text=text, **number)
 
 
 def answer(lab: Lab, world: World, known: str | None, line: bytes) -> Answer:
-    """Returns the answer to a line of a connection. `known` is the name that the connection has greeted with, or None.
-    Changes nothing."""
+    """Returns the answer to a line of a connection. `known` is the name that the connection has greeted with, or None. Changes nothing."""
     asked = read_request(line)
     # A line that is no request is refused before any clause is tried.
     if asked is None:
@@ -80,8 +76,7 @@ class Run:
         self.journal: list[str] = []
 
     def answer(self, connection: int, line: bytes) -> str:
-        """Returns the reply to a line of a connection, and applies the line's event. Line and reply have no
-        newlines."""
+        """Returns the reply to a line of a connection, and applies the line's event. Line and reply have no newlines."""
         found = answer(self.lab, self.world, self.names.pop(connection, None), line)
         if found.known is not None:
             self.names[connection] = found.known
@@ -109,8 +104,7 @@ def script_line(lab: Lab, line: bytes) -> tuple[int, bytes] | None:
 
 
 def play(lab: Lab, script: bytes) -> tuple[Run, int | None]:
-    """Plays a script over a lab to its end or its first wrong line. Returns the run, and the number of the wrong line
-    or None."""
+    """Plays a script over a lab to its end or its first wrong line. Returns the run, and the number of the wrong line or None."""
     run = Run(lab)
     *lines, last = script.split(b"\n")
     for k, line in enumerate(lines, 1):

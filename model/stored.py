@@ -1,5 +1,4 @@
-"""The stored outputs of scripts, in `examples` and `tests/scripts`, compared with those of the model. The model writes
-its own beside those that differ."""
+"""Compares the stored outputs of scripts, in `examples` and `tests/scripts`, with the model's, and writes those that differ."""
 import difflib
 import sys
 from pathlib import Path
@@ -12,15 +11,13 @@ FOLDERS = ("examples", "tests/scripts")
 
 
 def lab_of(script: Path) -> Path:
-    """Returns the lab's file for a script: NAME.toml for NAME.script and NAME-run.script, or else that of the built-in
-    lab."""
+    """Returns the lab's file for a script: NAME.toml for NAME.script and NAME-run.script, or else that of the built-in lab."""
     lab = script.with_name(script.stem.removesuffix("-run") + ".toml")
     return lab if lab.exists() else TOP / "examples/built-in.toml"
 
 
 def renew(stored: Path, content: bytes) -> int:
-    """Compares a stored output with `content`, the model's. If they differ, writes FILE.new beside it, prints the
-    difference, and returns 1. Returns 0 otherwise."""
+    """Returns 0 if a stored output is `content`, the model's. Otherwise writes FILE.new, prints the difference, and returns 1."""
     new = stored.with_name(f"{stored.name}.new")
     new.unlink(missing_ok=True)
     old = stored.read_bytes() if stored.exists() else b""

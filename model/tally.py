@@ -32,15 +32,13 @@ class Student:
     shared: int = 0
 
     def words(self) -> list[object]:
-        """Returns the student's columns in the tally. The places of the first and the last grant are `-` if there is
-        none."""
+        """Returns the student's columns in the tally. The places of the first and the last grant are `-` if there is none."""
         ends: list[object] = [self.places[0], self.places[-1]] if self.places else ["-", "-"]
         return [*self.granted.values(), *self.applied.values(), self.closes, *ends, self.shared]
 
 
 class Count:
-    """The counts over the events of a journal. A granted move is remembered until a close applies it, or another event
-    drops it."""
+    """The counts over the events of a journal. A granted move is remembered until a close applies it, or another event drops it."""
 
     def __init__(self, lab: Lab) -> None:
         """Begins with the lab's students, before the first event."""
@@ -88,14 +86,12 @@ class Count:
 
 
 def at_shared(word: str, counts: dict[int, dict[str, dict[str, int]]]) -> list[list[object]]:
-    """Returns a line with this word for each node with two owners: for each owner the name, and a number for each
-    rule."""
+    """Returns a line with this word for each node with two owners: for each owner the name, and a number for each rule."""
     return [[word, i, *(it for name, rules in owners.items() for it in (name, *rules.values()))] for i, owners in counts.items()]
 
 
 def lines_asked(lab: Lab, said: Iterable[Said]) -> list[list[object]]:
-    """Returns the tally's lines about the students' requests in a record: denials by clause, malformed lines, and moves
-    at shared nodes."""
+    """Returns the tally's lines about the students' requests in a record: denials by clause, malformed lines, and moves at shared nodes."""
     denied = {name: dict.fromkeys([*CLAUSES, "malformed"], 0) for name in lab.students()}
     moves = {i: {name: none() for name in owners} for i, owners in lab.shared().items()}
     for it in said:
@@ -113,8 +109,7 @@ def lines_asked(lab: Lab, said: Iterable[Said]) -> list[list[object]]:
 
 
 def lines_by_reply(lab: Lab, said: list[Said], word: str, key: str, columns: tuple[str, ...]) -> list[list[object]]:
-    """Returns a line with this word for each student: for each of `columns` how many of the student's lines had a reply
-    with this value under the key."""
+    """Returns a line with this word for each student: for each of `columns` how many of the student's lines had a reply with this value under the key."""
     counts = {name: dict.fromkeys(columns, 0) for name in lab.students()}
     for it in said:
         found = json.loads(it.reply).get(key)
@@ -158,8 +153,7 @@ def rounds_since(lab: Lab, events: list[Event]) -> int:
 
 
 def tally(lab: Lab, world: World, events: list[Event], record: Record | None) -> str:
-    """Returns the output of the tally of a journal that passes and leads to this world, and of its record if there is
-    one."""
+    """Returns the output of the tally of a journal that passes and leads to this world, and of its record if there is one."""
     count = Count(lab)
     for event in events:
         count.take(event)

@@ -28,8 +28,7 @@ def check(lab: Lab) -> bytes:
 
 
 def script(lab: Lab, file: str, journal: str | None = None) -> bytes:
-    """Returns the output of `script`: the replies to the script in a file. Writes its journal into another file, if one
-    is named.
+    """Returns the output of `script`: the replies to the script in a file. If a journal's file is named, writes it.
 
     The proved program keeps what that file had under another name. Here the file has to be new or empty, and `Fault` is
     raised otherwise."""

@@ -40,8 +40,7 @@ class World:
         return any(self.p[i] == j and self.p[j] == i for j in self.links[i])
 
     def candidates(self, i: int) -> list[int]:
-        """Returns the neighbours that node i may seduce, in rising order: higher ones that point at none, with m
-        false."""
+        """Returns the neighbours that node i may seduce, in rising order: higher ones that point at none, with m false."""
         return [j for j in self.near(i) if self.p[j] is None and j > i and not self.m[j]]
 
     def guard(self, i: int, move: Move) -> bool:
@@ -98,8 +97,7 @@ class World:
         self.chosen = {}
 
     def step(self) -> None:
-        """Applies all chosen moves at once. All read the same configuration, and each writes the registers of its
-        own node."""
+        """Applies all chosen moves at once. All read the same configuration, and each writes the registers of its own node."""
         after = {i: self.effect(i, move) for i, move in self.chosen.items()}
         for i, registers in after.items():
             self.p[i], self.m[i] = registers
@@ -117,8 +115,7 @@ class World:
         self.renew()
 
     def cut(self, a: int, b: int) -> None:
-        """Removes the link between the nodes a and b. Sets pointers along it to null, and leaves m unchanged. Begins a
-        new configuration."""
+        """Removes the link between the nodes a and b. Sets pointers along it to null, and leaves m unchanged. Begins a new configuration."""
         self.links[a].remove(b)
         self.links[b].remove(a)
         self.p[a] = None if self.p[a] == b else self.p[a]
