@@ -11,8 +11,9 @@ from classroom.core.explained import MARK
 
 
 def lines_of(playing: Playing, more: bytes = b"") -> list[list[str]]:
-    """Returns the model's explanations for the script of a class up to now, and for the lines `more` if they are given.
-    Each explanation consists of its place in the script, its node and its text."""
+    """Returns the model's explanations for the script of a class up to now, followed by the lines `more` if they are
+    given. For each denied move: the number of its line in the script, its node and a text. For each node that could
+    move at the end: `now`, the node and a text. Returns nothing if the model doesn't answer."""
     return explained.lines_of(playing.lab, playing.program.script() + (more + b"\n" if more else b""))
 
 

@@ -176,8 +176,8 @@ class Written:
 
 
 def print_and_write(found: Iterator[Result], written: Written) -> None:
-    """Prints each result as it comes, and writes the files with all results so far. Prints once that a record couldn't
-    be kept."""
+    """Prints each result as it comes, and writes the files with all results so far. The first time that the record of a
+    bot in a case couldn't be kept, also prints why."""
     full = False
     for result in found:
         written.add(result)

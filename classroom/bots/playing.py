@@ -178,8 +178,10 @@ class Playing:
         return is_refused
 
     def interfere(self, node: int, rule: str) -> None:
-        """Does what the trouble at hand does just before a program's move of a node by a rule: closes a step, sets the
-        node's registers, or lets the house move the node first. Does nothing if there is no such trouble."""
+        """Disturbs a program's move of a node by a rule just before it is answered, in the first of these ways that is
+        due. Makes a new configuration (`overtakes`). Sets the registers of a node that the house doesn't play, so that
+        another rule is enabled (`turns`). Lets the house ask for the move of a node that it plays too (`forestalls`).
+        Does nothing if none is due."""
         if self.overtakes:
             self.overtakes -= 1
             self.next_configuration()

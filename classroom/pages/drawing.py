@@ -249,7 +249,8 @@ def path(name: str, drawn: str, thick: float) -> str:
 
 
 def standalone(drawing: Drawing, state: State, event: Event | None, theme: str = "light") -> str:
-    """Returns the text of an SVG file that shows a state in a drawing, with its style inside."""
+    """Returns the text of an SVG file that shows a state in a drawing, with its style inside. `event` is the event that
+    led to the state, if there is one, and `theme` names the colours: `light` or `dark`."""
     key, field = drawing.key(), drawing.view.layout.field
     head, tail = drawing.svg(state, event).split("<defs>", 1)
     if key:

@@ -225,8 +225,9 @@ def pads(kind: str, field: Field, form: Form, owners: dict[int, list[str]]) -> P
 
 
 def placed(layout: Layout, form: Form, owners: dict[int, list[str]], near: Near) -> tuple[dict[int, Label], float, float]:
-    """Returns a label for each node. Nodes with the most links come first. Also returns by how much all labels together
-    overlap discs, other labels and the edges, and by how much they overlap links."""
+    """Returns a label for each node. Labels of nodes with the most links are placed first. `owners` has the names of
+    each node's owners, and `near` its neighbours. Also returns by how much all labels together overlap discs, other
+    labels and the edges, and by how much they overlap links."""
     labels: dict[int, Label] = {}
     lines = [(layout.points[a], layout.points[b]) for a, others in near.items() for b in others if a < b]
     hard = soft = 0.0

@@ -246,8 +246,9 @@ def leave(it: server.Server, run: Running) -> None:
 
 
 def take_leave(it: server.Server, desk: Desk, why: str, run: Running) -> int | None:
-    """Says bye at the desk, and waits for the end of the server `it`. `why` is the reason for the end of the run.
-    Returns the exit status, or None if the server continues."""
+    """Says bye at the desk, waits for the end of the server `it`, or ends it if it isn't hosted, and prints how the run
+    ended. `why` is the reason, a word that `attend` returns. After `died` says no bye, and after `left` only closes the
+    connection, since another process takes over the desk. Returns the exit status, or None if the server continues."""
     tell = run.tell
     if why == "left":
         desk.client.hang_up()

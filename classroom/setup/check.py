@@ -120,8 +120,9 @@ def is_drawn(key: str) -> bool:
 
 
 def bits(key: str) -> float:
-    """Returns an upper bound on the bits of a person's key: those of its words and digits if the key looks drawn, and
-    otherwise the smaller of these and those of its letters."""
+    """Returns an upper bound on the bits of entropy of a person's key. If the key looks drawn at random (`is_drawn`),
+    counts its words and digits as random ones. Otherwise returns the smaller of that count, if the key consists of
+    words of the list and digits, and of `bits_of_letters`."""
     parts = keys.count_parts(key)
     by_words = keys.bits_of(*parts) if parts else math.inf
     return by_words if is_drawn(key) else min(by_words, bits_of_letters(key))

@@ -83,8 +83,8 @@ def lines_of(spans: Spans, crate: str) -> list[str]:
 
 
 def chain_tables(spans: Spans, crates: list[str]) -> str:
-    """Returns the tables of the chains to these crates as a text. If there are none, returns that of the crate that was
-    proved last."""
+    """Returns the tables of the chains to these crates as a text. Leaves out crates that weren't proved in the run. If
+    none of them was, returns the table of the chain to the crate that was proved last."""
     wanted = [it for it in crates if it in spans] or [*spans][-1:]
     return "\n\n".join("\n".join(lines_of(spans, it)) for it in wanted)
 

@@ -46,8 +46,9 @@ def parser() -> argparse.ArgumentParser:
 
 
 def tell_chain(names: list[str], is_table: bool) -> int:
-    """Prints the chains of proofs to these crates in the last run, or the table of times if `is_table` is set. Returns
-    the status."""
+    """Prints the tables of the chains of proofs to these crates (`chain_tables`) in the last run that proved something.
+    If `is_table` is set, prints the text of `tools/build/seconds.txt` instead, the time of each proof. Returns the exit
+    status, which is 1 if no run has proved anything."""
     spans = chain.saved_spans()
     if not spans:
         print("check: no ./check has proved anything in this tree", file=sys.stderr)
