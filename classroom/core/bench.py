@@ -16,7 +16,7 @@ from classroom.core.answering import Answering
 from classroom.core.program import Fault
 
 TEACHER, STUDENT = 1, 2
-ROOM = 4  # moves and closes for each move that there can be, with room to spare
+ROOM = 4  # how many events a run can need for each move of its bound: moves and closes, and some to spare
 
 
 def network(nodes: list[labs.Node], links: list[tuple[int, int]]) -> labs.Lab:
@@ -34,8 +34,8 @@ class Bench:
         self.program = Answering(made)
         self.program.greet(TEACHER, made.teacher[0])
         self.program.greet(STUDENT, "student")
-        self.requests: list[tuple[int, dict[str, Any]]] = []  # of the run at hand
-        self.before = 0  # the number at which it begins
+        self.requests: list[tuple[int, dict[str, Any]]] = []  # the requests of the current run, each with its connection
+        self.before = 0  # the number of the configuration at which the current run begins
 
     def has_room(self, made: labs.Lab) -> bool:
         """Returns whether a run over the network of `made` can follow on this program: the links are the same, and
@@ -70,7 +70,7 @@ class Bench:
     def present(self) -> labs.Lab:
         """Returns the network with its present registers, as a lab."""
         seen = self.asked(TEACHER, [{"do": "see", "node": node.id} for node in self.made.nodes])
-        del self.requests[-len(seen):]  # They do nothing.
+        del self.requests[-len(seen):]  # The looks have no effect on the run.
         return network([labs.Node(it["node"], [], it["p"], it["m"]) for it in seen], self.made.links)
 
     def script(self) -> bytes:

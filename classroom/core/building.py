@@ -13,8 +13,8 @@ from classroom.core.program import TOP, Fault, built, is_clone
 NAMED_BY = {"mml_server": "MML_PROGRAM", "mml_host": "MML_HOST"}  # the environment variable that names another program
 SIGNALS = (signal.SIGINT, signal.SIGTERM, signal.SIGHUP)
 POLL = 0.1
-PATIENCE = 2.0  # seconds after a signal in which the build, which a terminal's Ctrl-C reaches too, may end by itself
-STDERR = 2  # results go to standard output, and nothing else may stand there
+PATIENCE = 2.0  # seconds in which the build may end by itself after a signal, since a terminal's Ctrl-C reaches the build too
+STDERR = 2  # the build's output goes to standard error, since standard output has only results
 
 
 def lacks_programs() -> bool:

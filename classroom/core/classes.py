@@ -44,7 +44,7 @@ class Class:
     desk: Process  # The process that holds the desks of all networks.
     left: bool = False  # Whether the terminal of that process was closed.
     page: int | None = None
-    looks: str | None = None  # The token of the address of the page for all.
+    looks: str | None = None  # The token in the address of the page for all networks.
     ends: str | None = None  # When the lesson ends, as a date and a time.
     door: str | None = None  # The folder of the door that leads to the networks.
 

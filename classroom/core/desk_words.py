@@ -13,7 +13,7 @@ PATTERNS = {
     "NODE": r"\d+", "NEIGHBOUR|null": r"\d+|null|-", "true|false": "true|false", "SECONDS": r"\d+(\.\d+)?", "WORD": r"\S+", "NAME": r"\S+",
     "K|all": r"[1-9]\d*|all", "SEED": r"\d+",
 }
-# The parser of a value of a request, by its kind in `client.KEYS`.
+# For each kind of a request's values in `client.KEYS`, the function that parses such a value.
 READ: dict[str, Callable[[str], object]] = {
     "a number": int, "a number or null": lambda value: None if value in ("-", "null") else int(value),
     "true or false": lambda value: value == "true",

@@ -11,7 +11,7 @@ from classroom.core.processes import run
 from classroom.core.program import TOP
 
 MARK = "the plain model, which decides nothing, adds: "
-LIMIT = 60.0  # seconds after which there is no explanation
+LIMIT = 60.0  # seconds after which a search for an explanation is given up
 
 
 def lines_of(made: labs.Lab, script: bytes) -> list[list[str]]:

@@ -17,9 +17,9 @@ from classroom.core.program import LAST_PORT, Fault
 MOST_SECONDS = 1e9
 Run = tuple[Path, Path]
 RECORD = "run.json"
-CLASS = "class.json"  # in the folder of a class of several networks
-STATE = "state.json"  # in the folder of a run that belongs to a class
-LAYOUT = "layout.json"  # the layout of a network that needed a search
+CLASS = "class.json"  # the name of a file in the folder of a class of several networks
+STATE = "state.json"  # the name of a file in the folder of a run that belongs to a class
+LAYOUT = "layout.json"  # the name of the file with the layout of a network, if that layout needed a search
 FILES = (RECORD, f"{RECORD}.new", STATE, f"{STATE}.new", LAYOUT, f"{LAYOUT}.new", "lab.toml", "journal", "journal.lab", "journal.torn",
          "server.txt", "run.txt", "audit.txt", "marks.txt", "marks.json", "run.html")
 
@@ -99,13 +99,13 @@ class Record:
     run: Process
     server: Process
     play: int | None = None
-    left: bool = False  # Whether its terminal was closed.
-    ended: bool = False  # Whether it ended as it should.
-    stand_in: float | None = None  # seconds after which the house plays
-    looks: str | None = None  # The token of the page's address to look at.
-    played: list[str] = field(default_factory=list)  # for whom the house plays at once
+    left: bool = False  # Whether the terminal of `run` was closed.
+    ended: bool = False  # Whether the run ended as it should.
+    stand_in: float | None = None  # seconds that the class waits for a node before the house plays it
+    looks: str | None = None  # The token in the address at which people watch the page.
+    played: list[str] = field(default_factory=list)  # the names of the students for whom the house plays at once
     ends: str | None = None  # When the lesson ends, as a date and a time.
-    anonymous: bool = False  # Whether its pages show numbers in place of names.
+    anonymous: bool = False  # Whether the run's pages show numbers in place of names.
     door: str | None = None  # The folder of the door that leads to the run.
 
     @staticmethod

@@ -29,7 +29,7 @@ class Person:
 
     written: str
     id: str = ""
-    email: str = field(default="", compare=False)  # These two aren't kept in a lab.
+    email: str = field(default="", compare=False)  # A lab has neither the address nor the next field.
     group: str = field(default="", compare=False)
 
 

@@ -10,8 +10,8 @@ from typing import BinaryIO
 from classroom.core.program import Fault
 from classroom.core.statuses import FAILED
 
-MOST_KEPT = 1 << 16  # bytes of a file that `run` keeps for itself
-DIGITS = 19  # of a number in a record
+MOST_KEPT = 1 << 16  # the most bytes that are read of a file that `run` keeps for itself
+DIGITS = 19  # the most digits of a number in a record
 
 
 def opened(path: Path) -> BinaryIO:

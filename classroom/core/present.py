@@ -12,9 +12,9 @@ class Book:
 
     def __init__(self, students: list[str]) -> None:
         """Begins at the first configuration, in which no student has a granted move."""
-        self.idle = dict.fromkeys(students)  # Who had no move granted.
+        self.idle = dict.fromkeys(students)  # The names of the students who had no move granted.
         self.chosen: dict[int, tuple[str, str]] = {}
-        self.links = 0  # How many more there are than at the beginning.
+        self.links = 0  # How many more links there are than at the beginning.
         self.moves = 0
         self.since = 0  # Moves since the last fault, link or cut.
 

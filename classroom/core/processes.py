@@ -15,7 +15,7 @@ from typing import Any
 
 SUBREAPER = 36  # prctl's PR_SET_CHILD_SUBREAPER
 PAUSE = 0.005
-LAST = 10.0  # seconds in which everything is ended at once
+LAST = 10.0  # seconds that ending all processes together may take
 STARTING = threading.Lock()  # held while a process is started, so that each child that isn't in OWN is another's
 OWN: list[subprocess.Popen[bytes]] = []
 reaps = threading.Event()  # whether orphans below this process become its children

@@ -15,7 +15,7 @@ from classroom.core.processes import run
 from classroom.core.statuses import FAILED
 
 LAST_PORT = 65535
-PORTS = 50  # of which the first free one is taken
+PORTS = 50  # the number of ports that are tried, of which the first free one is taken
 LISTENING = re.compile(r"(?m)^listening on port (?P<port>\d+)(?:, desk on port (?P<desk>\d+))?$")  # the first words that a server prints
 Opened = TypeVar("Opened")
 TOP = Path(__file__).resolve().parents[2]

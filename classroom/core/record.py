@@ -13,7 +13,7 @@ from typing import Any
 from classroom.core import plain
 from classroom.core.program import Fault
 
-FOLDER = "record"  # of a run's folder
+FOLDER = "record"  # the name of the record's folder in a run's folder
 ENDED, CUT, PAUSED, RESUMED = ".", "!", "-", "+"
 
 

@@ -7,9 +7,9 @@ from dataclasses import dataclass
 
 from classroom.core.folders import Record
 
-MOST_HEAD, MOST_BODY = 8192, 4096  # bytes
+MOST_HEAD, MOST_BODY = 8192, 4096  # the most bytes of a request's head, and of its body
 METHODS = ("GET", "POST")
-KEPT = ("content-type", "accept", "accept-language")  # of a request's head, for the page's server
+KEPT = ("content-type", "accept", "accept-language")  # the headers of a request that are passed on to the page's server
 TEXT = "text/plain; charset=utf-8"
 
 

@@ -12,11 +12,11 @@ from collections import Counter
 from collections.abc import Callable
 from dataclasses import dataclass
 
-CONNECTIONS, CONNECTIONS_EACH = 512, 256  # in all, and of an address
+CONNECTIONS, CONNECTIONS_EACH = 512, 256  # the most connections in all, and the most from one address
 HANDSHAKES, HANDSHAKES_EACH = 256, 128
 RATE, RATE_EACH = 16e6, 8e6  # bytes a second, both ways together
-BURST = 2.0  # seconds of the rate that may come at once
-PREFIX = 64  # bits of an IPv6 address by which whoever has many of them is known
+BURST = 2.0  # how many seconds' worth of the rate may come at once
+PREFIX = 64  # the leading bits of an IPv6 address that count as one origin, since one person may have many such addresses
 
 
 def origin(address: str) -> str:
@@ -59,7 +59,7 @@ class Bounds:
 
     def __init__(self) -> None:
         self.connections: Counter[str] = Counter()
-        self.handshakes: list[Handshake] = []  # the oldest first
+        self.handshakes: list[Handshake] = []  # handshakes that aren't finished, the oldest first
         self.all = Meter(RATE)
         self.meters: dict[str, Meter] = {}
 

@@ -16,7 +16,7 @@ from classroom.core.processes import run
 from classroom.core.program import Fault
 from classroom.core.statuses import FAILED
 
-FILE = "door.pem"  # beside the labs
+FILE = "door.pem"  # the name of the certificate's file in the folder of the labs
 DAYS = 730
 BLOCK = re.compile(r"-----BEGIN CERTIFICATE-----.*?-----END CERTIFICATE-----", re.DOTALL)
 

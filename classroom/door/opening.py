@@ -20,8 +20,8 @@ from classroom.door import certificate
 from classroom.door.routes import DoorData, announce, forget, network
 
 BACKLOG = 256
-TIMES = 5  # that a door is opened again
-FOLDER = ".door-{}"  # of the port, in the folder of the runs' folders
+TIMES = 5  # how often a door is restarted at most
+FOLDER = ".door-{}"  # the name of a door's folder, by its port, in the folder that has the runs' folders
 
 
 @dataclass(frozen=True)

@@ -16,7 +16,7 @@ from classroom.door.secured import CHUNK, TAKING, WAITING, Secured
 HANDSHAKE = 5.0  # seconds in which a handshake has to be done
 FIRST = 10.0  # seconds in which a first byte has to come, as at the students' port a hello
 ASKING = 5.0  # seconds in which the head of a request has to be there, and its body
-LATE = b'{"refuse":"late"}\n'  # as the students' port says it
+LATE = b'{"refuse":"late"}\n'  # the line with which the students' port refuses a late hello
 BROKEN = (OSError, EOFError, TimeoutError, asyncio.LimitOverrunError)
 
 

@@ -16,7 +16,7 @@ from classroom.core.folders import RECORD, Process, Record
 from classroom.core.program import Fault
 
 DOOR, NETWORK = "door.json", ".network"
-ALL, HALL = "all", "all.json"  # what the page for all networks is asked for by, and the file that leads there
+ALL, HALL = "all", "all.json"  # the name in the address of the page for all networks, and the file that says at which port that page is
 NEW = 60.0  # seconds in which a run that was announced has to begin
 MOST_NAME = 32
 NAME = re.compile(r"[a-z][a-z0-9-]{0,31}")
@@ -36,7 +36,7 @@ class Route:
     name: str
     folder: Path
     hosts: tuple[str, ...]
-    announced: float  # when, as the system's clock has it
+    announced: float  # the time of the announcement, in seconds of the system's clock
 
     @staticmethod
     def read(file: Path) -> Route | None:

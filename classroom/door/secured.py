@@ -10,7 +10,7 @@ import socket
 import ssl
 from collections.abc import Awaitable, Callable
 
-CHUNK, WAITING = 16384, 65536  # bytes that are read at once, and that wait to be taken
+CHUNK, WAITING = 16384, 65536  # the most bytes that are read at once, and the most that wait to be taken
 TAKING = 10.0  # seconds in which what is sent has to be taken
 LEAVING = 5.0  # seconds in which the other end has to close a connection that is over
 
@@ -53,7 +53,7 @@ class Secured:
             except ssl.SSLWantReadError:
                 pass
             finally:
-                self.flush()  # If it fails, this says why.
+                self.flush()  # If the handshake fails, this sends the alert that says why.
             await self.receive()
 
     async def receive(self) -> None:
@@ -92,7 +92,7 @@ class Secured:
         that the client still sends, and awaits `passes` with their number."""
         try:
             self.tls.unwrap()
-        except ssl.SSLError:  # The other end hasn't said so yet.
+        except ssl.SSLError:  # The other end hasn't closed its side yet.
             pass
         try:
             self.flush()

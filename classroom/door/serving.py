@@ -25,9 +25,9 @@ from classroom.door.routes import DOOR, DoorData, Routes, forget
 
 LOOK = 0.5  # seconds between two looks at which networks there are
 PATIENCE = 10.0  # seconds that a door stays open after its last network has ended
-FILES = 4096  # that may be open
-LAST_WORD = 3.0  # seconds for what still goes out then
-AGAIN = 0.1  # seconds after a connection that couldn't be accepted
+FILES = 4096  # how many files the door's process may have open
+LAST_WORD = 3.0  # seconds that open connections have to finish when the door closes
+AGAIN = 0.1  # seconds until the next attempt if a connection couldn't be accepted
 
 
 def note_network(it: ssl.SSLObject, name: str | None, _: ssl.SSLContext) -> None:

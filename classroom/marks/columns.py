@@ -39,7 +39,7 @@ FOR_RULES = {
     "granted_per_node": "granted divided by nodes, or 0 without a node", "applied_per_node": "applied divided by nodes, or 0 without a node",
     "whole": "yes if the record has all lines of the student, so that denials are known",
 }
-ONLY_RUNS = ("first", "last")  # of one run alone
+ONLY_RUNS = ("first", "last")  # the columns that only the table of one run has
 ONLY_TOTALS = ("runs", "recorded")
 
 

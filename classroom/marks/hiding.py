@@ -38,7 +38,7 @@ class Hider:
         at, hides = 0, False
         for found in TEXT.finditer(text):
             between = text[at:found.start()]
-            if hides and between.strip() != ":":  # No text stands under `key`.
+            if hides and between.strip() != ":":  # The value under `key` isn't a text.
                 return f"{''.join(pieces)}:***, and more"
             word = json.loads(found[0], strict=False)
             names = text[found.end():].lstrip().startswith(":")

@@ -52,7 +52,7 @@ class Row:
     reply: str = ""
     denied: str = ""
     event: str = ""
-    latest: int = 0  # how many events came before at the most, if the record doesn't say it exactly
+    latest: int = 0  # the most events that can have come before, if the record doesn't have the exact number
 
     @property
     def at(self) -> int:

@@ -16,7 +16,7 @@ from classroom.pages.frames import frames_of
 from classroom.pages.page import Played
 
 FOLDER = "students"
-MOST = 64 << 20  # bytes of all pages
+MOST = 64 << 20  # the most bytes of all pages together
 
 
 def rows_by_student(folder: Path, lab: labs.Lab) -> tuple[list[str], dict[str, list[Row]]]:

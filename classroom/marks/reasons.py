@@ -10,7 +10,7 @@ from classroom.core import lab as labs
 from classroom.core.journal import Event
 from classroom.pages import replay
 
-MOST = 2000  # lines that are explained
+MOST = 2000  # the most lines that are explained
 
 
 def reasons(lab: labs.Lab, events: Sequence[Event], asked: Sequence[tuple[int, str]]) -> dict[tuple[int, str], str]:

@@ -31,9 +31,9 @@ class Total:
     shared: int = 0
     runs: int = 0
     denied: Counter[str] = field(default_factory=Counter)
-    recorded: int = 0  # of how many runs a whole record has what was denied
+    recorded: int = 0  # the number of runs whose record is complete, so that denials are known
     nodes: int = 0
-    networks: dict[str, None] = field(default_factory=dict)  # whose labs have the person
+    networks: dict[str, None] = field(default_factory=dict)  # the networks whose labs have the person, in order
 
     def add(self, marks: Marks, denied: Counter[str], is_whole: bool, nodes: int, network: str) -> None:
         """Adds a person's marks in one run. `denied` has the counts of the run's record, `is_whole` says whether that

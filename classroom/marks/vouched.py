@@ -21,7 +21,7 @@ from classroom.core.program import LISTENING, Answer, Fault, host_call
 from classroom.core.record import CUT, ENDED, begun, json_object, kept, seats
 from classroom.core.statuses import LAB
 
-LAST_BYTES = 1 << 20  # of what a server printed
+LAST_BYTES = 1 << 20  # how many of the last bytes of a server's output are read
 UNENDED = "its server is running or was killed, so its last entries may be missing, through no fault of a student"
 
 
@@ -33,8 +33,8 @@ class Vouched:
     copy: Path
     status: int
     line: str
-    has_ended: bool = True  # Whether its server ended as it should.
-    goes_on: bool = False  # Whether its server does, and so its open sessions.
+    has_ended: bool = True  # Whether the run's server ended as it should.
+    goes_on: bool = False  # Whether the server still runs, so that its open sessions continue.
 
     @property
     def lab(self) -> Path:

@@ -24,11 +24,11 @@ from classroom.pages.web import PageRequest, Web, opened
 
 PAUSE = 0.25  # seconds between two looks
 STILL_HERE = 10.0  # seconds without news after which a page gets a line that there are none
-LAST_WORD = 5.0  # seconds in which the pages may learn that the run is over
-MOST_BYTES = 1000  # of what a page asks for
+LAST_WORD = 5.0  # seconds that pages have to receive the news that the run is over
+MOST_BYTES = 1000  # the most bytes of a page's request
 LINES = "application/x-ndjson"
 LEFT = "the server of this page was ended: ask your teacher where you can play again"
-ASKS = ("node", "at", "rule", "with")  # of a move
+ASKS = ("node", "at", "rule", "with")  # the keys of a request for a move
 
 
 class PlayServer(Web):
@@ -40,7 +40,7 @@ class PlayServer(Web):
         self.lab, self.students = lab, 0
         self.page = assembled("by_hand", {"TITLE": title}, "", ("drawing.css", "page.css", "by_hand.css"), ("by_hand.js",))
         self.seats: dict[str, Seat] = {}
-        self.names: dict[int, str] = {}  # of who plays by hand, by the port of the connection to the server
+        self.names: dict[int, str] = {}  # the names of the students who play by hand, by the local port of their connection to the server
         self.turn = threading.Condition()
         self.leaves = False
 
@@ -155,7 +155,7 @@ class PlayRequest(PageRequest):
                 self.send_row(row if row is not before else {})
                 before, due = row, now + STILL_HERE
             if select.select([self.connection], [], [], PAUSE)[0]:
-                return  # Nothing is to come, so the page has gone.
+                return  # A page sends nothing more, so readable bytes or an end mean that it has gone.
         self.send_row({"ended": last_word(seat)})
 
     def move(self, asked: dict[str, Any]) -> None:

@@ -24,7 +24,7 @@ WITNESSES_MOST = 60  # open links up to which each names its witness
 OPEN_MOST = 2000  # open links above which only their number is given
 FAINT_ABOVE = 8  # links for each node above which their lines are the fainter the more they are
 LETTERS = f"letters: {', '.join(f'{rule[:1].upper()} {rule}' for rule in RULES)}"
-KEY_HIGH, KEY_SIZE = 26.0, 14.0  # of the line below a drawing that says what letters are
+KEY_HIGH, KEY_SIZE = 26.0, 14.0  # the height and the letters' size of the line below a drawing that explains its letters
 ANCHORS = ("start", "middle", "end")
 
 

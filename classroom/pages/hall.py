@@ -31,8 +31,8 @@ from classroom.pages.page import assembled, data_element
 from classroom.pages.two_addresses import STILL_HERE, AtAddress, TwoAddresses
 from classroom.pages.web import opened as web_opened
 
-LISTED = 25  # lines that the page shows
-LAST_WORD = 2.0  # seconds in which pages may learn that the class is over
+LISTED = 25  # the most lines that the page shows
+LAST_WORD = 2.0  # seconds that pages have to receive the news that the class is over
 ACTS = ("close", "shake", "resume", "end")
 Views = list[dict[str, Any]]
 LINE = re.compile(r"[^\s:]+: (?:close|resume|end|shake (?:\d{1,3}|all))")

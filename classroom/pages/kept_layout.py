@@ -13,8 +13,8 @@ from classroom.core.program import Fault
 from classroom.pages import springs
 from classroom.pages.layout import lay_out
 
-MOST = 1 << 20  # bytes of the file
-FARTHEST = 1e6  # of a point from the middle
+MOST = 1 << 20  # the most bytes of the layout's file
+FARTHEST = 1e6  # the largest distance of a point from the middle
 
 
 def save(folder: Path, lab: Lab) -> None:

@@ -17,21 +17,21 @@ from classroom.pages.layout import RING, Field, Layout, Pads, fitted, shape_for
 from classroom.pages.shapes import Near
 from classroom.pages.springs import Point
 
-MOST_NAMED, MOST_LINKS = 30, 450  # of more nodes or links no names are drawn
-BOLD = 1.13  # how much wider bold letters are
-PILL_HIGH, PILL_PAD = 1.45, 0.9  # of a rule's frame, where its letters have a size of 1
-PILL = 0.92  # of a name's size: the size of a rule
-LINE = 1.25  # of a name's size: the height of its line
-REACH = 1.42  # of a radius: how far from a node's middle its label begins
+MOST_NAMED, MOST_LINKS = 30, 450  # the most nodes and the most links of a network in which names are drawn
+BOLD = 1.13  # the width of bold letters, as a multiple of the width of others
+PILL_HIGH, PILL_PAD = 1.45, 0.9  # the height of a rule's frame and its extra width, as multiples of its letters' size
+PILL = 0.92  # the size of a rule's letters, as a multiple of a name's
+LINE = 1.25  # the height of a line, as a multiple of its letters' size
+REACH = 1.42  # the distance of a label from its node's middle, as a multiple of the radius
 SIDEWAYS = 0.3  # the cosine or sine from which a label stands beside a node, or above or below it
-ANGLES = (1, -1, 3, -3, 0, 4, 2, -2, 0.5, -0.5, 3.5, -3.5, 1.5, 2.5, -1.5, -2.5)  # eighths of a turn, in order
-GAP = 2.0  # between a label and anything else
+ANGLES = (1, -1, 3, -3, 0, 4, 2, -2, 0.5, -0.5, 3.5, -3.5, 1.5, 2.5, -1.5, -2.5)  # the directions that are tried for a label, in eighths of a turn
+GAP = 2.0  # the least distance between a label and anything else
 LEAST = 13.0  # the size of the smallest letters
-# In radii, from a node's middle: the middle of its rule's frame, if it has no label. The first place that is free is taken.
+# The places of the middle of a rule's frame at a node without a label, in radii from the node's middle. The first free one is taken.
 CORNERS = ((0.5, -1.15), (-0.5, -1.15), (0.5, 1.15), (-0.5, 1.15), (1.5, -0.6), (-1.5, -0.6), (1.5, 0.6), (-1.5, 0.6), (0.0, -1.5), (0.0, 1.5))
-LEAST_FRAMED = 11.0  # a radius under which rules have no room
-TURNS = 2  # in which a place is looked for
-FULL = "✓ "  # before the rule of a move that is chosen
+LEAST_FRAMED = 11.0  # the least radius of nodes at which rules have room
+TURNS = 2  # how many rounds the search for the frames' places has
+FULL = "✓ "  # the sign before the rule of a chosen move
 
 
 def text_width(text: str, size: float, bold: bool = False) -> float:

@@ -9,10 +9,10 @@ from itertools import combinations
 from classroom.pages.shapes import Shape, shape_of
 from classroom.pages.springs import Point
 
-SHARE = 0.33  # of the distance of the nearest two nodes that a radius may be
-LEAST_RADIUS, MOST_RADIUS = 2.0, 0.052  # of a node; the most as a share of the field's height
-RING = 1.36  # of a node's radius: how far all that is drawn around it reaches
-UNLIKE = {"grid": (1.7, 1.1)}  # how many times more a shape may be stretched level than upright, and the other way round
+SHARE = 0.33  # the largest radius, as a share of the distance of the nearest two nodes
+LEAST_RADIUS, MOST_RADIUS = 2.0, 0.052  # the least radius of a node, and the largest as a share of the field's height
+RING = 1.36  # how far the drawing of a node reaches from its middle, as a multiple of its radius
+UNLIKE = {"grid": (1.7, 1.1)}  # by shape: the largest ratio of its horizontal to its vertical stretching, and of the vertical to the horizontal
 EQUAL = (1.25, 1.25)
 FREE = ("path", "tree")  # shapes that fill their field
 
@@ -41,10 +41,10 @@ class Pads:
     bottom: float
 
 
-WIDE = Field(1000, 560)  # a screen, a projector, a document
-TALL = Field(366, 340)  # a phone
-CELL = Field(340, 250)  # one of several drawings beside each other, or what a student is shown
-FLAT = Field(440, 200, 0.075)  # one of several networks on a page
+WIDE = Field(1000, 560)  # for a screen, a projector or a document
+TALL = Field(366, 340)  # for a phone
+CELL = Field(340, 250)  # for one of several drawings side by side, or for a student's page
+FLAT = Field(440, 200, 0.075)  # for one of several networks on a page
 
 
 @dataclass(frozen=True)

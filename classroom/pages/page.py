@@ -25,7 +25,7 @@ from classroom.pages.frames import Frame, OpenLink, State
 from classroom.pages.layout import TALL
 
 FOLDER = Path(__file__).parent
-PLAIN_LIMIT = 400_000  # bytes of data above which they are packed
+PLAIN_LIMIT = 400_000  # bytes of a page's data above which the data are compressed
 RULES = ("", *NAMED)
 Link = tuple[int, int]
 

@@ -43,7 +43,7 @@ def picture(lab_file: Path, journal: Path, asked: list[int], theme: str = LIGHT)
     found: dict[int, Frame] = {}
     for frame in chain([first], takewhile(lambda frame: frame.state.place <= max(asked), frames)):
         if frame.state.place in asked:
-            found[frame.state.place] = Frame(frame.event, frame.state.copy())  # The next one is made of it.
+            found[frame.state.place] = Frame(frame.event, frame.state.copy())  # The next state is made by changing this one, so a copy is kept.
     for place in asked:
         if place not in found:
             raise Fault(f"{journal}: there is no place {place}", 3)

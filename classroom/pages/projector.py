@@ -20,8 +20,8 @@ from classroom.pages.two_addresses import STILL_HERE, AtAddress, TwoAddresses, n
 from classroom.pages.watch import Now, Present
 from classroom.pages.web import opened
 
-LISTED = 25  # events and lines that a page is told of at once
-LAST_WORD = 5.0  # seconds in which the pages may learn that the run is over
+LISTED = 25  # the most events and lines that a page gets at once
+LAST_WORD = 5.0  # seconds that pages have to receive the news that the run is over
 
 
 class Pages(TwoAddresses):

@@ -71,8 +71,8 @@ class Replay:
         self.lab, self.events = lab, events
         self.links = {labs.ordered(link) for link in lab.links}
         self.registers = {node.id: (node.p, node.m) for node in lab.nodes}
-        self.place = self.number = 0  # at which the part at hand begins
-        self.now = (0, 0)  # place and number after the last event that was answered
+        self.place = self.number = 0  # the place and number at which the current part begins
+        self.now = (0, 0)  # the place and number after the last event that was answered
 
     def ask(self, script: Script, event: Event | None, named: set[int]) -> None:
         """Appends further requests to the script after an event, or at the beginning if it is None. `named` has the

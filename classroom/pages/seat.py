@@ -81,7 +81,7 @@ class Seat:
         self.turn = threading.Lock()
         self.end_reason = ""  # why the connection has ended, or empty as long as it is open
         self.looks: Looks = {}  # the last look at each node
-        self.drawing: Seen | None = None  # of the part that the looks show
+        self.drawing: Seen | None = None  # the drawing of the part of the network that the looks show
         self.shown: dict[str, Any] = {}  # what `present` returned last
 
     def ask_server(self, ask: Callable[[], Told]) -> Told:

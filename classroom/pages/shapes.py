@@ -16,12 +16,12 @@ from itertools import accumulate, pairwise
 from classroom.core.networks import Links, neighbours, steps_from
 from classroom.pages.springs import Point, by_springs, stretched
 
-TURNS = 1200  # parts of an ellipse by which it is measured
+TURNS = 1200  # the number of parts into which an ellipse is divided to measure its length
 MOST_WIDE = 1.7  # how many times wider than high an ellipse is
-ROW_APART = 1.6  # between two rows of a path, if two of its nodes are 1 apart
-LAYER_APART = 0.6  # between two layers of a tree, at least
-HUB_ROOM = 0.24  # of an ellipse around a hub: what is free on its right, for the hub's label
-DENSE = 4  # links for each node above which a network that is no other shape stands on an ellipse
+ROW_APART = 1.6  # the distance between two rows of a path whose neighbouring nodes are 1 apart
+LAYER_APART = 0.6  # the least distance between two layers of a tree
+HUB_ROOM = 0.24  # the share of an ellipse around a hub that stays free on the right, for the hub's label
+DENSE = 4  # the number of links for each node above which a network of no other shape is drawn on an ellipse
 Near = dict[int, list[int]]
 Points = dict[int, Point]
 

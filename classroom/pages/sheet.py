@@ -9,10 +9,10 @@ from classroom.pages.drawing import KEY_HIGH, Drawing
 from classroom.pages.frames import Frame
 from classroom.pages.layout import CELL
 
-ACROSS = 3  # in a row
+ACROSS = 3  # the number of drawings in a row
 TITLE = 24.0  # the height of the line above a configuration
 OWN = "svg text.title { font-size: 14px; font-weight: 700; text-anchor: middle; }"
-ARROW = re.compile("<defs>.*?</defs>", re.DOTALL)  # all of them use one
+ARROW = re.compile("<defs>.*?</defs>", re.DOTALL)  # the definition of arrows, of which one serves all drawings of the sheet
 
 
 def sheet(drawing: Drawing, frames: list[Frame], theme: str = colours.LIGHT) -> str:

@@ -15,17 +15,17 @@ from operator import mul
 
 from classroom.core.networks import Links, neighbours, steps_from
 
-FEW_NODES = 80  # up to which each node is pulled by each other one
-PIVOTS = 40  # by which each node is pulled in a larger network
-TURNS = 60  # of the power method, and of the majorization
-APART = 0.05  # by which nodes are parted that the plane has at one point
-LEAST = 0.62  # between two nodes, if a link is 1 long
-PUSHES = 80  # by which nodes that are closer are pushed apart
-MOST_STRETCHED = 1.45  # how many times wider a drawing is made, so that it fills its field
+FEW_NODES = 80  # the most nodes of a network in which each node is pulled by each other one
+PIVOTS = 40  # the number of nodes by which each node of a larger network is pulled
+TURNS = 60  # the number of rounds of the power method, and of the majorization
+APART = 0.05  # the distance by which nodes that are at one point are moved apart
+LEAST = 0.62  # the least distance between two nodes, if a link is 1 long
+PUSHES = 80  # the most rounds in which nodes that are too close are pushed apart
+MOST_STRETCHED = 1.45  # how many times wider a drawing may be made to fill its field
 Point = tuple[float, float]
 Rows = list[list[float]]
-Pull = tuple[int, float, float]  # by which node, at which distance, with which weight
-# Points that were found before, by nodes and links.
+Pull = tuple[int, float, float]  # the index of the node that pulls, the distance that it pulls to, and the weight of the pull
+# The points of layouts that were computed earlier, by the nodes and links of a network.
 KNOWN: dict[tuple[tuple[int, ...], tuple[tuple[int, int], ...]], dict[int, Point]] = {}
 
 
@@ -47,7 +47,7 @@ def searched(nodes: tuple[int, ...], links: tuple[tuple[int, int], ...]) -> dict
         for index in range(len(points)):
             points[index] = new_place(points, pulls[index], index)
     points = pushed_apart(levelled(points))
-    # The lowest identifier stands above on the left.
+    # The node with the lowest identifier is put in the upper left.
     across, down = (-1.0 if coordinate > 0 else 1.0 for coordinate in points[0])
     return {node: (across * x, down * y) for node, (x, y) in zip(nodes, points)}
 

@@ -31,7 +31,7 @@ class TwoAddresses(Web):
         super().__init__(port, asked, title)
         self.looks, self.acts = looks or new_token(), new_token()
         self.leaving = threading.Condition()
-        self.receiving = 0  # pages that receive the news
+        self.receiving = 0  # the number of pages that receive the news
 
     @property
     def address(self) -> str:

@@ -14,13 +14,13 @@ from typing import Any, TypeVar
 
 from classroom.core.program import first_free
 
-KEPT = 8192  # bytes of news that wait for a page
-CONNECTIONS = 32  # at a time
-BACKLOG = 128  # connections that wait to be taken
+KEPT = 8192  # the most bytes of news that wait for a page
+CONNECTIONS = 32  # the most connections at a time
+BACKLOG = 128  # the most connections that wait to be accepted
 ASKING = 5.0  # seconds in which a request has to be there
 TAKING = 5.0  # seconds in which an answer has to be taken, and of news each piece
-DIGITS = 6  # of a size
-LONGEST = 300  # characters of an error
+DIGITS = 6  # the most digits of a body's size
+LONGEST = 300  # the most characters of an error that are printed
 POLICY = "default-src 'none'; connect-src 'self'; base-uri 'none'; form-action 'none'; frame-ancestors 'none'"
 Opened = TypeVar("Opened", bound="Web")
 

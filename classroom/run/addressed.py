@@ -14,7 +14,7 @@ OWN = {
     f"{RESUME} NETWORK": "go on with a network whose server or desk is gone",
     f"{END} NETWORK": "end a network; of one that is down, give it up",
 }
-BARE = {word for word, it in WORDS.items() if not it.form} | {RESUME}  # the words that the network may follow
+BARE = {word for word, it in WORDS.items() if not it.form} | {RESUME}  # the commands after which the name of a network may stand
 NAMING = {word for word, it in WORDS.items() if it.form == "NAME"}  # the words for one student
 HOW = "put a network's number or name before a command (`2 shake 3`, `maths-2: close`), or after a command without values (`close 2`); " \
       "with `all`, or without a network, the command is for every network"

@@ -14,13 +14,13 @@ from classroom.core import lab as labs
 from classroom.core.bench import TEACHER, Bench
 from classroom.run.daemons import Daemon, Search
 
-# Which rule's move comes first by the schedule: pairs come as late as can be, and all who may court a node do so before.
+# The order of the rules in the schedule: pairs form as late as possible, after all seductions of a node.
 ORDER = {"abandonment": 0, "update": 1, "seduction": 2, "marriage": 3}
 HIGHEST = ("seduction", "marriage")  # rules of which the highest node is next, and of the others the lowest
-FIRST = 7  # of the nodes that may move, how many are tried
-STEPS = 32_000  # that are tried for a choice, all ways and nodes of the network together
+FIRST = 7  # how many of the nodes that may move are tried
+STEPS = 32_000  # the most steps that are tried for a choice, over all ways and nodes of the network
 Partner = Callable[[Sequence[int]], int]
-USED = 0.5  # of a program's events, after which another one is begun
+USED = 0.5  # the share of a program's events after which another program is started
 
 
 def scheduled(rules: Mapping[int, str], nodes: Sequence[int]) -> int:

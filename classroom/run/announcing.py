@@ -20,9 +20,9 @@ from classroom.marks.comeback import Comeback, Recount
 from classroom.run import wording
 from classroom.run.following import Follower, News
 
-MOST_TOLD = 0.9  # of the limit of events, from which on it prints what is left
-MOST_WAITING = 8  # nodes that are named while the class waits for more
-LOOKS, PAUSE = 30, 0.1  # how often it is looked what the server says of the journal, and seconds between
+MOST_TOLD = 0.9  # the share of the limit of events from which on the events that are left are printed
+MOST_WAITING = 8  # the most nodes that are named of those for which the class waits
+LOOKS, PAUSE = 30, 0.1  # how often the server's output is read for the reason of a lost journal, and seconds between
 
 
 def report_line(report: Report) -> str:
@@ -48,9 +48,9 @@ class Announcer:
         self.go_on = f"{CLASS} run --resume {folder}"
         self.told_waiting: list[str] = []
         self.over = ""
-        self.lost_journal: Callable[[], str] = str  # What became of the journal's file, as the server says.
+        self.lost_journal: Callable[[], str] = str  # Returns the server's text about a journal that can't be written.
         self.comeback = Comeback(lab)
-        self.edits: list[Event] = []  # that weren't printed yet
+        self.edits: list[Event] = []  # the links and cuts that weren't printed yet
 
     def announce_resumed(self) -> None:
         """Counts the present recovery along the past events, and prints the configuration from which the class

@@ -20,7 +20,7 @@ from classroom.run.run import add_desk_words, check_stand_in
 from classroom.run.server import Server
 from classroom.run.teller import Teller
 
-PATIENCE = 60.0  # seconds in which a `run` without its terminal leaves the desk
+PATIENCE = 60.0  # seconds that a `run` without its terminal has to leave the desk
 
 
 def add_words(words: argparse.ArgumentParser) -> None:

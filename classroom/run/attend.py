@@ -28,9 +28,9 @@ from classroom.run.typed import HUNG, LEAVE, NOW, Typed
 
 TICK = 0.1
 LITTLE = 65536  # the number of free bytes below which a disk has little room
-PROBE = bytes(512)  # what is written, and taken back, to see whether the disk takes it
+PROBE = bytes(512)  # the bytes that are written and removed again to check whether the disk has room
 AGAIN = 1.0  # seconds between two checks of the disk
-LINE = 101  # bytes of a journal's line at most
+LINE = 101  # the most bytes of a journal's line
 
 
 def pause(how: Closing) -> float:

@@ -10,7 +10,7 @@ from classroom.core.statuses import FAILED
 from classroom.run.daemons import Daemon, daemon
 
 Closing = Daemon
-SECONDS = 2.0  # of a word that names none
+SECONDS = 2.0  # the seconds of a command that has no number of seconds
 mode = daemon
 
 

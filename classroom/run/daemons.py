@@ -12,7 +12,7 @@ from dataclasses import dataclass
 FORMS = "central, synchronous, random:P, schedule, adversary, when-idle:SECONDS, every:SECONDS, by-hand"
 PLAIN = ("central", "synchronous", "schedule", "adversary", "by-hand")
 SEARCHING = ("schedule", "adversary")  # the daemons that make a run long
-Search = Callable[[Sequence[int]], list[int]]  # the choice of such a daemon among nodes that may move
+Search = Callable[[Sequence[int]], list[int]]  # a function that returns the nodes that such a daemon chooses among those that may move
 
 
 @dataclass(frozen=True)

@@ -41,10 +41,10 @@ class Desk:
         self.house: House | None = None
         self.heard: Heard | None = None
         self.clock: Clock | None = None
-        self.names = ShownNames({})  # what the pages show for students
+        self.names = ShownNames({})  # the names that the pages show for students
         self.keep_state: Callable[[], None] | None = None  # writes the state that the desk of a class reads
         self.asked_to_end = False
-        self.lost = ""  # Why the desk was lost, until it is held again.
+        self.lost = ""  # Why the connection at the desk was lost, or empty while there is one.
         self.actions: dict[Action, Callable[[str, list[str]], None]] = {
             Action.ASK: self.ask,
             Action.REPORT: lambda *_: self.tell_report(),
@@ -149,7 +149,7 @@ class Desk:
             self.announcer.tell_waiting()
         except Refused as refused:
             if refused.word not in ("full", "journal"):
-                return  # It is asked for again.
+                return  # A later refusal is temporary, so the close is asked for again.
             self.read()
             self.announcer.end_by(refused.word)
 

@@ -14,8 +14,8 @@ from classroom.core.journal import Event, events
 from classroom.core.lab import Lab
 from classroom.core.present import Book
 
-TORN = 3.0  # seconds in which the rest of a line comes, if it does
-ASKED, PAUSE = 50, 0.1  # how often the first report is asked for, and seconds between
+TORN = 3.0  # seconds after which a line of the journal without its end counts as torn
+ASKED, PAUSE = 50, 0.1  # how often the first report is asked for at most, and seconds between
 
 
 def first_report(client: Client) -> Report:
@@ -55,11 +55,11 @@ class Follower:
         self.journal = journal.open("rb")
         self.book = Book([*lab.without_house().students])
         self.rest = b""
-        self.torn_since = 0.0  # when bytes came last
+        self.torn_since = 0.0  # the time of the last bytes of an incomplete line
         self.news_came = time.monotonic()
         self.report = first_report(client)
-        self.is_old = False  # The report wasn't given when it was last asked for.
-        self.last_step = 0  # its place
+        self.is_old = False  # Whether the server refused the last request for a report.
+        self.last_step = 0  # the place of the last step in the journal
         self.count = 0
         self.past: list[Event] = []
 

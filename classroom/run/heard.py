@@ -19,24 +19,24 @@ from classroom.core.program import Fault
 from classroom.core.record import CUT, ENDED, PAUSED, RESUMED, Entry, Reader, seats
 
 PAUSE = 1.0  # seconds between two looks
-MOST = 1 << 20  # bytes of a seat that are read at one look
-VAIN = 10  # denials of a kind since the last step from which on they are printed
-FLOOD = 100.0  # lines a second
-FEW = 4  # students who came or went since the last look and have a line each
+MOST = 1 << 20  # the most bytes of a seat's file that are read at one look
+VAIN = 10  # how many denials of a kind a student gets in a step before a line about them is printed
+FLOOD = 100.0  # how many lines a second of a student count as a flood
+FEW = 4  # the most students who came or went since the last look that get a line each
 NOBODY = "someone without a name"
 OTHERS = "names that aren't in the lab"
 MALFORMED = "malformed"
 OVER = ("full", "journal")
-DESK = 1  # the seat of who holds the desk
+DESK = 1  # the number of the desk's seat
 
 
 @dataclass
 class Seat:
     """A seat's file as it grows, and the name that its connection has greeted with."""
 
-    at: int = 0  # How many of its bytes were read.
+    at: int = 0  # How many bytes of the seat's file were read.
     reader: Reader = field(default_factory=Reader)
-    name: str | None = None  # Who is known there.
+    name: str | None = None  # The name that the connection has greeted with.
 
     def grown(self, path: Path) -> bytes:
         """Returns the bytes that the file at a path has gained since the last read, at most MOST. Returns none if it
@@ -71,17 +71,17 @@ class Heard:
         """Follows the record in a folder, from its beginning. The lab names the students."""
         self.folder, self.lab = folder, lab
         self.seats: dict[Path, Seat] = {}
-        self.wrong: Counter[str] = Counter()  # wrong keys, by the name that was given
-        self.vain: dict[tuple[str, str], Counter[int]] = defaultdict(Counter)  # by name and word, how many at a place
-        self.told: Counter[tuple[str, str]] = Counter()  # how many were printed of what
-        self.lines: Counter[str] = Counter()  # since the last look
-        self.floods: dict[str, int] = {}  # who floods, with the lines a second that were printed
+        self.wrong: Counter[str] = Counter()  # the number of wrong keys, by the name in the hello
+        self.vain: dict[tuple[str, str], Counter[int]] = defaultdict(Counter)  # by name and word: denials at each place
+        self.told: Counter[tuple[str, str]] = Counter()  # the counts that were last printed, by their subject
+        self.lines: Counter[str] = Counter()  # the number of lines of each student since the last look
+        self.floods: dict[str, int] = {}  # the students who flood, with the lines a second that were last printed
         self.cut: list[str] = []
-        self.shown: Counter[str] = Counter()  # whose connections were printed
+        self.shown: Counter[str] = Counter()  # the number of connections of each student that were printed
         self.step = 0
         self.came = False  # Whether a student has greeted.
         self.students = lab.without_house().students.keys()
-        self.over = ""  # `full` or `journal`, where somebody was refused so: nothing more is granted
+        self.over = ""  # `full` or `journal` once a line was refused so, since then nothing more is granted
         self.due = self.last = time.monotonic()
 
     def catch_up(self, step: int) -> None:

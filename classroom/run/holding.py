@@ -42,7 +42,7 @@ from classroom.run.taking import Left, take_desk
 from classroom.run.teller import Teller, is_private
 from classroom.run.typed import HELP, HUNG, LEAVE, NOW, Terminal, Typed, read_lines
 
-LATE = 10.0  # seconds after which it prints that the server's end is waited for
+LATE = 10.0  # seconds after which a line says that `run` waits for the server's end
 SIGNALS = {signal.SIGINT: NOW, signal.SIGTERM: NOW, signal.SIGHUP: HUNG, signal.SIGUSR1: LEAVE}
 
 
@@ -59,14 +59,14 @@ class Running:
     takes_lines: bool
     tell: Teller
     play: int | None = None
-    goes_on: bool = False  # Whether it had begun before.
-    by_number: bool = False  # Whether its server is one for a number of connections.
-    stand_in: float | None = None  # seconds after which the house plays
-    looks: str | None = None  # The token of the page's address to look at, if it had one before.
-    played: list[str] = field(default_factory=list)  # for whom the house plays at once
+    goes_on: bool = False  # Whether the run is one that began earlier and continues.
+    by_number: bool = False  # Whether the server was started for a number of connections.
+    stand_in: float | None = None  # seconds that the class waits for a node before the house plays it
+    looks: str | None = None  # The token in the address at which people watch the page, if the run had one already.
+    played: list[str] = field(default_factory=list)  # the names of the students for whom the house plays at once
     ends: datetime | None = None  # when the lesson ends
     anonymous: bool = False  # Whether the pages show numbers in place of names.
-    door: str | None = None  # The folder of the door that leads here.
+    door: str | None = None  # The folder of the door that leads to the run.
     typed: Typed = field(default_factory=queue.SimpleQueue)
     pages: projector.Pages | None = None
     hands: by_hand.PlayServer | None = None
@@ -284,7 +284,7 @@ def wait_for_server(it: server.Server, run: Running) -> bool:
     if it.has_ended(LATE):
         return True
     while not run.typed.empty():
-        run.typed.get()  # What was typed before isn't meant so.
+        run.typed.get()  # Lines that were typed earlier don't answer this question.
     run.tell(f"waiting until the server ends, process {it.process.number}; type `end` to stop waiting")
     while not it.has_ended(TICK):
         if not run.typed.empty() and run.typed.get() in (NOW, "end"):

@@ -10,8 +10,8 @@ from classroom.core.journal import Event
 from classroom.core.lab import HOUSE, Lab
 from classroom.core.program import Fault
 
-LIMIT = 5.0  # seconds that an answer may take
-AGAIN = 2.0  # seconds after which it comes again if it wasn't let in
+LIMIT = 5.0  # seconds that the server's answer may take
+AGAIN = 2.0  # seconds after which the house connects again if no seat was free
 WAITS = "the house waits for a first student"
 HOW = "`./class new` with --stand-in makes a lab in which the house is the second owner of each node"
 
@@ -35,8 +35,8 @@ class House:
         self.held = set(lab.held())
         self.students = {name: self.held.intersection(nodes) for name in lab.without_house().students if (nodes := lab.nodes_of(name))}
         self.played, self.keep = {name for name in played if name in self.students}, keep
-        self.since: dict[int, float] = {}  # when the class began to wait for a node
-        self.begun = False  # Whether somebody came for whom it could be too early.
+        self.since: dict[int, float] = {}  # for each node, the time from which the class waits for it
+        self.begun = False  # Whether a student has come, until whom the house waits.
         self.again = 0.0
         self.told_busy = False
 

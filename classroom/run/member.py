@@ -27,7 +27,7 @@ from classroom.core.statuses import FAILED
 Child = subprocess.Popen[str]
 News = queue.SimpleQueue[Callable[[], None]]
 READY = "words: "
-# What a run prints while it starts, by what the class's table has of it.
+# The lines that a run prints while it starts, by the names of the facts in them.
 FACTS = {
     "port": re.compile(r"port (\d+), .*"), "page": re.compile(r"page (http\S+)"), "act": re.compile(r"page to act (http\S+)"),
     "play": re.compile(r"page to play (http\S+)"), "play_from": re.compile(r"page to play from elsewhere (http\S+)"),
@@ -35,7 +35,7 @@ FACTS = {
 }
 TOLD_IN_TABLE = ("slips: ", "desk ", READY, "page to act")
 DIED = re.compile(r"the server has ended.*|the server: .*|nothing more is granted: .*|class: .*")
-LEFT_OUT = re.compile(r"to go on: .*|the lesson .*|it is \d\d:\d\d: .*")  # The class's desk says that itself, once.
+LEFT_OUT = re.compile(r"to go on: .*|the lesson .*|it is \d\d:\d\d: .*")  # The class's desk prints such a line itself, once for all networks.
 
 
 def environment() -> dict[str, str]:
@@ -50,18 +50,18 @@ class Member:
     number: int
     network: Network
     folder: Path
-    lab: Lab  # without the house
-    more: list[str]  # The words that its run is started with.
+    lab: Lab  # the lab without the house
+    more: list[str]  # The arguments with which the run is started.
     news: News
     child: Child | None = None
-    facts: dict[str, str] = field(default_factory=dict)  # what its process said while it started
-    wanted: set[str] = field(default_factory=set)  # what it says before it has started
+    facts: dict[str, str] = field(default_factory=dict)  # the values in the lines that the process printed while it started, by their names
+    wanted: set[str] = field(default_factory=set)  # the names of the facts that the process prints before it has started
     status: str = STARTS
     alarm: str = ""
-    code: int = 0  # The exit status of its last process.
-    why: str = ""  # What its process said of its end.
-    begun: bool = False  # Whether its process has said that it takes words.
-    has_desk: bool = False  # Whether a process ever held its desk.
+    code: int = 0  # The exit status of the network's last process.
+    why: str = ""  # The reason that the process gave for its end.
+    begun: bool = False  # Whether the process has printed that it accepts commands.
+    has_desk: bool = False  # Whether a process ever held the network's desk.
 
     @property
     def name(self) -> str:

@@ -7,7 +7,7 @@ from classroom.core.class_state import DOWN, RUNS, NetworkState
 from classroom.core.counts import plural
 
 NONE = "-"
-MOST_NAMED = 3  # students who are missing
+MOST_NAMED = 3  # the most missing students that are named
 
 
 def aligned(rows: Sequence[Sequence[str]]) -> list[str]:

@@ -19,7 +19,7 @@ from classroom.run.desk import Desk
 from classroom.run.heard import Heard
 from classroom.setup import rekey
 
-PATIENCE = 60.0  # seconds in which a killed process is gone
+PATIENCE = 60.0  # seconds that a killed process has to disappear
 
 
 def renew(folder: Path, lab: labs.Lab, it: server.Server, desk: Desk, name: str) -> None:

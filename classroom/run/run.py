@@ -20,7 +20,7 @@ from classroom.run.several import side_by_side
 from classroom.run.teller import Teller
 from classroom.setup.slips import FIRST_PAGE, FIRST_PORT, Way, page_of
 
-PLAY = FIRST_PAGE  # the port of the page to play by
+PLAY = FIRST_PAGE  # the port of the page on which students play
 CLOSING = closing.closing("when-idle:2")
 
 
@@ -82,7 +82,7 @@ def run_lab(words: argparse.Namespace) -> int:
     if not words.beside:
         refuse_second_run(into, lab_file)
     folder = new_folder(into, lab_file)
-    (folder / "lab.toml").touch(0o600)  # It has keys.
+    (folder / "lab.toml").touch(0o600)  # The file has keys, so only its owner may read it.
     (folder / "lab.toml").write_bytes(lab_file.read_bytes())
     run = Running(folder, lab_file, lab, words.close or CLOSING, words.until, words.page, words.typed, Teller(folder),
                   words.play, by_number=words.serve, stand_in=words.stand_in, ends=ends, anonymous=words.anonymous)
@@ -177,7 +177,7 @@ def run(words: argparse.Namespace) -> int:
     if words.rooms and len(words.labs) < 2:
         raise Fault("run: --rooms needs several labs")
     if words.door is not None and words.play is None:
-        words.play = PLAY  # The slips lead there.
+        words.play = PLAY  # The addresses on the slips have this port.
     if words.resume:
         return resume(words)
     ways = [Way.read(Path(lab)) for lab in words.labs]

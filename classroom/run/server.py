@@ -32,7 +32,7 @@ class Server:
     hosted: bool
     output: Path
     child: subprocess.Popen[bytes] | None = None  # None where another process has started it.
-    first: socket.socket | None = None  # The first connection at the desk, until it is greeted over.
+    first: socket.socket | None = None  # The first connection at the desk, until the hello on it is sent.
 
     def has_ended(self, seconds: float = 0.0) -> bool:
         """Returns whether the process has ended. Waits for that at most so many seconds."""

@@ -54,7 +54,7 @@ class Several:
         self.from_elsewhere = ""  # the address of the page for all through the door
         self.lines: list[str] = []
         self.is_told = False  # Whether the table was printed.
-        self.is_left = False  # Whether another process takes over the desks.
+        self.is_left = False  # Whether another process takes the desks.
         self.reminded = self.looked = time.monotonic()
 
     def say(self, line: str, private: bool = False) -> None:
@@ -145,7 +145,7 @@ class Several:
         try:
             indices, rest = addressed.addressed(line, self.names)
         except ValueError:
-            return  # The page names networks that are there; another program may name others.
+            return  # The page sends only names of networks that exist, but another program may send any.
         for index in indices:
             if rest == addressed.END and self.members[index].status in (STARTS, RUNS):
                 self.members[index].terminate()
@@ -175,7 +175,7 @@ class Several:
         for line in start_table([member.shown() for member in self.members], play):
             self.say(line)
         if self.hall is not None:
-            self.hall.show(self.state(False), self.state(True))  # Who opens it sees all networks at once.
+            self.hall.show(self.state(False), self.state(True))  # Whoever opens the page sees all networks at once.
             self.say(f"page for all {self.hall.address}")
             if self.from_elsewhere:
                 self.say(f"page for all from elsewhere {self.from_elsewhere}")
@@ -380,7 +380,7 @@ def side_by_side(words: argparse.Namespace) -> int:
         raise Fault("steps of several labs are closed by time (--close every:SECONDS or when-idle:SECONDS), or by what you type (--typed)")
     require_ports(words, len(words.labs))
     server.require_built(words.serve)
-    end_of(words.ends)  # A time that is over ends this before anything is made, as does a lab that is refused.
+    end_of(words.ends)  # A time that has passed raises an error before anything is made, as does a lab that is refused.
     networks, news = networks_of(words), News()
     members = members_of(Path(), networks, words, news)
     folder = begun(Path(words.into), networks)

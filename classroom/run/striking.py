@@ -12,7 +12,7 @@ from classroom.run.closing import SECONDS, Closing
 from classroom.run.daemons import Sight, applied
 from classroom.run.desk import Desk
 
-LOOKS = 5  # at what was granted meanwhile
+LOOKS = 5  # how often the moves that were granted meanwhile are checked for
 
 
 class Striker:

@@ -11,10 +11,10 @@ from collections.abc import Callable
 from classroom.core.desk_words import PATTERNS, WORDS
 
 Typed = queue.SimpleQueue[str]
-NOW = "\x03"  # Ends the run at once, as a signal does.
-EOF = "\x04"  # Ctrl-D.
-HUNG = "\x01"  # The terminal went away.
-LEAVE = "\x02"  # Another process takes the desk.
+NOW = "\x03"  # The text that ends the run at once, as a signal does.
+EOF = "\x04"  # The text of Ctrl-D.
+HUNG = "\x01"  # The text that says that the terminal was closed.
+LEAVE = "\x02"  # The text that says that another process takes the desk.
 FORMS = {word: f"{word} {it.form}".strip() for word, it in WORDS.items()}
 HELP = ", ".join(FORMS.values())
 
@@ -46,7 +46,7 @@ class Terminal:
 
     def __init__(self, words: list[str]) -> None:
         """`words` are offered as completions after the first word of a line."""
-        import readline  # Here alone: it writes to a terminal as it is loaded.
+        import readline  # Imported only here, since it writes to a terminal as it is loaded.
 
         self.words, self.readline = words, readline
         self.prompt = self.PROMPT

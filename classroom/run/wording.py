@@ -7,8 +7,8 @@ from collections.abc import Sequence
 from classroom.core.counts import plural
 from classroom.core.journal import Event
 
-MOST_MOVES = 6  # moves of a step that are printed one by one
-MOST_NODES = 6  # nodes that are named of many
+MOST_MOVES = 6  # the most moves of a step that are printed one by one
+MOST_NODES = 6  # the most nodes that are named
 KINDS = {"fault": "fault", "link": "link", "cut": "cut"}
 
 

@@ -27,10 +27,10 @@ KNOWN = {
     "node": ("id", "owner", "owners", "p", "m"),
 }
 MOST_LISTED = 8
-ENOUGH_BITS = 64  # of a key that somebody may have chosen
-ENOUGH_DRAWN = keys.bits_of(keys.WORDS_EACH, keys.DIGITS)  # of a key that was drawn by lot, as `new` does
-KINDS = (string.ascii_lowercase, string.ascii_uppercase, string.digits, string.punctuation)  # of a key's letters
-OTHERS = 128  # how many letters of no kind a key is taken to be drawn from
+ENOUGH_BITS = 64  # the bits that a key needs if a person may have chosen it
+ENOUGH_DRAWN = keys.bits_of(keys.WORDS_EACH, keys.DIGITS)  # the bits that a key needs if it was drawn by lot, as `new` does
+KINDS = (string.ascii_lowercase, string.ascii_uppercase, string.digits, string.punctuation)  # the kinds of characters of which a key is taken to be drawn
+OTHERS = 128  # how many characters a key is taken to be drawn from if one of its characters is of no kind
 
 
 def refused(path: Path, error: str) -> Iterator[str]:

@@ -25,9 +25,9 @@ class Value:
     """The value of a key, while it is read line by line until its brackets are closed. Its tables in braces are
     appended to a list."""
 
-    name: str = ""  # of the key
+    name: str = ""  # the name of the key
     tables: list[Table] = field(default_factory=list)
-    brackets: str = ""  # those that are open, the outermost first
+    brackets: str = ""  # the opening brackets that aren't closed, the outermost first
 
     def take(self, number: int, text: str) -> None:
         """Reads a line with this number, or the part of it after the key. Ignores tables within other tables in

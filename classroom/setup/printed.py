@@ -32,7 +32,7 @@ p { margin: 0 0 1.5mm; }
 .square { float: right; width: 30mm; height: 30mm; margin: 0 0 2mm 3mm; }
 @media screen { .sheet { max-width: 194mm; margin: 8mm auto; } }
 """
-EACH = 4  # slips a page
+EACH = 4  # the number of slips on a page
 NO_SQUARE = "The slips have no QR codes: qrencode isn't installed (Debian's package qrencode)."
 
 

@@ -9,7 +9,7 @@ from classroom.core.networks import neighbours, plain
 from classroom.core.program import Fault
 
 Registers = tuple[int, int | None, bool]
-LEAST = {"crowd": 4, "halves": 2}  # nodes
+LEAST = {"crowd": 4, "halves": 2}  # the least number of nodes of each such configuration
 
 
 def pairs_of(links: Iterable[Collection[int]]) -> list[tuple[int, int]]:

@@ -22,8 +22,8 @@ from tools.build.proving import Proving, at_once_of, jobs_of, processors
 from tools.build.running import Screen, Stopped, end_with_parent, raise_on_signals
 
 WRONG = re.compile(r"error|: (not proved|no proof)|NOT PROVED|run rt fmt|^rt: (FAILED|note|the disk)")
-MOST_SHOWN = 5  # lines of what went wrong
-ALONE = 0.2  # of a proof is done by one process, however many there are
+MOST_SHOWN = 5  # the most lines that are shown of a failure
+ALONE = 0.2  # the share of a proof that runs in one process, however many processors there are
 
 
 def say(line: str) -> None:

@@ -18,7 +18,7 @@ from pathlib import Path
 from tools.build.crates import TOP, Uses, lines
 
 PREFIX = "mml-build-"
-# What a proof reads of a crate, and what its program is run on.
+# The files of a crate that a proof reads, and the files that its program is run on.
 FOLDERS = ("src", "specs", "proofs", "data")
 FILES = ("stdin", "stdout", "args", "status")
 NOT_SOURCES = shutil.ignore_patterns(".*", "*~")

@@ -7,8 +7,8 @@ import math
 from tools.build.crates import Uses
 
 TRUST = 120.0  # seconds of work that have to be measured before they weigh as much as the table does
-NEAR = 0.9  # of the longest chain's time: a chain that is nearly as long is as urgent
-OVERRUN = 0.1  # of the time that a proof has taken is expected once more if it takes longer than the table says
+NEAR = 0.9  # the share of the longest chain's time from which on another chain is as urgent
+OVERRUN = 0.1  # the share of the time of a proof so far that is still expected once it takes longer than in the table
 
 
 def chains(crates: Uses, seconds: dict[str, float]) -> dict[str, float]:

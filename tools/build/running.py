@@ -17,8 +17,8 @@ from tools.build.progress import Progress
 
 ENDING = (signal.SIGINT, signal.SIGTERM, signal.SIGHUP)
 PR_SET_PDEATHSIG = 1
-PATIENCE = 10.0  # seconds that `rt ci` has to end once it was asked to
-LATER = 5  # how much nicer a proof is that the longest chain doesn't wait for
+PATIENCE = 10.0  # seconds that `rt ci` has to end after a signal
+LATER = 5  # the niceness that is added to a proof for which the longest chain doesn't wait
 WIDE = Path(__file__).with_name("wide.py")
 PROVER = "rattle"  # the name of a process that proves
 PROVED = re.compile(r"^rt: (\w+) (?:proved|(is kept): .*)$", re.MULTILINE)

@@ -123,7 +123,7 @@ def check(stages: Stages, left_out: list[str], room: Path) -> int:
     crew, count = Crew(room, processors), Count(left_out)
     try:
         HANDLER.begin()
-        room.chmod(0o711)  # `rt ci` runs programs as nobody, in folders below.
+        room.chmod(0o711)  # `rt ci` runs programs as the user nobody, in folders below this one.
         begin(stages, processors)
         run(stages, crew, count)
         return count.close(crew)

@@ -13,7 +13,7 @@ from pathlib import Path
 from tools.check.processes import adopt_orphans, end_all, end_with_parent
 from tools.check.signals import ALL
 
-PATIENCE = 8.0  # seconds that processes of a check that was killed have to clear up
+PATIENCE = 8.0  # seconds that the processes of a killed check have to clear up
 
 
 def guarded(work: Callable[[Path], int]) -> int:
@@ -47,7 +47,7 @@ def work_below(guard: int, room: Path, work: Callable[[Path], int]) -> None:
         signal.pthread_sigmask(signal.SIG_UNBLOCK, ALL)
         status = work(room)
         sys.stdout.flush()
-    except BrokenPipeError:  # Whoever read the output has enough of it.
+    except BrokenPipeError:  # The reader of the output has closed it.
         status = 1
     except BaseException:
         sys.excepthook(*sys.exc_info())

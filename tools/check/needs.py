@@ -16,7 +16,7 @@ from pathlib import Path
 from tools.check.parts import TOP, Part
 
 APT = ("apt-get", "-y", "-o", "DPkg::Lock::Timeout=600", "--no-install-recommends")
-NEVER_INSTALLED = "openssh-server"  # Its installation would start a server.
+NEVER_INSTALLED = "openssh-server"  # a package that is never installed, since its installation would start a server
 
 
 @dataclass(frozen=True)
@@ -26,7 +26,7 @@ class Need:
     what: str
     is_there: Callable[[], bool]
     packages: tuple[str, ...] = ()
-    is_a_must: bool = False  # Without it a check says nothing, so that its parts fail.
+    is_a_must: bool = False  # Whether parts fail without it, since their result would mean nothing.
 
 
 def on_path(*programs: str) -> Callable[[], bool]:

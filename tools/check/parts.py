@@ -9,7 +9,7 @@ from dataclasses import dataclass, replace
 from pathlib import Path
 
 TOP = Path(__file__).resolve().parents[2]
-ALL = 1_000_000  # wider than any machine: such a part runs alone
+ALL = 1_000_000  # a width that is more than the processors of any machine, so that the part runs alone
 
 
 @dataclass(frozen=True)
@@ -21,11 +21,11 @@ class Part:
     work: float  # processor minutes
     least: float  # minutes of the clock, however many processors there are
     width: float = 1  # how many processors it keeps busy: less than one if it mostly waits
-    needs: tuple[str, ...] = ()  # names of `needs.NEEDS`
-    likes: tuple[str, ...] = ()  # what a few of its tests need, which are left out without it
-    shows: str = ""  # the lines of its output that are shown as they come
-    hands_on: str = ""  # what in its lines is written to the parts beside, which get no more once it has ended
-    is_beside: bool = False  # whether it runs from the beginning on, beside the others, with what they leave idle
+    needs: tuple[str, ...] = ()  # names in `needs.NEEDS` of programs without which the part can't run
+    likes: tuple[str, ...] = ()  # names of programs that only some of the part's tests need, which are left out without them
+    shows: str = ""  # a pattern of the lines of its output that are shown as they come
+    hands_on: str = ""  # a pattern whose group is passed to the parts that run beside it, until it ends
+    is_beside: bool = False  # whether it runs from the beginning on, on the processors that all other parts leave idle
 
     def minutes(self, processors: int) -> float:
         """Returns the expected minutes of the part on so many processors."""

@@ -15,7 +15,7 @@ import tempfile
 from tools.check.parts import TOP
 
 # Files whose modules have names of their own, and programs that aren't modules of this tree: one call each.
-EXAMPLES_PYTHON = "3.10"  # from which on a student's client and bot run
+EXAMPLES_PYTHON = "3.10"  # the oldest version of Python on which a student's client and bot run
 CALLS = (("class", "bench", "classroom", "model", "tests", "tools"), ("check",), ("examples",), ("--python-version", EXAMPLES_PYTHON, "examples/bot.py"),
          ("--python-version", EXAMPLES_PYTHON, "student/bot.py"), ("--python-version", EXAMPLES_PYTHON, "classroom-client/building.py"))
 

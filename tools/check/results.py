@@ -6,7 +6,7 @@ from dataclasses import dataclass
 
 from tools.check.running import Done
 
-SUM = re.compile(r"(\d+) passed, (\d+) failed(?: \(.*\))?")  # `rt ci` says of some crates that they aren't all.
+SUM = re.compile(r"(\d+) passed, (\d+) failed(?: \(.*\))?")  # For some crates, a note in parentheses follows.
 
 
 @dataclass(frozen=True)

@@ -30,9 +30,9 @@ from tools.wrong.libraries import LibraryFault, Tree, tree_at
 
 TOP = Path(__file__).resolve().parents[2]
 PROGRAM = "mml_host"
-TESTS = ("mml_tests", "mml_fakes")  # how the names of crates begin that are tests
-LIMIT = 900.0  # seconds of a test
-LAST = 300  # characters of what a test says last
+TESTS = ("mml_tests", "mml_fakes")  # the beginnings of the names of crates that are tests
+LIMIT = 900.0  # seconds that a test may take
+LAST = 300  # how many of the last characters of a test's output are kept
 
 
 def words() -> argparse.Namespace:

@@ -4,7 +4,7 @@ from __future__ import annotations
 import re
 from collections.abc import Iterator
 
-# How lines of a body begin that are no code.
+# The beginnings of lines of a body that aren't code.
 ASIDE = ("//", "#", "ghost ", "invariant ", "measure ")
 STRING = re.compile(r'b?"(?:[^"\\]|\\.)*"')
 NUMBER = re.compile(r"(?<![\w.])\d+(?=(?:[iu](?:8|16|32|64)|usize)?(?![\w.]))")

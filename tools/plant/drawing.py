@@ -126,7 +126,7 @@ def asked(tree: Tree, crate: str, drawn: list[list[Plant]], kept: str, running: 
         if told.ending is None and len(tried) > 1:
             todo += [tried[: len(tried) // 2], tried[len(tried) // 2 :]]
             continue
-        # (such a plant's function calls one that another plant changes)
+        # Such a plant's function calls a function that another plant changes.
         resting = [plant for plant in tried if plant.function in told.resting and verdict(plant.function, told) == UNDECIDED]
         again = resting if len(resting) < len(tried) else []
         todo.append(again)

@@ -33,7 +33,7 @@ def keep_library(tree: Tree, crate: str) -> None:
         return
     try:
         shutil.copytree(tree.left(crate), tree.library(crate), copy_function=os.link)
-    except OSError:  # (another disk)
+    except OSError:  # The folders are on different disks.
         shutil.rmtree(tree.library(crate), ignore_errors=True)
         tree.library(crate).symlink_to(tree.left(crate))
 

@@ -13,12 +13,12 @@ from pathlib import Path
 from tools.wrong.edits import Round
 from tools.wrong.libraries import Tree, check_words
 
-# What a check of one of the larger crates may hold in memory.
+# The bytes of memory that a check of a large crate may need.
 MOST_HELD = 2_500_000_000
-# What proofs that run may still take of it.
+# The bytes of memory that running proofs may still take.
 LEFT_FREE = 4_000_000_000
 PAUSE = 1.0
-# A check is ended with this process too, however that ends.
+# A check ends with this process, however this process ends.
 WITH_THIS_PROCESS = ("setpriv", "--pdeathsig", "KILL")
 
 
@@ -102,7 +102,7 @@ def try_round(tree: Tree, crate: str, tried: Round, room: Path, running: Running
     words = check_words(tree, crate, tried.functions(), kept)
     try:
         ended = running.run(words, copy)
-        # (killed, most likely for running out of memory)
+        # The check was killed, most likely because memory ran out.
         return running.run(words, copy, is_alone=True) if ended.status == -signal.SIGKILL else ended
     finally:
         shutil.rmtree(copy, ignore_errors=True)

@@ -41,10 +41,10 @@ def hand_on(library: Path, to: Path) -> None:
         with listed.open(encoding="utf-8") as lines, modules.open("rb") as all_of_them:
             for line in lines:
                 name, begins, size = json.loads(line)
-                if "/" in name:  # (no module, but the sum of all)
+                if "/" in name:  # A name without a slash is that of the total, not of a module.
                     continue
                 all_of_them.seek(begins)
                 if (to / f"{name}.oantt").write_bytes(all_of_them.read(size)) != size:
                     raise ValueError(name)
-    except (ValueError, TypeError, OSError):  # (another form than this prover's, or no room)
+    except (ValueError, TypeError, OSError):  # The file has another form than this prover's, or the disk is full.
         shutil.rmtree(to)
