@@ -48,7 +48,7 @@ def connection_to(slip: Slip, number: int) -> socket.socket:
 
 def greet(slip: Slip, number: int) -> Client:
     """Returns a connection by a slip after its hello. If the class has no room, tries again each second, like a bot.
-    `number` is that of `connection_to`."""
+    `number` determines the address from which the student connects through a door."""
     while True:
         try:
             return Client(slip.port, slip.name, slip.key, limit=LIMIT, connection=connection_to(slip, number))
@@ -58,7 +58,7 @@ def greet(slip: Slip, number: int) -> Client:
 
 def play(slip: Slip, number: int, times: Times) -> None:
     """Plays the nodes of a slip until the class is over. Appends to `times` the seconds that each hello and each move
-    took. `number` is that of `connection_to`."""
+    took. `number` determines the address from which the student connects through a door."""
     begun = time.perf_counter()
     me = greet(slip, number)
     times.append(("hello", time.perf_counter() - begun))
@@ -164,7 +164,7 @@ def main() -> None:
 
 def run_class(desk: "subprocess.Popen[str]", room: Path, slips: list[tuple[int, Slip]], seconds: float) -> None:
     """Starts all bots, measures for so many seconds, ends the class, and prints how long hellos and moves took. `desk`
-    is the process of the class's desk."""
+    is the process of the class's desk, the folder `room` has the class, and each slip has the number of its student."""
     begun = time.monotonic()
     while "\nwords: " not in (room / "prints").read_text(encoding="utf-8"):
         if desk.poll() is not None:

@@ -37,6 +37,7 @@ class Signals:
                 signal.signal(number, self)
 
     def __call__(self, number: int, _: FrameType | None) -> None:
+        """Notes a signal and its time."""
         self.came, self.at = number, time.monotonic()
 
     def close(self) -> None:

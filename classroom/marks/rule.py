@@ -285,7 +285,7 @@ def truth(value: Value) -> bool | None:
 def conditional(condition: Expression, first: Expression, other: Expression) -> Expression:
     """Returns the expression `first if condition else other`."""
     def value(row: Row) -> Value:
-        """Returns the value for a row of marks."""
+        """Returns the value of the conditional expression for a row of marks."""
         holds = truth(condition(row))
         return None if holds is None else first(row) if holds else other(row)
 
@@ -295,7 +295,7 @@ def conditional(condition: Expression, first: Expression, other: Expression) -> 
 def logical(left: Expression, right: Expression, is_or: bool) -> Expression:
     """Returns the expression `left or right` or `left and right`. Its value is known if one side decides it."""
     def value(row: Row) -> Value:
-        """Returns the value for a row of marks."""
+        """Returns the value of the expression with `or` or `and` for a row of marks."""
         sides = truth(left(row)), truth(right(row))
         return is_or if is_or in sides else None if None in sides else not is_or
 
@@ -306,7 +306,7 @@ def negation(inner: Expression, is_negated: bool) -> Expression:
     """Returns the negation of an expression. If `is_negated` isn't set, returns the expression, whose value must then
     be a truth value."""
     def value(row: Row) -> Value:
-        """Returns the value for a row of marks."""
+        """Returns the value of the expression or of its negation for a row of marks."""
         holds = truth(inner(row))
         return None if holds is None else holds != is_negated
 
@@ -316,7 +316,7 @@ def negation(inner: Expression, is_negated: bool) -> Expression:
 def of_two(left: Expression, right: Expression, made: Callable[[Known, Known], Known]) -> Expression:
     """Returns the expression that applies `made` to the values of two expressions. It is unknown if one of them is."""
     def value(row: Row) -> Value:
-        """Returns the value for a row of marks."""
+        """Returns the result of `made` for a row of marks, or None if one of the two values is unknown."""
         one, other = left(row), right(row)
         return None if one is None or other is None else made(one, other)
 
@@ -355,7 +355,7 @@ def called(name: str, given: Sequence[Expression]) -> Expression:
     """Returns the expression that calls the function with that name on these arguments. Raises `Wrong` if it takes
     another number of arguments."""
     def value(row: Row) -> Value:
-        """Returns the value for a row of marks."""
+        """Returns the value of the call for a row of marks."""
         values = [each(row) for each in given]
         return None if None in values else FUNCTIONS[name]([number(each) for each in values])
 

@@ -267,6 +267,7 @@ class Ends(InTree):
 
     def test_one_whose_checking_process_is_killed(self) -> None:
         def kill_child_of(pid: int) -> None:
+            """Kills the only child of a process."""
             children = [below for below, it in processes().items() if it.parent == pid]
             self.assertEqual(len(children), 1)
             os.kill(children[0], signal.SIGKILL)

@@ -38,12 +38,14 @@ class Broken(Cycle):
 
     def test_kills_of_the_server_at_ten_moments(self) -> None:
         def typed(line: str, told: str) -> Callable[[Going], None]:
+            """Returns an act: types a line, and waits for the printed configuration that matches `told`."""
             def act(going: Going) -> None:
                 going.type(line)
                 going.until(f"^configuration \\d+: {told}")
             return act
 
         def move(name: str, node: int) -> Callable[[Going], None]:
+            """Returns an act: asks for the enabled move of a node, as one of its owners."""
             def act(going: Going) -> None:
                 with Client(going.port, name, KEYS[name]) as student:
                     student.move(student.look(node))
@@ -167,6 +169,7 @@ class Broken(Cycle):
     @unittest.skipUnless(host(), "not tried: no host is built")
     def test_a_journal_that_is_changed(self) -> None:
         def lengthen(journal: Path) -> None:
+            """Appends a close to the journal."""
             with journal.open("ab") as it:
                 it.write(b"4 3 close\n")
 
@@ -214,6 +217,7 @@ class Broken(Cycle):
     def test_busy(self) -> None:
         with socket.create_server(("127.0.0.1", 0)) as full:
             def turn_away() -> None:
+                """Answers the next connection with `busy`."""
                 connection, _ = full.accept()
                 with connection:
                     connection.sendall(b'{"refuse":"busy"}\n')
@@ -232,6 +236,8 @@ class Broken(Cycle):
                 ends = [b'{"refuse":"busy"}\n', b'{"refuse":"over"}\n']
 
                 def serve() -> None:
+                    """Grants the hello on each of two connections, and answers the next line with `busy`, then with
+                    `over`."""
                     for last in ends:
                         connection, _ = port.accept()
                         with connection, connection.makefile("rb") as lines:

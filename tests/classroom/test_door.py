@@ -532,6 +532,7 @@ class Counts(unittest.TestCase):
         it, ended = Bounds(), list[str]()
 
         def begin(name: str) -> None:
+            """Begins a handshake. Its origin is the first letter of its name, and its end is noted in `ended`."""
             it.begin(Handshake(name[0], lambda: ended.append(name)))
 
         with mock.patch.multiple(bounds, HANDSHAKES=5, HANDSHAKES_EACH=3):

@@ -118,6 +118,7 @@ class Mark(InRoom):
             ('"stable":false', '"stable":true', "tally and report disagree"),
         ):
             def another(made: labs.Lab, script: list[str]) -> str:
+                """Returns the program's replies with `old`, which they have once, replaced by `new`."""
                 replies = all_of(made, script)
                 self.assertEqual(replies.count(old), 1)
                 return replies.replace(old, new)

@@ -144,6 +144,7 @@ class Fake(InRoom):
         self.addCleanup(listener.close)
 
         def serve() -> None:
+            """Accepts the connections one after another, sends the line on each, and waits for its end."""
             for _ in range(times):
                 connection, _ = listener.accept()
                 with connection:
@@ -167,6 +168,7 @@ class Fake(InRoom):
         self.addCleanup(listener.close)
 
         def serve() -> None:
+            """Accepts one connection, or two if `then` isn't empty, and answers their lines."""
             for answers in (replies, then) if then else (replies,):
                 connection, _ = listener.accept()
                 with connection, connection.makefile("rb") as lines:

@@ -344,7 +344,7 @@ def stopped(story: Story, room: Path) -> str:
 
 
 def work(room: Path) -> str:
-    """Runs all uses. Returns the lines about them."""
+    """Tries all uses of the program, with each kind of failure. Returns lines about the number of runs."""
     library = Preloaded("faults/fail.c", room, "FAIL_COUNTS")
     lab = built_in(room)
     journal = TOP / "examples/whole-run.journal"

@@ -487,7 +487,8 @@ def few_descriptors(room: Path) -> None:
             together = threading.Barrier(30)
 
             def client(name: str) -> None:
-                """Plays a student until the own lines are answered."""
+                """Connects as a student again and again, until a look and a bye on one connection are answered and the
+                connection ends."""
                 together.wait()
                 replies: tuple[bytes, ...] = ()
                 while replies[2:] != (BID, b""):  # Of a name with more than four seats the newest leaves for a newcomer.

@@ -216,6 +216,7 @@ def waits_little(taken: list[float], quiet: float, most: float = 2.0) -> None:
 def until_set(stop: threading.Event, act: Callable[[], None]) -> list[threading.Thread]:
     """Starts threads that call a function again and again until `stop` is set. Returns the threads."""
     def work() -> None:
+        """Calls the function until `stop` is set. Waits a moment after each `OSError`."""
         while not stop.is_set():
             try:
                 act()
@@ -242,6 +243,7 @@ def silent_ones(room: Path) -> None:
         kept: list[socket.socket] = []
 
         def knock(port: int) -> None:
+            """Opens a connection that sends nothing, keeps it, and waits a moment."""
             kept.append(socket.create_connection(("127.0.0.1", port), LIMIT))
             time.sleep(0.05)
 
@@ -318,6 +320,7 @@ def guesses(host: Host, quiet: float) -> tuple[int, int, float]:
     stop, denied, others = threading.Event(), [0] * 29, [0] * 29
 
     def guess(at: int) -> None:
+        """Sends ten wrong hellos on a connection to the port for the number `at`, and counts the replies."""
         port = host.port if at < 15 else host.desk
         with socket.create_connection(("127.0.0.1", port), LIMIT) as it, it.makefile("rb") as replies:
             it.sendall(WRONG * 10)

@@ -83,6 +83,7 @@ def stays(ports: tuple[int, int]) -> None:
 def outsider(ports: tuple[int, int]) -> None:
     """Does all actions of an outsider at the same time, over and over."""
     def without_end(act: Callable[[tuple[int, int]], None]) -> None:
+        """Does one action for ever. Waits a moment after each `OSError`."""
         while True:
             try:
                 act(ports)

@@ -175,7 +175,7 @@ def forgetful(rng: Random, text: bytes) -> bytes:
     seen = b""
 
     def refused(found: re.Match[bytes]) -> bytes:
-        """Returns the entry with its reply, or with the refusal."""
+        """Returns the denied entry in a match, or the same line with a refusal for memory."""
         nonlocal seen
         before, seen = seen, found[2]
         is_refused = before == seen and rng.random() < 0.3

@@ -52,6 +52,7 @@ class Standing(InRoom):
         told: list[str] = []
 
         def names() -> Iterator[str]:
+            """Yields the names of proved crates as lines, and notes each in `told`."""
             for name in ("other\n", "high\n", "low\n", "low\n"):
                 told.append(name.strip())
                 yield name
@@ -85,6 +86,7 @@ class Turns(InRoom):
     def begin(self, running: Running, line: str, is_alone: bool = False) -> threading.Thread:
         """Starts a check, the shell line `line`, in a thread. Returns the thread."""
         def run() -> None:
+            """Runs the check. Keeps its result in `ended`, or sets `was_stopped`."""
             try:
                 self.ended = running.run(["sh", "-c", line], self.room, is_alone)
             except Stopped:

@@ -159,6 +159,7 @@ class Drawing(unittest.TestCase):
         """Returns the verdict on one plant of each function, by its function. The plants in `bad` don't compile, and
         the prover's outputs are these, check by check."""
         def look(_: Tree, __: str, texts: dict[str, str], ___: Running) -> str:
+            """Returns a compiler's error if the texts have one of the plants in `bad`, or an empty text."""
             tried = [pair.new for plant in bad for pair in plant.edit.pairs if texts["src/thing.rt"].count(pair.new) != SOURCE.count(pair.new)]
             return "src/thing.rt:1:1: error: it has no such name\n" if tried else ""
 

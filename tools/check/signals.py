@@ -26,6 +26,7 @@ class SignalHandler:
         self.came = 0
 
     def __call__(self, number: int, _: FrameType | None) -> None:
+        """Notes a signal. Raises `Killed`, unless signals are held at the moment."""
         self.came = number
         if not self.is_held:
             raise Killed(number)

@@ -1,4 +1,7 @@
-"""Bots with mistakes in their requests and their timing."""
+"""Bots with mistakes in their requests and their timing.
+
+A method without a docstring replaces the method of `base.Bot` as the docstring of its class says.
+"""
 from __future__ import annotations
 
 import time
@@ -35,11 +38,13 @@ class StopsAtChosen(Bot):
     """Takes `chosen` for an error."""
 
     def at(self, look: Look) -> None:
+        """Ends if the node has a chosen move for which this bot didn't ask."""
         if look.chosen is not None and (look.node, look.at) not in self.__dict__.setdefault("mine", set()):
             raise SystemExit("somebody else moves this node")
         super().at(look)
 
     def ask(self, look: Look, rule: Rule) -> bool:
+        """Asks for the move, and notes that this bot did."""
         self.__dict__.setdefault("mine", set()).add((look.node, look.at))
         return super().ask(look, rule)
 
@@ -149,12 +154,14 @@ class NeverPauses(Bot):
     """Sends look after look, and never waits before the next ones."""
 
     def turn(self) -> None:
+        """Looks at each node, then sends a hundred further looks at the first one."""
         super().turn()
         self.me._socket.sendall(b'{"do":"look","node":%d}\n' % self.slip.nodes[0] * 100)
         for _ in range(100):
             self.me._line()
 
     def loop(self) -> None:
+        """Looks at its nodes again without a pause."""
         while True:
             self.turn()
 

@@ -1,4 +1,7 @@
-"""Bots with mistakes after a change during a run: of a register, a neighbour or a connection."""
+"""Bots with mistakes after a change during a run: of a register, a neighbour or a connection.
+
+A method without a docstring replaces the method of `base.Bot` as the docstring of its class says.
+"""
 from __future__ import annotations
 
 import json
@@ -59,11 +62,13 @@ class SeesNoNewNeighbours(Bot):
     """Takes the list of its neighbours from its first look, and their registers from each."""
 
     def at(self, look: Look) -> None:
+        """Drops the neighbours that weren't in the first look at the node."""
         first: Look = self.__dict__.setdefault("first", {}).setdefault(look.node, look)
         ids = {near.node for near in first.near}
         super().at(replace(look, near=tuple(near for near in look.near if near.node in ids)))
 
     def gives_up(self, look: Look) -> bool:
+        """Returns false if the node points at a neighbour that was dropped."""
         return any(near.node == look.p for near in look.near) and super().gives_up(look)
 
 
@@ -71,6 +76,7 @@ class KeepsItsOwnRegisters(Bot):
     """Computes its registers from its own moves, and reads them only once."""
 
     def at(self, look: Look) -> None:
+        """Replaces the registers in the look by those that the bot has computed."""
         own: dict[int, tuple[int | None, bool]] = self.__dict__.setdefault("own", {})
         p, m = own.setdefault(look.node, (look.p, look.m))
         super().at(replace(look, p=p, m=m))
@@ -96,6 +102,7 @@ class WaitsForItsMove(Bot):
     """After a grant it asks nothing at a node until the move has changed its registers."""
 
     def at(self, look: Look) -> None:
+        """Does nothing while the registers are those at the grant."""
         waits: dict[int, tuple[int | None, bool]] = self.__dict__.setdefault("waits", {})
         if waits.get(look.node) == (look.p, look.m):
             return
@@ -103,6 +110,7 @@ class WaitsForItsMove(Bot):
         super().at(look)
 
     def ask(self, look: Look, rule: Rule) -> bool:
+        """Asks for the move. Notes the node's registers if it is granted."""
         granted = super().ask(look, rule)
         if granted:
             self.__dict__["waits"][look.node] = (look.p, look.m)
@@ -241,6 +249,7 @@ class KeepsHalfAReply(Reads):
     first reply."""
 
     def reading(self, it: Client) -> Client:
+        """Returns the connection after it has got the kept part. A line of it that isn't JSON raises an error."""
         it._rest, whole = self.__dict__.pop("half", b"") + it._rest, it._line
 
         def line() -> bytes:
@@ -253,6 +262,7 @@ class KeepsHalfAReply(Reads):
         return it
 
     def again(self, lost: Closed | Refused) -> Client:
+        """Keeps the incomplete reply, and connects again."""
         self.__dict__["half"] = self.me._rest
         return super().again(lost)
 

@@ -1,4 +1,7 @@
-"""Bots with mistakes in the guards."""
+"""Bots with mistakes in the guards.
+
+A method without a docstring replaces the method of `base.Bot` as the docstring of its class says.
+"""
 from __future__ import annotations
 
 from classroom.client import Look, Rule

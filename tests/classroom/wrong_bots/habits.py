@@ -1,4 +1,7 @@
-"""Bots with bad habits: no pause, too many connections, and values that are mistaken for others."""
+"""Bots with bad habits: no pause, too many connections, and values that are mistaken for others.
+
+A method without a docstring replaces the method of `base.Bot` as the docstring of its class says.
+"""
 from __future__ import annotations
 
 import time
@@ -93,10 +96,12 @@ class TakesChosenForTheRule(Bot):
     """Asks for the rule in `chosen`, as if the server wanted it."""
 
     def at(self, look: Look) -> None:
+        """Asks for the rule in `chosen`, or for the enabled one if there is none."""
         if rule := look.chosen or self.rule(look):
             self.ask(look, rule)
 
     def partner(self, look: Look) -> int | None:
+        """Returns the neighbour to marry, or the first neighbour if none points at the node."""
         return max(self.suitors(look), default=look.near[0].node)
 
 

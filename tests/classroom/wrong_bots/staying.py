@@ -1,4 +1,7 @@
-"""Bots with mistakes in their connections and at the end."""
+"""Bots with mistakes in their connections and at the end.
+
+A method without a docstring replaces the method of `base.Bot` as the docstring of its class says.
+"""
 from __future__ import annotations
 
 import socket
@@ -130,9 +133,11 @@ class Reads(Bot):
     """Reads replies incorrectly."""
 
     def enter(self) -> Client:
+        """Connects and greets. Returns a connection that reads incorrectly."""
         return self.reading(super().enter())
 
     def again(self, lost: Closed | Refused) -> Client:
+        """Hangs up and connects again. Returns a connection that reads incorrectly."""
         self.me.hang_up()
         return self.reading(super().again(lost))
 
