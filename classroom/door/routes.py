@@ -142,9 +142,9 @@ class Routes:
         return record if record is not None and not record.ended and record.goes_on() else None
 
     def named(self, name: str | None) -> str:
-        """Returns the name of the network that a client asks for by `name`. If that is a host's name or None, the only
-        network is returned, if there is just one. Otherwise returns an empty text, also for an unknown network, because
-        that network may be about to begin."""
+        """Returns the name of the network that a client asks for by `name`. If `name` is None or a host's name, returns
+        the only network, if there is just one. Otherwise returns an empty text. An unknown network gets an empty text
+        too, because it may be about to begin."""
         if name not in self.networks:
             self.reload()
         if name in self.networks:

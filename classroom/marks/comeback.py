@@ -69,7 +69,8 @@ class Recount(Replay):
         self.rests: list[int] = []
 
     def ask(self, script: Script, event: Event | None, named: set[int]) -> None:
-        """Asks for the report at the beginning, and after each event that made a configuration."""
+        """Appends the request for the report to the script, at the beginning and after each event that made a
+        configuration. Doesn't use `named`."""
         if event is None or event.makes_configuration:
             script.ask(REPORT, self.report_taker(event))
 

@@ -97,7 +97,8 @@ def names_of(said: Session) -> set[str]:
 
 
 def sessions_of(parts: list[Vouched]) -> list[Said]:
-    """Returns the sessions of all records, each with its record and the names of `names_of`."""
+    """Returns the sessions of all records, each with its record and with the names of those who greeted or tried to
+    greet in the session."""
     return [(part, said, names_of(said)) for part in parts for said in sessions(part)]
 
 

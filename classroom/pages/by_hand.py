@@ -174,8 +174,8 @@ class PlayRequest(PageRequest):
 
 
 def last_word(seat: Seat) -> str:
-    """Returns why a seat's updates end when the page's server stops: the class's server's reason if it has closed the
-    connection, or else a standard text."""
+    """Returns why a seat's updates end when the page's server stops: a standard text, or the reason of the class's
+    server if that has closed the connection."""
     try:
         seat.present()
     except (Closed, Denied) as error:

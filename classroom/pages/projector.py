@@ -48,7 +48,7 @@ class Pages(TwoAddresses):
         self.open()
 
     def stop(self) -> None:
-        """Sends all open pages that the run is over, waits until they have received that, and closes the port."""
+        """Informs all open pages that the run is over, waits until they have received that, and closes the port."""
         if self.present is not None:
             self.present.put(ended=True)
         self.close_after(LAST_WORD)
