@@ -74,7 +74,8 @@ def unaccepted(lab: Path, library: Preloaded) -> None:
 
 
 def halted(lab: Path, room: Path, library: Preloaded) -> str:
-    """Runs all three checks. Returns a line about them."""
+    """Checks a script and servers whose journals fail in a run, and a connection that can't be accepted. Returns a line
+    with the number of these checks."""
     scripted(lab, room, library)
     served(lab, room, library)
     unaccepted(lab, library)

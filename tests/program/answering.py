@@ -95,7 +95,7 @@ def ends(room: Path) -> int:
 
 
 def work(room: Path) -> str:
-    """Runs both parts. Returns a line about them."""
+    """Checks replies that are read line by line, and the ends of scripts. Returns a line with the number of both."""
     return f"answering: {line_by_line(room)} lines as they came, {ends(room)} ends as wanted"
 
 

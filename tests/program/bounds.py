@@ -166,6 +166,6 @@ def rounds(room: Path, size: int) -> int:
 
 
 def work(room: Path) -> str:
-    """Runs all sizes. Returns a line with the counts."""
+    """Checks the runs with the most moves and the most rounds, for each size. Returns a line with their sums."""
     counts = sum(moves(room, size) for size in MOVES), sum(rounds(room, size) for size in ROUNDS)
     return f"bounds: {counts[0]} moves and {counts[1]} rounds, as many as the laws say"

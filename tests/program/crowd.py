@@ -170,7 +170,8 @@ def run_crowd(room: Path, seed: int) -> int:
 
 
 def work(room: Path) -> str:
-    """Runs the clients with each seed. Returns a line about it."""
+    """Runs three clients at the same time, once for each seed. Returns a line with the number of runs and of their
+    events."""
     seeds = [int(word) for word in sys.argv[1:] if word.isdigit()] or SEEDS
     return f"three at once, {len(seeds)} times: {sum(run_crowd(room, seed) for seed in seeds)} events"
 

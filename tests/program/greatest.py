@@ -149,7 +149,7 @@ def served(lab: Path) -> None:
 
 
 def greatest(room: Path) -> None:
-    """Runs all checks with the largest lab."""
+    """Checks the largest lab, a script over it, and a server of it."""
     lab = room / "greatest.toml"
     lab.write_text(document(), encoding="ascii")
     if good(["check", str(lab)]) != b"ok: 256 nodes, 32640 links, 256 students\n":

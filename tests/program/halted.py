@@ -106,7 +106,7 @@ def fault_of(ended: Ended, most: int, replies: list[bytes]) -> str:
 
 
 def work(room: Path) -> str:
-    """Checks each limit, and the lines that are refused after a halt. Returns a line about it."""
+    """Checks each limit, and the lines that are refused after a halt. Returns a line about these checks."""
     limited = Limited(room)
     ended, journal = limited.run(GREETINGS + ASKED, JOURNAL.index(b"\n") + 1)
     if ended != Ended(4, WELCOMES + ANSWERED, b"journal fault\n") or journal != b"1 0 grant ana 1 seduction\n":

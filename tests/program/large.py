@@ -112,7 +112,8 @@ def events(room: Path) -> None:
 
 
 def work(room: Path) -> str:
-    """Runs all checks. Returns a line about them."""
+    """Checks the largest lab, reports of many nodes, and runs of many events. Returns a line with the numbers of nodes
+    and events."""
     greatest(room)
     reports(room)
     scripted(room)

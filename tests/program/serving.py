@@ -152,7 +152,8 @@ def lab_of_more(lab: Path) -> Path:
 
 
 def work(room: Path) -> str:
-    """Runs all servers. Returns a line about them."""
+    """Checks servers with incomplete lines, clients that disappear, many connections, and requests at the same time.
+    Returns a line with the number of races."""
     for case in (in_a_line, gone, many, races):
         case(room)
     return f"servers of clients that meet, race and go away: 4, {2 * ROUNDS} races"

@@ -211,7 +211,7 @@ def in_one_write(folder: Path) -> int:
 
 
 def work(room: Path) -> str:
-    """Runs all calls. Returns a line about them."""
+    """Checks all command lines, and that outputs are single writes. Returns a line with the numbers of both."""
     return f"words: {words_of(room)} as wanted; outputs by write: {in_one_write(room)}"
 
 

@@ -122,7 +122,7 @@ def replaced(room: Path) -> int:
 
 
 def work(room: Path) -> str:
-    """Runs all comparisons. Returns a line about them."""
+    """Compares tables, scripts, meshes, audits and whole runs with the model. Returns a line with their numbers."""
     tables.compare()
     scripts(room)
     meshes(room)

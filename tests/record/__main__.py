@@ -417,7 +417,8 @@ def slipped(room: Path) -> int:
 
 
 def work(room: Path) -> str:
-    """Runs all comparisons. Returns a line about them."""
+    """Compares records by hand, changed records, records of random runs and those of a host with the model. Returns a
+    line with their numbers."""
     lab_file = lab_of(room, 4, 100)
     document = lab_file.read_text(encoding="ascii")
     lab = read_lab(document.encode("ascii"))

@@ -75,7 +75,8 @@ def name_of(way: Callable[[Path], None]) -> str:
 
 
 def refused_soon(ana: Caller, tess: Caller, way: str) -> int:
-    """Causes faults until one is refused. Returns the number of granted events."""
+    """Causes faults until one is refused. Returns the number of granted events. `way` names the failure of the journal,
+    for an error."""
     end, events = time.monotonic() + NOTICED, 0
     while (said := tess.ask(fault_at(2))) != REFUSED:
         if b'"place":' not in said or time.monotonic() > end:

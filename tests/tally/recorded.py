@@ -97,7 +97,8 @@ class Files:
 
 
 def with_record(tally: str, told: str, refused: str) -> str:
-    """Returns the output of a tally into which the lines about the record are inserted."""
+    """Returns the output of a tally into which lines about the record are inserted: `told` before the bounds. Before
+    the rounds come the line with the names of those whose record is complete, and `refused`."""
     front, bounds, end = tally.partition("bounds ")
     end, rounds, number = end.partition("rounds ")
     return front + told + bounds + end + WHOLE + refused + rounds + number
