@@ -13,7 +13,7 @@ import unittest
 from pathlib import Path
 
 TOP = Path(__file__).resolve().parents[2]
-LIMIT = 300.0  # seconds after which something hangs
+LIMIT = 300.0  # seconds after which a command counts as hanging
 CRATES = "# A line a crate.\nlow: itoa\nunused: low\nleft: low\nright: low\nmml_server: left\nmml_host: left right\n"
 # Proves one crate after another by a process that is named as the prover is; in the first repository of a build, if
 

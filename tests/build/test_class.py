@@ -10,7 +10,7 @@ import subprocess
 from tests.build.clone import TOP, InClone
 from tests.common.limits import TEXT
 
-# A program that prints the limits, and takes every lab, but for those that have a student called refused.
+# A program that prints the limits, and accepts every lab that has no student called `refused`.
 PROGRAM = f"""#!/bin/sh
 [ "$1" != limits ] || exec printf %s '{TEXT}'
 ! grep -q refused "$2" || {{ echo "lab fault: 3" >&2; exit 2; }}

@@ -21,7 +21,7 @@ echo "a file" > "$TMPDIR/file"
 touch "$ROOM/begun"
 while :; do sleep 1000; done
 """
-# Waits until the test lets it end.
+# A part that waits until the test lets it end.
 WAITS = 'touch "$ROOM/begun"; until [ -e "$ROOM/go" ] || [ ! -d "$ROOM" ]; do sleep 0.05; done; echo 1 test'
 
 
@@ -254,7 +254,7 @@ class Ends(InTree):
         going = self.begun("quick")
         pids = [int(pid) for pid in (self.room / "pids").read_text(encoding="utf-8").split()]
         kill(going.pid)
-        said, _ = going.communicate(timeout=LIMIT)  # its end is that of the last process of the check
+        said, _ = going.communicate(timeout=LIMIT)  # the pipe ends with the last process of the check
         self.assertEqual([pid for pid in pids if is_there(pid)], [], said)
         self.nothing_left()
         self.stand_in(part("well", WELL))

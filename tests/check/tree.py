@@ -10,14 +10,14 @@ import unittest
 from pathlib import Path
 
 TOP = Path(__file__).resolve().parents[2]
-LIMIT = 300.0  # seconds after which something hangs
-# Instead of the tables: each part is a line of a shell.
+LIMIT = 300.0  # seconds after which a check counts as hanging
+# Replaces the tables of parts: here each part is a shell command.
 TABLES = '''
 PROOFS = Part("proofs", ("sh", "-c", {proofs!r}, "proofs"), 8, 1, ALL, (), shows="^rt: ", hands_on=STANDS)
 WRONG = Part("wrong", ("sh", "-c", {wrong!r}, "wrong"), 4, 1, ALL)
 QUICK = [Part(name, ("sh", "-c", line), 1, 0.5, width, needs, likes) for name, line, width, needs, likes in {quick!r}]
 '''
-# What nobody has, as a need.
+# A need that is never met.
 NEED = '''
 NEEDS["nothing"] = Need("a thing that nobody has", lambda: False, ("no-such-package",))
 NEEDS["must"] = Need("what a check is of", lambda: False, is_a_must=True)

@@ -24,7 +24,7 @@ from classroom.pages.frames import Frame, State
 from tests.classroom.contrast import LEAST, contrast
 from tests.classroom.help import LIMIT
 
-STARTS = 5  # of a browser, until one is there in time
+STARTS = 5  # how often a browser is started until one answers in time
 Shown = tuple[dict[str, str], list[dict[str, str]], str]
 ATTRIBUTES = """
 const nodes = [...document.querySelectorAll('#drawing .node')].map((node) => ({...node.dataset}));

@@ -1,7 +1,7 @@
 """The contrast of two colours, as WCAG 2 defines it."""
 from __future__ import annotations
 
-LEAST = 4.5  # the contrast of a text
+LEAST = 4.5  # the least contrast of a text
 
 
 def luminance(colour: list[float]) -> float:

@@ -31,8 +31,8 @@ from classroom.core.program import TOP, call
 EXAMPLES = TOP / "examples"
 CYCLE = EXAMPLES / "cycle.toml"
 KEYS = {"gus": "heron-31", "hana": "swift-86", "ines": "finch-05", "jonas": "plover-48"}
-CLASS = shlex.quote(str(TOP / "class"))  # as the tests call it
-LIMIT = 300  # seconds after which something hangs; a slow machine needs a small part of it
+CLASS = shlex.quote(str(TOP / "class"))  # the path of `class`, quoted for a shell
+LIMIT = 300  # seconds after which a command counts as hanging; even a slow machine needs only a small part of them
 
 
 def words(*given: str | Path, typed: str | None = None, **more: str) -> subprocess.CompletedProcess[str]:
@@ -49,7 +49,7 @@ def a_port() -> int:
     while True:
         port = random.randint(20000, 32000)
         with socket.socket() as it:
-            it.setsockopt(socket.SOL_SOCKET, socket.SO_REUSEADDR, 1)  # As a server takes it: a connection that has ended is no matter.
+            it.setsockopt(socket.SOL_SOCKET, socket.SO_REUSEADDR, 1)  # As in a server, a connection that has ended is no error.
             try:
                 it.bind(("127.0.0.1", port))
             except OSError:
@@ -265,7 +265,7 @@ class Cycle(InRoom):
     def slip(self, port: int, name: str) -> Path:
         """Writes the slip of a student of the cycle with this port, and returns its path."""
         nodes = ",".join(map(str, read(CYCLE).nodes_of(name)))
-        made = self.room / f"{name}-{port}.slip"  # Who was given it before may still be about to read it.
+        made = self.room / f"{name}-{port}.slip"  # A client that got this object earlier may still read it.
         return made if made.exists() else self.file(made.name, f"port {port}\nname {name}\nkey {KEYS[name]}\nnodes {nodes}\n")
 
     def whole(self, folder: Path) -> int:

@@ -16,7 +16,7 @@ from pathlib import Path
 
 TOP = Path(__file__).resolve().parents[2]
 TABLE = Path(__file__).parent / "kept" / "lines.txt"
-# The sources of all lines, and those of them whose texts are no lines.
+# The sources with lines that people see, and those among them whose texts aren't such lines.
 SOURCES = (
     "classroom/**/*.py", "classroom/pages/*.html", "classroom/pages/*.js", "examples/*.py", "examples/bot.*", "examples/Bot.java",
     "student/*.py", "crates/mml_board/src/denial.rt", "crates/mml_program/src/*.rt", "crates/mml_host_program/src/*.rt",
@@ -25,11 +25,11 @@ SOURCES = (
 NO_SOURCES = ("classroom/setup/word_list.py", "crates/mml_program/src/built_in.rt")
 NOT_LINES = ("add_argument", "add_parser", "compile", "fullmatch", "match", "search", "sub", "findall", "strftime")  # calls
 WORDS = re.compile(r"[a-z]{2,}.* .*[a-z{]|[a-z{].* .*[a-z]{2,}")
-# Texts of other languages than Python, and what stands for a value in them.
+# The texts in sources of other languages, and the form of a value in such a text.
 COMMENTS = re.compile(r"^\s*(?://|/?\*|ghost |#\[(?!error)).*$|/\*.*?\*/", re.MULTILINE)
 LITERALS = re.compile(r"\"((?:[^\"\\\n]|\\.|\\\n)*)\"|`((?:[^`\\]|\\.)*)`")
 VALUE = re.compile(r"\$\{[^{}]*\}|\{[\w.:$]*\}|%l*[sduc]")
-# Parts of a picture or of a style: tags, attributes, and names of classes.
+# Texts that are parts of a drawing or a style: tags, attributes and class names.
 STYLE = re.compile(r"\{ .*\}$|^[\w-]+-src |^use strict$|^\w+ %\d+s$")
 MARKUP = re.compile(r"</?[a-z][^<>]*>?|[\w:-]+=\\?\"[^\"]*\\?\"?")
 

@@ -46,7 +46,7 @@ class Search(unittest.TestCase):
             it.value_of(bench, report, nodes, 3)
             self.assertEqual([(node.id, node.p, node.m) for node in bench.present().nodes], before)
             self.assertEqual(it.registers, {node: (p, m) for node, p, m in before})
-        self.assertTrue(bench.step(report, [privileged[0]], min))  # Under the number of its report.
+        self.assertTrue(bench.step(report, [privileged[0]], min))  # The move has the number of the last report.
 
     def test_it_chooses_some_of_those_that_may_move_and_the_same_again(self) -> None:
         made = drawn(Setting("complete", 5, Daemon("central"), "random"), 2)

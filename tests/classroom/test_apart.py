@@ -16,7 +16,7 @@ from classroom.core.program import TOP
 from tests.classroom.help import EXAMPLES, LIMIT, InRoom
 
 FAULTY = TOP / "tests/classroom/bots/faulty.py"
-HIDDEN = bytes(range(97, 123)) * 20  # the text of what no bot is to see
+HIDDEN = bytes(range(97, 123)) * 20  # the text of a file that no bot may see
 WITHOUT = ("unshare", "-U", "--map-root-user", "sh", "-c", 'echo 0 > /proc/sys/user/max_user_namespaces && exec "$@"', "sh")
 
 
@@ -83,7 +83,7 @@ class Apart(Grades):
             words = spelled(str(listener.getsockname()[1]), *files)
             output = self.peeked(f"python3 {own / 'bot.py'} peeks {words}", f"python3 {other / 'bot.py'} right")
         seen = dict(each.split(": ") for each in output.split("; "))
-        self.assertEqual(seen.pop("processes"), "2", output)  # it and its keeper, but for the program that it ran
+        self.assertEqual(seen.pop("processes"), "2", output)  # the processes of the bot and of its keeper, without the program that the bot started
         self.assertEqual({word for word, is_so in seen.items() if is_so == "True"}, {"read of-own"}, output)
         self.assertEqual(len(seen), 2 * len(files) + 3)
 
@@ -144,7 +144,7 @@ class Together(Grades):
         self.addCleanup(kept.chmod, 0o700)
         faults = (f"links {spelled(kept / 'secret')}", f"moves-out {spelled(kept)}", "digs")
         output = self.grades(*faults, before=("env", f"TMPDIR={rooms}"), more=("--not-apart",))
-        self.assertLessEqual(6, output.count("it ended by itself, status 3"), output)  # One that digs may be ended before.
+        self.assertLessEqual(6, output.count("it ended by itself, status 3"), output)  # A bot that searches the disk may be killed earlier.
         self.assertEqual((kept.stat().st_mode & 0o777, (kept / "secret").read_bytes()), (0o500, HIDDEN))
         found = [file for file in (self.room / "grades").rglob("*") if file.is_file() and HIDDEN in file.read_bytes()]
         self.assertEqual(found, [])

@@ -107,7 +107,7 @@ class Attach(Cycle):
         self.assertTrue(Process.of(server).lives())
         os.kill(server, signal.SIGCONT)
         end = time.monotonic() + LIMIT
-        while Process.of(server).lives():  # It has the bye.
+        while Process.of(server).lives():  # The server has received the bye.
             self.assertLess(time.monotonic(), end)
             time.sleep(0.05)
         self.assertIn("1 events, configuration 1, ", words("mark", going.folder).stdout)

@@ -85,7 +85,7 @@ class Broken(Cycle):
 
     def fill(self, folder: Path) -> None:
         """Fills the disk on which a folder is."""
-        for turn in range(3):  # What looks whether there is room holds some for a moment.
+        for turn in range(3):  # The check for free space takes some space itself for a moment.
             with (folder / f"filler{turn}").open("wb", buffering=0) as it:
                 try:
                     while True:
@@ -187,7 +187,7 @@ class Broken(Cycle):
             look = gus.look(4)
             try:
                 self.assertEqual(gus.move(look).place, 1)
-            except Closed:  # The event ends the class, and at its end nobody is answered any more whose reply isn't out yet.
+            except Closed:  # The event ends the class, and replies that aren't sent by then are lost.
                 pass
         self.assertEqual(going.ends(), 5, going.lines)
         self.assertTrue(any(line.startswith("nothing more is granted: full: events 1 of 1; ") for line in going.lines), going.lines)
@@ -264,7 +264,7 @@ class Broken(Cycle):
         gus = self.bot(going, "gus")
         going.until("^connected: gus$")
         self.bot(going, "hana")
-        going.until_each("^connected: hana$", "^all seats are taken")  # Who hasn't greeted leaves for a newcomer.
+        going.until_each("^connected: hana$", "^all seats are taken")  # A connection without a hello is closed for a newcomer.
         with self.assertRaises(Refused if host() else Closed):
             Client(going.port, "ines", KEYS["ines"])
         gus.kill()
@@ -304,7 +304,7 @@ class Broken(Cycle):
         guesses: Counter[str] = Counter()
         guesser = threading.Thread(target=self.guess, args=[going.port, guesses])
         guesser.start()
-        while len(guesses) < 2 and guesser.is_alive():  # Beside many newcomers it may be the first that leaves.
+        while len(guesses) < 2 and guesser.is_alive():  # With many newcomers, this connection may be the first that is closed.
             time.sleep(0.01)
         for name in (*KEYS, *KEYS):
             self.bot(going, name)
@@ -325,7 +325,7 @@ class Broken(Cycle):
                 hello = {"do": "hello", "name": "tess", "key": secrets.token_hex(4)}
                 it.sendall(json.dumps(hello).encode() + b'\n{"do":"close"}\n')
                 for line in (replies.readline(), replies.readline()):
-                    if not line or line.startswith(b'{"refuse":"'):  # It leaves for a newcomer, or with the class.
+                    if not line or line.startswith(b'{"refuse":"'):  # The connection is closed for a newcomer, or at the end of the class.
                         return
                     guesses[json.loads(line)["deny"]] += 1
 

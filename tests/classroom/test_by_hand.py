@@ -306,7 +306,7 @@ class Wire(InRoom):
         rows = self.enter(address, "gus", KEYS["gus"])
         token = rows.next()["token"]
         seen = [rows.next()]
-        # What gus isn't shown: the registers of 6, which hana's and jonas's nodes may read.
+        # Gus isn't shown the registers of node 6, which only the nodes of hana and jonas may read.
         for number, registers in enumerate(("7 true", "null false", "5 true", "5 false"), 1):
             going.type(f"fault 6 {registers}")
             seen.append(rows.at(number))
@@ -332,7 +332,7 @@ class Wire(InRoom):
         self.assertNotIn(token.encode(), page + replies)
 
     def test_a_run_that_goes_on_serves_it_again(self) -> None:
-        with socket.create_server(("127.0.0.1", a_port())) as taken:  # The page is at the next port, and stays there.
+        with socket.create_server(("127.0.0.1", a_port())) as taken:  # The page moves to the next port, and stays there.
             going = Going(self, CYCLE, "--close", "by-hand", "--play", str(taken.getsockname()[1]))
             page = going.until("^page to play http").removeprefix("page to play ")
         rows = self.enter(page, "gus", KEYS["gus"])

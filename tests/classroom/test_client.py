@@ -19,7 +19,7 @@ from classroom.core.program import TOP
 from tests.classroom import schemas
 from tests.classroom.help import LIMIT, InRoom
 
-# Lines as beginners write them, each with what the client says.
+# Lines as beginners write them, each with the client's answer.
 HURT = (
     ("{'do':'look','node':4}",
      'not JSON at byte 2 (JSON wants double quotes)'),
@@ -118,7 +118,7 @@ HURT = (
 )
 
 HINT = "; --help prints what to type"  # after wrong words
-# What a schema can't say of a line.
+# Wrong lines that a schema can't exclude.
 BEYOND = ("not UTF-8", "a byte order mark", "half of a surrogate pair", "nested deeper than", "a number past", "out of range")
 
 

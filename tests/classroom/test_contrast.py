@@ -12,8 +12,8 @@ RULE = re.compile(r"(?P<chosen>[^{}]+)\{(?P<set>[^{}]*)\}")
 COLOUR = re.compile(r"(?:^|[\s;])color: var\(--([a-z]+)\)")
 BACKGROUND = re.compile(r"(?:^|[\s;])background: var\(--([a-z]+)\)")
 FILL = re.compile(r"(?:^|[\s;])fill: var\(--([a-z]+)\)")
-GROUNDS = ("ground", "panel", "rule")  # what a text of a page may lie over, where its own rule sets nothing
-# The texts of a drawing: in which colours they are, and over which.
+GROUNDS = ("ground", "panel", "rule")  # the backgrounds that a text of a page may have if its own style rule sets none
+# The texts of a drawing, with their colours and the colours of their backgrounds.
 DRAWN = {
     ("ink", "ground"), ("ink", "wedtint"), ("ground", "quiet"), ("onwed", "wed"), ("quiet", "ground"), ("can", "cantint"), ("oncan", "can"),
     ("hit", "ground"), ("can", "ground"),

@@ -183,7 +183,7 @@ class Late(Cycle):
         self.addCleanup(room.close)
         holding = threading.Thread(target=lambda: found.append(attend(desk, it, False, typed, room, lambda: None)))
         stop(it.process.number)
-        desk.client.limit = 0.5  # The connection that is made again has more: what is slow isn't late.
+        desk.client.limit = 0.5  # The new connection has a longer limit, so that a slow reply isn't late.
         patient = unittest.mock.patch("classroom.run.desk.Client", lambda port, name, key, limit: Client(port, name, key))
         patient.start()
         self.addCleanup(patient.stop)

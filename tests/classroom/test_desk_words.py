@@ -22,7 +22,7 @@ from classroom.run.desk import Desk
 from classroom.run.typed import parse_command
 from tests.classroom.help import CYCLE, InRoom
 
-# What is typed, and what the desk asks the server for.
+# Typed lines, and the requests that the desk sends to the server.
 ASKED: dict[str, dict[str, object]] = {
     "close": {"do": "close"},
     "fault 4 - true": {"do": "fault", "node": 4, "p": None, "m": True},
@@ -32,7 +32,7 @@ ASKED: dict[str, dict[str, object]] = {
     "cut 3 1": {"do": "cut", "a": 3, "b": 1},
     "release 7": {"do": "release", "node": 7},
 }
-# What is typed, and how the line begins that answers it, over a lab without a house and pages.
+# Typed lines, and the beginning of the answer to each, over a lab without a house and pages.
 TOLD = {
     "report": "configuration 0, not stable: privileged 4 (update); events 0 of ",
     "wait": "waiting for 4 (gus): update",

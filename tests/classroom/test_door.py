@@ -209,7 +209,7 @@ class Bots(AtDoor):
         for name in ("maths-1", "maths-2", "maths-1"):
             with Client.of(self.slip(name)) as me:
                 self.assertEqual(me.ask(do="look", node=1), {"ok": "look", "by": name})
-        for name in ("class.example", ""):  # As a browser would, or who names nobody.
+        for name in ("class.example", ""):  # The host name of a browser, or none.
             it = self.raw(name)
             it.sendall(b'{"do":"look"}\n')
             self.assertEqual(it.recv(100), b"")
@@ -255,7 +255,7 @@ class Bots(AtDoor):
         self.assertEqual(self.half_closed("maths", lines), lines)
         plain = self.raw("maths")
         plain.sendall(lines)
-        socket.socket.shutdown(plain, socket.SHUT_WR)  # Without a word of TLS.
+        socket.socket.shutdown(plain, socket.SHUT_WR)  # A connection that sends no byte of TLS.
         self.assertEqual(plain.makefile("rb").readline(), lines[:13])
         self.assertEqual(it.taken, 2 * lines.splitlines(keepends=True))
 
@@ -334,7 +334,7 @@ class Tunnels(AtDoor):
             self.assertEqual(line, f"port {port} of this machine leads through the door at 127.0.0.1:{self.door.port} to maths; Ctrl-C ends it\n")
             with Client(port, "gus", "heron-31") as me:
                 self.assertEqual(me.ask(do="look", node=1)["by"], "maths")
-            with socket.create_connection(("127.0.0.1", port), LIMIT) as it:  # Who ends its own side gets the replies.
+            with socket.create_connection(("127.0.0.1", port), LIMIT) as it:  # A client that ends its own side gets the replies.
                 it.sendall(b'{"do":"see"}\n{"do":"bye"}\n')
                 it.shutdown(socket.SHUT_WR)
                 self.assertEqual([json.loads(line)["ok"] for line in it.makefile("rb")], ["see", "bye"])
@@ -469,7 +469,7 @@ class Crowds(AtDoor):
         slow = []
         for _ in range(bounds.HANDSHAKES_EACH):
             it = socket.create_connection(("127.0.0.1", self.door.port), LIMIT)
-            it.sendall(b"\x16\x03\x01")  # The beginning of a handshake.
+            it.sendall(b"\x16\x03\x01")  # The first bytes of a handshake.
             slow.append(it)
             self.addCleanup(it.close)
         for _ in range(5):
@@ -495,7 +495,7 @@ class Crowds(AtDoor):
             except ConnectionError:
                 pass
         end = time.monotonic() + LIMIT
-        while True:  # While they are there one may be turned away; a client comes again.
+        while True:  # While these connections are open, a client may be turned away, and connects again.
             try:
                 with Client.of(self.slip("maths")) as me:
                     self.assertEqual(me.ask(do="look", node=1)["by"], "maths")

@@ -20,7 +20,7 @@ from tests.classroom.help import CLASS, EXAMPLES, LIMIT, InRoom, words
 
 FAULTY = TOP / "tests/classroom/bots/faulty.py"
 SLEEP = b"98765.25"
-# A disk of its own at $1, on which no byte is free.
+# Mounts a disk at $1 on which no byte is free.
 FULL = 'mount -t tmpfs -o size=64k none "$1" && head -c 1000000 /dev/zero > "$1/filler" 2> /dev/null; shift; exec "$@"'
 
 

@@ -40,13 +40,13 @@ class Counts(unittest.TestCase):
         one = Recovery([1, 2, 3])
         one.step([1], [2, 3])
         self.assertEqual(one.rounds, 0)
-        one.step([2], [1, 3])  # 3 is privileged all the time.
+        one.step([2], [1, 3])  # Node 3 is privileged all the time.
         self.assertEqual(one.rounds, 0)
         one.step([3], [1])
         self.assertEqual(one.rounds, 1)
         one.step([1], [])
         self.assertEqual((one.moves, one.closes, one.rounds), (4, 4, 2))
-        # Who isn't privileged at some point has had its turn.
+        # A node that isn't privileged at some point has had its turn.
         other = Recovery([1, 2])
         other.step([1], [3])
         other.step([3], [])
@@ -143,11 +143,11 @@ class Words(InRoom):
         picture = ElementTree.parse(plot).getroot()
         drawn_as = [each.get("class") for each in picture.iter("{http://www.w3.org/2000/svg}path")]
         for kind in ("bound", "bound loose", "bound least"):
-            self.assertEqual(drawn_as.count(kind), 9 + 1, kind)  # in each panel, and what it is
+            self.assertEqual(drawn_as.count(kind), 9 + 1, kind)  # the number of such elements in each panel, and their meaning
         titles = [each.text for each in picture.iter("{http://www.w3.org/2000/svg}text") if each.get("class") == "title"]
         self.assertEqual(titles, [f"{family}, {daemon}" for daemon in ("central", "random:0.5", "synchronous")
                                   for family in ("path", "random", "star")])
-        # Interrupted in the middle of a row it goes on, and gives what a whole one gives.
+        # An experiment that is interrupted in the middle of a row continues, and has the same table in the end.
         lines = table.read_text(encoding="utf-8").splitlines(keepends=True)
         table.write_text("".join(lines[:20]) + lines[20][:9], encoding="utf-8")
         again = words("experiment", *TINY, "--csv", table)

@@ -106,7 +106,7 @@ class Far(InRoom):
         self.assertEqual(sum(len(it["students"]) for it in marks), 44)
         self.assertEqual(re.findall("(?m)^ALARM (maths-\\d) is down: the server has ended, by SIGKILL", output), ["maths-3"])
         self.assertTrue(all(it["stable"] for it in marks))
-        wait_until(lambda: not self.reaches(self.students, self.port))  # It stays open a little after its last network.
+        wait_until(lambda: not self.reaches(self.students, self.port))  # The door stays open for a little while after its last network has ended.
 
     def page_for_all(self, folder: Path, looks: list[str]) -> str:
         """Checks from the students' machine that the page for all networks and their pages to look at can be

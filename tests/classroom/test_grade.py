@@ -28,8 +28,8 @@ from tests.classroom.help import EXAMPLES, LIMIT, InRoom, words
 
 FAULTY = TOP / "tests/classroom/bots/faulty.py"
 SLEEP = b"98765.25"
-SECONDS = 20  # that a case may take: a slow machine starts a bot in a part of it
-# Each fault with the case that is its own, and why that isn't passed.
+SECONDS = 20  # seconds that a case may take; a slow machine starts a bot in a part of them
+# Each fault with the case that finds it, and the reason that is recorded.
 OWN = {
     "never-updates": ("path-4", rf"isn't stable after {SECONDS} seconds: waiting for \d \(bot\): update"),
     "marries-anyone": ("alone-path-4", r"move \d+ marriage \d+ is denied as guard, clause 4: .*; (update|seduction|abandonment) would be"),
@@ -109,7 +109,7 @@ class Faults(InRoom):
     """Bots with known faults."""
 
     def test_each_fails_the_case_that_is_its_own(self) -> None:
-        # What is at rest is watched for longer, since a slow machine may halt a bot for a while.
+        # A bot at rest is watched for longer, since a slow machine may halt it for a while.
         with unittest.mock.patch.object(troubles, "QUIET", 3.0), concurrent.futures.ThreadPoolExecutor(len(OWN)) as pool:
             going = {fault: pool.submit(case, faulty(fault), plan, Limits(SECONDS, 200), self.room) for fault, (plan, _) in OWN.items()}
         for fault, (_, why) in OWN.items():
@@ -237,7 +237,7 @@ class Calls(InRoom):
              "--at-once", "24"], stdout=subprocess.PIPE, stderr=subprocess.STDOUT, text=True)
         assert going.stdout is not None
         lines = []
-        for line in going.stdout:  # Those that start more and more are ended.
+        for line in going.stdout:  # Bots that start more and more processes are killed.
             lines.append(line)
             if sum("more than 64 processes" in each for each in lines) == 12:
                 break
@@ -297,7 +297,7 @@ class Calls(InRoom):
         for child in answering:
             self.addCleanup(end, child)
             os.kill(child, signal.SIGSTOP)
-        time.sleep(5)  # By then the bots, which look again and again, have asked for what isn't answered.
+        time.sleep(5)  # By then the bots, which look again and again, have sent a line that isn't answered.
         going.send_signal(signal.SIGINT)
         with self.assertRaises(subprocess.TimeoutExpired):
             going.wait(3)

@@ -133,7 +133,7 @@ class Page(unittest.TestCase):
         network_state |= {"stable": True, "privileged": [], "configuration": 4}
         self.hall.show(self.state, self.state)
         until(self.driver, lambda driver: self.texts(".state")[0] == "At rest")
-        self.state.networks[0].seats = 14  # What the page doesn't show.
+        self.state.networks[0].seats = 14  # Texts that the page must not show.
         self.hall.show(self.state, self.state)
         self.state.lines = [*self.state.lines, "maths-1: the end"]
         self.hall.show(self.state, self.state)

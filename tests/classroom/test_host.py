@@ -111,7 +111,7 @@ class Hosted(Cycle):
             self.assertEqual(gus.look(4).at, 1)
             teacher.bye()
             with self.assertRaises(Closed):
-                while True:  # It hangs up when the bye was answered.
+                while True:  # The host hangs up after it has answered the bye.
                     gus.look(4)
         until = time.monotonic() + LIMIT
         while server.exists() and server.read_text(encoding="ascii").rpartition(") ")[2][0] != "Z":

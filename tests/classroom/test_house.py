@@ -60,7 +60,7 @@ class Alone(unittest.TestCase):
         self.assertEqual(house.due([1, 2], 201), [1])
         house.stop("gus")
         house.begun = True
-        self.assertEqual((house.due([1, 2], 202), house.due([1, 2], 220.9)), ([], []))  # It was looked at 201 before he came.
+        self.assertEqual((house.due([1, 2], 202), house.due([1, 2], 220.9)), ([], []))  # The house checked at second 201, before he came.
         self.assertEqual(house.due([1, 2], 221), [1, 2])
         self.assertFalse(house.waits())
 
@@ -169,7 +169,7 @@ class Standing(InRoom):
         going = Going(self, self.made, "--daemon", "synchronous", "--stand-in", "0.2s", "--until", "stable")
         self.assertIn("the house waits for a first student", going.lines)
         with Client(going.port, *self.lab.teacher):
-            going.until("^connected: teacher$")  # Who is no student.
+            going.until("^connected: teacher$")  # The name of nobody in the class.
         time.sleep(1)
         going.type("who")
         going.until("^the house plays each node that has waited for 0.2 seconds; the house waits for a first student$")
@@ -260,7 +260,7 @@ class Standing(InRoom):
         with Client(going.port, "ana-lima", self.lab.students["ana-lima"]):
             going.until("^the house would play now, but no seat is free for it; type who to see which students have the seats$")
         going.until("^stable after ")
-        first = next(at for at, line in enumerate(going.lines) if line.startswith("configuration "))  # Then it has a seat now and then.
+        first = next(at for at, line in enumerate(going.lines) if line.startswith("configuration "))  # From then on the house has a seat now and then.
         self.assertEqual(sum("no seat is free" in line for line in going.lines[:first]), 1)
 
 

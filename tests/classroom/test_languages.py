@@ -19,7 +19,7 @@ from tests.classroom.help import CYCLE, EXAMPLES, LIMIT, Cycle, Going, InRoom, n
 Command = tuple[str | Path, ...]
 COMPILERS = {"bot.c": ("cc", "-Wall", "-Wextra", "-Werror", "-O1"), "bot.rs": ("rustc", "--edition", "2021", "-D", "warnings", "-O")}
 PROGRAMS = {"Bot.java": "java", "bot.js": "node", "bot.c": "cc", "bot.rs": "rustc"}
-ROOM = tempfile.TemporaryDirectory()  # of what is compiled; it goes with this process
+ROOM = tempfile.TemporaryDirectory()  # the folder of compiled bots, which is removed at the end of this process
 
 
 def tearDownModule() -> None:
@@ -144,7 +144,7 @@ class Graded(InRoom):
     """The grades of the bots in each language."""
 
     def test_each_passes_all_of_small(self) -> None:
-        given = [command[-1] for name, command in bots().items() if name != "Bot.java"]  # That one is graded in test_grade.py.
+        given = [command[-1] for name, command in bots().items() if name != "Bot.java"]  # The bot in Python is graded in test_grade.py.
         done = words("grade", *given, "--timeout", "120", "--into", self.room / "grades")
         self.assertEqual(done.returncode, 0, done.stdout + done.stderr)
         self.assertEqual(done.stdout.count(": 12 of 12 cases passed\n"), len(given), done.stdout)

@@ -17,7 +17,7 @@ for (let round = 0; round < 10; round += 1) {
   JSON.parse(JSON.stringify(Array.from({length: 30000}, (_, at) => ({at, text: String(at)}))));
 }
 """
-# Goes to a place, and ends when that is painted.
+# Shows the state at a place, and returns after it is painted.
 STEP = """
 const [place, done] = arguments;
 player.goTo(place);

@@ -68,7 +68,7 @@ class Shapes(unittest.TestCase):
             for seed in (0, 5):
                 _, layout, nodes = self.shape(word, seed=seed)
                 rows = [[layout.points[node] for node in nodes[start:start + width]] for start in range(0, len(nodes), width)]
-                if seed:  # It may be mirrored or lie on its side, since no name says which corner is the first.
+                if seed:  # The drawing may be mirrored or turned, since no name determines which corner is the first.
                     self.assertEqual(len({y for _, y in layout.points.values()}) * len({x for x, _ in layout.points.values()}), len(nodes))
                     continue
                 for row in rows:

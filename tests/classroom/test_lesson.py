@@ -106,7 +106,7 @@ class Lesson(InRoom):
         os.kill(going.server(), signal.SIGKILL)
         self.assertEqual(going.ends(), 4, going.lines)
         self.assertIn(f"to go on: {CLASS} run --resume {going.folder}", going.lines)
-        for bot in bots:  # It would greet again; here each student ends it, and starts another.
+        for bot in bots:  # The bot would greet again, but here each student ends it and starts another.
             bot.terminate()
         return going.folder
 
@@ -139,7 +139,7 @@ class Lesson(InRoom):
         self.assertTrue(record.left)
         going = Going(self, None, "attach", folder)
         self.assertEqual(terminal.process.wait(LIMIT), 4)
-        for name in self.lab.students:  # Who had nothing to do is given something.
+        for name in self.lab.students:  # Students who had nothing to do get a privileged node.
             if self.applied(folder)[name] == 0:
                 going.type(f"fault {self.lab.nodes_of(name)[0]} null true")
                 going.until("^configuration .*: fault ")

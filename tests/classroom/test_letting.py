@@ -83,7 +83,7 @@ class Doors(InRoom):
         assert record is not None
         going.process.kill()
         going.process.wait()
-        with self.comes() as client:  # The server and the door go on.
+        with self.comes() as client:  # The server and the door continue.
             self.grants(client)
         server = record.server
         os.kill(server.number, signal.SIGKILL)

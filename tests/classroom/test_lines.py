@@ -6,7 +6,7 @@ import unittest
 
 from tests.classroom.lines import TABLE, lines
 
-# What readers stumbled over, as patterns of lines. Each was in a line once.
+# Patterns of phrases in lines that readers didn't understand. Each was in a line once.
 NOT_SAID = (
     r"no move was granted yet to", r"for nobody, and", r"at a terminal alone", r"hasn't ended, or not as it should", r"gone on from",
     r"entries may be lacking", r"^[^:]*: where ", r"the same words", r"tells the words", r"its keeper", r"left to itself",

@@ -24,7 +24,7 @@ from tests.classroom.help import EXAMPLES, LIMIT, InRoom, words
 from tests.classroom.test_check import GOOD, PAIR
 from tests.record.recording import Recording
 
-# Of each student: the applied updates, marriages, seductions and abandonments, steps, first, last, shared.
+# For each student: the applied updates, marriages, seductions and abandonments, steps, first, last, shared.
 CYCLE = {"gus": (2, 0, 0, 1, 3, 2, 18, 0), "hana": (2, 1, 0, 1, 4, 8, 19, 0), "ines": (2, 1, 0, 1, 3, 1, 10, 0),
          "jonas": (1, 1, 0, 1, 3, 3, 11, 0)}
 SHARED = {"ana": (0, 0, 2, 1, 2, 1, 18, 1), "ben": (3, 1, 2, 1, 5, 3, 16, 3), "cyd": (1, 1, 0, 0, 2, 6, 9, 0)}
@@ -187,7 +187,7 @@ class Mark(InRoom):
         done = words("mark", "--second", folder)
         self.assertEqual((done.returncode, done.stderr), (0, "class: the plain model agrees about all that is marked\n"))
         self.assertEqual(done.stdout, first.stdout)
-        # Programs that print one thing otherwise, and how both are reported.
+        # Programs whose output differs in one line, and how the difference is reported.
         for other, of, told in (
             ("s/^student ana 0 0 1/student ana 0 0 2/", "journal", "tally: the program prints 'student ana 0 0 2 "),
             ("s/^denied ana 1/denied ana 2/", "record", "tally: the program prints 'denied ana 2 "),

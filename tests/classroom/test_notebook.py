@@ -37,7 +37,7 @@ class Notebook(InRoom):
         with unittest.mock.patch.dict(os.environ, RUNS=str(table)), contextlib.redirect_stdout(printed):
             for cell in self.cells:
                 if cell["cell_type"] == "code":
-                    exec("".join(cell["source"]), names)  # What a kernel does with it.
+                    exec("".join(cell["source"]), names)  # Runs the cell as a kernel does.
         return printed.getvalue()
 
     def test_its_cells_count_what_the_table_has(self) -> None:

@@ -26,7 +26,7 @@ from tests.classroom.test_shown import WINDOWS, can_be_read, resize
 FAULTY = TOP / "tests/classroom/bots/faulty.py"
 HELLO = b'{"do":"hello","name":"gus","key":"heron-31"}', b'{"ok":"hello","who":"gus"}'
 MOVE = b'{"do":"move","node":4,"rule":"update","at":9}', b'{"at":9,"node":4,"ok":"move","place":42,"rule":"update"}'
-# How wide and high the drawing is, and the list beside it.
+# The width and height of the drawing and of the list beside it.
 ROOM = """
 return ['.stage', '.history'].map((it) => document.querySelector(it).getBoundingClientRect()).map(({width, height}) => [width, height]);
 """

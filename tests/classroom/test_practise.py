@@ -171,7 +171,7 @@ class Practise(InRoom):
             self.assertEqual(me._line(), b'{"refuse":"malformed"}')
             try:
                 self.plays(me, nodes[0])
-            except Closed:  # A stable class is over soon, and nobody is answered any more: what is told last says how it ended.
+            except Closed:  # A stable class ends soon and answers nobody any more. Its last line has the reason of its end.
                 pass
         rest = list(lines)
         self.assertEqual(going.wait(LIMIT), 0)

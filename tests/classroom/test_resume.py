@@ -20,7 +20,7 @@ from classroom.core.program import call, host
 from tests.classroom.help import CLASS, CYCLE, KEYS, Cycle, Going, words
 
 BOTH = ("host", "run and host")
-KILLS = 10  # of each kind at random points; hosts alone are killed more often by tests/resume
+KILLS = 10  # the number of kills of each kind, at random points; tests/resume kills hosts alone more often
 
 
 class Players:
@@ -112,7 +112,7 @@ class Resume(Cycle):
         for what in BOTH:
             with self.subTest(what=what):
                 going = Going(self, CYCLE, "--close", "every:0.2", "--beside", "--until", "stable")
-                for name in KEYS:  # Who has greeted greets again, where the class goes on.
+                for name in KEYS:  # A bot that has greeted greets again after the class continues.
                     self.bot(going, name)
                 for _ in range(random.randint(1, 4)):
                     going.until("^configuration ")
@@ -125,7 +125,7 @@ class Resume(Cycle):
                 again = Going(self, None, "run", "--resume", going.folder)
                 self.assertEqual((again.port, again.folder), (going.port, going.folder))
                 self.assertTrue(any(re.match(r"the class goes on at configuration \d+, events \d+ of 1000$", line) for line in again.lines), again.lines)
-                for name in KEYS:  # And of who hadn't, another bot comes.
+                for name in KEYS:  # A student whose bot hadn't greeted starts another bot.
                     self.bot(again, name)
                 self.assertEqual(again.ends(), 0, again.lines)
                 self.assertIn("stable, and so the run is ended", again.lines)
@@ -160,7 +160,7 @@ class Resume(Cycle):
             server = server if kind == "run" else going.server()
             self.assertTrue(any(line.startswith("the class goes on at configuration ") for line in going.lines), going.lines)
         players = Players(going.port, disturbs=False)
-        going.type("fault 1 2 true")  # The last kill may have left it stable.
+        going.type("fault 1 2 true")  # The class may be stable since the last kill.
         going.until("; stable, ")
         players.ended()
         self.assertEqual(going.ended(), 0, going.lines)
@@ -268,7 +268,7 @@ class Resume(Cycle):
         self.assertIn("the class goes on at configuration 1, events 1 of 1000", again.lines)
         os.kill(again.server(), signal.SIGKILL)
         self.assertEqual(again.ends(), 4, again.lines)
-        again = Going(self, None, "run", "--resume", folder)  # It is open, and its server died.
+        again = Going(self, None, "run", "--resume", folder)  # The session is open, and its server died.
         self.assertEqual(again.ended(), 0, again.lines)
         self.assertEqual(words("run", CYCLE, "--again").stderr, "class: run: --again needs --resume FOLDER\n")
 

@@ -56,7 +56,7 @@ def seated(desk: int) -> str:
     it = socket.create_connection(("127.0.0.1", desk), LIMIT)
     it.sendall(json.dumps({"do": "hello", "name": "gus", "key": KEYS["gus"]}).encode() + b"\n")
     reply = it.makefile("rb").readline().decode()
-    os.set_inheritable(it.detach(), True)  # It is held as long as this process goes on.
+    os.set_inheritable(it.detach(), True)  # The desk is held as long as this process runs.
     return reply
 
 

@@ -125,7 +125,7 @@ class OneDesk(Classes):
         before = len(desk.lines)
         desk.type("key zoe\nnetworks")
         desk.until("^1  maths-1 ")
-        said = [line for line in desk.lines[before:-2] if not line.startswith("maths-2: ")]  # That one has still to say its other key.
+        said = [line for line in desk.lines[before:-2] if not line.startswith("maths-2: ")]  # The desk hasn't printed the other key yet.
         self.assertEqual(said, ["no student zoe in this class"])
         desk.type(f"1 key {students[1][0]}")
         desk.until(f"^maths-1: no student {students[1][0]}; there are {students[0][0]}, ")

@@ -59,7 +59,7 @@ for (const node of document.querySelectorAll('#drawing .node')) {
 }
 return found;
 """
-# Whether the picture is the one for a window of that width.
+# Returns whether the picture is the one for a window of that width.
 FOR_WINDOW = """
 const {drawing, data} = window.player || window.live;
 return drawing.view === data.views[innerWidth < 500 ? 1 : 0];

@@ -331,7 +331,7 @@ class Talking(Cycle):
         going = Going(self, CYCLE, "--close", "by-hand")
         slip = self.slip(going.port, "gus")
         bots = []
-        for command in BOTS:  # One by one: two of a name that come at once have one line.
+        for command in BOTS:  # One after another, since two connections of one name at the same time have one line.
             bots.append(subprocess.Popen([*command, slip], stdout=subprocess.DEVNULL, stderr=subprocess.PIPE, text=True))
             going.until("^connected: ")
         self.assertEqual(going.ended(), 0, going.lines)

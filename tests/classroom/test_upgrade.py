@@ -16,7 +16,7 @@ from classroom.core.program import TOP, host, host_call
 from tests.classroom.help import KEYS, Cycle, Going, words
 
 KEPT = TOP / "tests/classroom/kept"
-# Of each folder the moves that its closes applied, by student, and its events, both counted by hand.
+# For each folder: the moves that its closes applied, by student, and its events, both counted by hand.
 COUNTED = {
     "first": ({"gus": 1, "hana": 1, "ines": 3}, 9),
     "archive": ({"gus": 1, "hana": 1, "ines": 3}, 9),

@@ -14,7 +14,7 @@ from classroom.setup.new import start
 from classroom.setup.shaking import longest_start
 from tests.classroom.help import EXAMPLES, InRoom, words
 
-Asked = tuple[int, str, int | None]  # a node, its rule, and with whom
+Asked = tuple[int, str, int | None]  # a node, its rule, and its partner
 
 
 def made(family: str, nodes: int) -> labs.Lab:
@@ -83,7 +83,7 @@ class Worst(unittest.TestCase):
         registers = {node: (p, m) for node, p, m in longest_start([60, 10, 20, 30, 40, 50], links)}
         self.assertEqual({node: p for node, (p, _) in registers.items()}, {10: 60, 20: 50, 30: 40, 40: 50, 50: 60, 60: 20})
         self.assertTrue(all(m for _, m in registers.values()))
-        # With a link less it is no crowd: each points at a neighbour still.
+        # With a link less, the network isn't a crowd, and each node still points at a neighbour.
         for node, p, m in longest_start([10, 20, 30, 40, 50, 60], links[1:]):
             self.assertTrue(m and (p is None or {node, p} in links[1:]))
 

@@ -21,11 +21,11 @@ from tests.classroom.wrong_bots.wrong import BOTS
 
 WRONG = TOP / "tests/classroom/wrong_bots/wrong.py"
 RIGHT = sorted((TOP / "tests/classroom/right_bots").glob("[a-z]*.py"))
-AT_ONCE = 8  # mostly they wait
+AT_ONCE = 8  # the number of bots at the same time; they mostly wait
 SECONDS = 12.0
 GUARD = r"denied as guard, clause 4: .*; the plain model, which decides nothing, adds: {part}; a right bot would send "
 HANGS = r"(isn't stable after|didn't ask for \w+ at \d+, which is privileged,|isn't handled after).* {rule}"
-# Of each bot the case of `small` that finds its mistake, and what is said of it.
+# For each bot: the case of `small` that finds its mistake, and the recorded reason.
 FOUND = {
     "never-updates": ("complete-4", HANGS.format(rule="update") + '.*a right bot would send {"at":\\d+,"do":"move","node":\\d+,"rule":"update"}'),
     "never-abandons": ("complete-4", HANGS.format(rule="")),
@@ -108,7 +108,7 @@ FOUND = {
     "sorts-texts": ("complete-4", HANGS.format(rule="seduction")),
     "forgets-the-newline": ("complete-4", "it sent a line without a newline at the end"),
 }
-# The same of `full`.
+# The same for the suite `full`.
 IN_FULL = {
     "ends-after-half-a-minute": ("rest-path-5", "it ended by itself, status 1, after the class was at rest for some seconds"),
     "ends-when-its-seat-goes": ("path-hurt-gone", "it ended by itself, status 1, after its seat went to a newcomer"),

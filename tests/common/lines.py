@@ -1,7 +1,7 @@
 """Lines of the protocol, written by hand: requests and replies."""
 import json
 
-# The keys of those who take part in the lab that is built into the program, and the nodes of its students.
+# The keys of the people in the built-in lab, and the nodes of its students.
 KEYS = {"ana": "a-key", "ben": "b-key", "cyd": "c-key", "tess": "chalk"}
 NODES = {"ana": 1, "ben": 2, "cyd": 3}
 # The number of a denial's clause, and its text.
@@ -70,7 +70,7 @@ BYE = line_of(do="bye")
 BID = line_of(ok="bye")
 CLOSE = line_of(do="close")
 REPORT = line_of(do="report")
-# Another's key.
+# The key of somebody else.
 WRONG = line_of(do="hello", key="a-kez", name="ana")
 UNKNOWN = denial_of("unknown")
 MALFORMED = refusal_of("malformed")

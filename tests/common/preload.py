@@ -22,7 +22,7 @@ HERE = Path(__file__).resolve().parent
 TOP = HERE.parent.parent
 PROGRAM = Path(os.environ.get("MML_PROGRAM") or TOP / "crates/mml_server/out/mml_server")
 LIMIT = 300.0
-# Replies that change nothing, whatever was asked.
+# Replies to lines without an effect, whatever was asked.
 REFUSED = (refusal_of("memory"), refusal_of("journal"))
 
 

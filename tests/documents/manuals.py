@@ -17,7 +17,7 @@ from classroom.words import EACH, EXAMPLES, parser
 
 TOP = Path(__file__).resolve().parents[2]
 FOLDER = TOP / "operate"
-IN_A_CLONE = "build"  # a word that no release has
+IN_A_CLONE = "build"  # a subcommand that no release has
 LINE = re.compile(r"  \./mml ?(.*?) {2,}(.*)")
 OF_ITSELF = "-h, --help"
 

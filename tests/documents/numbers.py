@@ -26,7 +26,7 @@ TOP = Path(__file__).resolve().parents[2]
 README, TEACHER, STUDENT, COURSE, OPERATE = "README.md", "docs/TEACHER.md", "docs/STUDENT.md", "docs/COURSE.md", "docs/OPERATE.md"
 SECURITY, LAB, JOURNAL, PROTOCOL = "SECURITY.md", "docs/LAB.md", "docs/JOURNAL.md", "docs/PROTOCOL.md"
 WORDS = "none one two three four five six seven eight nine ten eleven twelve".split()
-# How a page says a number of minutes, and for how many it may say so.
+# The words for a time on a page, and the range of minutes for which they may be used.
 ROUNDED = {"five minutes": (4, 7), "ten minutes": (7, 13), "half an hour or more": (25, 60), "an hour": (45, 75)}
 PROCESSORS = 4
 

@@ -20,7 +20,7 @@ from pathlib import Path
 
 TOP = Path(__file__).resolve().parents[2]
 HERE = Path(__file__).parent
-MOST = 30  # words of a sentence
+MOST = 30  # the most words of a sentence
 # Each phrase, and what to write instead.
 PHRASES = {
     r"(?<![A-Za-z`] )\bWhere\b(?= \S)(?![^.?!]*\?)": "If, When",

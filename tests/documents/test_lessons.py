@@ -18,7 +18,7 @@ TOP = Path(__file__).resolve().parents[2]
 COURSE = TOP / "course"
 RING = [(1, 2), (2, 3), (3, 4), (4, 1)]
 PATH = [(1, 2), (2, 3), (3, 4)]
-PARTS = ["Aim", "Board", "Commands", "Worksheet", "Questions", "Handed in"]  # beside the minutes and the rubric, which are tables
+PARTS = ["Aim", "Board", "Commands", "Worksheet", "Questions", "Handed in"]  # the heads of the sections besides the minutes and the rubric, which are tables
 
 
 def tables(path: str) -> list[list[list[str]]]:

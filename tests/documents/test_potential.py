@@ -11,7 +11,7 @@ from model.world import World
 
 TOP = Path(__file__).resolve().parents[2]
 PAGE = (TOP / "docs/SELF-STABILISATION.md").read_text(encoding="utf-8")
-LAB, SHOWN = TOP / "examples/five.toml", TOP / "examples/five-run.out"  # which tests/program compares with the program's
+LAB, SHOWN = TOP / "examples/five.toml", TOP / "examples/five-run.out"  # the output, which tests/program compares with the program's
 HIGHEST = 5
 
 

@@ -55,7 +55,7 @@ OPENS = [Kind("open", ENOMEM)]
 ACCEPTS = [Kind("accept", EMFILE), Kind("accept", ENOMEM)]
 THREADS = [Kind("thread", EAGAIN)]
 
-# What is wrong with the run of a use in which the nth call of a kind met its error, if anything.
+# A function that runs one use of the program with an effect on the nth call, and returns an error text, or an empty text.
 Use = Callable[[Kind, int, dict[str, str]], str]
 
 
@@ -323,7 +323,7 @@ def fail_all(name: str, use: Use, kinds: list[Kind], library: Preloaded) -> str:
 def stopped(story: Story, room: Path) -> str:
     """Checks a server that a signal ends while a client is connected: it prints no last line, and its journal is
     complete."""
-    # A job in a shell's background ignores SIGINT, and so would what it starts.
+    # A job in a shell's background ignores SIGINT, and so would the processes that it starts.
     signal.signal(signal.SIGINT, signal.default_int_handler)
     journal = room / "stopped.journal"
     for number in (signal.SIGTERM, signal.SIGINT):

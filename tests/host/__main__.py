@@ -201,7 +201,7 @@ def deadlines(room: Path) -> None:
             fail(f"host: connections without a greeting are ended after {times} seconds")
         if [lines[-1:] for lines in told] != [[LATE]] * len(kept):
             fail(f"host: connections without a greeting are answered {told}")
-        # Who has greeted may be silent for longer than that.
+        # A client that has greeted may be silent for longer than that.
         if early.ask(BYE) != BID:
             fail("host: who is silent after a greeting is ended too")
         if host.dismissed(let_in(host.desk, hello("tess"))[0]) != NONE:
@@ -419,7 +419,7 @@ def ports(room: Path) -> None:
                 left = [file.read_bytes() for file in room.glob("journal*")]
                 if left != ([before] if before else []):
                     fail("host: where a port can't be had the journal isn't as it was")
-    # Two at once on one journal: the second changes nothing.
+    # If two hosts use one journal, the second changes nothing.
     with Host(lab, 0, 0, journal) as first:
         student, _ = let_in(first.port, hello("ana"))
         student.ask(move(0, 1, "seduction"))
@@ -498,7 +498,7 @@ def few_descriptors(room: Path) -> None:
                 served.append(replies)
 
             clients = [threading.Thread(target=client, args=[list(NODES)[at % 3]]) for at in range(30)]
-            held = [called(host.port) for _ in range(descriptors)]  # Most of them find no file, or no seat.
+            held = [called(host.port) for _ in range(descriptors)]  # For most of these connections there is no descriptor or no seat.
             for each in clients:
                 each.start()
             for caller in held:

@@ -35,7 +35,7 @@ PAUSE = 0.001
 SEE = line_of(do="see", node=99)
 NOT_GREETED = denial_of("not-greeted")
 HIDDEN = denial_of("hidden")
-# A host lets nobody stay who doesn't greet.
+# A host closes connections that don't greet.
 DENIED = HIDDEN if OVER_HOST else NOT_GREETED
 Program = Server | Host
 # A hostile client: a port, the time to end at, and what it draws from. It answers what is wrong with its replies.

@@ -18,7 +18,7 @@ from tests.common.lines import BID, BUSY, BYE, CLOSE, OVER, REPORT, fault_at, he
 from tests.common.preload import Ended, Preloaded, fail, good
 from tests.memory.refusing import OUT_OF_MEMORY, done_line
 
-# What the teacher asks at the desk, and a student at the other port.
+# The lines of the teacher at the desk, and those of a student at the other port.
 TEACHER, STUDENT = b"1 ", b"2 "
 ASKED = [
     (TEACHER, hello("tess")), (STUDENT, hello("ana")), (STUDENT, look("ana")), (TEACHER, fault_at(1)), (STUDENT, seduction(1)), (TEACHER, REPORT),
@@ -30,7 +30,7 @@ ASKED_LATER = [
     (TEACHER, REPORT),
 ]
 FEW_THREADS = Ended(5, b"", b"host: too few threads may be started\n")
-AT_ONCE = 8  # runs: they mostly wait
+AT_ONCE = 8  # the number of runs at the same time, since they mostly wait
 TRIES = 4  # of a line: one is refused, and of a host that is ending some more are lost
 MORE = 12  # requests that a run may make beyond those of the first, since threads make some of them
 PATIENCE = 30.0  # seconds for the reply to a first line, which a host without a thread for the students never gives

@@ -7,7 +7,7 @@ from tests.common.lines import CLOSE, REPORT, fault_at, hello, look, seduction
 from tests.common.preload import Story, fail, run
 from tests.memory.refusing import OUT_OF_MEMORY, Tried, Use, memories, whole
 
-# What the teacher says over the first connection, and a student over the second.
+# The lines of the teacher on the first connection, and those of a student on the second.
 SAID = [
     (b"1 ", hello("tess")), (b"2 ", hello("ana")), (b"2 ", look("ana")), (b"1 ", fault_at(1)), (b"2 ", seduction(2)), (b"1 ", CLOSE),
     (b"2 ", look("ana")), (b"1 ", fault_at(1)), (b"1 ", REPORT),

@@ -24,7 +24,7 @@ from tests.outsiders import byes, contested, crowded, edges, parting, segments, 
 NONE = Ended(0, b"done: 0 events, configuration 0\n", b"")
 FAULT = Ended(4, b"", b"journal fault\n")
 EAGAIN = 11
-LOOKS = 4  # threads that a host starts before it listens, to see whether it may
+LOOKS = 4  # threads that a host starts before it listens, to check that it can
 MOVE = seduction(0)
 FREE = ["setpriv", "--reuid", "65534", "--regid", "65534", "--clear-groups"] if os.geteuid() == 0 else []
 
@@ -223,7 +223,7 @@ def until_set(stop: threading.Event, act: Callable[[], None]) -> list[threading.
             except OSError:
                 time.sleep(0.01)
 
-    thread = threading.Thread(target=work, daemon=True)  # A test that fails ends, too.
+    thread = threading.Thread(target=work, daemon=True)  # A daemon thread, so that a test that fails ends too.
     thread.start()
     return [thread]
 
@@ -500,7 +500,7 @@ def limits_of_files(room: Path) -> None:
             ended = host.dismissed(teacher)
             if ended != Ended(4, b"", b"journal fault\n"):
                 fail(f"outsiders: a host whose journal can't grow ends with {ended}")
-    # What looks at no limit is ended by the signal, unless `./mml` ignores it.
+    # A command that ignores the limit is killed by the signal, unless `./mml` ignores the signal.
     script, fault = room / "script", b'1 {"do":"fault","m":false,"node":1,"p":null}\n'
     script.write_bytes(b"1 " + hello("tess") + fault * 100)
     words = ["bash", "-c", 'ulimit -f 1 && exec "$@"', "bash", str(TOP / "mml"), "script", str(lab), str(script), str(room / "script.journal")]

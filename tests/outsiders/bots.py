@@ -26,7 +26,7 @@ SECONDS = 30.0
 QUIET = 5.0
 STUDENTS = 14
 WAIT = 2.0  # seconds that an honest client may wait
-SLOWER = 20  # times what it waits where nobody disturbs it, at most
+SLOWER = 20  # the most that an honest client may wait, as a multiple of its wait without outsiders
 KNOCK = 0.05  # seconds between two silent connections of an outsider
 GUESS = line_of(do="hello", key="no-key", name="s-1")
 

@@ -11,7 +11,7 @@ from tests.common.hosting import Caller, Host, lab_of, let_in
 from tests.common.lines import BID, BYE, CLOSE, OVER, REPORT, fault_at, hello, line_of, look, seduction
 from tests.common.preload import Preloaded, fail
 
-SOON = 60.0  # seconds in which a host ends on a slow machine
+SOON = 60.0  # seconds that a host may need to end on a slow machine
 BETWEEN = 0.005  # seconds between two parts of a piece, so that the host reads each by itself
 SIDE_BY_SIDE = 4
 SHORT = 80  # bytes of replies that are cut at each byte
@@ -23,7 +23,7 @@ class Piece:
 
     name: str
     before: bytes
-    greets: bool = False  # Whether the hello is one of them.
+    greets: bool = False  # Whether the hello is one of the lines.
 
     @property
     def whole(self) -> bytes:

@@ -25,7 +25,7 @@ from tests.common.preload import LIMIT, PROGRAM, TOP, fail
 
 SECONDS = 3600.0
 ROUND = 60.0
-COMING = 12  # clients at a time
+COMING = 12  # the number of clients at a time
 PAUSE = 0.02
 MORE = 6144  # kilobytes that the events of an hour may add
 FORM = b"POST / HTTP/1.1\r\nContent-Type: text/plain\r\n\r\n"

@@ -11,9 +11,9 @@ from tests.outsiders.crowded import AGAIN, HELLOS, RATE, SETTLED, SLOWER, WAIT, 
 from tests.outsiders.load import Outsiders
 from tests.outsiders.parting import ended, slowed, taken
 
-OWN = 4  # seats that a name keeps
-SEATS = OWN * len(NODES) + 1  # of the students' port: one is left
-SEATED = 0.5  # seconds in which a stranger has got that seat
+OWN = 4  # the number of seats that a name keeps
+SEATS = OWN * len(NODES) + 1  # the number of the students' seats that are taken, so that one is left
+SEATED = 0.5  # seconds that a stranger may need to get that seat
 
 
 def students(host: Host) -> list[tuple[str, Caller]]:

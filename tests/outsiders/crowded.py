@@ -8,13 +8,13 @@ from tests.common.lines import BUSY, hello, look
 from tests.common.preload import fail
 from tests.outsiders.load import Outsiders
 
-RATE = 1000  # outsiders a second; fewer come where the machine is slow
-HELLOS = 10  # of which nine are in time
-WAIT = 1.0  # seconds that one takes on this project's usual machine, beside outsiders
-SLOWER = 10  # times what it may take elsewhere
+RATE = 1000  # the number of outsiders a second, fewer on a slow machine
+HELLOS = 10  # the number of hellos, of which nine have to be in time
+WAIT = 1.0  # seconds that a hello takes on this project's usual machine, beside outsiders
+SLOWER = 10  # how many times as long a hello may take on other machines
 AGAIN = 20  # times what a hello takes without outsiders, besides
 SETTLED = 60.0  # seconds after which a name has given up its seats, on a slow machine
-OWN = 4  # seats that a name keeps
+OWN = 4  # the number of seats that a name keeps
 NAMED = 150  # others a second, of whom more than sixteen come in a quarter of one
 
 

@@ -9,10 +9,10 @@ from tests.common.lines import BUSY, LONG, OVER, UNKNOWN, WRONG, hello, look
 from tests.common.preload import Ended, Preloaded, fail
 from tests.common.side_by_side import Test
 
-MOST = 4096  # bytes of a line, its newline left out
+MOST = 4096  # the most bytes of a line without its newline
 NONE = b"done: 0 events, configuration 0\n"
-TOLD = (30, 300)  # guesses at which the host says how many they were
-TELLING = 20.0  # seconds in which it has said so, on a slow machine
+TOLD = (30, 300)  # the numbers of wrong guesses at which the host prints their number
+TELLING = 20.0  # seconds that the host may need to print that on a slow machine
 SECONDS = 3.0
 SHORT, PAUSE = 0.005, 0.1  # seconds from one accept that fails to the next, while somebody waits for a seat and else
 

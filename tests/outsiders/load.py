@@ -26,8 +26,8 @@ from tests.common.lines import hello
 PIECES = {"idle": [b""], "closing": [b""], "half": [b'{"do":"hel'], "braces": [b"{}\n"], "names": [hello("ben"), hello("cyd")]}
 ALL = ("idle", "closing", "half", "braces")
 STAY = 2.0  # seconds
-MOST = 3000  # who are there at a time
-BURST = 20  # who come at once, where the machine is behind
+MOST = 3000  # the most connections that are open at a time
+BURST = 20  # the most connections that are opened at once if the machine is too slow
 SOURCES = 200  # addresses of this machine
 NO_PORT = 24  # IP_BIND_ADDRESS_NO_PORT: a port is chosen when it connects
 TOP = Path(__file__).resolve().parents[2]
@@ -51,7 +51,7 @@ class Load:
         self.kinds = [(each, piece) for each in (ALL if kind == "all" else (kind,)) for piece in PIECES[each]]
         self.ports = ports
         self.selector = selectors.DefaultSelector()
-        self.there: deque[Outsider] = deque()  # in the order in which they came; some are closed already
+        self.there: deque[Outsider] = deque()  # the connections in the order in which they were opened; some are closed already
         self.counts: Counter[str] = Counter()
 
     def run(self, rate: float, seconds: float) -> None:

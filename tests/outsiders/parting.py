@@ -10,7 +10,7 @@ from tests.common.preload import LIMIT, Ended, built, fail
 from tests.common.side_by_side import Test
 
 NONE = Ended(0, b"done: 0 events, configuration 0\n", b"")
-SLOW = 100  # times: 1.2 seconds lie between two denials
+SLOW = 100  # how many times slower the clock is: 1.2 seconds lie between two denials
 GUESSES = 8  # by as many connections, of whom each sends the one before it away
 
 
@@ -41,7 +41,7 @@ def guessing(host: Host) -> list[Caller]:
     callers = [Caller(host.port) for _ in range(GUESSES)]
     for caller in callers:
         caller.send(WRONG)
-    taken(host, files, GUESSES - 1)  # The first may have left already.
+    taken(host, files, GUESSES - 1)  # The first connection may be closed already.
     return callers
 
 
@@ -63,7 +63,7 @@ def over_for_all(room: Path) -> None:
     with Host(lab_of(room, 3), 0, 0, variables=variables) as host:
         teacher = let_in(host.desk, hello("tess"))[0]
         callers = guessing(host)
-        told = [(caller.line(), caller.line()) for caller in callers[:2]]  # By then the others wait for their turns.
+        told = [(caller.line(), caller.line()) for caller in callers[:2]]  # By then the other connections wait for their turns.
         ended(host, teacher)
         said = [(caller.line(), caller.line()) for caller in callers[2:]]
         if told != [(UNKNOWN, BUSY)] * 2 or said[-4:] != [(OVER, b"")] * 4:

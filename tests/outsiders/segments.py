@@ -9,8 +9,8 @@ from tests.common.hosting import Caller, Host, lab_of
 from tests.common.lines import BID, BYE, CLOSE, REPORT, WRONG, fault_at, hello, line_of, look, seduction
 from tests.common.preload import fail
 
-SOON = 60.0  # seconds in which a host ends on a slow machine
-BETWEEN = 0.002  # seconds between two parts, so that the host reads most of them by themselves
+SOON = 60.0  # seconds that a host may need to end on a slow machine
+BETWEEN = 0.002  # seconds between two parts, so that the host reads most parts separately
 SIDE_BY_SIDE = 4
 MALFORMED_LINE = b'{"do":"look","node":}\n'
 STUDENTS = [look("ana"), WRONG, hello("ana"), look("ana"), hello("ben"), seduction(0), MALFORMED_LINE, seduction(0), REPORT, BYE]

@@ -34,10 +34,10 @@ RATE = 1000
 DAEMONS = ("synchronous", "central", "random:0.5")
 STUDENTS, COMING = 15, 3
 SHAKE = 10.0  # seconds after which the class is disturbed again
-LOOKS = 30  # of one that comes and goes
+LOOKS = 30  # the number of looks of a bot that comes and goes
 ROUND = 60.0
 WARM = 20.0  # seconds of load before a host's first figures
-REST = 15.0  # seconds in which the load's last connections end
+REST = 15.0  # seconds that the load's last connections may need to end
 
 
 @dataclass

@@ -14,7 +14,7 @@ JOURNAL = (TOP / "examples/whole-run.journal").read_bytes()
 OTHERS = b" \n0123a-"
 ANA, BEN, CYD = "1 0 grant ana 1 seduction\n", "2 0 grant ben 2 seduction\n", "1 0 grant cyd 3 marriage 2\n"
 
-# A journal over the built-in lab, and what is said of it: the first bad line, or that it passes.
+# Journals over the built-in lab, each with the audit's verdict: its first bad line, or that it passes.
 ROWS = [
     ("", "ok: 0 events, configuration 0, not stable"),
     (JOURNAL.decode(), "ok: 10 events, configuration 4, stable"),

@@ -107,7 +107,7 @@ def whole_tale() -> Tale:
         tale.greet(connection, connection - 1)
         tale.see(connection, NODES[connection - 1], str(LAST))
         tale.see(connection, LAST, "null")
-    # The first owns the last node too, at which all point.
+    # The first student also owns the last node, at which all nodes point.
     near = ",".join(f'{{"m":false,"node":{node},"p":{LAST}}}' for node in NODES[:-1])
     shown = f'"chosen":null,"m":false,"near":[{near}],"node":{LAST},"ok":"look","p":null,"rule":"marriage"'
     tale.say(1, f'{{"do":"look","node":{LAST}}}', f'{{"at":1,{shown}}}')

@@ -23,7 +23,7 @@ def long_bye(length: int, end: str) -> str:
     return "1 " + '{"do":"bye"}'.ljust(length) + end
 
 
-# A script over the built-in lab, what is answered, and the number of the line that is none.
+# A script over the built-in lab, its replies, and the number of its malformed line.
 ROWS = [
     ("", "", None),
     ("1 \n", MALFORMED, None),

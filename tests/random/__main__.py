@@ -32,7 +32,7 @@ EVENTS = 1000
 REPLACEMENTS = b" 03-eA\n\xff"
 GRANTS = ("move", "close", "fault", "link", "cut", "release")
 WORDS = [*DENIALS, *GRANTS, "hello", "bye", "see", "look", "report", "malformed", "full"]
-# So many reports tell pairs, and as many open links.
+# The least number of reports with pairs, and of those with open links.
 REPORTS = 300
 TOLD = re.compile(rb'"(?:ok|deny|refuse)":"([a-z-]+)"')
 LISTED = re.compile(rb'"(open|pairs)":\[\[')

@@ -8,11 +8,11 @@ from tests.random.lines import odd, spelled
 
 Asked = dict[str, Any]
 GREATEST = 2**64 - 1
-# Lines that are none of a script: the number is another, or nothing is asked.
+# Lines that no script may have: with a wrong number, or without a request.
 BAD_LINES = [
     b"", b"0 {}", b"01 {}", b"17 {}", b"1", b"1\t{}", b" 1 {}", b"{}", b"-1 {}", b"1 " + b" " * 4097, b"100 {}", b"x",
 ]
-# What one asks who has no name.
+# The requests of a connection without a name.
 NAMELESS = [{"do": "close"}, {"do": "report"}, {"do": "bye"}]
 
 

@@ -32,7 +32,7 @@ SEEDS = range(1, 201)
 SLIPS = range(1, 61)
 HURTS = 6
 BYTES = b" 03-eA\n\xff>.!<+"
-# What the seats say one after the other in the short run, of which most is refused.
+# The lines of the seats in the short run, one after another. Most are denied.
 TALK = [
     (1, b'{"do":"hello","name":"tess","key":"chalk"}'),
     (2, b'{"do":"hello","name":"ana","key":"wrong"}'),

@@ -14,8 +14,8 @@ from tests.record.places import TESTS as PLACES
 from tests.record.recording import whole_line
 
 SEATS = 4
-STUDENT = SEATS  # the first who comes to the port has the last seat
-# Its members aren't in the order of their keys, and so it is recorded.
+STUDENT = SEATS  # the first connection to the port gets the last seat
+# Its members aren't in the order of their keys, and the record keeps that order.
 WRONG = b'{"do":"hello","name":"ana","key":"wrong"}\n'
 MOVE = seduction(0)
 OTHER = seduction(1, node=2)

@@ -12,14 +12,14 @@ from tests.record.recording import whole_line
 
 SEATS = 4
 BUDGET = 8 << 20
-STRANGER = 64 << 10  # what a connection has while nobody is known there
+STRANGER = 64 << 10  # the bytes of the budget of a connection without a hello
 LONG = b'{"do":"dance"%s}\n' % (b" " * 4000)
 ENTRY = 2 * len(b"4 0 > ") + len(LONG) + len(MALFORMED)
-VISIT = 200  # at least as many bytes has the record of a visit
-LINES = BUDGET // ENTRY + 50  # more than a budget takes
+VISIT = 200  # the least number of bytes that the record of a visit has
+LINES = BUDGET // ENTRY + 50  # a number of lines that is more than a budget has room for
 BATCH = 25
 OUTSIDERS = 2600  # lines before which nobody greets
-AT_ONCE = 20  # of them in a connection, more than it has room for
+AT_ONCE = 20  # the number of such lines in a connection, more than its budget has room for
 DENIED = 50
 MOVE = seduction(0)
 MARKS = (b"!\n", b"-\n", b"+", b".\n")
@@ -136,7 +136,7 @@ def flooded(room: Path) -> None:
         if flood(ana, LINES) < LINES or b'"place":1' not in ana.ask(MOVE) or b'"ok":"look"' not in ana.ask(look("ana")):
             fail("record: who floods isn't served on")
         whole_visit(host, "ben")
-        # What the flood left of her budget is less than an entry of it.
+        # The rest of her budget after the flood is smaller than an entry.
         for _ in range(ENTRY // VISIT + 2):
             whole_visit(host, "ana")
         leave(ana)

@@ -29,7 +29,7 @@ class Recording:
         """Begins a run over a lab, without a session."""
         self.lab, self.model = lab, Run(lab)
         self.texts: dict[int, bytes] = {seat: b"" for seat in range(1, lab.sessions + 1)}
-        self.seen = dict.fromkeys(self.texts, 0)  # How many events have been seen in a seat: all at its last command.
+        self.seen = dict.fromkeys(self.texts, 0)  # The number of events that each seat has seen, which are all up to its last command.
         self.sessions = self.lines = 0
 
     def answer(self, seat: int, line: bytes) -> str:

@@ -30,7 +30,7 @@ FIRST = b"1 0 grant ana 1 seduction\n2 0 close\n"
 THIRD = b"3 1 grant ben 2 marriage 1"
 LONGEST = 101
 PACE = 0.1  # seconds
-KILLS = 80  # of hosts alone; tests/classroom/test_resume.py kills `run`, and both, ten times each
+KILLS = 80  # the number of kills of hosts alone; tests/classroom/test_resume.py kills `run`, and both, ten times each
 
 
 def kept(journal: Path) -> dict[str, bytes]:
@@ -111,7 +111,7 @@ def kills(room: Path) -> None:
     with Host(lab, 0, 0, journal, word="resume") as host:
         at = place_of(resumed(host))
         ended = host.dismissed(players.play_out(host))
-    last = max(at, players.told)  # The reply to the last event may have been lost with a host, and nothing come after it.
+    last = max(at, players.told)  # The reply to the last event may have been lost with a host, without a later event.
     if ended.status != 0 or ended.out != b"done: %d events, " % last + ended.out.split(b"events, ")[-1]:
         fail(f"resume: after {KILLS} kills it ends with {ended}, and place {last} was last")
     if b", stable" not in audit(lab, journal, last) or players.told < 50:
@@ -272,7 +272,7 @@ def torn_tails(room: Path) -> None:
             fail(f"resume: after a tail of {len(tail)} bytes there are {kept(journal)}")
         if tail and (room / "journal.~1~").stat().st_mode & 0o777 != 0o640:
             fail("resume: what is kept may be read by others")
-    # The next number that is free.
+    # The next free number.
     (room / "journal.~1~").write_bytes(b"another's")
     journal.write_bytes(FIRST + b"3")
     goes_on(lab, journal, b"resumed at place 2, configuration 1, 0 chosen\n", NO_COPY + b"resume: a torn line of 1 bytes is taken off\n", "a tail")

@@ -11,7 +11,7 @@ from tests.common.hosting import Caller, Host, audit, lab_of, let_in
 from tests.common.lines import CLOSE, fault_at, hello, refusal_of, seduction
 from tests.common.preload import Ended, fail
 
-NOTICED = 60.0  # seconds in which a host notices it, on a slow machine
+NOTICED = 60.0  # seconds that a host may need to notice it on a slow machine
 GONE = b"host: the journal's file was removed, moved or replaced: nothing more is granted\n"
 CHANGED = b"host: the journal's file was changed: nothing more is granted\n"
 FAULT = b"journal fault\n"
@@ -158,7 +158,7 @@ def gone_after_a_resume(room: Path) -> None:
         ana, tess = let_in(host.port, hello("ana"))[0], let_in(host.desk, hello("tess"))[0]
         if b'"place":2' not in tess.ask(CLOSE):
             fail("resume: where a torn line was taken off nothing is granted")
-        time.sleep(3)  # It is looked at some times.
+        time.sleep(3)  # The journal is checked several times.
         if b'"place":3' not in tess.ask(fault_at(1)):
             fail("resume: where a torn line was taken off nothing is granted after a while")
         moved(journal)

@@ -7,9 +7,9 @@ from tests.common.hosting import Caller, Host, lab_of, let_in
 from tests.common.lines import BID, BYE, CLOSE, hello, look, seduction
 from tests.common.preload import Ended, Preloaded, built, fail
 
-SOON = 60.0  # seconds in which a record is synced, on a slow machine
+SOON = 60.0  # seconds until a record is synced on a slow machine
 EAGAIN = 11
-LOOKS = 4  # threads that a host starts before it listens, to see whether it may
+LOOKS = 4  # threads that a host starts before it listens, to check that it can
 MOVE = seduction(0)
 DONE = Ended(0, b"done: 2 events, configuration 1\n", b"")
 
@@ -126,7 +126,7 @@ def resumes_are_synced(room: Path) -> None:
 def synced_without_threads(room: Path) -> None:
     """If the thread for syncing a record can't be made, it is synced at the end."""
     changes, threads, lab = Changes(room), Preloaded("faults/fail.c", room, "FAIL_COUNTS"), lab_of(room, 4)
-    for at in (LOOKS + 1, LOOKS + 2):  # that which watches the journal, and that which syncs the record
+    for at in (LOOKS + 1, LOOKS + 2):  # the thread that watches the journal, and the one that syncs the record
         folder = room / str(at)
         folder.mkdir()
         journal = folder / "journal"

@@ -33,7 +33,7 @@ NOTHING = "0 0 0 0"
 IDLE = f"{NOTHING} {NOTHING} 0 - - 0"
 PATH = "bounds 13 5 26\n"  # 3 nodes with two links, and as many as n²/4 is
 LESS = "bounds 11 5 22\n"  # with one link
-# What was written, and the lines that are to be printed.
+# A name, the written journal, and the lines that have to be printed.
 CASES = (
     ("nothing", "", f"student ana {IDLE}\nstudent ben {IDLE}\nnode 2 ana {NOTHING} ben {NOTHING}\n{PATH}run 0 0 unstable 0 0 0 0 0 0 0\nrounds 0\n"),
     ("a move that is chosen still", "1 0 grant ben 2 seduction\n",

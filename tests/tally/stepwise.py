@@ -17,7 +17,7 @@ from tests.common.preload import fail
 from tests.common.second import agreed
 from tests.random.labs import drawn_lab
 
-EVENTS = 120  # at most so many a run, and no more than its lab allows
+EVENTS = 120  # the most events of a run, if its lab allows so many
 
 
 class Run:
@@ -29,7 +29,7 @@ class Run:
         self.world = lab.opening()
         self.recovery = Recovery(privileged(self.world))
         self.lines: list[str] = []
-        self.ended = 0  # rounds, in the whole run
+        self.ended = 0  # the number of rounds in the whole run
 
     def is_full(self) -> bool:
         """Returns whether there are as many events as there may be."""

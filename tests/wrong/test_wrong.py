@@ -21,7 +21,7 @@ TOP = Path(__file__).resolve().parents[2]
 KEPT = Path(__file__).with_name("kept")
 CRATE = "mml_ends"
 FILE = "src/retrying.rt"
-# Edits of the crate as it was when the outputs of `kept` were kept.
+# Edits of the crate as it was when the outputs in the folder `kept` were made.
 NEVER = Edit(
     "interrupted_is_never.edit",
     (Refusal("retrying::is_interrupted", "returns"),),

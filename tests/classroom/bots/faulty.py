@@ -20,9 +20,9 @@ from classroom.client import Client, Closed, Denied, Look, NoSlip, Over, Refused
 FAULT = sys.argv[1]
 OWN = Path(sys.argv[-1])
 SLIP = Slip.read(OWN)
-GIVEN = [bytes.fromhex(word).decode() for word in sys.argv[2:-1]]  # so that no command has their text
+GIVEN = [bytes.fromhex(word).decode() for word in sys.argv[2:-1]]  # given in hexadecimal digits, so that no command line contains these texts
 PAUSE = 0.05
-SLEEP = "98765.25"  # what is left behind is known by it
+SLEEP = "98765.25"  # the variable by which the test finds the processes that are left over
 
 
 def ask(me: Client, look: Look) -> bool:

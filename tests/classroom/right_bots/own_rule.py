@@ -34,7 +34,7 @@ class Connection:
         try:
             self.socket.sendall(json.dumps(request).encode() + b"\n")
         except OSError:
-            pass  # the last line may have come before
+            pass  # the server's last line may have arrived before the connection ended
         while b"\n" not in self.rest:
             try:
                 more = self.socket.recv(1000)
@@ -74,7 +74,7 @@ def play(it: Connection, nodes: list[int]) -> None:
         for node in nodes:
             look = it.ask(do="look", node=node)
             if "refuse" in look:
-                continue  # Out of memory: it looks again later.
+                continue  # The server is out of memory, so the bot looks again later.
             move = rule_of(look)
             if move and look["chosen"] is None:
                 reply = it.ask(do="move", node=node, at=look["at"], **move)

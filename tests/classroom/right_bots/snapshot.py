@@ -32,7 +32,7 @@ def play(words: list[str]) -> None:
     while True:
         try:
             ask(me, slip.nodes)
-        except (Closed, Refused) as lost:  # `memory` too: it asks again on a new connection.
+        except (Closed, Refused) as lost:  # After `memory` too, the bot asks again on a new connection.
             me = again(slip, lost)
 
 
