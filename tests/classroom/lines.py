@@ -2,9 +2,9 @@
 
     python3 -B -m tests.classroom.lines      writes the table anew
 
-It has the lines of the programs, of `class`, of the bots and of the pages. Each is a text of a source, in which `{}`
-stands for a value. A change of a line is a change of the table, in which it is read by itself. The help of options
-stands in `operate/class.1`.
+It has the lines of the programs, of `class`, of the bots and of the pages. Each is a text in a source, with `{}` for
+each value. If a line changes, the table changes too, so that the change is read there by itself. The help of options is
+in `operate/class.1`.
 """
 from __future__ import annotations
 

@@ -1,4 +1,4 @@
-"""Lines of others, in the form that is shown: without keys and without characters that a terminal obeys."""
+"""Lines that other people sent, as they are shown: without keys, and without characters that control a terminal."""
 from __future__ import annotations
 
 import json

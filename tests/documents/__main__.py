@@ -1,19 +1,20 @@
 """Checks the documents: that each link, file, name and contract in them is there, and each command is run.
 
-    python3 -B -m tests.documents             says what isn't there; its status is 1 where something isn't
-    python3 -B -m tests.documents --words     says how many words each page has
-    python3 -B -m tests.documents PAGE..      prints the commands of these pages, a line each, each once
+    python3 -B -m tests.documents             prints what is missing; its status is 1 if something is
+    python3 -B -m tests.documents --words     prints the number of words of each page
+    python3 -B -m tests.documents PAGE..      prints the commands of these pages, one per line, each once
 
-A name is what stands between backquotes and is spelled as one of a program: each of its words has to stand
-in a source. A law's has to be a public function of a module `laws`. A word in capitals stands for another.
-A path in `src/`, `specs/`, `proofs/` or `wrong/` that a crate's page names has to be that crate's.
-What a table has under `Contract` has to be declared: a function, a type, a clause or a definition, and on a
-crate's page one that the crate declares or cites. A command block of the pages that show how the program is
-used is run by a test, or is marked: `sh not run`, or `text` for what is only an example of an output.
-`docs/crates.svg` has to be what `tests.documents.crates` draws of `crates.txt`.
-A number, a status or a limit of `tests.documents.numbers` has to be what it is counted or taken from.
-Phrases that are hard to read, and sentences of more than 30 words, are counted by `tests.documents.style`.
-There is no limit on words: a page that is too long is split, or cut where it repeats itself.
+A name in backquotes that is spelled like one of a program has to occur in a source, word by word. The name of a law has
+to be a public function of a module `laws`. A word in capitals is a placeholder. A path in `src/`, `specs/`, `proofs/`
+or `wrong/` on a crate's page has to exist in that crate.
+
+Each name in a column `Contract` has to be declared as a function, a type, a clause or a definition. On a crate's page
+the crate has to declare or cite it. Each command block of the pages in USED is run by a test, unless it is marked: `sh
+not run`, or `text` for an example of an output. `docs/crates.svg` has to be the drawing of `crates.txt` by
+`tests.documents.crates`. Each number, status or limit in `tests.documents.numbers` has to be that of its source.
+`tests.documents.style` counts phrases that are hard to read and sentences of more than 30 words.
+
+There is no limit on words: a page that is too long is split, or cut if it repeats itself.
 """
 from __future__ import annotations
 

@@ -1,10 +1,11 @@
-"""Draws `docs/crates.svg` of `crates.txt`: the groups in their order, what each hands up, and where a crate is tested.
+"""Draws `docs/crates.svg` from `crates.txt`: the groups of crates in their order, the contract that each group hands
+up, and the tests of each crate.
 
     python3 -B -m tests.documents.crates > docs/crates.svg
 
-A group begins with a comment line, of which the words up to the first colon or comma are its title; a comment
-`Hands up NAME of CRATE` names the contract. An arrow leads from the last group that one stands on. A crate is
-tested in those of `mml_tests_` that use it, and in the folders of `tests/` that FOLDERS names.
+A group begins with a comment line. The words of that line up to the first colon or comma are the group's title, and a
+comment `Hands up NAME of CRATE` names its contract. An arrow leads to each group from the last one of those that it
+uses. A crate is tested in the crates `mml_tests_..` that use it, and in the folders of `tests/` that FOLDERS names.
 """
 from __future__ import annotations
 

@@ -1,8 +1,8 @@
-"""The man pages mml(1) and class(1), made from what the words say of themselves.
+"""The man pages mml(1) and class(1), made from the help texts of the commands.
 
     python3 -B -m tests.documents.manuals      writes operate/mml.1 and operate/class.1 anew
 
-mml(1) has the lines of `./mml --help`, class(1) the words of `classroom.words` with their options.
+mml(1) has the lines of `./mml --help`, and class(1) the subcommands of `classroom.words` with their options.
 """
 from __future__ import annotations
 

@@ -1,9 +1,10 @@
-"""Compares what a command printed with what the documents say that it prints.
+"""Compares the output of a command with the one that the documents show.
 
     python3 -B -m tests.documents.printed COMMAND < OUTPUT
 
-In an indented block a command stands after `$ `, and what it prints below it, up to the next command or the end of the
-block. There `...` stands for any text, and on a line of its own for any lines; the folder of a run has another hour.
+In an indented block, a command follows `$ `, and the lines below it, up to the next command or the end of the block,
+are its output. In an output `...` stands for any text, and on a line of its own for any lines. The time in the name of
+a run's folder may differ.
 """
 from __future__ import annotations
 

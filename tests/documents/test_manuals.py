@@ -1,4 +1,5 @@
-"""The man pages are those of the words, `man` has nothing to warn of, and bash completes the words of `mml`."""
+"""The man pages are those of the commands, `man` prints no warning about them, and bash completes the subcommands of
+`mml`."""
 from __future__ import annotations
 
 import os

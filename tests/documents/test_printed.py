@@ -1,4 +1,4 @@
-"""What a command printed is compared with what a page shows, and a page that shows something else is found."""
+"""The comparison of outputs with pages: it passes equal ones, and finds a page that shows another output."""
 from __future__ import annotations
 
 import unittest

@@ -1,4 +1,4 @@
-"""What is hard to read is found, and what isn't passes."""
+"""The counts of style: a text that is hard to read has faults, and a clear one has none."""
 from __future__ import annotations
 
 import unittest

@@ -1,12 +1,13 @@
-"""Fails the program's reads, writes, openings, accepts and threads, each call in turn.
+"""Makes the program's reads, writes, openings, accepts and thread starts fail, each call in turn.
 
     python3 -m tests.faults
 
-Of each use, runs are made in which the first, the second, .. call of a kind fails, is interrupted by a
-signal, takes nothing or does only one byte, until a run has no such call. What the program writes, its
-status and its error line are those of `docs/LAB.md`: an interrupted call changes nothing, and one that
-finds no memory is told as that, but for a line of the journal. The replies before are a plain
-run's, and so is the journal, whose whole lines pass the audit. A server that a signal ends leaves the same.
+For each use of the program there are runs in which the first call of a kind has an effect, then runs in which the
+second call has it, and so on, until a run has no such call. The call fails, is interrupted by a signal, does nothing,
+or transfers only one byte. The output, the status and the error line are those of `docs/LAB.md`: an interrupted call
+changes nothing, and a call without memory is reported as out of memory, except for a line of the journal. The replies
+before the failure are those of a plain run, and so is the journal, whose complete lines pass the audit. A server that
+is ended by a signal leaves the same.
 """
 import signal
 from collections.abc import Callable

@@ -2,10 +2,10 @@
 
     python3 -m tests.hostile [SECONDS] [host]
 
-The replies to the honest clients are those of a script of the same lines, run alone. The server's memory at the end is
-that after their first hundred lines. The thread of each closed connection has ended, and its open files are closed.
-Before that, clients that send more than is answered, and read late, find all that was answered. Beside all this a
-client of another server is silent for a minute, and is answered then.
+The replies to the honest clients are those of a script of the same lines. At the end the server has no more memory than
+after their first hundred lines. The thread of each closed connection has ended, and its open files are closed. Before
+that, clients that send many lines and read late find all replies. Meanwhile a client of another server is silent for a
+minute, and is answered then.
 
 Each hostile client is a function that acts on a port until a time, with random choices, and returns what is wrong or an
 empty text.

@@ -1,1 +1,1 @@
-"""Lab files, with what the program reads there."""
+"""Lab files, with the values that the program reads from them."""

@@ -1,4 +1,4 @@
-"""Rows of the tables of labs, each a document with what the program says of it.
+"""Rows of the tables of labs: each is a document with the expected verdict of the program.
 
 A table is a TOML file. Its rows are the tables of the array `labs`, each with the document in one of two ways:
 
@@ -7,7 +7,7 @@ A table is a TOML file. Its rows are the tables of the array `labs`, each with t
 - `old` and `new`: the lab that is built into the program, or the table's own `base`, with `new` instead of
   `old`, which must stand there once. With `goes_on = true` it is the document of the row before.
 
-And with one of these:
+And with one of these values:
 
 - `says`: the line of `check`: an error, which begins with `lab: `, or the lab's size, which begins with `ok: `;
 - `shows`: all that the lab has, by `tests.labs.shown`; its students are ana, ben and cyd, or the first of these.

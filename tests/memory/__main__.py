@@ -1,4 +1,4 @@
-"""Refuses the program each request for memory in turn, and each one from there on.
+"""Refuses the program each request for memory in turn, and in other runs all requests from that one on.
 
     python3 -m tests.memory           all of it
     python3 -m tests.memory uses      the program alone
@@ -6,11 +6,11 @@
     python3 -m tests.memory classes   its words `host` and `resume` alone
     python3 -m tests.memory tests     the tests inside the crates alone
 
-Of each use, runs are made with the first, the second, .. request refused, until a run meets no refusal.
-Each ends with status 5, `out of memory` and nothing written; or it answers each line as a plain run without
-the lines that it answered by `memory`. Its journal is that run's, and passes the audit. Each line stands
-twice in the script, so one that was refused is asked again, and answered plainly. Then the tests named
-`refusals_..` are run under the same library, in the programs that `rt ci` leaves.
+For each use there are runs in which the first request for memory is refused, then the second one, and so on, until a
+run meets no refusal. Each run ends with status 5 and the line `out of memory`, and changes nothing, or it continues.
+Then it answers some lines by `memory`, and all other lines as a plain run without those lines. Its journal is that of
+the plain run, and passes the audit. Each line is twice in the script, so that a refused line is asked again. Then the
+tests named `refusals_..` are run under the same library, in the programs that `rt ci` leaves.
 """
 import subprocess
 import sys

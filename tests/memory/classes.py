@@ -1,8 +1,10 @@
-"""Classes that are refused memory: `host` and `resume`, from their first request to what they ask for at their end.
+"""Classes that are refused memory: the commands `host` and `resume`, from their first request for memory to the last
+one at their end.
 
-In each run one request is refused, while a teacher and a student ask their lines. A line that isn't answered for that reason
-is asked again. A run may end with a status and a line that `docs/LAB.md` gives, or serve on. Then each other reply is that
-of the rules, the journal has what was granted and passes the audit, and the record passes, too.
+In each run one request for memory is refused, while a teacher and a student send their lines. A line that isn't
+answered for that reason is sent again. A run may end with a status and a line that `docs/LAB.md` gives, or continue.
+Then each other reply is that of the rules, the journal has all granted events and passes the audit, and the record
+passes too.
 """
 import copy
 import select

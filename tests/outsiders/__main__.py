@@ -1,8 +1,9 @@
-"""Plays outsiders without a key against a host, and takes from it what it needs of the system.
+"""Plays outsiders without a key against a host, and takes resources of the system away from the host.
 
     python3 -m tests.outsiders [WORD..]
 
-With words, only the tests whose names have one of them. They go side by side: most of them wait.
+With arguments, only the tests whose names contain one of them are run. The tests run side by side, because most of them
+wait.
 """
 import os
 import socket

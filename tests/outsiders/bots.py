@@ -1,4 +1,4 @@
-"""Two outsiders without a key do what they can against the bots of fourteen students, who come and go.
+"""Two outsiders without a key attack a class with the bots of fourteen students, which connect and disconnect.
 
     python3 -m tests.outsiders.bots [SECONDS]
 

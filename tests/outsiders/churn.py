@@ -2,8 +2,8 @@
 
     python3 -m tests.outsiders.churn [SECONDS]
 
-Each minute everybody leaves for a moment, and it is told which threads, descriptors and memory the host and
-`./class run` hold. At the end they hold what they held after the first minute.
+Each minute all clients leave for a moment, and the number of threads and descriptors and the memory of the host and of
+`./class run` are printed. At the end these are as after the first minute.
 """
 import json
 import random

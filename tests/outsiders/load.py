@@ -2,10 +2,11 @@
 
     python3 -B -m tests.outsiders.load KIND RATE SECONDS PORT..
 
-KIND is what each of them does: `idle` sends nothing, `closing` closes at once, `half` sends half a line, `braces` sends
-`{}`, and `all` is one kind after the other. `names` are two students of the built-in lab, with their keys. Whatever the
-replies are, those who don't close at once stay for two seconds. They come to the ports in turn, from many addresses of
-this machine, since a single address has no port free after a minute. At the end prints how many came.
+KIND is the behaviour of each outsider: `idle` sends nothing, `closing` closes at once, `half` sends half a line,
+`braces` sends `{}`, and `all` is one kind after the other. `names` are two students of the built-in lab, with their
+keys. Outsiders that don't close at once stay for two seconds, whatever the replies are. They connect to the ports in
+turn, from many addresses of this machine, since a single address has no free port after a minute. Prints their number
+at the end.
 """
 from __future__ import annotations
 

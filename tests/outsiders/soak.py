@@ -4,9 +4,10 @@
     python3 -B -m tests.outsiders.soak host [SECONDS [RATE]]
 
 Two outsiders each make so many connections a second (1,000) at both ports, of all kinds. `class` has fifteen bots under
-three daemons, one after the other, ten minutes in all: twelve of `examples/bot.py`, and three that come and go. All
-play to the end, and it is told how long those that come wait for a seat and for a reply. `host` tells each minute of an
-hour which threads, descriptors and memory a host holds; at the end they are what they were at the beginning.
+three daemons, one after the other, ten minutes in all: twelve bots of `examples/bot.py`, and three that connect and
+disconnect. All play to the end, and the output has the times that these three wait for a seat and for a reply. `host`
+prints, each minute for an hour, the number of a host's threads and descriptors and its memory. At the end these are as
+at the beginning.
 """
 from __future__ import annotations
 

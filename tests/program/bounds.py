@@ -2,9 +2,9 @@
 
     python3 -B -m tests.program bounds
 
-Which steps these are is written down here; that each is legal, what it moves and whether the network is
-stable, the program says as they come, and the audit and the tally of their journal once more. The plain model, and
-the count of the class's words along the reports, give the same numbers.
+The steps of these runs are stored in this module. The program's replies show that each step is legal, which nodes it
+moves, and whether the network is stable. The audit and the tally of the journal show the same. The plain model, and the
+counts of `classroom` along the reports, give the same numbers.
 """
 import json
 import subprocess

@@ -2,8 +2,8 @@
 
     python3 -B -m tests.program.halted
 
-The limit is the system's limit on file sizes, so a write beyond it does a part, and the next one fails. The
-expected replies are written by hand for the second line, and else follow from the replies of the whole run.
+The limit is the system's limit on file sizes, so a write beyond it is incomplete, and the next one fails. The expected
+replies to the second line are written by hand, and all others follow from the replies of the whole run.
 """
 import resource
 import signal

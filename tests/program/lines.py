@@ -1,9 +1,10 @@
-"""Scripts with lines that are none: what is answered before them, and which line is reported.
+"""Scripts with malformed lines: the replies before them, and the line that is reported.
 
     python3 -B -m tests.program.lines
 
-The rows are written by hand. Then scripts whose lines say the same in three ways are answered alike: as they were drawn,
-with a nested array that nothing names, so that no line is read byte by byte, and as Python's own reader reads them.
+The rows are written by hand. Then random scripts are run in three forms with the same meaning, and have the same
+replies: as they were drawn, with an additional nested array, so that no line is read byte by byte, and as Python's
+reader writes them again.
 """
 import json
 import math

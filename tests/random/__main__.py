@@ -1,12 +1,13 @@
-"""Plays drawn scripts over drawn labs by the program and by the plain model, and compares each byte.
+"""Runs random scripts over random labs by the program and by the plain model, and compares each byte.
 
     python3 -B -m tests.random [SEED|ends WORLDS]
 
-Replies and journal, what the audit says of that journal, and of it with a byte changed, are those of the
-model; so are a thousand events over large meshes, told after each, and the tables of `mml_tests_model`; and runs
-under four daemons end in a maximal matching, within the bounds on moves and rounds. With a number, only that
-seed's run is played, and its files are left in the working folder; after `ends` only the runs under four daemons,
-from so many worlds.
+The replies, the journal, and the audits of that journal and of a journal with one byte changed are those of the model.
+So are the replies to a thousand events over large meshes, and the tables of `mml_tests_model`. Runs under four daemons
+end in a maximal matching, within the bounds on moves and rounds.
+
+With a number, only the run of that seed is played, and its files are left in the working folder. With `ends`, only the
+runs under four daemons are played, from so many worlds.
 """
 import re
 import sys

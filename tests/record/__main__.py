@@ -1,12 +1,14 @@
-"""Verifies records by the program and by the plain model, and wants the same line of both.
+"""Verifies records by the program and by the plain model, and compares the two verdicts.
 
     python3 -B -m tests.record [SEED | WORD..]
 
-Records that are written by hand, each reason to refuse one, one byte hurt at each position of a short record,
-and the records of drawn runs of many clients: as they came, hurt, cut, beside another journal, and with an entry that
-can't have been said, of each kind that a lax verifier would let pass. Then a host records classes, one of which is
-killed, and one meets a full disk. With a number, only that seed's run is verified, and its files are left in the
-working folder; with words, only the classes whose tests' names have one of them are recorded.
+The records are those written by hand, with each reason to refuse one; a short record with one byte changed at each
+position; and the records of random runs of many clients: unchanged, changed, cut off, beside another journal, and with
+an impossible entry of each kind that a careless verifier would accept. Then a host records classes: one is killed, and
+one meets a full disk.
+
+With a number, only the run of that seed is verified, and its files are left in the working folder. With words, only the
+classes whose tests' names contain one of them are recorded.
 """
 import os
 import re

@@ -1,10 +1,11 @@
-"""What `tally` prints of a journal, and of its record: of those written by hand, and of drawn ones beside the plain model.
+"""The output of `tally` for journals and records: by hand, and for random runs compared with the plain model.
 
     python3 -B -m tests.tally [JOURNALS]
 
-The drawn journals are those of the model over drawn labs and scripts; so many are drawn, or 300. Of each the program
-prints what the model prints, and `./class mark` reads the same numbers. As many drawn runs are told with their
-records. Of as many drawn runs that go on step by step the class's own count finds the same rounds.
+The random journals are those of the model over random labs and scripts. JOURNALS is their number, by default 300. For
+each of them the program prints the same as the model, and `./class mark` reads the same numbers. For as many random
+runs, the tally includes their records. For as many runs that continue step by step, the rounds are also those that
+`classroom` counts.
 """
 from __future__ import annotations
 

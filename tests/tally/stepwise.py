@@ -1,5 +1,5 @@
-"""Drawn runs that go on step by step, with faults, links and cuts on the way: the rounds that `tally` prints, beside
-the plain model's and those that the class counts along the configurations."""
+"""Random runs that continue step by step, with faults, links and cuts: the rounds that `tally` prints are those of the
+plain model, and those that `classroom` counts along the configurations."""
 from __future__ import annotations
 
 from pathlib import Path
