@@ -284,7 +284,8 @@ class Wire(InRoom):
     """HTTP requests without a browser."""
 
     def ask(self, hands: str, verb: str, path: str, body: object = None, **head: str) -> tuple[http.client.HTTPResponse, bytes]:
-        """Sends a request to the page's server at an address. Returns the answer and its bytes."""
+        """Sends a request to the page's server. `hands` is the address of the page to play, and `path` is below the
+        server's root. Returns the answer and its bytes."""
         parts = urlsplit(hands)
         connection = http.client.HTTPConnection("127.0.0.1", parts.port or 0, timeout=LIMIT)
         self.addCleanup(connection.close)

@@ -131,7 +131,7 @@ def scripted(room: Path, lab: Path) -> None:
 
 
 def served(lab: Path) -> None:
-    """Plays a part of the tale over a server's connection."""
+    """Checks the replies of a server of the largest lab to the teacher's report, looks and faults."""
     server = Server(lambda port: ["serve", str(lab), str(port), "1"], {})
     teacher = Client(server.port)
     node, form = NODES[0], '{{"at":{0},"dropped":0,"node":{1},"ok":"fault","place":{0}}}'

@@ -53,7 +53,7 @@ def place_of(line: bytes) -> int:
 
 def refused(lab: Path, journal: Path, wanted: Ended, why: str, before: Sequence[str] = ()) -> None:
     """Checks that `resume` of a journal over a lab has this end, and that no file is changed. `why` names the
-    situation, for the error."""
+    situation, for the error, and `before` are words to put before the command."""
     was = kept(journal) if journal.is_file() else {}
     with Host(lab, 0, 0, journal, word="resume", before=before) as host:
         ended = None if host.listens else host.end()
@@ -162,7 +162,8 @@ def failed_sync(room: Path) -> None:
 
 
 def failed_sync_after_a_resume(room: Path) -> None:
-    """The same holds after a resume, with or without an incomplete line: the file is cut to its complete lines."""
+    """If a line can't be synced after a resume, the file is cut to its complete lines, with or without an incomplete
+    line at the resume."""
     library = Preloaded("resume/power.c", room, "POWER_COUNTS")
     lab, journal = lab_of(room, 4), room / "journal"
     for torn in (b"", b"3 1 gr"):

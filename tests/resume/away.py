@@ -151,7 +151,7 @@ def left_alone(room: Path) -> None:
 
 
 def gone_after_a_resume(room: Path) -> None:
-    """The same holds for a resumed class with an incomplete line that was removed."""
+    """After a resume that removed an incomplete line, events are granted until the file of the journal is moved."""
     lab, journal = lab_of(room, 4), room / "journal"
     journal.write_bytes(b"1 0 grant ana 1 seduction\n2 0 cl")
     with Host(lab, 0, 0, journal, word="resume") as host:

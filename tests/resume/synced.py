@@ -98,7 +98,8 @@ def last_words_are_synced(room: Path) -> None:
 
 
 def resumes_are_synced(room: Path) -> None:
-    """The same holds after a resume that removes incomplete lines from the journal and the record."""
+    """When a host listens after a resume that removed incomplete lines from the journal and the record, all files are
+    synced."""
     changes, lab, folder = Changes(room), lab_of(room, 4), room / "class"
     folder.mkdir()
     journal, record = folder / "journal", folder / "record"

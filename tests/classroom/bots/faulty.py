@@ -62,7 +62,8 @@ def once(wants: Callable[[Client, Look], None], pause: float = PAUSE) -> None:
 
 
 def loop(wants: Callable[[Client, Look], None], pause: float = PAUSE) -> None:
-    """Does the same as `once` until the class is over, on one connection after another."""
+    """Looks at the slip's nodes again and again until the class is over, and calls `wants` with each look. Connects
+    again if a connection ends. Pauses after all nodes."""
     while True:
         try:
             once(wants, pause)
