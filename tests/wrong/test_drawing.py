@@ -203,6 +203,15 @@ class Drawing(unittest.TestCase):
         self.assertEqual(self.verdicts([plants], plants[:1], told), {name: (plants[1], LET_THROUGH)})
         self.assertEqual(self.verdicts([plants], plants), {name: (plants[-1], NO_PROGRAM)})
 
+    def test_an_undecided_plant_gives_its_place_to_the_next(self) -> None:
+        plants = next(plants for plants in draw(self.tree, ["low"], 3, 1) if len(plants) > 2 and all(plant.edit.pairs[0].new for plant in plants))[:3]
+        name = plants[0].function
+        decided, undecided = Told(open_goals={name: ["returns"]}, ending=(1, 0)), Told(ending=(1, 0))
+        self.assertEqual(self.verdicts([plants], [], undecided, decided), {name: (plants[1], REFUSED)})
+        self.assertEqual(self.verdicts([plants], plants[1:2], undecided, decided), {name: (plants[2], REFUSED)})
+        self.assertEqual(self.verdicts([plants], [], undecided, undecided, undecided), {name: (plants[0], UNDECIDED)})
+        self.assertEqual(self.verdicts([plants], plants[1:], undecided), {name: (plants[0], UNDECIDED)})
+
     def test_a_function_that_calls_a_refused_one_is_asked_about_again(self) -> None:
         drawn = [plants[:1] for plants in draw(self.tree, ["low"], 2, 1)]
         (above,), (below,) = drawn

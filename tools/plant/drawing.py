@@ -1,5 +1,6 @@
 """Draws random plants, one small change in each of many functions, and asks the prover about them. The same seed
-draws the same plants. If a change doesn't compile, the next one of the same function takes its place."""
+draws the same plants. If a change doesn't compile, or the prover can't decide about it, the next one of the same
+function takes its place."""
 from __future__ import annotations
 
 import random
@@ -113,9 +114,29 @@ def look(tree: Tree, crate: str, texts: dict[str, str], running: Running) -> str
 
 
 def asked(tree: Tree, crate: str, drawn: list[list[Plant]], kept: str, running: Running) -> Iterator[tuple[Plant, str]]:
-    """Yields for each function of a crate one of its plants, and the prover's verdict on it. One check of names and
-    types and one proof are enough if each plant compiles, and none hinders another. `kept` is the name under which the
-    prover keeps a library's contents."""
+    """Yields for each function of a crate its first plant about which the prover decides, and the verdict on it. If the
+    prover decides about none of them, yields the first one that compiles, or the last one if none does. `kept` is the
+    name under which the prover keeps a library's contents."""
+    todo, undecided = drawn, dict[str, Plant]()
+    while todo:
+        left = {plants[0].function: plants for plants in todo}
+        todo = []
+        for plant, answer in asked_once(tree, crate, [*left.values()], kept, running):
+            plants = left[plant.function]
+            following = plants[plants.index(plant) + 1 :]
+            if answer == UNDECIDED:
+                undecided.setdefault(plant.function, plant)
+            if answer == UNDECIDED and following:
+                todo.append(following)
+            elif answer in (UNDECIDED, NO_PROGRAM) and plant.function in undecided:
+                yield undecided[plant.function], UNDECIDED
+            else:
+                yield plant, answer
+
+
+def asked_once(tree: Tree, crate: str, drawn: list[list[Plant]], kept: str, running: Running) -> Iterator[tuple[Plant, str]]:
+    """Yields for each function its first plant that compiles, or its last one, and the prover's verdict on it. One check
+    of names and types and one proof are enough if each plant compiles, and none hinders another."""
     sifted = [*programs(tree, crate, drawn, running)]
     yield from ((plant, NO_PROGRAM) for plant, is_program in sifted if not is_program)
     todo = [[plant for plant, is_program in sifted if is_program]]
