@@ -40,7 +40,8 @@ def all_links() -> str:
 
 
 def sees(turns: int) -> Iterable[str]:
-    """Yields the lines of a script: the teacher's requests to see three nodes in turn."""
+    """Yields the lines of a script: the teacher's hello, and `turns` requests, each to see one of the nodes 1, 2, 3 in
+    rotation."""
     yield TESS
     for turn in range(turns):
         yield f'1 {{"do":"see","node":{turn % 3 + 1}}}'

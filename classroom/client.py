@@ -766,7 +766,7 @@ async def tunnel(slip: Slip, port: int) -> None:
 
 
 def by_hand(words: list[str]) -> None:
-    """Sends each line of standard input to a server, and prints its reply. The arguments are those of this file's usage."""
+    """Sends each line of input to a server and prints its reply, or opens a tunnel. Raises NoSlip for arguments against this file's usage."""
     if strange := [word for word in words if word.startswith("--") and word not in OPTIONS]:
         raise NoSlip(f"{strange[0]}: there is no such option{meant(strange[0], OPTIONS)}{TOLD}")
     if words[0] == "--tunnel":

@@ -195,7 +195,8 @@ class Seat:
 
 
 def check_places(record: Record, events: int) -> None:
-    """Raises `Fault` unless the seats' replies grant each of the journal's `events` events once, and none from before the record."""
+    """Raises `Fault` if the seats' replies grant a place from before the record, or a place twice; or if the record is whole
+    and a place after its beginning, up to `events`, is granted by no reply. The journal has `events` events."""
     seen: set[int] = set()
     for place in record.granted:
         if place <= record.begun:

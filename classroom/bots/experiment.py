@@ -163,8 +163,8 @@ def measure(tasks: list[tuple[Setting, list[int]]], at_once: int) -> Iterator[tu
 
 
 def save_counterexample(path: Path, row: Row, script: bytes) -> Path:
-    """Saves a run that exceeds a proved bound: its lab, script and row. Returns the new folder, which is beside the
-    table at `path`."""
+    """Saves a run that exceeds a proved bound: its lab, script and row. Returns its folder, which is in a folder
+    beside the table at `path`."""
     folder = path.with_name(f"{path.stem}-broken") / f"{row.family.replace(':', '-')}-{row.nodes}-{row.daemon.replace(':', '-')}-{row.seed}"
     folder.mkdir(parents=True, exist_ok=True)
     how = Daemon.of(row.daemon)

@@ -50,7 +50,8 @@ class Class:
 
     @staticmethod
     def read(folder: Path) -> Class | None:
-        """Returns the class that the file in a folder describes, or None if the folder isn't that of a class."""
+        """Returns the class that the file `class.json` in a folder describes, or None if the folder has no such file.
+        Raises `Fault` if the file can't be read, or doesn't describe a class."""
         if not os.path.lexists(folder / FILE):
             return None
         try:
@@ -64,7 +65,9 @@ class Class:
         return made
 
     def is_valid(self) -> bool:
-        """Returns whether each value has the right type. Another user may have written the file."""
+        """Returns whether a class may have these values: they have the right types, there is at least one network, all
+        networks are valid and have different names, `page` may be a port, `looks` and `ends` are ASCII, and `door` has
+        no NUL. Another user may have written the file."""
         names = [network.name for network in self.networks]
         return (
             bool(names) and len(set(names)) == len(names) and all(network.is_valid() for network in self.networks)

@@ -184,7 +184,8 @@ def print_summary(words: argparse.Namespace, made: list[Made], ways: list[Way], 
 
 
 def next_steps(words: argparse.Namespace, made: list[Made], merge: Path) -> str:
-    """Returns the text that says what to do next, with the commands."""
+    """Returns the text that says what to do next, with the commands. `words` are the arguments of `./class new`, and
+    `merge` is the path of the table for a mail merge, which names the file of each student's slip."""
     every = " ".join(shlex.quote(str(it.file)) for it in made)
     pages = " ".join(str(slips.page_of(it.file)) for it in made)
     door = f" --door {words.door.rpartition(':')[2]}" if words.door else ""

@@ -36,8 +36,8 @@ def processors() -> int:
 
 
 def jobs_of(number: int) -> int:
-    """Returns the number of processes with which `rt ci` proves a crate that is alone in its repository, on a machine
-    with so many processors."""
+    """Returns the number of processes that are reckoned for a proof by `rt ci` of a crate that is alone in its
+    repository, on so many processors: half of them, from 1 to MOST_JOBS. It is always 1 if RT_JOBS is set."""
     return 1 if wanted_processes() else max(1, min(MOST_JOBS, number // 2))
 
 
