@@ -32,7 +32,7 @@ struct Parting {
     // When the next step is due: sending its denial, or, if everything was sent, closing it.
     next: Instant,
     // Whether everything was sent, so that it only has to be closed.
-    is_told: bool,
+    is_sent: bool,
 }
 
 impl Parting {
@@ -45,12 +45,12 @@ impl Parting {
             return Some(self);
         }
         let stream = self.stream;
-        if self.is_told {
-            let _may_send = take_unwanted(&stream);
+        if self.is_sent {
+            let _may_send = drain(&stream);
             return None;
         }
-        tell(&stream, UNKNOWN);
-        tell(&stream, EndReason::Busy.line());
+        send_line(&stream, UNKNOWN);
+        send_line(&stream, EndReason::Busy.line());
         closing(stream, now)
     }
 }
@@ -60,22 +60,22 @@ impl Parting {
 // side has ended or is gone, or the clock can't represent that time.
 fn closing(stream: TcpStream, now: Instant) -> Option<Parting> {
     // This fails if the other side is gone.
-    if stream.shutdown(Shutdown::Write).is_err() || !take_unwanted(&stream) {
+    if stream.shutdown(Shutdown::Write).is_err() || !drain(&stream) {
         return None;
     }
     let next = now.checked_add(Duration::from_millis(PARTING))?;
     Some(Parting {
         stream,
         next,
-        is_told: true,
+        is_sent: true,
     })
 }
 
 // Returns the index of the first connection to which everything was sent, or `None` if there is no such connection.
-fn first_told(all: &VecDeque<Parting>) -> Option<usize> {
+fn first_sent(all: &VecDeque<Parting>) -> Option<usize> {
     for index in 0..all.len() {
         if let Some(parting) = all.get(index)
-            && parting.is_told
+            && parting.is_sent
         {
             return Some(index);
         }
@@ -84,7 +84,7 @@ fn first_told(all: &VecDeque<Parting>) -> Option<usize> {
 }
 
 /// Writes a line, or as much of it as the other side takes within the stream's write timeout. Ignores errors.
-pub(crate) fn tell(stream: &TcpStream, line: &[u8]) {
+pub(crate) fn send_line(stream: &TcpStream, line: &[u8]) {
     let mut stream = stream;
     let _ = stream.write(line);
 }
@@ -92,7 +92,7 @@ pub(crate) fn tell(stream: &TcpStream, line: &[u8]) {
 /// Reads and drops up to 4096 bytes of what the other side sent. Without this, closing the socket would discard the
 /// bytes that the system has still to send. Waits for at most the stream's read timeout. Returns whether the other side
 /// may send more: `false` if it has ended or is gone.
-pub(crate) fn take_unwanted(stream: &TcpStream) -> bool {
+pub(crate) fn drain(stream: &TcpStream) -> bool {
     let mut stream = stream;
     let mut unwanted = [0; PARTING_SIZE];
     match stream.read(&mut unwanted) {
@@ -124,14 +124,14 @@ impl Partings {
 
     /// Adds a connection that has left its seat, to send it the denial of its hello at the time `turn`. If memory runs
     /// out, or the system can't make the stream non-blocking, closes the connection without sending the denial.
-    pub fn add_owed<Rt: Wait>(&self, rt: &Rt, stream: TcpStream, turn: Instant) {
+    pub fn add_denied<Rt: Wait>(&self, rt: &Rt, stream: TcpStream, turn: Instant) {
         if stream.set_nonblocking(true).is_err() {
             return;
         }
         let parting = Parting {
             stream,
             next: turn,
-            is_told: false,
+            is_sent: false,
         };
         let _ = self.all.lock(rt).push_back(parting);
     }
@@ -144,21 +144,21 @@ impl Partings {
             return;
         }
         if let Some(why) = why {
-            tell(&stream, why.line());
+            send_line(&stream, why.line());
         }
         if let Ok(now) = Instant::now(rt)
             && let Some(parting) = closing(stream, now)
         {
-            self.keep(rt, parting);
+            self.add_sent(rt, parting);
         }
     }
 
     // Adds a connection to which everything was sent, until it is due to be closed. If the list has `MANY_PARTINGS` or
     // more such connections already, first closes the oldest of them. If memory runs out, closes the new one at once.
-    fn keep<Rt: Wait>(&self, rt: &Rt, parting: Parting) {
+    fn add_sent<Rt: Wait>(&self, rt: &Rt, parting: Parting) {
         let mut all = self.all.lock(rt);
         if all.len() >= MANY_PARTINGS
-            && let Some(index) = first_told(&all)
+            && let Some(index) = first_sent(&all)
         {
             drop(all.remove(index));
         }
@@ -167,7 +167,7 @@ impl Partings {
 
     /// Sends the denials that are due, and closes the connections that had time to read. Doesn't wait, and does nothing
     /// if the clock fails.
-    pub fn tell_due<Rt: Wait + Clock>(&self, rt: &Rt) {
+    pub fn send_due<Rt: Wait + Clock>(&self, rt: &Rt) {
         let mut all = self.all.lock(rt);
         if all.is_empty() {
             return;
@@ -186,12 +186,12 @@ impl Partings {
     }
 
     /// Closes all connections to which everything was sent, before they are due, to free their descriptors.
-    pub fn close_told<Rt: Wait>(&self, rt: &Rt) {
+    pub fn close_sent<Rt: Wait>(&self, rt: &Rt) {
         let mut all = self.all.lock(rt);
         for _ in 0..all.len() {
             if let Some(first) = all.pop_front() {
-                if first.is_told {
-                    let _may_send = take_unwanted(&first.stream);
+                if first.is_sent {
+                    let _may_send = drain(&first.stream);
                 } else {
                     // The list has room for it, since it was in the list before.
                     let _ = all.push_back(first);
@@ -210,16 +210,16 @@ impl Partings {
         }
         for index in 0..all.len() {
             if let Some(parting) = all.get(index)
-                && !parting.is_told
+                && !parting.is_sent
             {
-                tell(&parting.stream, EndReason::Over.line());
+                send_line(&parting.stream, EndReason::Over.line());
                 let _ = parting.stream.shutdown(Shutdown::Write);
             }
         }
         thread::sleep(rt, Duration::from_millis(PARTING));
         for _ in 0..all.len() {
             if let Some(parting) = all.pop_front() {
-                let _may_send = take_unwanted(&parting.stream);
+                let _may_send = drain(&parting.stream);
             }
         }
     }

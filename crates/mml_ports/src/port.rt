@@ -7,7 +7,7 @@
 use crate::connection::SharedConnection;
 use crate::crowd::Crowd;
 use crate::end_reason::EndReason;
-use crate::shared_socket::{Heard, SharedSocket};
+use crate::shared_socket::{Peeked, SharedSocket};
 use crate::socket_reader::{Incoming, SocketReader};
 use crate::socket_replies::SocketReplies;
 use crate::socket_writer::{ReplyWriter, SocketCutOff, WRITE_LIMIT};
@@ -23,7 +23,7 @@ use std::time::{Clock, Duration, Instant};
 use std::{io, thread};
 
 // How many milliseconds a new connection waits for a seat.
-const PLACE: u64 = 500;
+const SEAT_TIMEOUT: u64 = 500;
 
 // How many new connections may wait at a time.
 const WAITING: usize = 16;
@@ -32,10 +32,10 @@ const WAITING: usize = 16;
 const SILENCE: u64 = 5;
 
 // How often the host tries to connect to its own port, to wake the accept there.
-const CALLS: u32 = 50;
+const WAKE_TRIES: u32 = 50;
 
 // How many milliseconds it waits for each of these connections.
-const CALL: u64 = 100;
+const WAKE_TIMEOUT: u64 = 100;
 
 // A newcomer: a connection that was accepted, and waits for a seat.
 #[derive(Drop)]
@@ -48,7 +48,7 @@ struct Newcomer<'a, Rt> {
     // Whether its socket's reads were set not to wait, which the first check does.
     is_looked_at: bool,
     // What the checks have found of what it sent.
-    heard: Heard,
+    peeked: Peeked,
 }
 
 impl<'a, Rt: Clock + Wait + Eprint> Newcomer<'a, Rt> {
@@ -61,7 +61,7 @@ impl<'a, Rt: Clock + Wait + Eprint> Newcomer<'a, Rt> {
 
     // Returns what the newcomer has sent, without taking it from the socket. Checks the socket only until a line is
     // found. The first check sets the socket's reads not to wait.
-    fn hear(&mut self) -> Heard {
+    fn peek(&mut self) -> Peeked {
         let SharedConnection {
             rt,
             alloc,
@@ -71,10 +71,10 @@ impl<'a, Rt: Clock + Wait + Eprint> Newcomer<'a, Rt> {
         if !self.is_looked_at {
             self.is_looked_at = socket.set_waiting(*rt, false);
         }
-        if self.is_looked_at && self.heard == Heard::Nothing {
-            self.heard = socket.hear(*rt, *alloc);
+        if self.is_looked_at && self.peeked == Peeked::Nothing {
+            self.peeked = socket.peek(*rt, *alloc);
         }
-        self.heard
+        self.peeked
     }
 
     // Returns whether the newcomer came at least `SILENCE` milliseconds ago, so that it had time to send its first
@@ -105,7 +105,7 @@ pub struct Port<'a, Rt> {
 }
 
 // The result of an accept: a connection with its reader, its writer and its cut-off; or none; or the end.
-type Brought<'a, Rt> = Accepted<Incoming<'a, Rt>, ReplyWriter<'a, Rt>, SocketCutOff<'a, Rt>>;
+type SocketAccepted<'a, Rt> = Accepted<Incoming<'a, Rt>, ReplyWriter<'a, Rt>, SocketCutOff<'a, Rt>>;
 
 impl<'a, Rt: Clock + Wait + Eprint> Port<'a, Rt> {
     /// Returns a port to which nobody has come yet, except the connection `first`, if there is one. `is_desk` says
@@ -170,7 +170,7 @@ impl<'a, Rt: Clock + Wait + Eprint> Port<'a, Rt> {
             connection,
             since,
             is_looked_at: false,
-            heard: Heard::Nothing,
+            peeked: Peeked::Nothing,
         })
     }
 
@@ -206,7 +206,7 @@ impl<'a, Rt: Clock + Wait + Eprint> Port<'a, Rt> {
     // Returns the next newcomer to serve, if there is a seat. If there is none, has the crowd send a guest away, if one
     // must leave; turns away the first newcomer if it has waited for half a second; and returns `None`. Notes in the
     // crowd whether a newcomer waits for a seat. If there are no newcomers, or the clock fails, only returns `None`.
-    fn let_in(&mut self) -> Option<Brought<'a, Rt>> {
+    fn admit_next(&mut self) -> Option<SocketAccepted<'a, Rt>> {
         let Some(first) = self.waiting.front() else {
             self.wanted_since = None;
             self.crowd.note_wanted(false);
@@ -223,9 +223,9 @@ impl<'a, Rt: Clock + Wait + Eprint> Port<'a, Rt> {
         let has_room = self.crowd.finds_room(self.rt, now, wanted);
         self.crowd.note_wanted(!has_room);
         if has_room {
-            return self.bring(now);
+            return self.take_next(now);
         }
-        if waited >= Duration::from_millis(PLACE)
+        if waited >= Duration::from_millis(SEAT_TIMEOUT)
             && let Some(first) = self.waiting.pop_front()
         {
             first.turn_away(EndReason::Busy);
@@ -239,11 +239,11 @@ impl<'a, Rt: Clock + Wait + Eprint> Port<'a, Rt> {
         let mut first_without_hello = None;
         for index in 0..self.waiting.len() {
             if let Some(newcomer) = self.waiting.get_mut(index) {
-                let heard = newcomer.hear();
-                if heard == Heard::Nothing && newcomer.had_time(now) {
+                let peeked = newcomer.peek();
+                if peeked == Peeked::Nothing && newcomer.had_time(now) {
                     return index;
                 }
-                if heard != Heard::Hello && first_without_hello.is_none() {
+                if peeked != Peeked::Hello && first_without_hello.is_none() {
                     first_without_hello = Some(index);
                 }
             }
@@ -257,11 +257,11 @@ impl<'a, Rt: Clock + Wait + Eprint> Port<'a, Rt> {
         let mut first_with_line = None;
         for index in 0..self.waiting.len() {
             if let Some(newcomer) = self.waiting.get_mut(index) {
-                let heard = newcomer.hear();
-                if heard == Heard::Hello {
+                let peeked = newcomer.peek();
+                if peeked == Peeked::Hello {
                     return index;
                 }
-                if heard == Heard::Line && first_with_line.is_none() {
+                if peeked == Peeked::Line && first_with_line.is_none() {
                     first_with_line = Some(index);
                 }
             }
@@ -272,7 +272,7 @@ impl<'a, Rt: Clock + Wait + Eprint> Port<'a, Rt> {
     // Takes the newcomer that `first_to_speak` chooses from the queue, adds it to the crowd's guests, and returns it,
     // to be served from `now` on. Returns `None` if there are no newcomers. If memory runs out, notes that in the
     // host's state: the newcomer is served, but isn't counted as a guest.
-    fn bring(&mut self, now: Instant) -> Option<Brought<'a, Rt>> {
+    fn take_next(&mut self, now: Instant) -> Option<SocketAccepted<'a, Rt>> {
         // If only one waits, it needs no check.
         let index = if self.waiting.len() > 1 {
             self.first_to_speak()
@@ -287,7 +287,7 @@ impl<'a, Rt: Clock + Wait + Eprint> Port<'a, Rt> {
             connection,
             since: _,
             is_looked_at,
-            heard: _,
+            peeked: _,
         } = first;
         if is_looked_at {
             let _is_waiting = connection.socket.set_waiting(self.rt, true);
@@ -303,7 +303,7 @@ impl<'a, Rt: Clock + Wait + Eprint> Port<'a, Rt> {
     }
 
     // Turns away all newcomers, and closes all connections that have left, because the host is over. Returns `Over`.
-    fn turn_all_away(&mut self) -> Brought<'a, Rt> {
+    fn turn_all_away(&mut self) -> SocketAccepted<'a, Rt> {
         for _ in 0..self.waiting.len() {
             if let Some(first) = self.waiting.pop_front() {
                 first.turn_away(EndReason::Over);
@@ -322,7 +322,7 @@ impl<'a, Rt: Clock + Wait + Eprint> Port<'a, Rt> {
             ErrorKind::OutOfMemory => self.state.note_memory(self.rt),
             ErrorKind::Interrupted | ErrorKind::ConnectionAborted | ErrorKind::WouldBlock => {}
             _ => {
-                self.crowd.partings.close_told(self.rt);
+                self.crowd.partings.close_sent(self.rt);
                 if let Some(first) = self.waiting.pop_front() {
                     first.turn_away(EndReason::Busy);
                 }
@@ -342,13 +342,13 @@ impl<'a, Rt: Clock + Wait + Eprint> Accept<
     // Sends the denials that are due, and returns the next newcomer to serve, if there is a seat. If nobody can be
     // served at once, first accepts one more connection and adds it to the queue. Returns `Nobody` if there is still no
     // seat, or the accept fails, and `Over` once the host is over.
-    fn accept_next(&mut self) -> Brought<'a, Rt> {
+    fn accept_next(&mut self) -> SocketAccepted<'a, Rt> {
         let ended = self.state.ended_count(self.rt);
         if self.state.is_over(self.rt) {
             return self.turn_all_away();
         }
-        self.crowd.partings.tell_due(self.rt);
-        if let Some(next) = self.let_in() {
+        self.crowd.partings.send_due(self.rt);
+        if let Some(next) = self.admit_next() {
             return next;
         }
         let accepted = self.accept();
@@ -358,7 +358,7 @@ impl<'a, Rt: Clock + Wait + Eprint> Accept<
         match accepted {
             Ok(newcomer) => {
                 self.queue(newcomer);
-                match self.let_in() {
+                match self.admit_next() {
                     Some(next) => next,
                     None => Accepted::Nobody,
                 }
@@ -400,12 +400,12 @@ impl<'a, Rt: Net<Listener = TcpListener, Stream = TcpStream> + Clock + Wait> Bel
 // Connects to a port of this host, to wake the accept that waits there. Tries up to 50 times, and stops when a
 // connection is made, or nobody listens there any more.
 fn wake<Rt: Net<Listener = TcpListener, Stream = TcpStream> + Clock>(rt: &Rt, port: SocketAddr) {
-    let call = Duration::from_millis(CALL);
-    for _ in 0..CALLS {
-        match TcpStream::connect_timeout(rt, &port, call) {
+    let timeout = Duration::from_millis(WAKE_TIMEOUT);
+    for _ in 0..WAKE_TRIES {
+        match TcpStream::connect_timeout(rt, &port, timeout) {
             Ok(_) => return,
             Err(error) if error.kind() == ErrorKind::ConnectionRefused => return,
-            Err(_) => thread::sleep(rt, call),
+            Err(_) => thread::sleep(rt, timeout),
         }
     }
 }

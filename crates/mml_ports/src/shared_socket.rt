@@ -14,11 +14,11 @@ use std::time::{Clock, Duration};
 const DENIALS: u64 = 3;
 
 // How many bytes are checked of what a newcomer (a connection that waits for a seat) has sent.
-const GLANCE: usize = 512;
+const PEEK_SIZE: usize = 512;
 
 /// What a newcomer has sent so far.
 #[derive(Clone, Copy, PartialEq, Eq)]
-pub(crate) enum Heard {
+pub(crate) enum Peeked {
     /// No whole line.
     Nothing,
     /// A line that isn't a hello.
@@ -95,7 +95,7 @@ impl SharedSocket {
     }
 
     /// Sets whether reads and writes of the socket wait. Returns `false` if the stream was taken out, or the system
-    /// refuses. Is called only before the connection is served: `hear` needs reads that don't wait.
+    /// refuses. Is called only before the connection is served: `peek` needs reads that don't wait.
     pub(crate) fn set_waiting<Rt: Wait>(&self, rt: &Rt, is_waiting: bool) -> bool {
         let stream = self.stream.read(rt);
         match &*stream {
@@ -106,11 +106,11 @@ impl SharedSocket {
 
     /// Returns what the other side has sent, judged by its first 512 bytes, which stay in the socket. Returns `Nothing`
     /// if the stream was taken out, or can't be checked. The socket's reads must be set not to wait.
-    pub(crate) fn hear<Rt: Wait>(&self, rt: &Rt, alloc: Global) -> Heard {
+    pub(crate) fn peek<Rt: Wait>(&self, rt: &Rt, alloc: Global) -> Peeked {
         let stream = self.stream.read(rt);
         match &*stream {
-            Some(stream) => heard_at(stream, alloc),
-            None => Heard::Nothing,
+            Some(stream) => peek_at(stream, alloc),
+            None => Peeked::Nothing,
         }
     }
 
@@ -193,17 +193,17 @@ impl SharedSocket {
 // Returns what has come at a socket whose reads don't wait, judged by its first 512 bytes, which stay in the socket.
 // Returns `Nothing` if they contain no whole line, or the system refuses the check. If memory runs out, a hello counts
 // as any other line.
-fn heard_at(stream: &TcpStream, alloc: Global) -> Heard {
-    let mut seen = [0; GLANCE];
+fn peek_at(stream: &TcpStream, alloc: Global) -> Peeked {
+    let mut seen = [0; PEEK_SIZE];
     let Ok(count) = stream.peek(&mut seen) else {
-        return Heard::Nothing;
+        return Peeked::Nothing;
     };
-    let come = &seen[..count.min(GLANCE)];
+    let come = &seen[..count.min(PEEK_SIZE)];
     let Some(end) = come.iter().position(|byte| *byte == b'\n') else {
-        return Heard::Nothing;
+        return Peeked::Nothing;
     };
     match read_request(alloc, &come[..end]) {
-        Ok(Request::Hello { .. }) => Heard::Hello,
-        _ => Heard::Line,
+        Ok(Request::Hello { .. }) => Peeked::Hello,
+        _ => Peeked::Line,
     }
 }

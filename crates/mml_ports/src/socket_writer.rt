@@ -8,7 +8,7 @@ ghost use Rattle.std.specs.Io.{WritesAtMost};
 
 use crate::connection::SharedConnection;
 use crate::end_reason::EndReason;
-use crate::parting::{PARTING, tell};
+use crate::parting::{PARTING, send_line};
 use crate::socket_reader::Incoming;
 use crate::socket_replies::SocketReplies;
 use mml_ends::Retrying;
@@ -41,7 +41,7 @@ pub struct SocketWriter<'a, Rt> {
     // The turn of the denial that is being written, as long as no byte of it was sent.
     turn: Option<Instant>,
     // The turn of the denial that must still be sent after the connection has left its seat.
-    owed: Option<Instant>,
+    postponed: Option<Instant>,
 }
 
 impl<'a, Rt: Clock + Wait + Eprint> SocketWriter<'a, Rt> {
@@ -117,14 +117,14 @@ impl<'a, Rt: Clock + Wait + Eprint> SocketWriter<'a, Rt> {
     // Leaves a denial to the port if the connection is being ended because there is no seat. Keeps the denial's turn,
     // at which the port sends it, and returns all bytes of `buf` as written. Returns `BrokenPipe` for any other reply,
     // or if there is another reason for the end.
-    fn leave_owed(&mut self, buf: &[u8]) -> io::Result<usize>
+    fn postpone_denial(&mut self, buf: &[u8]) -> io::Result<usize>
         ensures { WritesAtMost result buf.now }
     {
         let SharedConnection { rt, socket, .. } = &self.connection;
         if self.turn.is_none() || !socket.is_turned_away(*rt) {
             return Err(Error::from(ErrorKind::BrokenPipe));
         }
-        self.owed = self.turn;
+        self.postponed = self.turn;
         Ok(buf.len())
     }
 
@@ -145,7 +145,7 @@ impl<'a, Rt: Clock + Wait + Eprint> SocketWriter<'a, Rt> {
     // sent, the port sends it at its turn. If the connection leaves for a new one, or was never served, the port sends
     // it the reason, if there is one. Otherwise this function sends the reason, and lingers, so that the other side can
     // read what was sent.
-    fn part_from(&self, stream: TcpStream) {
+    fn close_or_pass_on(&self, stream: TcpStream) {
         let SharedConnection {
             rt,
             crowd,
@@ -153,8 +153,8 @@ impl<'a, Rt: Clock + Wait + Eprint> SocketWriter<'a, Rt> {
             ..
         } = &self.connection;
         let rt = *rt;
-        if let Some(turn) = self.owed {
-            crowd.partings.add_owed(rt, stream, turn);
+        if let Some(turn) = self.postponed {
+            crowd.partings.add_denied(rt, stream, turn);
             return;
         }
         // After a part of a reply, the reason would not be a line of its own.
@@ -168,7 +168,7 @@ impl<'a, Rt: Clock + Wait + Eprint> SocketWriter<'a, Rt> {
             return;
         }
         if let Some(why) = why {
-            say(&stream, why);
+            send_end_reason(&stream, why);
         }
         // Lingers only briefly if a new connection waits for the seat.
         linger(stream, &crowd.is_wanted);
@@ -193,7 +193,7 @@ impl<'a, Rt: Clock + Wait + Eprint> Write for SocketWriter<'a, Rt> {
                 self.write_now(buf)
             }
         } else {
-            self.leave_owed(buf)
+            self.postpone_denial(buf)
         };
         self.connection.socket.end_write();
         let taken = written?;
@@ -232,7 +232,7 @@ impl<'a, Rt: Clock + Wait + Eprint> ReplyWriter<'a, Rt> {
                 is_at_line: true,
                 is_deaf: false,
                 turn: None,
-                owed: None,
+                postponed: None,
             }),
             replies: Some(replies),
         }
@@ -262,8 +262,8 @@ impl<'a, Rt: Clock + Wait + Eprint + Sync> Observed for ReplyWriter<'a, Rt> {
 }
 
 impl<'a, Rt: Clock + Wait + Eprint> HangUp for ReplyWriter<'a, Rt> {
-    // Closes the connection as `part_from` does, if it isn't closed yet. A connection that was never served is also
-    // removed from the crowd (the list of the port's connections) here.
+    // Closes the connection as `close_or_pass_on` does, if it isn't closed yet. A connection that was never served is
+    // also removed from the crowd (the list of the port's connections) here.
     fn hang_up(&mut self) {
         let writer = &self.end.inner;
         let SharedConnection {
@@ -275,7 +275,7 @@ impl<'a, Rt: Clock + Wait + Eprint> HangUp for ReplyWriter<'a, Rt> {
         let rt = *rt;
         let stream = socket.stream.write(rt).take();
         if let Some(stream) = stream {
-            writer.part_from(stream);
+            writer.close_or_pass_on(stream);
         }
         // A connection that was served leaves the crowd in `SocketSession::keep`, when its seat can be used again.
         if !socket.is_served.load(Ordering::SeqCst) {
@@ -286,12 +286,12 @@ impl<'a, Rt: Clock + Wait + Eprint> HangUp for ReplyWriter<'a, Rt> {
 
 // Sends the reason why the connection is ended, and waits for at most `PARTING` milliseconds until the other side takes
 // it. Sends nothing if the system refuses to set this timeout.
-fn say(stream: &TcpStream, why: EndReason) {
+fn send_end_reason(stream: &TcpStream, why: EndReason) {
     if stream
         .set_write_timeout(Some(Duration::from_millis(PARTING)))
         .is_ok()
     {
-        tell(stream, why.line());
+        send_line(stream, why.line());
     }
 }
 

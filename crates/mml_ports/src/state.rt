@@ -15,14 +15,14 @@ const PAUSE: u64 = 100;
 const SHORT_PAUSE: u64 = 5;
 
 // How many milliseconds lie between the turns of two denials of a name and key, at both ports together.
-const DENIAL: u64 = 12;
+const DENIAL_INTERVAL: u64 = 12;
 
 // The number of denials of a name and key at which they are first reported.
-const MANY: u64 = 30;
+const FIRST_REPORT: u64 = 30;
 
 // What the threads of the host have noted so far.
 #[derive(Drop)]
-struct News {
+struct Notes {
     // How many sessions have ended.
     ended: u64,
     is_over: bool,
@@ -32,14 +32,14 @@ struct News {
     // How many hellos were denied because of their name and key.
     denials: u64,
     // The number of denials at which they are reported next.
-    told: u64,
+    next_report: u64,
 }
 
 /// The state of a host, which its threads share: how many sessions have ended, whether the host is over, whether memory
 /// ran out, when denials are due, and who is served at each port.
 #[derive(Drop)]
 pub struct HostState {
-    news: Mutex<News>,
+    notes: Mutex<Notes>,
     changed: Condvar,
     // Whether the reply to the teacher's bye at the desk was sent.
     pub(crate) is_dismissed: RwLock<bool>,
@@ -51,13 +51,13 @@ impl HostState {
     /// Returns the state of a host of the lab, before anything was noted. One of the lab's sessions is for the desk.
     pub fn new(alloc: Global, lab: &Lab) -> HostState {
         HostState {
-            news: Mutex::new(News {
+            notes: Mutex::new(Notes {
                 ended: 0,
                 is_over: false,
                 lacked_memory: false,
                 next_denial: None,
                 denials: 0,
-                told: MANY,
+                next_report: FIRST_REPORT,
             }),
             changed: Condvar::new(),
             is_dismissed: RwLock::new(false),
@@ -84,41 +84,44 @@ impl HostState {
     /// Counts a session that has ended. If `is_over`, notes that the host is over. Wakes the threads that wait in
     /// `wait_past`.
     pub fn note_end<Rt: Wait>(&self, rt: &Rt, is_over: bool) {
-        let mut news = self.news.lock(rt);
-        news.ended = news.ended.wrapping_add(1);
+        let mut notes = self.notes.lock(rt);
+        notes.ended = notes.ended.wrapping_add(1);
         if is_over {
-            news.is_over = true;
+            notes.is_over = true;
         }
         self.changed.notify_all();
     }
 
     /// Notes that memory ran out. From now on `lacked_memory` returns `true`, and at its end the host reports that.
     pub fn note_memory<Rt: Wait>(&self, rt: &Rt) {
-        self.news.lock(rt).lacked_memory = true;
+        self.notes.lock(rt).lacked_memory = true;
     }
 
     /// Returns how many sessions have ended.
     pub fn ended_count<Rt: Wait>(&self, rt: &Rt) -> u64 {
-        self.news.lock(rt).ended
+        self.notes.lock(rt).ended
     }
 
     /// Returns whether the host is over, so that no more connections are to be served.
     pub fn is_over<Rt: Wait>(&self, rt: &Rt) -> bool {
-        self.news.lock(rt).is_over
+        self.notes.lock(rt).is_over
     }
 
     /// Returns whether a thread has noted that memory ran out.
     pub fn lacked_memory<Rt: Wait>(&self, rt: &Rt) -> bool {
-        self.news.lock(rt).lacked_memory
+        self.notes.lock(rt).lacked_memory
     }
 
     /// Waits until the number of ended sessions isn't `count` any more, for at most a tenth of a second, or 5
     /// milliseconds if `is_hurried` is set.
     pub fn wait_past<Rt: Wait + Clock>(&self, rt: &Rt, count: u64, is_hurried: bool) {
         let pause = Duration::from_millis(if is_hurried { SHORT_PAUSE } else { PAUSE });
-        let _ended = self
-            .changed
-            .wait_timeout_while(rt, self.news.lock(rt), pause, |news| news.ended == count);
+        let _ended = self.changed.wait_timeout_while(
+            rt,
+            self.notes.lock(rt),
+            pause,
+            |notes| notes.ended == count,
+        );
     }
 
     /// Returns the turn of the next denial of a name and key: the time before which it isn't sent. This is now, or 12
@@ -126,24 +129,24 @@ impl HostState {
     /// together. Returns an error if the clock fails.
     pub fn turn_of_denial<Rt: Wait + Clock>(&self, rt: &Rt) -> io::Result<Instant> {
         let now = Instant::now(rt)?;
-        let mut news = self.news.lock(rt);
-        let turn = match news.next_denial {
+        let mut notes = self.notes.lock(rt);
+        let turn = match notes.next_denial {
             Some(next) if next > now => next,
             _ => now,
         };
-        news.next_denial = turn.checked_add(Duration::from_millis(DENIAL));
+        notes.next_denial = turn.checked_add(Duration::from_millis(DENIAL_INTERVAL));
         Ok(turn)
     }
 
     /// Counts a denial of a name and key. Returns the count if it is to be reported: at the 30th denial, the 300th, the
     /// 3000th, and so on. Returns `None` otherwise.
     pub fn note_denial<Rt: Wait>(&self, rt: &Rt) -> Option<u64> {
-        let mut news = self.news.lock(rt);
-        news.denials = news.denials.saturating_add(1);
-        if news.denials < news.told {
+        let mut notes = self.notes.lock(rt);
+        notes.denials = notes.denials.saturating_add(1);
+        if notes.denials < notes.next_report {
             return None;
         }
-        news.told = news.told.saturating_mul(10);
-        Some(news.denials)
+        notes.next_report = notes.next_report.saturating_mul(10);
+        Some(notes.denials)
     }
 }

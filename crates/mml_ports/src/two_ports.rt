@@ -16,10 +16,10 @@ use std::{io, thread};
 const BACKLOG: i32 = 4096;
 
 // How many times at most it is checked whether a first connection has come to the desk.
-const LOOKS: u32 = 1000;
+const FIRST_CHECKS: u32 = 1000;
 
 // How many milliseconds pass between two of these checks.
-const LOOK: u64 = 1;
+const CHECK_INTERVAL: u64 = 1;
 
 /// Why the host can't listen on a port.
 #[derive(Clone, Copy, Debug, PartialEq, Eq)]
@@ -82,11 +82,11 @@ pub fn listen_at<R: Clock + Net<Listener = TcpListener, Stream = TcpStream>>(
 // couldn't be accepted. Returns an error if the listener can't be set not to wait.
 fn first_within<R: Clock>(rt: &R, listener: &TcpListener) -> io::Result<Option<TcpStream>> {
     listener.set_nonblocking(true)?;
-    for _ in 0..LOOKS {
+    for _ in 0..FIRST_CHECKS {
         match listener.accept() {
             Ok((stream, _)) => return Ok(Some(stream)),
             Err(error) if is_transient(error.kind()) => {
-                thread::sleep(rt, Duration::from_millis(LOOK));
+                thread::sleep(rt, Duration::from_millis(CHECK_INTERVAL));
             }
             Err(_) => return Ok(None),
         }
