@@ -12,13 +12,13 @@ mod listed;
 mod object;
 mod reply;
 mod reply_rows;
+mod reply_value;
 mod reply_writing;
 mod request;
 mod request_reading;
 mod request_writing;
 mod ruling_reply;
 mod table;
-mod told;
 
 pub use greeting::{Greeted, Greeting, greet, greet_into};
 pub use mml_plain::LineScratch;

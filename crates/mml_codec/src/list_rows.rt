@@ -6,8 +6,8 @@ ghost use Rattle.mml_codec.specs.Facts.{object_text};
 ghost use Rattle.mml_codec.specs.Replies.{look_fields, report_fields};
 
 use crate::list_writing::{ListRow, Listing, Opening, Rest};
+use crate::reply_value::Word;
 use crate::table::{End, Row};
-use crate::told::Word;
 use mml_ids::{IdTable, Memory};
 use mml_policy::Look;
 use mml_stable::Report;

@@ -8,7 +8,7 @@ ghost use Rattle.mml_ids.specs.Pieces.{truth_text};
 ghost use Rattle.serde_json.specs.Written.{comma_if};
 ghost use Rattle.mml_codec.specs.Facts.{node_text, pointer_text, near_text, pair_text, privileged_text, open_link_text, separated};
 
-use crate::told::{with_kind, with_node};
+use crate::reply_value::{with_kind, with_node};
 use mml_ids::{IdTable, Memory, Rank, make_room, taken, with_text};
 use mml_rules::{Kind, Regs};
 use mml_stable::OpenLink;

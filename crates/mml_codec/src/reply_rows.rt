@@ -11,8 +11,8 @@ ghost use Rattle.mml_codec.specs.Facts.{object_text, HaveFittingCounts};
 ghost use Rattle.mml_codec.specs.Replies.{at_key, done_fields, ends_fields, hello_fields, bye_fields, see_fields, told_fields, deny_fields, refuse_fields, refusal_name};
 
 use crate::reply::Refused;
+use crate::reply_value::Word;
 use crate::table::{End, Row, TEXT_ROOM, put_object};
-use crate::told::Word;
 use mml_ids::{IdTable, Memory, NodeSet, Rank};
 use mml_lab::{Roster, Who};
 use mml_policy::{Denial, See};
@@ -20,19 +20,19 @@ use mml_rules::Kind;
 
 /// The two numbers in the reply to an event: that of the configuration after it, and its place.
 #[derive(Clone, Copy)]
-pub(crate) struct Moment {
+pub(crate) struct EventNumbers {
     at: u64,
     place: u64,
 }
 
-/// Returns a `Moment` of these two numbers of an event: `at`, the number of the configuration after it, and `place`,
-/// its place. The contract also says that both fit 64 bits.
-pub(crate) fn moment_of(at: &u64, place: &u64) -> Moment
-    ensures moment { result ≡ record { at = at.now; place = place.now } }
+/// Returns the `EventNumbers` of these two numbers of an event: `at`, the number of the configuration after it, and
+/// `place`, its place. The contract also says that both fit 64 bits.
+pub(crate) fn numbers_of(at: &u64, place: &u64) -> EventNumbers
+    ensures numbers { result ≡ record { at = at.now; place = place.now } }
     ensures at { at.now < 2 ^ 64 }
     ensures place { place.now < 2 ^ 64 }
 {
-    Moment {
+    EventNumbers {
         at: *at,
         place: *place,
     }
@@ -108,23 +108,23 @@ pub(crate) fn put_see(ids: &IdTable, see: &See, out: &mut Vec<u8>) -> Result<(),
     put_object(ids, &fields, out)
 }
 
-/// Appends the text of the reply to a granted move to `out`: `moment` has its numbers, `node` is the node, and `kind`
-/// its chosen rule. Returns `Memory` if memory runs out.
+/// Appends the text of the reply to a granted move to `out`: `numbers` are those of the event, `node` is the node, and
+/// `kind` its chosen rule. Returns `Memory` if memory runs out.
 #[tactic(auto, unfolding(crate::specs::Facts::object_text))]
 pub(crate) fn put_move(
     ids: &IdTable,
-    moment: Moment,
+    numbers: EventNumbers,
     node: Rank,
     kind: Kind,
     out: &mut Vec<u8>,
 ) -> Result<(), Memory>
     requires { node < length ids.now }
     ensures { Puts (object_text ids.now
-        (done_fields moment.at moment.place (done.Move node kind))) TEXT_ROOM out.old out.new result }
+        (done_fields numbers.at numbers.place (done.Move node kind))) TEXT_ROOM out.old out.new result }
 {
     let fields = Row {
         key: "at",
-        value: moment.at,
+        value: numbers.at,
         rest: Row {
             key: "node",
             value: node,
@@ -133,7 +133,7 @@ pub(crate) fn put_move(
                 value: Word("move"),
                 rest: Row {
                     key: "place",
-                    value: moment.place,
+                    value: numbers.place,
                     rest: Row {
                         key: "rule",
                         value: kind,
@@ -146,22 +146,22 @@ pub(crate) fn put_move(
     put_object(ids, &fields, out)
 }
 
-/// Appends the text of the reply to a granted close to `out`: `moment` has its numbers, and `moved` the nodes whose
-/// moves were applied. Returns `Memory` if memory runs out.
+/// Appends the text of the reply to a granted close to `out`: `numbers` are those of the event, and `moved` the nodes
+/// whose moves were applied. Returns `Memory` if memory runs out.
 #[tactic(auto, unfolding(crate::specs::Facts::object_text))]
 pub(crate) fn put_close(
     ids: &IdTable,
-    moment: Moment,
+    numbers: EventNumbers,
     moved: NodeSet,
     out: &mut Vec<u8>,
 ) -> Result<(), Memory>
     ensures { Puts (object_text ids.now
-        (done_fields moment.at moment.place (done.Close moved)))
+        (done_fields numbers.at numbers.place (done.Close moved)))
         TEXT_ROOM out.old out.new result }
 {
     let fields = Row {
         key: "at",
-        value: moment.at,
+        value: numbers.at,
         rest: Row {
             key: "moved",
             value: moved,
@@ -170,7 +170,7 @@ pub(crate) fn put_close(
                 value: Word("close"),
                 rest: Row {
                     key: "place",
-                    value: moment.place,
+                    value: numbers.place,
                     rest: End,
                 },
             },
@@ -179,23 +179,23 @@ pub(crate) fn put_close(
     put_object(ids, &fields, out)
 }
 
-/// Appends the text of the reply to a granted fault to `out`: `moment` has its numbers, `node` is the node, and
+/// Appends the text of the reply to a granted fault to `out`: `numbers` are those of the event, `node` is the node, and
 /// `dropped` is how many chosen moves were dropped. Returns `Memory` if memory runs out.
 #[tactic(auto, unfolding(crate::specs::Facts::object_text))]
 pub(crate) fn put_fault(
     ids: &IdTable,
-    moment: Moment,
+    numbers: EventNumbers,
     node: Rank,
     dropped: u16,
     out: &mut Vec<u8>,
 ) -> Result<(), Memory>
     requires { node < length ids.now }
     ensures { Puts (object_text ids.now
-        (done_fields moment.at moment.place (done.Fault node dropped))) TEXT_ROOM out.old out.new result }
+        (done_fields numbers.at numbers.place (done.Fault node dropped))) TEXT_ROOM out.old out.new result }
 {
     let fields = Row {
         key: "at",
-        value: moment.at,
+        value: numbers.at,
         rest: Row {
             key: "dropped",
             value: dropped,
@@ -207,7 +207,7 @@ pub(crate) fn put_fault(
                     value: Word("fault"),
                     rest: Row {
                         key: "place",
-                        value: moment.place,
+                        value: numbers.place,
                         rest: End,
                     },
                 },
@@ -217,14 +217,14 @@ pub(crate) fn put_fault(
     put_object(ids, &fields, out)
 }
 
-/// Appends the text of the reply to a granted link or cut to `out`: `word` is `link` or `cut`, `moment` has its
-/// numbers, `ends` are the two nodes, and `dropped` is how many chosen moves were dropped. Returns `Memory` if memory
+/// Appends the text of the reply to a granted link or cut to `out`: `word` is `link` or `cut`, `numbers` are those of
+/// the event, `ends` are the two nodes, and `dropped` is how many chosen moves were dropped. Returns `Memory` if memory
 /// runs out.
 #[tactic(auto, unfolding(crate::specs::Facts::object_text))]
 pub(crate) fn put_ends(
     ids: &IdTable,
     word: &'static str,
-    moment: Moment,
+    numbers: EventNumbers,
     ends: (Rank, Rank),
     dropped: u16,
     out: &mut Vec<u8>,
@@ -233,14 +233,14 @@ pub(crate) fn put_ends(
     requires second { ends.1 < length ids.now }
     requires word { length word.now ≤ 40 }
     ensures { Puts (object_text ids.now
-        (ends_fields word.now moment.at moment.place ends.0 ends.1 dropped)) TEXT_ROOM out.old out.new result }
+        (ends_fields word.now numbers.at numbers.place ends.0 ends.1 dropped)) TEXT_ROOM out.old out.new result }
 {
     let fields = Row {
         key: "a",
         value: ends.0,
         rest: Row {
             key: "at",
-            value: moment.at,
+            value: numbers.at,
             rest: Row {
                 key: "b",
                 value: ends.1,
@@ -252,7 +252,7 @@ pub(crate) fn put_ends(
                         value: Word(word),
                         rest: Row {
                             key: "place",
-                            value: moment.place,
+                            value: numbers.place,
                             rest: End,
                         },
                     },
@@ -263,22 +263,22 @@ pub(crate) fn put_ends(
     put_object(ids, &fields, out)
 }
 
-/// Appends the text of the reply to a granted release to `out`: `moment` has its numbers, and `node` is the node.
-/// Returns `Memory` if memory runs out.
+/// Appends the text of the reply to a granted release to `out`: `numbers` are those of the event, and `node` is the
+/// node. Returns `Memory` if memory runs out.
 #[tactic(auto, unfolding(crate::specs::Facts::object_text))]
 pub(crate) fn put_release(
     ids: &IdTable,
-    moment: Moment,
+    numbers: EventNumbers,
     node: Rank,
     out: &mut Vec<u8>,
 ) -> Result<(), Memory>
     requires { node < length ids.now }
     ensures { Puts (object_text ids.now
-        (done_fields moment.at moment.place (done.Release node))) TEXT_ROOM out.old out.new result }
+        (done_fields numbers.at numbers.place (done.Release node))) TEXT_ROOM out.old out.new result }
 {
     let fields = Row {
         key: "at",
-        value: moment.at,
+        value: numbers.at,
         rest: Row {
             key: "node",
             value: node,
@@ -287,7 +287,7 @@ pub(crate) fn put_release(
                 value: Word("release"),
                 rest: Row {
                     key: "place",
-                    value: moment.place,
+                    value: numbers.place,
                     rest: End,
                 },
             },

@@ -7,7 +7,7 @@ ghost use Rattle.mml_codec.specs.ReplyValues.{AreWritableCounts};
 use crate::list_rows::{put_look, put_report};
 use crate::reply::{REPLY_ROOM, Refused, Reply};
 use crate::reply_rows::{
-    moment_of, put_bye, put_close, put_denial, put_ends, put_fault, put_hello, put_move,
+    numbers_of, put_bye, put_close, put_denial, put_ends, put_fault, put_hello, put_move,
     put_refusal, put_release, put_see,
 };
 use crate::table::TEXT_ROOM;
@@ -58,7 +58,7 @@ pub fn tell_reply(
 {
     match write_reply(alloc, ids, roster, &reply, out) {
         Ok(()) => reply,
-        Err(_) => tell_want_of_memory(alloc, ids, roster, out),
+        Err(_) => write_memory_refusal(alloc, ids, roster, out),
     }
 }
 
@@ -90,15 +90,15 @@ fn is_short(reply: &Reply) -> bool
 
 // Replaces the bytes of `out` by the line of the refusal `memory`, which says that memory ran out. Returns that
 // refusal.
-fn tell_want_of_memory(alloc: Global, ids: &IdTable, roster: &Roster, out: &mut Vec<u8>) -> Reply
+fn write_memory_refusal(alloc: Global, ids: &IdTable, roster: &Roster, out: &mut Vec<u8>) -> Reply
     requires room { REPLY_ROOM ≤ vec_capacity out.old }
     ensures told { result ≡ Reply.Refuse Refused.Memory }
     ensures room { REPLY_ROOM ≤ vec_capacity out.new }
     ensures line { out.new.items ≡ reply_line ids.now roster.now result }
 {
-    let told = Reply::Refuse(Refused::Memory);
-    write_reply(alloc, ids, roster, &told, out).unwrap();
-    told
+    let refusal = Reply::Refuse(Refused::Memory);
+    write_reply(alloc, ids, roster, &refusal, out).unwrap();
+    refusal
 }
 
 // Appends the line of a reply, with its newline, to `out`. Returns `Memory` if memory runs out.
@@ -154,29 +154,29 @@ fn put_text(ids: &IdTable, roster: &Roster, reply: &Reply, out: &mut Vec<u8>) ->
             place,
             node,
             kind,
-        } => put_move(ids, moment_of(at, place), *node, *kind, out),
-        Reply::Close { at, place, moved } => put_close(ids, moment_of(at, place), *moved, out),
+        } => put_move(ids, numbers_of(at, place), *node, *kind, out),
+        Reply::Close { at, place, moved } => put_close(ids, numbers_of(at, place), *moved, out),
         Reply::Fault {
             at,
             place,
             node,
             dropped,
-        } => put_fault(ids, moment_of(at, place), *node, *dropped, out),
+        } => put_fault(ids, numbers_of(at, place), *node, *dropped, out),
         Reply::Link {
             at,
             place,
             a,
             b,
             dropped,
-        } => put_ends(ids, "link", moment_of(at, place), (*a, *b), *dropped, out),
+        } => put_ends(ids, "link", numbers_of(at, place), (*a, *b), *dropped, out),
         Reply::Cut {
             at,
             place,
             a,
             b,
             dropped,
-        } => put_ends(ids, "cut", moment_of(at, place), (*a, *b), *dropped, out),
-        Reply::Release { at, place, node } => put_release(ids, moment_of(at, place), *node, out),
+        } => put_ends(ids, "cut", numbers_of(at, place), (*a, *b), *dropped, out),
+        Reply::Release { at, place, node } => put_release(ids, numbers_of(at, place), *node, out),
         Reply::Report(report) => put_report(ids, report, out),
         Reply::Deny(denial) => put_denial(ids, *denial, out),
         Reply::Refuse(refused) => put_refusal(ids, *refused, out),

@@ -3,7 +3,7 @@ ghost use Rattle.std.specs.Prelude.{codes, ◌≡◌, ◌≤◌, ◌+◌, ◌++�
 ghost use Rattle.mml_ids.specs.Pieces.{Puts};
 ghost use Rattle.mml_codec.specs.Facts.{fact_then};
 
-use crate::told::Told;
+use crate::reply_value::ReplyValue;
 use mml_ids::{IdTable, Memory, make_room, taken, with_text};
 
 /// Enough bytes for the text of each reply but a look and a report.
@@ -41,7 +41,7 @@ pub(crate) struct Row<V, T> {
     pub(crate) rest: T,
 }
 
-impl<V: Told, T: Table> Table for Row<V, T> {
+impl<V: ReplyValue, T: Table> Table for Row<V, T> {
     ghost names = { λ ids r. V.names ids r.value × T.names ids r.rest };
 
     ghost text = { λ ids first r rest. first ++ (codes "\"" ++ (r.key.now ++ (codes "\":"
@@ -56,7 +56,7 @@ impl<V: Told, T: Table> Table for Row<V, T> {
         let line = with_text(line, "\"");
         let line = with_text(line, self.key);
         let line = with_text(line, "\":");
-        let line = self.value.with_told(line, ids);
+        let line = self.value.with_value(line, ids);
         self.rest.with_fields(line, ids, ",")
     }
 }

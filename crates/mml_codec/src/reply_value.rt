@@ -12,7 +12,7 @@ use mml_ids::{IdTable, NodeSet, Rank, with_number, with_short_number, with_text}
 use mml_rules::Kind;
 
 /// The value of a key in a reply. Its text has a greatest length.
-pub(crate) trait Told {
+pub(crate) trait ReplyValue {
     // The value, as the definitions name it.
     ghost fact: { Self → Fact };
 
@@ -26,7 +26,7 @@ pub(crate) trait Told {
     ghost most: { Self → ℕ };
 
     // Returns the line with the value's text appended. The line must have room for the longest text of the value.
-    fn with_told(&self, line: Vec<u8>, ids: &IdTable) -> Vec<u8>
+    fn with_value(&self, line: Vec<u8>, ids: &IdTable) -> Vec<u8>
         requires names { names ids.now self.now }
         requires room { length line.items + most self.now ≤ vec_capacity line }
         ensures text { result.items ≡ line.items ++ text ids.now self.now }
@@ -34,12 +34,12 @@ pub(crate) trait Told {
         ensures grows { length result.items ≤ length line.items + most self.now };
 
     // The text is that which the definitions give for the value.
-    ghost tells: { (ids : List ℕ) (told : Self) (rest : List ℕ) →
-        fact_then ids (fact told) rest ≡ text ids told ++ rest };
+    ghost tells: { (ids : List ℕ) (value : Self) (rest : List ℕ) →
+        fact_then ids (fact value) rest ≡ text ids value ++ rest };
 }
 
 // A count, or the number of a configuration or of an event.
-impl Told for u64 {
+impl ReplyValue for u64 {
     ghost fact = { fact.count };
 
     ghost names = { λ _ _. Unit {0} };
@@ -50,7 +50,7 @@ impl Told for u64 {
 
     // Returns the line with the number appended in decimal.
     #[inline(always)]
-    fn with_told(&self, line: Vec<u8>, _ids: &IdTable) -> Vec<u8> {
+    fn with_value(&self, line: Vec<u8>, _ids: &IdTable) -> Vec<u8> {
         with_number(line, *self)
     }
 
@@ -58,7 +58,7 @@ impl Told for u64 {
 }
 
 // A count of nodes.
-impl Told for u16 {
+impl ReplyValue for u16 {
     ghost fact = { fact.count };
 
     ghost names = { λ _ _. Unit {0} };
@@ -69,7 +69,7 @@ impl Told for u16 {
 
     // Returns the line with the number of nodes appended in decimal.
     #[inline(always)]
-    fn with_told(&self, line: Vec<u8>, _ids: &IdTable) -> Vec<u8> {
+    fn with_value(&self, line: Vec<u8>, _ids: &IdTable) -> Vec<u8> {
         with_short_number(line, u64::from(*self))
     }
 
@@ -77,7 +77,7 @@ impl Told for u16 {
 }
 
 // The number of a clause.
-impl Told for u8 {
+impl ReplyValue for u8 {
     ghost fact = { fact.clause };
 
     ghost names = { λ _ _. Unit {0} };
@@ -88,7 +88,7 @@ impl Told for u8 {
 
     // Returns the line with the number of a clause appended in decimal.
     #[inline(always)]
-    fn with_told(&self, line: Vec<u8>, _ids: &IdTable) -> Vec<u8> {
+    fn with_value(&self, line: Vec<u8>, _ids: &IdTable) -> Vec<u8> {
         with_short_number(line, u64::from(*self))
     }
 
@@ -99,7 +99,7 @@ impl Told for u8 {
 #[derive(Clone, Copy)]
 pub(crate) struct Word<'a>(pub(crate) &'a str);
 
-impl<'a> Told for Word<'a> {
+impl<'a> ReplyValue for Word<'a> {
     ghost fact = { λ w. fact.word w.0.now };
 
     ghost names = { λ _ _. Unit {0} };
@@ -110,7 +110,7 @@ impl<'a> Told for Word<'a> {
 
     // Returns the line with the word appended in quotation marks.
     #[inline(always)]
-    fn with_told(&self, line: Vec<u8>, _ids: &IdTable) -> Vec<u8> {
+    fn with_value(&self, line: Vec<u8>, _ids: &IdTable) -> Vec<u8> {
         let line = with_text(line, "\"");
         let line = with_text(line, self.0);
         with_text(line, "\"")
@@ -120,7 +120,7 @@ impl<'a> Told for Word<'a> {
 }
 
 // A truth value.
-impl Told for bool {
+impl ReplyValue for bool {
     ghost fact = { fact.truth };
 
     ghost names = { λ _ _. Unit {0} };
@@ -131,7 +131,7 @@ impl Told for bool {
 
     // Returns the line with `true` or `false` appended.
     #[inline(always)]
-    fn with_told(&self, line: Vec<u8>, _ids: &IdTable) -> Vec<u8> {
+    fn with_value(&self, line: Vec<u8>, _ids: &IdTable) -> Vec<u8> {
         if *self {
             with_text(line, "true")
         } else {
@@ -143,7 +143,7 @@ impl Told for bool {
 }
 
 // A node, by its identifier.
-impl Told for Rank {
+impl ReplyValue for Rank {
     ghost fact = { fact.node };
 
     ghost names = { λ ids i. i < length ids };
@@ -154,7 +154,7 @@ impl Told for Rank {
 
     // Returns the line with the node's identifier appended.
     #[inline(always)]
-    fn with_told(&self, line: Vec<u8>, ids: &IdTable) -> Vec<u8> {
+    fn with_value(&self, line: Vec<u8>, ids: &IdTable) -> Vec<u8> {
         with_node(line, ids, *self)
     }
 
@@ -162,7 +162,7 @@ impl Told for Rank {
 }
 
 // The node that a register points at, by its identifier, or null.
-impl Told for Option<Rank> {
+impl ReplyValue for Option<Rank> {
     ghost fact = { fact.pointer };
 
     ghost names = { λ ids p. IfSome p (λ j. j < length ids) };
@@ -173,7 +173,7 @@ impl Told for Option<Rank> {
 
     // Returns the line with the pointer appended: the identifier of the node that it names, or `null`.
     #[inline(always)]
-    fn with_told(&self, line: Vec<u8>, ids: &IdTable) -> Vec<u8> {
+    fn with_value(&self, line: Vec<u8>, ids: &IdTable) -> Vec<u8> {
         match *self {
             Some(node) => with_node(line, ids, node),
             None => with_text(line, "null"),
@@ -184,7 +184,7 @@ impl Told for Option<Rank> {
 }
 
 // A kind of rule, by its word.
-impl Told for Kind {
+impl ReplyValue for Kind {
     ghost fact = { fact.rule };
 
     ghost names = { λ _ _. Unit {0} };
@@ -195,7 +195,7 @@ impl Told for Kind {
 
     // Returns the line with the rule's word appended in quotation marks.
     #[inline(always)]
-    fn with_told(&self, line: Vec<u8>, _ids: &IdTable) -> Vec<u8> {
+    fn with_value(&self, line: Vec<u8>, _ids: &IdTable) -> Vec<u8> {
         with_kind(line, *self)
     }
 
@@ -203,7 +203,7 @@ impl Told for Kind {
 }
 
 // A kind of rule, by its word, or null.
-impl Told for Option<Kind> {
+impl ReplyValue for Option<Kind> {
     ghost fact = { fact.rule_or_null };
 
     ghost names = { λ _ _. Unit {0} };
@@ -214,7 +214,7 @@ impl Told for Option<Kind> {
 
     // Returns the line with the rule's word appended in quotation marks, or `null` if there is no rule.
     #[inline(always)]
-    fn with_told(&self, line: Vec<u8>, _ids: &IdTable) -> Vec<u8> {
+    fn with_value(&self, line: Vec<u8>, _ids: &IdTable) -> Vec<u8> {
         match *self {
             Some(kind) => with_kind(line, kind),
             None => with_text(line, "null"),
@@ -225,7 +225,7 @@ impl Told for Option<Kind> {
 }
 
 // The nodes that moved, as an array of at most 256 identifiers of 6 bytes.
-impl Told for NodeSet {
+impl ReplyValue for NodeSet {
     ghost fact = { fact.moved };
 
     ghost names = { λ _ _. Unit {0} };
@@ -236,7 +236,7 @@ impl Told for NodeSet {
 
     // Returns the line with the identifiers of the set's nodes appended, as an array in rising order.
     #[inline(always)]
-    fn with_told(&self, line: Vec<u8>, ids: &IdTable) -> Vec<u8> {
+    fn with_value(&self, line: Vec<u8>, ids: &IdTable) -> Vec<u8> {
         let line = with_text(line, "[");
         let line = with_members(line, ids, *self);
         with_text(line, "]")

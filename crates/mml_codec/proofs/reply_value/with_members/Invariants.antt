@@ -2,7 +2,7 @@ use Rattle.std.proofs.Common.{◌≡◌, ◌≤◌, ◌+◌, ◌*◌, ◌++◌, 
 use Rattle.serde_json.specs.Written.{comma_if}
 use Rattle.mml_codec.specs.Facts.{separated}
 use Rattle.mml_codec.proofs.SeparatedLemmas.{comma_after, texts}
-use Rattle.mml_codec.proofs.told.with_members.Given as goal
+use Rattle.mml_codec.proofs.reply_value.with_members.Given as goal
 
 abbrev pub invariant-loop-index : goal.invariant-loop-index
 invariant-loop-index l = record {
