@@ -35,9 +35,9 @@ pub fn certify(board: &Board, a: Rank, b: Rank) -> (Rank, Kind)
 }
 
 /// Returns the witness of a link between two free nodes (in no pair), `a` and a greater `b`: a privileged node, and the
-/// rule that is enabled there. It is the node that `walk` finds from `a`, or, if it finds none, the one that it finds
-/// from `b`. If it finds none there either, it is `a` with a seduction. `kinds` has the rule that is enabled at each
-/// node, by rank.
+/// rule that is enabled there. It is the node that `witness_from` finds from `a`, or, if it finds none, the one that it
+/// finds from `b`. If it finds none there either, it is `a` with a seduction. `kinds` has the rule that is enabled at
+/// each node, by rank.
 #[tactic(auto, unfolding(crate::specs::Walk::certificate))]
 pub(crate) fn witness(board: &Board, kinds: &[Option<Kind>], a: Rank, b: Rank) -> (Rank, Kind)
     requires kinds { AreKinds (configuration board.now) kinds.now }
@@ -45,21 +45,21 @@ pub(crate) fn witness(board: &Board, kinds: &[Option<Kind>], a: Rank, b: Rank) -
     requires b { b < length board.now.network.registers }
     ensures { result ≡ certificate (configuration board.now) a b }
 {
-    if let Some(found) = walk(board, kinds, a) {
+    if let Some(found) = witness_from(board, kinds, a) {
         return found;
     }
-    walk(board, kinds, b).unwrap_or((a, Kind::Seduction))
+    witness_from(board, kinds, b).unwrap_or((a, Kind::Seduction))
 }
 
-/// Follows the pointers from `node` to the first node that is privileged or points at no node, as `top` does. Returns
-/// this node with the rule that is enabled there. Returns `None` if no rule is enabled there, or a seduction. `kinds`
-/// has the rule that is enabled at each node, by rank.
-fn walk(board: &Board, kinds: &[Option<Kind>], node: Rank) -> Option<(Rank, Kind)>
+/// Follows the pointers from `node` to the first node that is privileged or points at no node, as `end_of_walk` does.
+/// Returns this node with the rule that is enabled there. Returns `None` if no rule is enabled there, or a seduction.
+/// `kinds` has the rule that is enabled at each node, by rank.
+fn witness_from(board: &Board, kinds: &[Option<Kind>], node: Rank) -> Option<(Rank, Kind)>
     requires kinds { AreKinds (configuration board.now) kinds.now }
     requires node { node < length board.now.network.registers }
     ensures { result ≡ walk (configuration board.now) node }
 {
-    let (last, enabled) = top(board, kinds, node);
+    let (last, enabled) = end_of_walk(board, kinds, node);
     match enabled {
         Some(Kind::Seduction) | None => None,
         Some(kind) => Some((last, kind)),
@@ -69,7 +69,7 @@ fn walk(board: &Board, kinds: &[Option<Kind>], node: Rank) -> Option<(Rank, Kind
 /// Follows the pointers from `node` to the first node that is privileged or points at no node. Returns this node, with
 /// the rule that is enabled there, if one is. If no such node comes in as many steps as there are nodes, returns the
 /// node that the last step reached. `kinds` has the rule that is enabled at each node, by rank.
-fn top(board: &Board, kinds: &[Option<Kind>], node: Rank) -> (Rank, Option<Kind>)
+fn end_of_walk(board: &Board, kinds: &[Option<Kind>], node: Rank) -> (Rank, Option<Kind>)
     requires kinds { AreKinds (configuration board.now) kinds.now }
     requires node { node < length board.now.network.registers }
     ensures top { result.0 ≡ top (configuration board.now) node }

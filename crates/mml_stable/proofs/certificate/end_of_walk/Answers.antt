@@ -3,7 +3,7 @@ use Rattle.mml_rules.specs.Rules.{is_privileged}
 use Rattle.mml_rules.proofs.RulesLemmas.{pointee_in}
 use Rattle.mml_board.specs.World.{configuration}
 use Rattle.mml_stable.proofs.WalkLemmas.{climb_stops, climb_null, climb_onward, top_is}
-use Rattle.mml_stable.proofs.certificate.top.Goals as goal
+use Rattle.mml_stable.proofs.certificate.end_of_walk.Goals as goal
 
 pub returns-then-is_some-clause-top : goal.returns-then-is_some-clause-top
 returns-then-is_some-clause-top c = grind (arith, nat_tests, top_is, climb_stops)

@@ -1,7 +1,7 @@
 use Rattle.std.proofs.Common.{◌≡◌, ◌-◌, ◌<◌, length}
 use Rattle.mml_board.specs.World.{configuration}
 use Rattle.mml_stable.specs.Walk.{climb}
-use Rattle.mml_stable.proofs.certificate.top.Given as goal
+use Rattle.mml_stable.proofs.certificate.end_of_walk.Given as goal
 
 abbrev pub invariant-loop-step : goal.invariant-loop-step
 invariant-loop-step l = record {
