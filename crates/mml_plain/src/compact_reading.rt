@@ -38,14 +38,14 @@ pub(crate) fn read_compact<'a>(line: &'a [u8], fields: &mut Fields<'a>) -> bool
     ensures { result ≡ true → (ms : Members) × IsUtf8 line.now
         × (object_at (tokens line.now) ≡ Some ms) × Holds fields.new (object ms) }
 {
-    let Some(mut rest) = behind(line, b'{') else {
+    let Some(mut rest) = after_byte(line, b'{') else {
         return false;
     };
     'members: loop {
         let Some(more) = member(rest, fields) else {
             return false;
         };
-        let Some(next) = behind(more, b',') else {
+        let Some(next) = after_byte(more, b',') else {
             return more.len() == 1 && more[0] == b'}';
         };
         rest = next;
@@ -111,7 +111,7 @@ fn known_value<'a>(front: u32, text: &'a [u8], fields: &mut Fields<'a>) -> Optio
         return Some(rest);
     }
     if front == KEY {
-        let (key, rest) = text_value(behind(text, b':')?)?;
+        let (key, rest) = text_value(after_byte(text, b':')?)?;
         fields.key = Some(key);
         return Some(rest);
     }
@@ -125,8 +125,8 @@ fn any_member<'a>(text: &'a [u8], fields: &mut Fields<'a>) -> Option<&'a [u8]>
     ensures { IfSome result (λ rest. (whole : List ℕ) → BeginsQuoted whole text.now →
         PutsMember whole rest.now fields.old fields.new) }
 {
-    let (key, behind_key) = bare_word(text)?;
-    let after_key = behind(behind_key, b':')?;
+    let (key, at_colon) = bare_word(text)?;
+    let after_key = after_byte(at_colon, b':')?;
     let at_value = unspaced(after_key);
     let (value, rest) = member_value(at_value)?;
     fields.put(key, &value);
@@ -139,10 +139,10 @@ fn any_member<'a>(text: &'a [u8], fields: &mut Fields<'a>) -> Option<&'a [u8]>
 fn in_quotes<'a>(text: &'a [u8]) -> Option<&'a [u8]>
     ensures { IfSome result (λ rest. BeginsQuoted text.now rest.now) }
 {
-    if let Some(rest) = behind(text, b'"') {
+    if let Some(rest) = after_byte(text, b'"') {
         return Some(rest);
     }
-    behind(unspaced(text), b'"')
+    after_byte(unspaced(text), b'"')
 }
 
 /// Skips the quotation mark and the colon that end a key, and returns the text after them. Returns `None` if the text
@@ -151,7 +151,7 @@ fn in_quotes<'a>(text: &'a [u8]) -> Option<&'a [u8]>
 fn quote_and_colon<'a>(text: &'a [u8]) -> Option<&'a [u8]>
     ensures { IfSome result (λ rest. text.now ≡ 34 ∷ 58 ∷ rest.now) }
 {
-    behind(behind(text, b'"')?, b':')
+    after_byte(after_byte(text, b'"')?, b':')
 }
 
 /// Skips the spaces at the front of the text after a colon, and reads the string there. Returns the string, and the
@@ -175,7 +175,7 @@ fn number_value<'a>(text: &'a [u8]) -> Option<(u64, &'a [u8])>
 /// Skips one byte, which must be `byte`, and returns the text after it. Returns `None` if the text doesn't begin with
 /// that byte.
 #[inline(always)]
-fn behind<'a>(text: &'a [u8], byte: u8) -> Option<&'a [u8]>
+fn after_byte<'a>(text: &'a [u8], byte: u8) -> Option<&'a [u8]>
     ensures { IfSome result (λ rest. text.now ≡ byte ∷ rest.now) }
 {
     if text.is_empty() || text[0] != byte {
@@ -189,7 +189,7 @@ fn behind<'a>(text: &'a [u8], byte: u8) -> Option<&'a [u8]>
 fn unspaced<'a>(text: &'a [u8]) -> &'a [u8]
     ensures { Spaced text.now result.now }
 {
-    let Some(rest) = behind(text, b' ') else {
+    let Some(rest) = after_byte(text, b' ') else {
         return text;
     };
     if rest.is_empty() || rest[0] != b' ' {
@@ -205,7 +205,7 @@ fn past_spaces<'a>(text: &'a [u8]) -> &'a [u8]
     ensures { Spaced text.now result.now }
 {
     let mut rest = text;
-    'spaces: while let Some(next) = behind(rest, b' ') {
+    'spaces: while let Some(next) = after_byte(rest, b' ') {
         rest = next;
     }
     rest
@@ -217,23 +217,26 @@ fn past_spaces<'a>(text: &'a [u8]) -> &'a [u8]
 fn member_value<'a>(text: &'a [u8]) -> Option<(MemberValue<'a>, &'a [u8])>
     ensures { IfSome result (λ r. BeginsValue text.now r.0 r.1.now) }
 {
-    if let Some(text) = behind(text, b'"') {
+    if let Some(text) = after_byte(text, b'"') {
         let (word, rest) = bare_word(text)?;
         return Some((MemberValue::Text(word), rest));
     }
     if let Some((number, rest)) = whole_number(text) {
         return Some((MemberValue::Number(number), rest));
     }
-    if let Some(text) = behind(text, b't') {
-        let rest = behind(behind(behind(text, b'r')?, b'u')?, b'e')?;
+    if let Some(text) = after_byte(text, b't') {
+        let rest = after_byte(after_byte(after_byte(text, b'r')?, b'u')?, b'e')?;
         return Some((MemberValue::Truth(true), rest));
     }
-    if let Some(text) = behind(text, b'f') {
-        let rest = behind(behind(behind(behind(text, b'a')?, b'l')?, b's')?, b'e')?;
+    if let Some(text) = after_byte(text, b'f') {
+        let rest = after_byte(
+            after_byte(after_byte(after_byte(text, b'a')?, b'l')?, b's')?,
+            b'e',
+        )?;
         return Some((MemberValue::Truth(false), rest));
     }
-    if let Some(text) = behind(text, b'n') {
-        let rest = behind(behind(behind(text, b'u')?, b'l')?, b'l')?;
+    if let Some(text) = after_byte(text, b'n') {
+        let rest = after_byte(after_byte(after_byte(text, b'u')?, b'l')?, b'l')?;
         return Some((MemberValue::Null, rest));
     }
     empty_value(text)
@@ -245,12 +248,12 @@ fn member_value<'a>(text: &'a [u8]) -> Option<(MemberValue<'a>, &'a [u8])>
 fn empty_value<'a>(text: &'a [u8]) -> Option<(MemberValue<'a>, &'a [u8])>
     ensures { IfSome result (λ r. BeginsValue text.now r.0 r.1.now) }
 {
-    if let Some(text) = behind(text, b'[') {
-        let rest = behind(text, b']')?;
+    if let Some(text) = after_byte(text, b'[') {
+        let rest = after_byte(text, b']')?;
         return Some((MemberValue::Other, rest));
     }
-    let text = behind(text, b'{')?;
-    let rest = behind(text, b'}')?;
+    let text = after_byte(text, b'{')?;
+    let rest = after_byte(text, b'}')?;
     Some((MemberValue::Other, rest))
 }
 

@@ -28,4 +28,4 @@ returns-then-front-eq-NAME-clause-member c =
 
 pub returns-then-front-eq-KEY-clause-member : goal.returns-then-front-eq-KEY-clause-member
 returns-then-front-eq-KEY-clause-member c =
-    puts_known (codes "key") c.args.text.now (Text c.in_ok-key.key) refl c.if-front-eq-KEY.true (ap (λ t. codes "key" ++ 34 ∷ t) c.in_ok-behind.ensures) c.in_ok-key.ensures refl
+    puts_known (codes "key") c.args.text.now (Text c.in_ok-key.key) refl c.if-front-eq-KEY.true (ap (λ t. codes "key" ++ 34 ∷ t) c.in_ok-after_byte.ensures) c.in_ok-key.ensures refl

@@ -11,11 +11,11 @@ returns-in-Some c =
 pub returns-in-Some-whole_number : goal.returns-in-Some-whole_number
 returns-in-Some-whole_number c = grind (arith, number_value)
 
-pub returns-in-Some-behind : goal.returns-in-Some-behind
-returns-in-Some-behind c = grind (arith, truth_value)
+pub returns-in-Some-after_byte : goal.returns-in-Some-after_byte
+returns-in-Some-after_byte c = grind (arith, truth_value)
 
-pub returns-in-Some-behind-2 : goal.returns-in-Some-behind-2
-returns-in-Some-behind-2 c = grind (arith, truth_value)
+pub returns-in-Some-after_byte-2 : goal.returns-in-Some-after_byte-2
+returns-in-Some-after_byte-2 c = grind (arith, truth_value)
 
-pub returns-in-Some-behind-3 : goal.returns-in-Some-behind-3
-returns-in-Some-behind-3 c = grind (arith, null_value)
+pub returns-in-Some-after_byte-3 : goal.returns-in-Some-after_byte-3
+returns-in-Some-after_byte-3 c = grind (arith, null_value)

@@ -26,4 +26,4 @@ members-preserved c =
     let l = c.members in
     let s = one_more c.args.line.now l.rest.now _ l.invariant.0 l.fields _ l.invariant.1 l.invariant.2
     c.in-Some-member.ensures in
-    (s.0, comma _ _ _ s.0 c.in-Some-behind.ensures s.1, s.2)
+    (s.0, comma _ _ _ s.0 c.in-Some-after_byte.ensures s.1, s.2)
