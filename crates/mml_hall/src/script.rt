@@ -302,7 +302,8 @@ fn serve_line<W: Write, S: Sink>(
 }
 
 // Answers a script line, and appends the reply to the held ones in `outgoing`. A short reply is written straight into
-// that buffer, if it has room, and any other by `tell_apart`, by way of `out`. Returns `WriteFault` if a write fails.
+// that buffer, if it has room, and any other by `write_by_buffer`, by way of `out`. Returns `WriteFault` if a write
+// fails.
 fn serve_script_line<W: Write, S: Sink>(
     alloc: Global,
     hall: &mut Hall<S>,
@@ -332,7 +333,7 @@ fn serve_script_line<W: Write, S: Sink>(
     if outgoing.append(line.front, &rest) {
         return Ok(());
     }
-    tell_apart(alloc, rest, line.front, out, outgoing, writer)
+    write_by_buffer(alloc, rest, line.front, out, outgoing, writer)
 }
 
 // A reply as the part of an output line after the connection's number.
@@ -360,7 +361,7 @@ impl LineRest for ReplyRest<'_> {
 // `outgoing`. This is for a reply that isn't short, or for which the held lines must be written first. Returns
 // `WriteFault` if a write fails.
 #[inline(never)]
-fn tell_apart<W: Write>(
+fn write_by_buffer<W: Write>(
     alloc: Global,
     rest: ReplyRest<'_>,
     front: &[u8],
@@ -390,7 +391,7 @@ fn put_reply(alloc: Global, lab: &Lab, reply: &Reply, out: &mut Vec<u8>) -> bool
     match write_reply(alloc, lab.ids(), lab.roster(), reply, out) {
         Ok(()) => true,
         Err(_) => {
-            put_want_of_memory(alloc, lab, out);
+            write_memory_refusal(alloc, lab, out);
             false
         }
     }
@@ -398,7 +399,7 @@ fn put_reply(alloc: Global, lab: &Lab, reply: &Reply, out: &mut Vec<u8>) -> bool
 
 // Replaces the bytes of `out` by the line of the refusal `memory`, which says that memory ran out. `out` must have room
 // for it.
-fn put_want_of_memory(alloc: Global, lab: &Lab, out: &mut Vec<u8>)
+fn write_memory_refusal(alloc: Global, lab: &Lab, out: &mut Vec<u8>)
     requires room { REPLY_ROOM ≤ vec_capacity out.old }
     ensures room { REPLY_ROOM ≤ vec_capacity out.new }
     ensures line { out.new.items ≡ reply_line lab.now.ids lab.now.roster (Reply.Refuse Refused.Memory) }

@@ -1,5 +1,5 @@
 use Rattle.mml_hall.specs.Serving.{told_of}
-use Rattle.mml_hall.proofs.script.tell_apart.Goals as goal
+use Rattle.mml_hall.proofs.script.write_by_buffer.Goals as goal
 
 pub returns-clause-tells : goal.returns-clause-tells
 returns-clause-tells g c =
