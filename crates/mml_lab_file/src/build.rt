@@ -29,7 +29,7 @@ pub(crate) fn build(alloc: Global, checked: Checked) -> Result<Lab, LabFault>
     requires { IsLab (checked_view checked) }
     ensures { Gives is_lab_memory (λ lab. lab) result (Ok (checked_view checked)) }
 {
-    let (registers, owners) = parts(alloc, &checked)?;
+    let (registers, owners) = registers_and_owners(alloc, &checked)?;
     let Checked {
         ids,
         teacher,
@@ -46,7 +46,10 @@ pub(crate) fn build(alloc: Global, checked: Checked) -> Result<Lab, LabFault>
 
 /// Returns the registers of each node (first) and the owners of each node (second), both by rank, as a checked file
 /// says. Returns `Memory` if memory runs out.
-fn parts(alloc: Global, checked: &Checked) -> Result<(Vec<Regs>, Vec<Vec<Student>>), LabFault>
+fn registers_and_owners(
+    alloc: Global,
+    checked: &Checked,
+) -> Result<(Vec<Regs>, Vec<Vec<Student>>), LabFault>
     requires { length checked.now.students.entries ≤ MAX_STUDENTS }
     ensures registers { IfOk result (λ parts. parts.0.items ≡ map (registers_with
         checked.now.ids (map node_view checked.now.nodes.items)) checked.now.ids) }

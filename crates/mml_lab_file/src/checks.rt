@@ -111,7 +111,7 @@ fn check_parts(
     check_owners(&students, nodes)?;
     let neighbours = neighbours(alloc, &ids, nodes, links)?;
     pass_unless(pointers_fault(links, nodes))?;
-    let (events, sessions) = limits(bounds, student_count(&students))?;
+    let (events, sessions) = check_limits(bounds, student_count(&students))?;
     Ok(Found {
         ids,
         students,
@@ -295,7 +295,7 @@ fn are_one_twice(names: &[String]) -> bool
 
 /// Returns the number, if it is from 1 to `greatest`. Otherwise returns the error that the value under `key` is out of
 /// its range.
-fn within(greatest: u64, number: i64, key: Key) -> Result<u64, LabFault>
+fn check_range(greatest: u64, number: i64, key: Key) -> Result<u64, LabFault>
     ensures test { Gives is_lab_memory (λ _. tt {0}) result
         (need (is_within greatest number) (Limit key)) }
     ensures number { IfOk result (λ n. n ≡ number_of number) }
@@ -312,14 +312,14 @@ fn within(greatest: u64, number: i64, key: Key) -> Result<u64, LabFault>
 /// Checks the limits of a file. Returns the number of events (first) and of sessions (second). Returns the error of the
 /// first number that is out of its range, in the order of events, sessions and students.
 #[tactic(auto, unfolding(crate::specs::Reading::limited))]
-fn limits(bounds: RawLimits, students: usize) -> Result<(u64, u8), LabFault>
+fn check_limits(bounds: RawLimits, students: usize) -> Result<(u64, u8), LabFault>
     ensures tests { Gives is_lab_memory (λ _. tt {0}) result
         (limited bounds.events bounds.sessions students) }
     ensures events { IfOk result (λ e. e.0 ≡ number_of bounds.events) }
     ensures sessions { IfOk result (λ e. e.1 ≡ number_of bounds.sessions) }
 {
-    let events = within(MAX_EVENTS, bounds.events, Key::Events)?;
-    let sessions = within(MAX_SESSIONS, bounds.sessions, Key::Sessions)?;
+    let events = check_range(MAX_EVENTS, bounds.events, Key::Events)?;
+    let sessions = check_range(MAX_SESSIONS, bounds.sessions, Key::Sessions)?;
     if students as u64 <= MAX_STUDENTS {
         Ok((events, sessions as u8))
     } else {

@@ -39,7 +39,7 @@ pub(crate) fn neighbours(
     let _count = ids.len();
     pass_unless(ends_fault(nodes, links))?;
     pass_unless(loops_fault(links))?;
-    rows(alloc, ids, links)
+    neighbour_rows(alloc, ids, links)
 }
 
 /// Returns the error of the first link with an end that is no node, or `None` if all ends are nodes.
@@ -104,7 +104,11 @@ fn is_loop(link: (i64, i64)) -> bool
 
 /// Returns the set of neighbours of each node, by rank. Returns `LinkTwice` with the index of the first link that joins
 /// the same nodes as a link before it, and `Memory` if memory runs out.
-fn rows(alloc: Global, ids: &IdTable, links: &[(i64, i64)]) -> Result<Vec<NodeSet>, LabFault>
+fn neighbour_rows(
+    alloc: Global,
+    ids: &IdTable,
+    links: &[(i64, i64)],
+) -> Result<Vec<NodeSet>, LabFault>
     requires { position (lacks_rank ids.now) links.now ≡ None }
     ensures tests { Gives is_lab_memory (λ _. tt {0}) result (pass_unless (again_fault links.now)) }
     ensures rows { IfOk result (λ rows. rows.items ≡ map (neighbours_of ids.now links.now) ids.now) }

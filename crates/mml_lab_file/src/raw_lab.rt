@@ -137,20 +137,20 @@ fn array_at<'a>(table: &'a Table, name: &str, key: Key) -> Result<&'a Array, Lab
 }
 
 /// Returns the account of the teacher or of a student, whose table this is: the strings under the keys `name` and
-/// `key`. Returns the error of the first key that is missing or isn't a string; in this error, `name_key` stands for
-/// `name`, and `key_key` for `key`.
+/// `key`. Returns the error of the first key that is missing or isn't a string; in this error, `key_of_name` stands for
+/// `name`, and `key_of_key` for `key`.
 #[tactic(auto, unfolding(crate::specs::Shape::account_in))]
 fn account_at(
     alloc: Global,
     table: &Table,
-    name_key: Key,
-    key_key: Key,
+    key_of_name: Key,
+    key_of_key: Key,
 ) -> Result<Account, LabFault>
     ensures { Gives is_lab_memory account_view result
-        (account_in name_key key_key (table_view table.now)) }
+        (account_in key_of_name key_of_key (table_view table.now)) }
 {
-    let name = text_at(alloc, table, "name", name_key)?;
-    let key = text_at(alloc, table, "key", key_key)?;
+    let name = text_at(alloc, table, "name", key_of_name)?;
+    let key = text_at(alloc, table, "key", key_of_key)?;
     Ok(Account { name, key })
 }
 

@@ -5,7 +5,7 @@ use Rattle.mml_rules.specs.{Configuration.holds, Network.neighbours_at}
 use Rattle.mml_lab_file.specs.{Reading.is_link_again, inside.Checks.rank_at, inside.Checks.are_near}
 use Rattle.mml_lab_file.proofs.{NeighboursLemmas.no_rows, NeighboursLemmas.one_more, ChecksLemmas.again-at, ChecksLemmas.again-found, ChecksLemmas.again-none, ChecksLemmas.all-rows}
 use Rattle.std.specs.FinSet as sets
-use Rattle.mml_lab_file.proofs.links.rows.Goals as goal
+use Rattle.mml_lab_file.proofs.links.neighbour_rows.Goals as goal
 
 pub loop-index-init : goal.loop-index-init
 loop-index-init c = grind (arith, no_rows)
