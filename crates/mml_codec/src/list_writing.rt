@@ -5,7 +5,7 @@ ghost use Rattle.mml_codec.specs.declared.list_writing.TheConstants.{FRONT_ROOM}
 
 use crate::listed::{Listed, put_list};
 use crate::table::Table;
-use mml_ids::{IdTable, Items, Memory, make_room, taken, with_text};
+use mml_ids::{IdTable, Items, Memory, make_room, take_text, with_text};
 
 // Enough bytes for the fields before a list, or after the last one.
 const FRONT_ROOM: usize = 128;
@@ -72,7 +72,7 @@ impl<'a, B: Table, L: Listed, R: Listing> Listing for ListRow<'a, B, L, R> {
     #[inline(always)]
     fn put_fields(&self, ids: &IdTable, first: &str, out: &mut Vec<u8>) -> Result<(), Memory> {
         make_room(out, FRONT_ROOM)?;
-        *out = self.before.with_fields(taken(out), ids, first);
+        *out = self.before.with_fields(take_text(out), ids, first);
         put_list(ids, self.items.as_slice(), out)?;
         self.rest.put_fields(ids, "],", out)
     }
@@ -93,7 +93,7 @@ impl<T: Table> Listing for Rest<T> {
     #[inline(always)]
     fn put_fields(&self, ids: &IdTable, first: &str, out: &mut Vec<u8>) -> Result<(), Memory> {
         make_room(out, FRONT_ROOM)?;
-        *out = self.fields.with_fields(taken(out), ids, first);
+        *out = self.fields.with_fields(take_text(out), ids, first);
         Ok(())
     }
 }

@@ -9,7 +9,7 @@ ghost use Rattle.serde_json.specs.Written.{comma_if};
 ghost use Rattle.mml_codec.specs.Facts.{node_text, pointer_text, near_text, pair_text, privileged_text, open_link_text, separated};
 
 use crate::reply_value::{with_kind, with_node};
-use mml_ids::{IdTable, Memory, Rank, make_room, taken, with_text};
+use mml_ids::{IdTable, Memory, Rank, make_room, take_text, with_text};
 use mml_rules::{Kind, Regs};
 use mml_stable::OpenLink;
 
@@ -44,7 +44,7 @@ pub(crate) fn put_list<T: Listed>(
         (out.new.items ≡ out.old.items ++ separated (map (T.text ids.now) items.now)) }
     ensures capacity { vec_capacity out.old ≤ vec_capacity out.new }
 {
-    let mut line = taken(out);
+    let mut line = take_text(out);
     let mut later = false;
     for item in items {
         match with_room(line) {

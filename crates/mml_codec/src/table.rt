@@ -4,7 +4,7 @@ ghost use Rattle.mml_ids.specs.Pieces.{Puts};
 ghost use Rattle.mml_codec.specs.Facts.{fact_then};
 
 use crate::reply_value::ReplyValue;
-use mml_ids::{IdTable, Memory, make_room, taken, with_text};
+use mml_ids::{IdTable, Memory, make_room, take_text, with_text};
 
 /// Enough bytes for the text of each reply but a look and a report.
 pub(crate) const TEXT_ROOM: usize = 2000;
@@ -91,6 +91,6 @@ pub(crate) fn put_object<T: Table>(
     ensures { Puts (T.text ids.now (codes "{") fields.now []) TEXT_ROOM out.old out.new result }
 {
     make_room(out, TEXT_ROOM)?;
-    *out = fields.with_fields(taken(out), ids, "{");
+    *out = fields.with_fields(take_text(out), ids, "{");
     Ok(())
 }

@@ -19,7 +19,8 @@ pub use memory::Memory;
 pub use node_id::NodeId;
 pub use node_set::NodeSet;
 pub use piece::{
-    Piece, make_room, put, taken, truth_text, with_bytes, with_number, with_short_number, with_text,
+    Piece, make_room, put, take_text, truth_text, with_bytes, with_number, with_short_number,
+    with_text,
 };
 pub use rank::Rank;
 pub use word::Word;

@@ -7,7 +7,7 @@ ghost use Rattle.mml_lines.specs.Sending.{BreaksOff, Sends, part_in};
 
 use crate::line_rest::{LineRest, REST_ROOM};
 use crate::write_fault::{WriteFault, put_all, put_both};
-use mml_ids::{Memory, taken, with_bytes};
+use mml_ids::{Memory, take_text, with_bytes};
 use std::alloc::Global;
 use std::io::Write;
 use std::marker::Model;
@@ -127,7 +127,7 @@ impl Outgoing {
         if self.lengths.len() == OUTGOING_LINES || OUTGOING_BYTES - start < front.len() {
             return false;
         }
-        self.bytes = with_bytes(taken(&mut self.bytes), front);
+        self.bytes = with_bytes(take_text(&mut self.bytes), front);
         if rest.append_to(&mut self.bytes) && self.bytes.len() <= OUTGOING_BYTES {
             self.lengths.push_reserved(self.bytes.len() - start);
             return true;
@@ -149,7 +149,7 @@ impl Outgoing {
             return false;
         }
         // The front is copied byte by byte, since it is short.
-        self.bytes = with_bytes(taken(&mut self.bytes), front);
+        self.bytes = with_bytes(take_text(&mut self.bytes), front);
         self.bytes.extend_from_slice(rest).unwrap();
         self.lengths.push_reserved(front.len() + rest.len());
         true

@@ -9,7 +9,7 @@ returns-clause-text g c =
     let row = c.args.self.now in
     let list = separated (map (g.L.Listed.text ids) row.items.now) in
     let rest = g.R.Listing.text ids (codes "],") row.rest in
-    let start : c.taken.result.items ≡ c.args.out.now.items = search rules in
+    let start : c.take_text.result.items ≡ c.args.out.now.items = search rules in
     on_ok c.put_fields.result (λ last.
     then_put c.with_fields.result.items c.put_list.new.out.items c.put_fields.new.out.items list rest
     (c.in_ok-put_list.ensures.text ∙ ap (λ xs. c.with_fields.result.items ++ separated (map (g.L.Listed.text ids) xs)) c.as_slice.ensures) last

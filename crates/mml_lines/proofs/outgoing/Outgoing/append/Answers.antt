@@ -16,7 +16,7 @@ returns-then-len-eq-OUTGOING_LINES-clause-room g c = λ few room.
 
 pub invariant_of-self : goal.invariant_of-self
 invariant_of-self g c =
-    let same : length c.taken.result.items ≡ length c.self.inside.bytes.items = ap length c.taken.ensures.text in
+    let same : length c.take_text.result.items ≡ length c.self.inside.bytes.items = ap length c.take_text.ensures.text in
     let two = ap length c.if-append_to.ensures.text ∙ length-append c.with_bytes.result.items (g.L.LineRest.text c.args.rest.now) in
     let longer = total_longer c.self.inside.lengths.items (c.len-then-len-le-OUTGOING_BYTES.result - c.len-start.result) in
     record {
@@ -30,8 +30,8 @@ invariant_of-self g c =
 pub returns-then-len-le-OUTGOING_BYTES-clause-lines : goal.returns-then-len-le-OUTGOING_BYTES-clause-lines
 returns-then-len-le-OUTGOING_BYTES-clause-lines g c =
     let rest = g.L.LineRest.text c.args.rest.now in
-    let same : length c.taken.result.items ≡ length c.self.inside.bytes.items = ap length c.taken.ensures.text in
-    let one = c.with_bytes.ensures.text ∙ ap (λ t. t ++ c.args.front.now) c.taken.ensures.text in
+    let same : length c.take_text.result.items ≡ length c.self.inside.bytes.items = ap length c.take_text.ensures.text in
+    let one = c.with_bytes.ensures.text ∙ ap (λ t. t ++ c.args.front.now) c.take_text.ensures.text in
     let two = ap length c.if-append_to.ensures.text ∙ length-append c.with_bytes.result.items rest in
     let longer : c.len-then-len-le-OUTGOING_BYTES.result - c.len-start.result ≡ length c.args.front.now + length rest =
     omega (arith, same, c.with_bytes.ensures.grows, two, c.len-start.ensures, c.len-then-len-le-OUTGOING_BYTES.ensures) in
@@ -42,7 +42,7 @@ returns-then-len-le-OUTGOING_BYTES-clause-lines g c =
 
 pub returns-clause-room : goal.returns-clause-room
 returns-clause-room g c = λ few room.
-    let same : length c.taken.result.items ≡ length c.self.inside.bytes.items = ap length c.taken.ensures.text in
+    let same : length c.take_text.result.items ≡ length c.self.inside.bytes.items = ap length c.take_text.ensures.text in
     let bytes = held_whole c.self.inside.lengths.items c.self.inside.bytes.items c.args.self.now (sym c.self.view_is) c.self.invariant.whole in
     elim c.else-append_to.branch [
       | else-append_to-via-then-append_to+else-len-le-OUTGOING_BYTES w ↦

@@ -4,7 +4,7 @@ use Rattle.mml_lines.proofs.outgoing.Outgoing.hold.Goals as goal
 
 pub invariant_of-self : goal.invariant_of-self
 invariant_of-self c =
-    let same : length c.taken.result.items ≡ length c.self.inside.bytes.items = ap length c.taken.ensures.text in
+    let same : length c.take_text.result.items ≡ length c.self.inside.bytes.items = ap length c.take_text.ensures.text in
     let two = rw c.unwrap.ensures at c.extend_from_slice.ensures.len in
     let longer = total_longer c.self.inside.lengths.items (length c.args.front.now + length c.args.rest.now) in
     record {
@@ -17,7 +17,7 @@ invariant_of-self c =
 
 pub returns : goal.returns
 returns c =
-    let one = c.with_bytes.ensures.text ∙ ap (λ t. t ++ c.args.front.now) c.taken.ensures.text in
+    let one = c.with_bytes.ensures.text ∙ ap (λ t. t ++ c.args.front.now) c.take_text.ensures.text in
     let two = rw c.unwrap.ensures at c.extend_from_slice.ensures.items in
     held_more c.self.inside.lengths.items c.push_reserved.new.self.items c.self.inside.bytes.items c.extend_from_slice.new.self.items c.args.front.now
     c.args.rest.now c.args.self.now
