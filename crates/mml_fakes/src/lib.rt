@@ -1,5 +1,5 @@
 //! For tests only: readers, writers and sinks that fail on demand, threads that wait for each other, pseudo-random
-//! numbers, and the labs, lines and scripts that several tests share. For a house there are its seats, visits through
+//! numbers, and the labs, lines and scripts that several tests share. For a house there are its windows, visits through
 //! them, the ways in which it ends, and the acts of a stored run. Nothing of the program depends on it.
 #![tactic(auto)]
 
@@ -14,9 +14,9 @@ mod lines;
 pub mod meeting;
 mod numbers;
 pub mod scripts;
-mod seat;
 pub mod ten_acts;
 mod visiting;
+mod window_at_desk;
 mod windows;
 
 pub use acts::{is_first_close, seduction, student};
@@ -25,5 +25,5 @@ pub use ending::{Ending, ending_of, has_journal};
 pub use fake_reader::{FakeReader, Parts};
 pub use fake_writer::{FakeWriter, Refusal};
 pub use numbers::Numbers;
-pub use seat::{Pair, Seat};
 pub use visiting::{Visit, Visited, open_path, visit_lab, visit_path, visit_windows};
+pub use window_at_desk::{Pair, WindowAtDesk};

@@ -1,14 +1,13 @@
 //! Opening a house (one run of a lab), using it through two windows, and ending it.
 //!
-//! A window is one session's view of the published events, and a seat is a window together with the house's desk. The
-//! path of three is the lab of nodes 1, 2 and 3 in a row (`labs::PATH_OF_THREE`). A sink is the destination of the
-//! journal's bytes. A put is a write to the sink.
+//! A window is one session's view of the published events. The path of three is the lab of nodes 1, 2 and 3 in a row
+//! (`labs::PATH_OF_THREE`). A sink is the destination of the journal's bytes. A put is a write to the sink.
 ghost use Rattle.std.specs.Prelude.{◌≡◌, ◌-◌, ◌^◌, ◌<◌, ◌≤◌, length};
 ghost use Rattle.mml_journal.specs.Taken.{IsFresh};
 ghost use Rattle.mml_window.specs.Houses.{house_of};
 
 use crate::labs::PATH_OF_THREE;
-use crate::seat::Pair;
+use crate::window_at_desk::Pair;
 use crate::windows::{give_back, take_two};
 use mml_journal::{MemorySink, Sink};
 use mml_lab_file::read_lab;
@@ -29,33 +28,33 @@ pub fn open_path<R: Wait>(
     Ok(open_house(rt, alloc, lab, sink)?)
 }
 
-/// A visit: what a test does at two seats of a house.
+/// A visit: what a test does through two windows of a house.
 pub trait Visit<S: Sink> {
     /// The result of the visit.
-    type Told: Drop;
+    type Outcome: Drop;
 
-    /// Does the test's work at these two seats, and returns its result.
-    fn visit<H: House, R: Wait>(self, seats: &mut Pair<'_, S, H, R>) -> Self::Told;
+    /// Does the test's work through these two windows, and returns its result.
+    fn visit<H: House, R: Wait>(self, pair: &mut Pair<'_, S, H, R>) -> Self::Outcome;
 }
 
-/// Makes a visit through the last two of these windows. The last window belongs to the first seat, and the one before
-/// it to the second. Afterwards puts the first seat's window back, and then the second's, so that the windows have
-/// changed places. Returns the result of the visit. Returns `None` if there were fewer than two windows (then none is
-/// left), or memory ran out before both were put back.
+/// Makes a visit through the last two of these windows. The last window is the visit's first, and the one before it is
+/// the visit's second. Afterwards puts the first window back, and then the second, so that the windows have changed
+/// places. Returns the result of the visit. Returns `None` if there were fewer than two windows (then none is left), or
+/// memory ran out before both were put back.
 pub fn visit_windows<V: Visit<S> + Drop, S: Sink + Drop, H: House, R: Wait>(
     rt: &R,
     alloc: Global,
     desk: &Desk<S, H>,
     windows: &mut Vec<Window<H>>,
     visit: V,
-) -> Option<V::Told>
+) -> Option<V::Outcome>
     ensures { length windows.new.items ≤ length windows.old.items }
 {
-    let mut seats = Pair::new(rt, alloc, desk, take_two(windows)?);
-    let told = visit.visit(&mut seats);
-    let (one, two) = seats.into_windows();
+    let mut pair = Pair::new(rt, alloc, desk, take_two(windows)?);
+    let outcome = visit.visit(&mut pair);
+    let (one, two) = pair.into_windows();
     let is_back = give_back(windows, one);
-    (give_back(windows, two) && is_back).then_some(told)
+    (give_back(windows, two) && is_back).then_some(outcome)
 }
 
 /// The result of a visit, and how the house has ended. The result is `None` if there were fewer than two windows, or
@@ -70,12 +69,12 @@ pub fn visit_house<V: Visit<S> + Drop, S: Sink + Drop, H: House, R: Wait>(
     alloc: Global,
     blank: Blank<S>,
     visit: V,
-) -> Result<Visited<V::Told, S>, Fail>
+) -> Result<Visited<V::Outcome, S>, Fail>
     requires { blank ≡ house_of H.name H.lab }
 {
     let (desk, mut windows) = blank.start::<H>(alloc)?;
-    let told = visit_windows(rt, alloc, &desk, &mut windows, visit);
-    Ok((told, desk.finish(rt, windows)))
+    let outcome = visit_windows(rt, alloc, &desk, &mut windows, visit);
+    Ok((outcome, desk.finish(rt, windows)))
 }
 
 /// Opens a house over the lab in `file`, makes a visit, and ends the house. Returns the result of the visit, and how
@@ -86,7 +85,7 @@ pub fn visit_lab<V: Visit<S> + Drop, S: Sink + Drop, R: Wait>(
     file: &str,
     sink: S,
     visit: V,
-) -> Result<Visited<V::Told, S>, Fail>
+) -> Result<Visited<V::Outcome, S>, Fail>
     requires fresh { IsFresh (S.contents sink) }
     requires countable { S.failures sink < 2 ^ 64 - 1 }
 {
@@ -102,7 +101,7 @@ pub fn visit_path<V: Visit<S> + Drop, S: Sink + Drop, R: Wait>(
     alloc: Global,
     sink: S,
     visit: V,
-) -> Result<Visited<V::Told, S>, Fail>
+) -> Result<Visited<V::Outcome, S>, Fail>
     requires fresh { IsFresh (S.contents sink) }
     requires countable { S.failures sink < 2 ^ 64 - 1 }
 {

@@ -140,7 +140,7 @@ fn are_answered(left: &Left, talks: &[Talk]) -> bool {
 /// Serves `TALKS` in a house. Returns three answers: whether each connection gets the right replies, whether the
 /// journal has exactly a move and its close, and whether the last line that is printed counts both. Returns an error if
 /// the house ends with a fault.
-fn told_of_talks<R: Threads + Wait + Sync>(rt: &R, alloc: Global) -> Result<[bool; 3], Fail> {
+fn results_of_talks<R: Threads + Wait + Sync>(rt: &R, alloc: Global) -> Result<[bool; 3], Fail> {
     let mut out = Vec::new(alloc);
     match host(rt, alloc, TALKS, &mut out)? {
         Ok(left) => {
@@ -156,7 +156,7 @@ fn told_of_talks<R: Threads + Wait + Sync>(rt: &R, alloc: Global) -> Result<[boo
 /// and the last line must be right.
 #[test]
 fn sessions_come_one_after_another(rt: HostRuntime) -> Result<(), Fail> {
-    assert_eq!(rt; told_of_talks(&rt, rt.alloc())?, [true; 3]);
+    assert_eq!(rt; results_of_talks(&rt, rt.alloc())?, [true; 3]);
     Ok(())
 }
 

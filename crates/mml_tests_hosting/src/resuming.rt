@@ -154,7 +154,7 @@ fn fault_of_class<R: Threads + Wait + Sync>(
 
 /// Lets a class go on from `OLD`. Returns four answers: whether ana's replies, the teacher's replies, the journal, and
 /// the printed text are right. Returns an error if the class didn't go on.
-fn told_of_a_class<R: Threads + Wait + Sync>(rt: &R, alloc: Global) -> Result<[bool; 4], Fail> {
+fn results_of_a_class<R: Threads + Wait + Sync>(rt: &R, alloc: Global) -> Result<[bool; 4], Fail> {
     let mut out = Vec::new(alloc);
     match resume(rt, alloc, 100, OLD, &mut out)? {
         Ok(left) => {
@@ -172,7 +172,7 @@ fn told_of_a_class<R: Threads + Wait + Sync>(rt: &R, alloc: Global) -> Result<[b
 /// right.
 #[test]
 fn a_class_goes_on_where_its_journal_stopped(rt: HostRuntime) -> Result<(), Fail> {
-    assert_eq!(rt; told_of_a_class(&rt, rt.alloc())?, [true; 4]);
+    assert_eq!(rt; results_of_a_class(&rt, rt.alloc())?, [true; 4]);
     Ok(())
 }
 

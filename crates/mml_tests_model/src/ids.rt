@@ -42,7 +42,7 @@ fn first_other_rank(table: &IdTable) -> Option<u64> {
 
 /// Returns how many identifiers the table of 9, 1, 7 and 4 has, and the first of `RANKS` that is wrong in it, if one
 /// is.
-fn told_of_ranks(alloc: Global) -> Result<(u64, Option<u64>), IdFault> {
+fn results_of_ranks(alloc: Global) -> Result<(u64, Option<u64>), IdFault> {
     let table = IdTable::new(alloc, &[9, 1, 7, 4])?;
     Ok((table.len(), first_other_rank(&table)))
 }
@@ -85,7 +85,7 @@ fn first_other_range() -> Option<u64> {
 #[test]
 fn identifiers_have_ranks(rt: HostRuntime) {
     assert_eq!(rt;
-        (told_of_ranks(rt.alloc()), first_other_range(), MAX_NODES),
+        (results_of_ranks(rt.alloc()), first_other_range(), MAX_NODES),
         (Ok((4, None)), None, 256)
     );
 }
@@ -119,7 +119,7 @@ fn are_put(alloc: Global, id: NodeId) -> Result<bool, Memory> {
 
 /// Returns two answers: whether a list and a word are kept as they were given, and the result of `are_put` with the
 /// greatest identifier.
-fn told_of_texts(alloc: Global) -> Result<(bool, bool), Fail> {
+fn results_of_texts(alloc: Global) -> Result<(bool, bool), Fail> {
     let id = NodeId::new(65535).ok_or("the greatest identifier")?;
     let are_kept = keeps_a_list(alloc)? && keeps_a_word(alloc)?;
     Ok((are_kept, are_put(alloc, id)?))
@@ -128,6 +128,6 @@ fn told_of_texts(alloc: Global) -> Result<(bool, bool), Fail> {
 /// Checks that a list, a word and the text of pieces are what was put in, and that there is room after that text.
 #[test]
 fn lists_words_and_pieces(rt: HostRuntime) -> Result<(), Fail> {
-    assert_eq!(rt; told_of_texts(rt.alloc())?, (true, true));
+    assert_eq!(rt; results_of_texts(rt.alloc())?, (true, true));
     Ok(())
 }

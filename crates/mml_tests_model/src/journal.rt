@@ -13,10 +13,11 @@ use mml_rules::{Regs, Rule};
 use std::alloc::Global;
 use std::test::Fail;
 
-/// Returns the event of a move at a node by this rule, by the student with the index `who`, who needn't own the node.
-fn grant(who: u16, node: Rank, rule: Rule) -> Event {
+/// Returns the event of a move at a node by this rule, by the student with the index `student`, who needn't own the
+/// node.
+fn grant(student: u16, node: Rank, rule: Rule) -> Event {
     Event::Grant {
-        who: Student::new(who),
+        who: Student::new(student),
         node,
         rule,
     }

@@ -30,7 +30,7 @@ fn has_only(set: NodeSet, ranks: &[u64]) -> bool {
 
 /// Returns the index of the first of seven sets that doesn't have exactly the ranks that it should have, or `None` if
 /// all have. Also returns how many ranks are above 63.
-fn told_of_sets() -> (Option<usize>, u64) {
+fn results_of_sets() -> (Option<usize>, u64) {
     let none = NodeSet::empty();
     let some = none
         .with(Rank::at(0))
@@ -157,5 +157,8 @@ fn first_unlike_lists() -> Option<(u64, u64, u64)> {
 /// that 192 ranks are above 63.
 #[test]
 fn sets_of_ranks(rt: HostRuntime) {
-    assert_eq!(rt; (told_of_sets(), first_unlike_lists()), ((None, 192), None));
+    assert_eq!(rt;
+        (results_of_sets(), first_unlike_lists()),
+        ((None, 192), None)
+    );
 }

@@ -1,11 +1,10 @@
 //! Tests of a house over a sink that stores one byte in each put, and fails after each possible number of bytes.
 //!
 //! The ten acts are those of a stored run over the path of three: nodes 1, 2 and 3 in a row. A visit is what a test
-//! does at two seats of a house, and a seat is a window together with the house's desk. An act is a request for an
-//! event. A put is a write to the sink.
+//! does through two windows of a house. An act is a request for an event. A put is a write to the sink.
 use mml_fakes::scripts::{TEN_LINES, ended_lines};
 use mml_fakes::ten_acts::{ACTS, act, asker, number_before};
-use mml_fakes::{Drip, Ending, Pair, Seat, Visit, ending_of, visit_path};
+use mml_fakes::{Drip, Ending, Pair, Visit, WindowAtDesk, ending_of, visit_path};
 use mml_window::{Answer, Astray, House, Log, Refusal};
 use std::alloc::Global;
 use std::sync::Wait;
@@ -24,11 +23,14 @@ fn is_right_answer(answer: &Answer, place: u64, last: u64) -> bool {
 
 /// Asks for the ten acts in their order, if the sink fails at the line of event `last`. Returns whether each answer is
 /// right, and the window then shows the configuration to which the granted acts lead.
-fn plays<H: House, R: Wait>(seat: &mut Seat<'_, Drip, H, R>, last: u64) -> bool {
+fn answers_ten_acts<H: House, R: Wait>(
+    at_desk: &mut WindowAtDesk<'_, Drip, H, R>,
+    last: u64,
+) -> bool {
     for place in 1..=ACTS {
-        let answer = seat.ask(asker(place), &act(place));
+        let answer = at_desk.ask(asker(place), &act(place));
         let number = number_before(last.min(place.saturating_add(1)));
-        if !is_right_answer(&answer, place, last) || seat.window.number() != Ok(number) {
+        if !is_right_answer(&answer, place, last) || at_desk.window.number() != Ok(number) {
             return false;
         }
     }
@@ -43,11 +45,11 @@ struct Acts {
 
 impl Visit<Drip> for Acts {
     /// Whether each act was answered rightly.
-    type Told = bool;
+    type Outcome = bool;
 
-    // Asks for the ten acts through the first seat, and returns whether each was answered rightly.
-    fn visit<H: House, R: Wait>(self, seats: &mut Pair<'_, Drip, H, R>) -> bool {
-        plays(&mut seats.one, self.last)
+    // Asks for the ten acts through the first window, and returns whether each was answered rightly.
+    fn visit<H: House, R: Wait>(self, pair: &mut Pair<'_, Drip, H, R>) -> bool {
+        answers_ten_acts(&mut pair.one, self.last)
     }
 }
 
@@ -75,18 +77,18 @@ fn has_dripped(end: &Result<Log<Drip>, Astray>, wanted: &[u8]) -> bool {
 /// Asks for the ten acts in a house whose sink stores `puts` bytes and then fails. Returns whether they are answered
 /// rightly, the sink has exactly the first `puts` bytes of their journal, and the house has one event for each whole
 /// line in these bytes.
-fn drips<R: Wait>(rt: &R, alloc: Global, puts: usize) -> Result<bool, Fail> {
+fn fails_rightly_after<R: Wait>(rt: &R, alloc: Global, puts: usize) -> Result<bool, Fail> {
     let (wanted, _) = TEN_LINES.as_bytes().split_at(puts.min(TEN_LINES.len()));
     let last = (ended_lines(wanted) as u64).saturating_add(1);
-    let (plays, end) = visit_path(rt, alloc, Drip::failing_after(puts, alloc), Acts { last })?;
-    Ok(plays == Some(true) && ending_of(&end) == ending_at(last) && has_dripped(&end, wanted))
+    let (visited, end) = visit_path(rt, alloc, Drip::failing_after(puts, alloc), Acts { last })?;
+    Ok(visited == Some(true) && ending_of(&end) == ending_at(last) && has_dripped(&end, wanted))
 }
 
-/// Returns the first number of bytes, from 0 to all of the journal of the ten acts, for which `drips` is `false`, or
-/// `None` if there is no such number.
+/// Returns the first number of bytes, from 0 to all of the journal of the ten acts, for which `fails_rightly_after` is
+/// `false`, or `None` if there is no such number.
 fn first_byte_told_otherwise<R: Wait>(rt: &R, alloc: Global) -> Result<Option<usize>, Fail> {
     for puts in 0..=TEN_LINES.len() {
-        if !drips(rt, alloc, puts)? {
+        if !fails_rightly_after(rt, alloc, puts)? {
             return Ok(Some(puts));
         }
     }

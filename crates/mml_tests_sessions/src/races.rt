@@ -327,7 +327,10 @@ fn is_lack_told<R: Threads + Wait + Sync>(rt: &R, alloc: Global) -> Result<bool,
 
 /// Returns two answers about a server for two connections: whether it serves exactly the first two of three, in their
 /// order; and whether it ends with the fault `Accept` if only one comes.
-fn told_of_arrivals<R: Threads + Wait + Sync>(rt: &R, alloc: Global) -> Result<(bool, bool), Fail> {
+fn results_of_arrivals<R: Threads + Wait + Sync>(
+    rt: &R,
+    alloc: Global,
+) -> Result<(bool, bool), Fail> {
     Ok((are_two_left(rt, alloc)?, is_lack_told(rt, alloc)?))
 }
 
@@ -335,6 +338,6 @@ fn told_of_arrivals<R: Threads + Wait + Sync>(rt: &R, alloc: Global) -> Result<(
 /// few connections are an error.
 #[test]
 fn connections_are_left_in_the_order_in_which_they_came(rt: HostRuntime) -> Result<(), Fail> {
-    assert_eq!(rt; told_of_arrivals(&rt, rt.alloc())?, (true, true));
+    assert_eq!(rt; results_of_arrivals(&rt, rt.alloc())?, (true, true));
     Ok(())
 }

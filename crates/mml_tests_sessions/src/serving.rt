@@ -86,7 +86,7 @@ const STEP_REPLIES: &str = lines!(welcome("tess"), closed);
 
 /// Serves two clients; the second one asks for a close when the first one's move was answered. Returns three answers:
 /// whether the server ended well, and whether the first and the second client got the right replies.
-fn told_of_two<
+fn results_of_two<
     R: Net<Listener = TcpListener, Stream = TcpStream> + Threads + Wait + Sync + AllocGlobal,
 >(rt: &R) -> Result<(bool, bool, bool), Fail> {
     let listener = TcpListener::bind(rt, SocketAddr::from((Ipv4Addr::LOCALHOST, 0)))?;
@@ -103,6 +103,6 @@ fn told_of_two<
 /// close come first, and the reply to it would be another one.
 #[test]
 fn connections_are_numbered_as_they_come(rt: HostRuntime) -> Result<(), Fail> {
-    assert_eq!(rt; told_of_two(&rt)?, (true, true, true));
+    assert_eq!(rt; results_of_two(&rt)?, (true, true, true));
     Ok(())
 }

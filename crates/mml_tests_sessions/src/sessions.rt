@@ -1,7 +1,7 @@
 //! Tests of one session: how it ends if its reader or its writer fails, and which events have happened then.
 //!
-//! A visit is what a test does at two seats of a house, and a seat is a window together with the house's desk. The path
-//! of three is the lab of nodes 1, 2 and 3 in a row.
+//! A visit is what a test does through two windows of a house. The path of three is the lab of nodes 1, 2 and 3 in a
+//! row.
 use mml_fakes::scripts::{ANA_GRANTED, ANA_MOVES, ANA_WELCOME};
 use mml_fakes::{
     Ending, FakeReader, FakeWriter, Pair, Visit, ending_of, is_first_close, line, lines, visit_path,
@@ -34,16 +34,16 @@ struct Served<'a> {
 
 impl<'a> Visit<MemorySink> for Session<'a> {
     /// The result of the session, and whether the close after it applied its move.
-    type Told = Served<'a>;
+    type Outcome = Served<'a>;
 
-    // Serves the session through the first seat, and then asks for the teacher's close through the second seat.
-    fn visit<H: House, R: Wait>(self, seats: &mut Pair<'_, MemorySink, H, R>) -> Served<'a> {
+    // Serves the session through the first window, and then asks for the teacher's close through the second one.
+    fn visit<H: House, R: Wait>(self, pair: &mut Pair<'_, MemorySink, H, R>) -> Served<'a> {
         let Session {
             mut reader,
             mut writer,
         } = self;
-        let end = seats.one.serve(&mut reader, &mut writer);
-        let closed = seats.two.ask(Who::Teacher, &Command::Close);
+        let end = pair.one.serve(&mut reader, &mut writer);
+        let closed = pair.two.ask(Who::Teacher, &Command::Close);
         Served {
             end,
             reader,

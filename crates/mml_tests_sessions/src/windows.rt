@@ -1,15 +1,15 @@
 //! Tests of the windows of one house (one run of a lab) in one thread, also if some are missing at its end.
 //!
-//! A visit is what a test does at two seats of a house, and a seat is a window together with the house's desk. The
-//! place of an event is its number in the list of events, from 1. A sink is the destination of the journal's bytes.
+//! A visit is what a test does through two windows of a house. The place of an event is its number in the list of
+//! events, from 1. A sink is the destination of the journal's bytes.
 ghost use Rattle.std.specs.Prelude.{◌≡◌, length};
 ghost use Rattle.mml_window.specs.Houses.{house_of};
 
 use mml_board::Done;
 use mml_fakes::scripts::CLOSED_JOURNAL;
 use mml_fakes::{
-    Ending, Pair, Seat, Visit, ending_of, has_journal, is_first_close, open_path, seduction,
-    student, visit_windows,
+    Ending, Pair, Visit, WindowAtDesk, ending_of, has_journal, is_first_close, open_path,
+    seduction, student, visit_windows,
 };
 use mml_ids::{Memory, Rank};
 use mml_journal::MemorySink;
@@ -21,11 +21,11 @@ use std::alloc::Global;
 use std::sync::Wait;
 use std::test::Fail;
 
-/// Asks for a move of node 1 through the second seat's window, and then for the teacher's close through the first
-/// seat's. Returns whether both are granted, at places 1 and 2.
-fn plays<H: House, R: Wait>(seats: &mut Pair<'_, MemorySink, H, R>) -> bool {
-    let granted = seats.two.ask(student(0), &seduction(1, 0));
-    let closed = seats.one.ask(Who::Teacher, &Command::Close);
+/// Asks for a move of node 1 through the second window, and then for the teacher's close through the first one. Returns
+/// whether both are granted, at places 1 and 2.
+fn grants_both<H: House, R: Wait>(pair: &mut Pair<'_, MemorySink, H, R>) -> bool {
+    let granted = pair.two.ask(student(0), &seduction(1, 0));
+    let closed = pair.one.ask(Who::Teacher, &Command::Close);
     is_first_move(&granted) && is_first_close(&closed)
 }
 
@@ -43,7 +43,7 @@ fn is_first_move(answer: &Answer) -> bool {
 
 /// Returns whether the teacher's window shows configuration 1, by its number, a see, a student's look and a report:
 /// node 1 points at node 2, and all three nodes are free.
-fn sees_the_close<H: House, R: Wait>(teacher: &mut Seat<'_, MemorySink, H, R>) -> bool {
+fn sees_the_close<H: House, R: Wait>(teacher: &mut WindowAtDesk<'_, MemorySink, H, R>) -> bool {
     let number = teacher.window.number() == Ok(1);
     let see = match teacher.window.see(Who::Teacher, 1) {
         Ok(see) => see.at == 1 && see.regs.p == Some(Rank::at(1)),
@@ -62,24 +62,24 @@ fn sees_the_close<H: House, R: Wait>(teacher: &mut Seat<'_, MemorySink, H, R>) -
 
 /// Returns whether ana's window, through which the move was asked for, shows configuration 1, which the close through
 /// the other window has made, and the same move is now denied as stale.
-fn meets_the_close<H: House, R: Wait>(ana: &mut Seat<'_, MemorySink, H, R>) -> bool {
+fn meets_the_close<H: House, R: Wait>(ana: &mut WindowAtDesk<'_, MemorySink, H, R>) -> bool {
     let number = ana.window.number() == Ok(1);
     let answer = ana.ask(student(0), &seduction(1, 0));
     number && matches!(answer, Answer::Denied(Denial::Stale(1)))
 }
 
-/// A visit in which ana's move is asked for at the second seat, and then the teacher's close at the first.
+/// A visit in which ana's move is asked for through the second window, and then the teacher's close through the first.
 #[derive(Clone, Copy)]
 struct MoveAndClose;
 
 impl Visit<MemorySink> for MoveAndClose {
     /// Whether both acts are granted, and both windows then show the new configuration.
-    type Told = bool;
+    type Outcome = bool;
 
-    // Asks for the move and the close, checks the views through the first seat, and asks for the move again through the
-    // second.
-    fn visit<H: House, R: Wait>(self, seats: &mut Pair<'_, MemorySink, H, R>) -> bool {
-        plays(seats) && sees_the_close(&mut seats.one) && meets_the_close(&mut seats.two)
+    // Asks for the move and the close, checks the views through the first window, and asks for the move again through
+    // the second.
+    fn visit<H: House, R: Wait>(self, pair: &mut Pair<'_, MemorySink, H, R>) -> bool {
+        grants_both(pair) && sees_the_close(&mut pair.one) && meets_the_close(&mut pair.two)
     }
 }
 
@@ -97,7 +97,7 @@ fn are_at<H: House>(windows: &mut [Window<H>], number: u64) -> bool {
 
 /// The result of a house in which a move and a close were asked for through two of its windows.
 #[derive(Clone, Copy, Debug, PartialEq, Eq)]
-struct Told {
+struct HouseResult {
     /// Whether the visit went well.
     is_visited: bool,
     /// Whether all windows show number 0 before the visit and number 1 after it.
@@ -114,7 +114,7 @@ fn in_house<H: House, R: Wait>(
     alloc: Global,
     blank: Blank<MemorySink>,
     with_all: bool,
-) -> Result<Told, Memory>
+) -> Result<HouseResult, Memory>
     requires { blank ≡ house_of H.name H.lab }
 {
     let (desk, mut windows) = blank.start::<H>(alloc)?;
@@ -125,7 +125,7 @@ fn in_house<H: House, R: Wait>(
         windows.pop();
     }
     let end = desk.finish(rt, windows);
-    Ok(Told {
+    Ok(HouseResult {
         is_visited: visited == Some(true),
         are_shown: is_before && is_after,
         ending: ending_of(&end),
@@ -135,15 +135,15 @@ fn in_house<H: House, R: Wait>(
 
 /// Asks for a move and a close in a house over the path of three, and ends it: with all its windows if `with_all`, and
 /// otherwise without the last one, through which ana moved. Returns the result.
-fn ended_with<R: Wait>(rt: &R, alloc: Global, with_all: bool) -> Result<Told, Fail> {
+fn ended_with<R: Wait>(rt: &R, alloc: Global, with_all: bool) -> Result<HouseResult, Fail> {
     let blank = open_path(rt, alloc, None)?;
     Ok(in_house::<Brand, _>(rt, alloc, blank, with_all)?)
 }
 
 /// Returns the result that a house has in which all went well, and which has ended as `ending`. `has_journal` is
 /// whether it left the journal of a move and its close.
-fn good(ending: Ending, has_journal: bool) -> Told {
-    Told {
+fn good_result(ending: Ending, has_journal: bool) -> HouseResult {
+    HouseResult {
         is_visited: true,
         are_shown: true,
         ending,
@@ -163,7 +163,10 @@ fn a_house_ends_with_all_its_windows(rt: HostRuntime) -> Result<(), Fail> {
         halted: false,
     };
     let astray = Ending::Astray(Astray { told: 1, found: 2 });
-    assert_eq!(rt; (all, fewer), (good(log, true), good(astray, false)));
+    assert_eq!(rt;
+        (all, fewer),
+        (good_result(log, true), good_result(astray, false))
+    );
     Ok(())
 }
 

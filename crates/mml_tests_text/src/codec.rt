@@ -11,13 +11,13 @@ use std::test::Fail;
 /// error.
 fn text_or_fault(alloc: Global, read: Result<Request, LineFault>) -> Result<String, Fail> {
     match read {
-        Ok(request) => written(alloc, &request),
+        Ok(request) => line_of_request(alloc, &request),
         Err(fault) => Ok(format!(in alloc; "{fault:?}")?),
     }
 }
 
 /// Returns the line that `write_request` writes for a request, into a buffer that had other text before.
-fn written(alloc: Global, request: &Request) -> Result<String, Fail> {
+fn line_of_request(alloc: Global, request: &Request) -> Result<String, Fail> {
     let mut out = b"before".to_vec(alloc)?;
     write_request(alloc, request, &mut out)?;
     Ok(String::from_utf8(out)?)
@@ -127,8 +127,8 @@ fn is_hello_written_as(
     text: &str,
 ) -> Result<bool, Fail> {
     let (name, key) = (Word::of(name), Word::of(key));
-    let written = written(alloc, &Request::Hello { name, key })?;
-    Ok(written.as_str() == text && is_read_as(alloc, scratch, text.as_bytes(), text)?)
+    let line = line_of_request(alloc, &Request::Hello { name, key })?;
+    Ok(line.as_str() == text && is_read_as(alloc, scratch, text.as_bytes(), text)?)
 }
 
 /// Returns the line that the hello with the name and the key of a row should have.

@@ -1,12 +1,12 @@
 //! Tests that ask for the acts of a stored run through a window, while one request for memory after another is refused.
 //!
-//! The stored run has ten acts, over the path of three: nodes 1, 2 and 3 in a row. A visit is what a test does at two
-//! seats of a house, and a seat is a window together with the house's desk. The parameter `is_there` of a function says
-//! whether the library that refuses requests is loaded. An act is a request for an event.
+//! The stored run has ten acts, over the path of three: nodes 1, 2 and 3 in a row. A visit is what a test does through
+//! two windows of a house. The parameter `is_there` of a function says whether the library that refuses requests is
+//! loaded. An act is a request for an event.
 use super::MOST;
 use super::library::{is_there, refuse, was_none_refused};
 use mml_fakes::ten_acts::{ACTS, act, asker, number_before};
-use mml_fakes::{Ending, Pair, Seat, Visit, ending_of, visit_path};
+use mml_fakes::{Ending, Pair, Visit, WindowAtDesk, ending_of, visit_path};
 use mml_journal::NullSink;
 use mml_window::{Answer, House, Refusal};
 use std::alloc::Global;
@@ -26,17 +26,17 @@ fn granted_or_refused(answer: &Answer, place: u64, was_none: bool) -> Option<boo
 /// Asks for the act of the stored run at this place, while the nth request for memory is refused. Returns `true` if the
 /// act was granted. Returns `false` if it was refused for memory, and the window's configuration is as before. Returns
 /// `None` in any other case. `is_there` says whether the library that refuses requests is loaded.
-fn asked<H: House, R: Wait>(
-    seat: &mut Seat<'_, NullSink, H, R>,
+fn ask_with_refusal<H: House, R: Wait>(
+    at_desk: &mut WindowAtDesk<'_, NullSink, H, R>,
     place: u64,
     nth: usize,
     is_there: bool,
 ) -> Option<bool> {
-    refuse(seat.alloc, nth);
-    let answer = seat.ask(asker(place), &act(place));
-    let was_none = was_none_refused(seat.alloc, is_there);
+    refuse(at_desk.alloc, nth);
+    let answer = at_desk.ask(asker(place), &act(place));
+    let was_none = was_none_refused(at_desk.alloc, is_there);
     let is_granted = granted_or_refused(&answer, place, was_none)?;
-    let is_kept = is_granted || seat.window.number() == Ok(number_before(place));
+    let is_kept = is_granted || at_desk.window.number() == Ok(number_before(place));
     is_kept.then_some(is_granted)
 }
 
@@ -44,12 +44,12 @@ fn asked<H: House, R: Wait>(
 /// second, and so on. Returns how often the act was refused. Returns `None` if an answer was wrong, or the act wasn't
 /// granted in `MOST` tries.
 fn refusals_of<H: House, R: Wait>(
-    seat: &mut Seat<'_, NullSink, H, R>,
+    at_desk: &mut WindowAtDesk<'_, NullSink, H, R>,
     place: u64,
     is_there: bool,
 ) -> Option<usize> {
     for nth in 1..MOST {
-        if asked(seat, place, nth, is_there)? {
+        if ask_with_refusal(at_desk, place, nth, is_there)? {
             return Some(nth - 1);
         }
     }
@@ -65,13 +65,14 @@ struct Acts {
 
 impl Visit<NullSink> for Acts {
     /// How often acts were refused altogether, or `None` if an act was answered wrongly or never granted.
-    type Told = Option<usize>;
+    type Outcome = Option<usize>;
 
-    // Asks for the ten acts in their order through the first seat, and returns how often they were refused altogether.
-    fn visit<H: House, R: Wait>(self, seats: &mut Pair<'_, NullSink, H, R>) -> Option<usize> {
+    // Asks for the ten acts in their order through the first window, and returns how often they were refused
+    // altogether.
+    fn visit<H: House, R: Wait>(self, pair: &mut Pair<'_, NullSink, H, R>) -> Option<usize> {
         let mut refused = 0usize;
         for place in 1..=ACTS {
-            let more = refusals_of(&mut seats.one, place, self.is_there)?;
+            let more = refusals_of(&mut pair.one, place, self.is_there)?;
             refused = refused.saturating_add(more);
         }
         Some(refused)
@@ -80,7 +81,7 @@ impl Visit<NullSink> for Acts {
 
 /// Makes the visit `Acts` over the path of three. Returns how often the ten acts were refused altogether. Returns
 /// `None` if an act was answered wrongly, or the house didn't end with ten events in configuration 4.
-fn told_of_acts<R: Wait>(rt: &R, alloc: Global, is_there: bool) -> Result<Option<usize>, Fail> {
+fn results_of_acts<R: Wait>(rt: &R, alloc: Global, is_there: bool) -> Result<Option<usize>, Fail> {
     let (refused, end) = visit_path(rt, alloc, NullSink::new(), Acts { is_there })?;
     let wanted = Ending::Log {
         events: 10,
@@ -101,14 +102,14 @@ struct FirstThenSecond {
 impl Visit<NullSink> for FirstThenSecond {
     /// Whether the first act was granted; `false` if it was refused for memory. `None` if it was answered otherwise, or
     /// the second act wasn't granted at the next place.
-    type Told = Option<bool>;
+    type Outcome = Option<bool>;
 
-    // Asks for both acts through the first seat. The second one must get place 2 if the first was granted, and
+    // Asks for both acts through the first window. The second one must get place 2 if the first was granted, and
     // otherwise place 1.
-    fn visit<H: House, R: Wait>(self, seats: &mut Pair<'_, NullSink, H, R>) -> Option<bool> {
-        let seat = &mut seats.one;
-        let was_granted = asked(seat, 1, self.nth, self.is_there)?;
-        let second = seat.ask(asker(2), &act(2));
+    fn visit<H: House, R: Wait>(self, pair: &mut Pair<'_, NullSink, H, R>) -> Option<bool> {
+        let at_desk = &mut pair.one;
+        let was_granted = ask_with_refusal(at_desk, 1, self.nth, self.is_there)?;
+        let second = at_desk.ask(asker(2), &act(2));
         let next = if was_granted { 2 } else { 1 };
         (granted_or_refused(&second, next, true) == Some(true)).then_some(was_granted)
     }
@@ -163,7 +164,7 @@ fn refusals_of_first<R: Wait>(
 #[test]
 fn refusals_of_an_act_lose_nothing(rt: HostRuntime) -> Result<(), Fail> {
     let is_there = is_there(rt.alloc());
-    let same = told_of_acts(&rt, rt.alloc(), is_there)?;
+    let same = results_of_acts(&rt, rt.alloc(), is_there)?;
     let another = refusals_of_first(&rt, rt.alloc(), is_there)?;
     assert_eq!(rt;
         (same.map(|count| count > 0), another.map(|count| count > 0)),

@@ -116,7 +116,7 @@ fn grant_in_new_hall(
 /// Moves node 1 in one new hall after another until the move is granted: first with its first request for memory
 /// refused, then with the second, and so on. Returns in how many halls the move was refused, and how many were halted.
 /// Returns `None` if a hall went wrong, or the move was never granted.
-fn told_of_grants(alloc: Global, is_there: bool) -> Result<Option<(usize, usize)>, Fail> {
+fn results_of_grants(alloc: Global, is_there: bool) -> Result<Option<(usize, usize)>, Fail> {
     let (mut refused, mut halted) = (0usize, 0usize);
     for nth in 1..MOST {
         match grant_in_new_hall(alloc, nth, is_there)? {
@@ -135,7 +135,7 @@ fn told_of_grants(alloc: Global, is_there: bool) -> Result<Option<(usize, usize)
 #[test]
 fn refusals_of_a_sink_halt(rt: HostRuntime) -> Result<(), Fail> {
     let is_there = is_there(rt.alloc());
-    let told = told_of_grants(rt.alloc(), is_there)?;
+    let told = results_of_grants(rt.alloc(), is_there)?;
     // The list of events and the line request memory before the sink does.
     assert_eq!(rt;
         told.map(|(refused, halted)| (refused > 0, halted)),

@@ -83,7 +83,7 @@ const AFTER: &[(u8, &str, &str)] = &[
 
 /// Answers a connection's request, and writes the reply line into `out`, while each request for memory is refused.
 /// Returns `Memory` if the line needs more memory than `out` has, or the lab has no such connection.
-fn written(
+fn answer_without_memory(
     alloc: Global,
     hall: &mut Hall<NullSink>,
     out: &mut Vec<u8>,
@@ -109,8 +109,8 @@ fn is_written(
     request: &str,
     wanted: &str,
 ) -> bool {
-    let told = written(alloc, hall, out, connection, request);
-    told.is_ok() && out.strip_suffix(b"\n") == Some(wanted.as_bytes())
+    let answered = answer_without_memory(alloc, hall, out, connection, request);
+    answered.is_ok() && out.strip_suffix(b"\n") == Some(wanted.as_bytes())
 }
 
 /// Returns whether the request of each row gets the row's reply, which is written without more memory than `out` has.
@@ -172,7 +172,7 @@ fn hall_of_256(alloc: Global) -> Result<Box<Hall<NullSink>>, Fail> {
 /// Sends the requests of `BEFORE`, the moves, the close and the requests of `AFTER` to a hall over the row of 256
 /// nodes. Returns whether each reply is right, and is written without more memory. Also returns whether a report of all
 /// nodes is written without more memory, though it is too long for that.
-fn told_of_replies(alloc: Global) -> Result<(bool, bool), Fail> {
+fn results_of_replies(alloc: Global) -> Result<(bool, bool), Fail> {
     let closed = closed(alloc)?;
     let out = &mut Vec::with_capacity(alloc, REPLY_ROOM)?;
     let hall = &mut *hall_of_256(alloc)?;
@@ -180,7 +180,7 @@ fn told_of_replies(alloc: Global) -> Result<(bool, bool), Fail> {
     let is_moved = are_moves_written(alloc, hall, out)?;
     let is_closed = is_written(alloc, hall, out, 2, line!(close), closed.as_str());
     let is_after = are_written(alloc, hall, out, AFTER);
-    let is_reported = written(alloc, hall, out, 2, r#"{"do":"report"}"#).is_ok();
+    let is_reported = answer_without_memory(alloc, hall, out, 2, r#"{"do":"report"}"#).is_ok();
     Ok((is_before && is_moved && is_closed && is_after, is_reported))
 }
 
@@ -189,6 +189,6 @@ fn told_of_replies(alloc: Global) -> Result<(bool, bool), Fail> {
 #[test]
 fn refusals_do_not_keep_a_reply_from_its_room(rt: HostRuntime) -> Result<(), Fail> {
     let is_there = is_there(rt.alloc());
-    assert_eq!(rt; told_of_replies(rt.alloc())?, (true, !is_there));
+    assert_eq!(rt; results_of_replies(rt.alloc())?, (true, !is_there));
     Ok(())
 }

@@ -1,13 +1,12 @@
 //! Tests of calls that request no memory: views, and acts that are denied, exceed the limit of events, or come when the
 //! journal is halted.
 //!
-//! The stored run has ten acts, over the path of three: nodes 1, 2 and 3 in a row. A visit is what a test does at two
-//! seats of a house, and a seat is a window together with the house's desk. An act is a request for an event. A view is
-//! what a see, a look or a report shows.
+//! The stored run has ten acts, over the path of three: nodes 1, 2 and 3 in a row. A visit is what a test does through
+//! two windows of a house. An act is a request for an event. A view is what a see, a look or a report shows.
 use super::library::{is_there, refuse, was_none_made};
 use mml_fakes::labs::PATH_OF_THREE;
 use mml_fakes::ten_acts::{act, asker};
-use mml_fakes::{Pair, Seat, Visit, visit_lab};
+use mml_fakes::{Pair, Visit, WindowAtDesk, visit_lab};
 use mml_journal::MemorySink;
 use mml_lab::Who;
 use mml_window::{Answer, House, Refusal};
@@ -15,18 +14,18 @@ use std::alloc::Global;
 use std::sync::Wait;
 use std::test::Fail;
 
-/// Asks through the seat for the act of the stored run at this place. Returns whether it is refused as `wanted` (or
+/// Asks through the window for the act of the stored run at this place. Returns whether it is refused as `wanted` (or
 /// denied, if `wanted` is `None`), and no memory was requested for it. Without the library (`is_there` is `false`)
 /// requests can't be counted, and only the answer is checked.
 fn takes_none<H: House, R: Wait>(
-    seat: &mut Seat<'_, MemorySink, H, R>,
+    at_desk: &mut WindowAtDesk<'_, MemorySink, H, R>,
     place: u64,
     wanted: Option<Refusal>,
     is_there: bool,
 ) -> bool {
-    refuse(seat.alloc, 0);
-    let answer = seat.ask(asker(place), &act(place));
-    let is_none = was_none_made(seat.alloc) == is_there;
+    refuse(at_desk.alloc, 0);
+    let answer = at_desk.ask(asker(place), &act(place));
+    let is_none = was_none_made(at_desk.alloc) == is_there;
     match answer {
         Answer::Granted { .. } => false,
         Answer::Denied(_) => is_none && wanted.is_none(),
@@ -37,13 +36,13 @@ fn takes_none<H: House, R: Wait>(
 /// Returns whether the window shows configuration 0, and a see of node 2 to the teacher, and no memory was requested
 /// for that. Without the library (`is_there` is `false`) requests can't be counted, and only the views are checked.
 fn views_take_none<H: House, R: Wait>(
-    seat: &mut Seat<'_, MemorySink, H, R>,
+    at_desk: &mut WindowAtDesk<'_, MemorySink, H, R>,
     is_there: bool,
 ) -> bool {
-    refuse(seat.alloc, 0);
-    let number = seat.window.number();
-    let see = seat.window.see(Who::Teacher, 2);
-    was_none_made(seat.alloc) == is_there && number == Ok(0) && see.is_ok()
+    refuse(at_desk.alloc, 0);
+    let number = at_desk.window.number();
+    let see = at_desk.window.see(Who::Teacher, 2);
+    was_none_made(at_desk.alloc) == is_there && number == Ok(0) && see.is_ok()
 }
 
 /// A visit that asks for the first two acts, and then makes the calls that should request no memory. `wanted` is the
@@ -57,19 +56,19 @@ struct AfterFirst {
 impl Visit<MemorySink> for AfterFirst {
     /// Whether the first act was granted and the second refused. Then, without memory, the first must be denied, the
     /// second refused as `wanted`, and the views answered.
-    type Told = bool;
+    type Outcome = bool;
 
-    // Asks through the first seat for the first act and the second, then for both again, and then for the views.
-    fn visit<H: House, R: Wait>(self, seats: &mut Pair<'_, MemorySink, H, R>) -> bool {
-        let (seat, is_there) = (&mut seats.one, self.is_there);
-        let first = seat.ask(asker(1), &act(1));
+    // Asks through the first window for the first act and the second, then for both again, and then for the views.
+    fn visit<H: House, R: Wait>(self, pair: &mut Pair<'_, MemorySink, H, R>) -> bool {
+        let (at_desk, is_there) = (&mut pair.one, self.is_there);
+        let first = at_desk.ask(asker(1), &act(1));
         // If the sink fails at its second put, it fails here, before the calls that should take no memory.
-        let second = seat.ask(asker(2), &act(2));
+        let second = at_desk.ask(asker(2), &act(2));
         matches!(first, Answer::Granted { .. })
             && matches!(second, Answer::Refused(_))
-            && takes_none(seat, 1, None, is_there)
-            && takes_none(seat, 2, Some(self.wanted), is_there)
-            && views_take_none(seat, is_there)
+            && takes_none(at_desk, 1, None, is_there)
+            && takes_none(at_desk, 2, Some(self.wanted), is_there)
+            && views_take_none(at_desk, is_there)
     }
 }
 

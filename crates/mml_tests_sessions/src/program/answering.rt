@@ -52,7 +52,7 @@ fn are_lines_told(alloc: Global, lab: &Lab) -> bool {
 
 /// Returns whether a server's first line, and the lines of `check` and `audit` for the built-in lab, are right, each
 /// with one write, and a failed write is reported. Returns an error if the built-in lab can't be read.
-fn told_of_lines(alloc: Global) -> Result<bool, Fail> {
+fn are_lines_right(alloc: Global) -> Result<bool, Fail> {
     let lab = boxed_lab(alloc, BUILT_IN)?;
     Ok(is_listening_told(alloc) && are_lines_told(alloc, &lab))
 }
@@ -61,7 +61,7 @@ fn told_of_lines(alloc: Global) -> Result<bool, Fail> {
 /// failed write is reported, and that the built-in lab is the path of three.
 #[test]
 fn lines_go_out_in_one_write(rt: HostRuntime) -> Result<(), Fail> {
-    let are_told = told_of_lines(rt.alloc())?;
+    let are_told = are_lines_right(rt.alloc())?;
     let is_path = PATH_OF_THREE.strip_prefix('\n') == Some(BUILT_IN);
     assert_eq!(rt; (are_told, is_path), (true, true));
     Ok(())

@@ -55,7 +55,7 @@ fn is_kept(rt: &HostRuntime, path: &str, kept: &str) -> bool {
 
 /// Writes the built-in lab's file at `path`, returns the result of `is_kept`, and removes both files. Returns an error
 /// if a file can't be written or removed.
-fn told_of_paths(rt: &HostRuntime, path: Path<'_>, kept: Path<'_>) -> Result<bool, Fail> {
+fn check_paths(rt: &HostRuntime, path: Path<'_>, kept: Path<'_>) -> Result<bool, Fail> {
     fs::write(rt, path, BUILT_IN.as_bytes())?;
     let text = path.to_str().ok_or("a path")?;
     let is_kept = is_kept(rt, text, kept.to_str().ok_or("a path")?);
@@ -70,7 +70,7 @@ fn told_of_paths(rt: &HostRuntime, path: Path<'_>, kept: Path<'_>) -> Result<boo
 fn files_are_read_and_journals_begun(rt: HostRuntime) -> Result<(), Fail> {
     let path = path_of_process(&rt, "")?;
     let kept = path_of_process(&rt, ".~1~")?;
-    let is_kept = told_of_paths(&rt, path.as_path(), kept.as_path())?;
+    let is_kept = check_paths(&rt, path.as_path(), kept.as_path())?;
     let has_words = command_words(&rt).is_ok_and(|words| !words.is_empty());
     let are_held = hold_streams(&rt).is_ok();
     assert_eq!(rt; (is_kept, has_words, are_held), (true, true, true));

@@ -76,7 +76,7 @@ const JOURNAL: &str = "1 0 grant ana 1 seduction\n2 0 grant ben 2 seduction\n";
 /// Serves three sessions over a sink whose first put is slow. Returns two answers: whether all are answered rightly and
 /// the journal has both moves, and whether the sessions and the put waited as `HOLDS` says. Both are `false` if the
 /// sessions couldn't be served to their end.
-fn told_of_a_slow_put<R: Threads + Wait + Sync>(
+fn results_of_a_slow_put<R: Threads + Wait + Sync>(
     rt: &R,
     alloc: Global,
 ) -> Result<(bool, bool), Fail> {
@@ -99,6 +99,6 @@ fn told_of_a_slow_put<R: Threads + Wait + Sync>(
 /// Checks three sessions during a slow put, which holds the lock: a view must not wait for the lock, and an act must.
 #[test]
 fn a_lock_that_is_held_is_waited_for_by_acts_alone(rt: HostRuntime) -> Result<(), Fail> {
-    assert_eq!(rt; told_of_a_slow_put(&rt, rt.alloc())?, (true, true));
+    assert_eq!(rt; results_of_a_slow_put(&rt, rt.alloc())?, (true, true));
     Ok(())
 }

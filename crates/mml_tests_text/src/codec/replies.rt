@@ -24,7 +24,7 @@ fn line_of(alloc: Global, lab: &Lab, reply: &Reply) -> Result<String, Fail>
 /// Returns the line of the reply to a see that shows node 65535 in the configuration with the greatest number. The
 /// node's m is true, and its p points at node 7, or is null if the lab lacks that. Returns an empty text if the lab
 /// lacks node 65535.
-fn sight(alloc: Global, lab: &Lab) -> Result<String, Fail> {
+fn line_of_see(alloc: Global, lab: &Lab) -> Result<String, Fail> {
     let p = lab.ids().rank_of(7);
     let Some(node) = lab.ids().rank_of(65535) else {
         return Ok(String::new(alloc));
@@ -78,7 +78,7 @@ fn rooms(alloc: Global, lab: &Lab) -> Result<[usize; 3], Fail> {
 fn replies_of_lab(alloc: Global, lab: &Lab) -> Result<(String, String, bool), Fail> {
     let rooms = rooms(alloc, lab)?;
     let stays = rooms[1] == rooms[0] && rooms[2] == rooms[0];
-    Ok((sight(alloc, lab)?, report_line(alloc, lab)?, stays))
+    Ok((line_of_see(alloc, lab)?, report_line(alloc, lab)?, stays))
 }
 
 /// Returns, for the lab of two nodes far apart: the line of the reply to a see, the line of the lab's report, and
@@ -91,12 +91,12 @@ fn replies_far_apart(alloc: Global) -> Result<(String, String, bool), Fail> {
 // Checks the lines of a see and of a report, and that a vector with memory for a reply keeps its capacity.
 #[test]
 fn replies_are_written(rt: HostRuntime) -> Result<(), Fail> {
-    let (sight, report, stays) = replies_far_apart(rt.alloc())?;
+    let (see, report, stays) = replies_far_apart(rt.alloc())?;
     let wanted = (
         lines!(seen(18446744073709551615, true, 65535, 7)),
         "{\"at\":0,\"free\":[7,65535],\"ok\":\"report\",\"open\":[],\"pairs\":[],\"privileged\":[],\"stable\":true}\n",
         true,
     );
-    assert_eq!(rt; (sight.as_str(), report.as_str(), stays), wanted);
+    assert_eq!(rt; (see.as_str(), report.as_str(), stays), wanted);
     Ok(())
 }

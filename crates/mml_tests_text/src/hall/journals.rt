@@ -67,17 +67,17 @@ fn hall_of(alloc: Global, script: &str, puts: usize) -> Result<Box<Hall<Drip>>, 
 
 /// Answers a script over a sink that fails after `puts` bytes. Returns whether the hall after it passes `has_dripped`
 /// and `is_audited`.
-fn drips(alloc: Global, script: &str, puts: usize) -> Result<bool, Fail> {
+fn fails_rightly_after(alloc: Global, script: &str, puts: usize) -> Result<bool, Fail> {
     let hall = hall_of(alloc, script, puts)?;
     Ok(has_dripped(&hall, puts) && is_audited(alloc, &hall))
 }
 
-/// Returns the first number of bytes for which `drips` is `false` for the script of the ten acts, or `None` if there is
-/// no such number.
+/// Returns the first number of bytes for which `fails_rightly_after` is `false` for the script of the ten acts, or
+/// `None` if there is no such number.
 fn first_byte_told_otherwise(alloc: Global) -> Result<Option<usize>, Fail> {
     let script = format!(in alloc; "{GREETINGS}{TEN_ACTS}")?;
     for puts in 0..=TEN_LINES.len() {
-        if !drips(alloc, script.as_str(), puts)? {
+        if !fails_rightly_after(alloc, script.as_str(), puts)? {
             return Ok(Some(puts));
         }
     }

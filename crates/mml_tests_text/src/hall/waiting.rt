@@ -67,7 +67,7 @@ impl<'a> Write for Answered<'a> {
 
 /// Answers a script that comes one line in each read. Returns whether it ends well with exactly the replies in
 /// `wanted`, all of them written and flushed before the next read and at the end; and how many reads there were.
-fn asked(alloc: Global, script: &str, wanted: &str) -> Result<(bool, usize), Fail> {
+fn answer_line_by_line(alloc: Global, script: &str, wanted: &str) -> Result<(bool, usize), Fail> {
     let replies = Replies {
         count: Cell::new(0),
         unflushed: Cell::new(0),
@@ -125,16 +125,17 @@ fn first_cut_that_changes(alloc: Global) -> Result<Option<usize>, Fail> {
     Ok(None)
 }
 
-/// The results of `asked` for `FIRST_LOOK` and for `GREETING`, and the first cut of `FIRST_LOOK` that changes
-/// something, or `None` if no cut does.
+/// The results of `answer_line_by_line` for `FIRST_LOOK` and for `GREETING`, and the first cut of `FIRST_LOOK` that
+/// changes something, or `None` if no cut does.
 type Writes = ((bool, usize), (bool, usize), Option<usize>);
 
-/// Answers the scripts `FIRST_LOOK` and `GREETING`, which come one line in each read. Returns for each what `asked`
-/// does: whether the replies are right and are sent before each next read, and how many reads there were. Also returns
-/// the first offset for which `FIRST_LOOK`, cut there into two reads, is answered otherwise, or `None`.
+/// Answers the scripts `FIRST_LOOK` and `GREETING`, which come one line in each read. Returns for each what
+/// `answer_line_by_line` does: whether the replies are right and are sent before each next read, and how many reads
+/// there were. Also returns the first offset for which `FIRST_LOOK`, cut there into two reads, is answered otherwise,
+/// or `None`.
 fn writes_before_reads(alloc: Global) -> Result<Writes, Fail> {
-    let looks = asked(alloc, FIRST_LOOK, FIRST_LOOK_REPLIES)?;
-    let greets = asked(alloc, GREETING, GREETING_REPLIES)?;
+    let looks = answer_line_by_line(alloc, FIRST_LOOK, FIRST_LOOK_REPLIES)?;
+    let greets = answer_line_by_line(alloc, GREETING, GREETING_REPLIES)?;
     Ok((looks, greets, first_cut_that_changes(alloc)?))
 }
 

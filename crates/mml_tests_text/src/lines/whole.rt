@@ -130,7 +130,7 @@ type Written = (Option<usize>, Option<usize>, [usize; 3]);
 /// Returns the results of the three checks of this file's second test: the first row of `PUTS` that is wrong for a
 /// writer that fails, the first that is wrong for one that writes nothing (`None` if all are right), and the result of
 /// `sent`.
-fn told_of_writes(alloc: Global) -> Result<Written, Fail> {
+fn results_of_writes(alloc: Global) -> Result<Written, Fail> {
     let failed = first_other_put(alloc, Refusal::Fails(ErrorKind::Other))?;
     let refused = first_other_put(alloc, Refusal::TakesNothing)?;
     Ok((failed, refused, sent(alloc)?))
@@ -140,6 +140,9 @@ fn told_of_writes(alloc: Global) -> Result<Written, Fail> {
 // buffered, and written when another line comes.
 #[test]
 fn writes_tell_what_went_out(rt: HostRuntime) -> Result<(), Fail> {
-    assert_eq!(rt; told_of_writes(rt.alloc())?, (None, None, [0, 2048, 2052]));
+    assert_eq!(rt;
+        results_of_writes(rt.alloc())?,
+        (None, None, [0, 2048, 2052])
+    );
     Ok(())
 }

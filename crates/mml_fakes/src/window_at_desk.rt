@@ -16,15 +16,15 @@ use std::sync::Wait;
 
 /// A window of a house (one run of a lab), and what is needed to ask for acts through it.
 #[derive(Drop)]
-pub struct Seat<'a, S: Sink, H: House, R: Wait> {
+pub struct WindowAtDesk<'a, S: Sink, H: House, R: Wait> {
     pub rt: &'a R,
     pub alloc: Global,
     pub desk: &'a Desk<S, H>,
     pub window: Window<H>,
 }
 
-impl<'a, S: Sink + Drop, H: House, R: Wait> Seat<'a, S, H, R> {
-    /// Asks the desk for an act of `who` through the seat's window, and returns the answer.
+impl<'a, S: Sink + Drop, H: House, R: Wait> WindowAtDesk<'a, S, H, R> {
+    /// Asks the desk for an act of `who` through the window, and returns the answer.
     pub fn ask(&mut self, who: Who, command: &Command) -> Answer
         requires { is_act command.now ≡ true }
     {
@@ -48,15 +48,15 @@ impl<'a, S: Sink + Drop, H: House, R: Wait> Seat<'a, S, H, R> {
     }
 }
 
-/// Two seats of one house.
+/// Two windows of one house, each with the desk.
 #[derive(Drop)]
 pub struct Pair<'a, S: Sink, H: House, R: Wait> {
-    pub one: Seat<'a, S, H, R>,
-    pub two: Seat<'a, S, H, R>,
+    pub one: WindowAtDesk<'a, S, H, R>,
+    pub two: WindowAtDesk<'a, S, H, R>,
 }
 
 impl<'a, S: Sink + Drop, H: House, R: Wait> Pair<'a, S, H, R> {
-    /// Returns two seats over one desk, with the first and the second of these windows.
+    /// Returns these two windows, each with the desk.
     pub fn new(
         rt: &'a R,
         alloc: Global,
@@ -65,13 +65,13 @@ impl<'a, S: Sink + Drop, H: House, R: Wait> Pair<'a, S, H, R> {
     ) -> Pair<'a, S, H, R> {
         let (one, two) = windows;
         Pair {
-            one: Seat {
+            one: WindowAtDesk {
                 rt,
                 alloc,
                 desk,
                 window: one,
             },
-            two: Seat {
+            two: WindowAtDesk {
                 rt,
                 alloc,
                 desk,
@@ -80,11 +80,11 @@ impl<'a, S: Sink + Drop, H: House, R: Wait> Pair<'a, S, H, R> {
         }
     }
 
-    /// Returns the windows of the first and the second seat. They are needed to end the house.
+    /// Returns the first and the second window. They are needed to end the house.
     pub fn into_windows(self) -> (Window<H>, Window<H>) {
         let Pair { one, two } = self;
-        let Seat { window: first, .. } = one;
-        let Seat { window: second, .. } = two;
+        let WindowAtDesk { window: first, .. } = one;
+        let WindowAtDesk { window: second, .. } = two;
         (first, second)
     }
 }
