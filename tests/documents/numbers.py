@@ -121,7 +121,7 @@ def greatest() -> Iterator[tuple[str, str]]:
 def guesses() -> Iterator[tuple[str, str]]:
     """Yields the promises about the number of keys, and of guesses in a day, each as a page and a text."""
     count = len(set(KEY_WORDS)) ** keys.WORDS_EACH * 10 ** keys.DIGITS
-    wait = only(r"^const DENIAL: u64 = (\d+);", "crates/mml_ports/src/state.rt")
+    wait = only(r"^const DENIAL_INTERVAL: u64 = (\d+);", "crates/mml_ports/src/state.rt")
     a_day = 86400 * 1000 / int(wait)
     yield SECURITY, f"{WORDS[keys.WORDS_EACH]} words, each from a list of {len(set(KEY_WORDS))}, and {WORDS[keys.DIGITS]} digits"
     yield SECURITY, f"which are {keys.bits_of(keys.WORDS_EACH, keys.DIGITS):.1f} bits"
