@@ -86,7 +86,7 @@ fn fails_rightly_after<R: Wait>(rt: &R, alloc: Global, puts: usize) -> Result<bo
 
 /// Returns the first number of bytes, from 0 to all of the journal of the ten acts, for which `fails_rightly_after` is
 /// `false`, or `None` if there is no such number.
-fn first_byte_told_otherwise<R: Wait>(rt: &R, alloc: Global) -> Result<Option<usize>, Fail> {
+fn first_other_count<R: Wait>(rt: &R, alloc: Global) -> Result<Option<usize>, Fail> {
     for puts in 0..=TEN_LINES.len() {
         if !fails_rightly_after(rt, alloc, puts)? {
             return Ok(Some(puts));
@@ -99,6 +99,6 @@ fn first_byte_told_otherwise<R: Wait>(rt: &R, alloc: Global) -> Result<Option<us
 /// sink, and the events.
 #[test]
 fn each_byte_of_a_house_may_be_the_last(rt: HostRuntime) -> Result<(), Fail> {
-    assert_eq!(rt; first_byte_told_otherwise(&rt, rt.alloc())?, None);
+    assert_eq!(rt; first_other_count(&rt, rt.alloc())?, None);
     Ok(())
 }

@@ -125,7 +125,7 @@ fn ends_as_in<R: Wait>(rt: &R, alloc: Global, row: &Row) -> Result<bool, Fail> {
 }
 
 /// Returns the index of the first row of `BYES` for which `ends_as_in` is `false`, or `None` if there is no such row.
-fn first_row_told_otherwise<R: Wait>(rt: &R, alloc: Global) -> Result<Option<usize>, Fail> {
+fn first_other_row<R: Wait>(rt: &R, alloc: Global) -> Result<Option<usize>, Fail> {
     for (number, row) in BYES.iter().enumerate() {
         if !ends_as_in(rt, alloc, row)? {
             return Ok(Some(number));
@@ -137,7 +137,7 @@ fn first_row_told_otherwise<R: Wait>(rt: &R, alloc: Global) -> Result<Option<usi
 /// Checks that a session over each row of `BYES` ends, writes and reads as the row says.
 #[test]
 fn lines_have_limits_and_nothing_is_read_after_a_bye(rt: HostRuntime) -> Result<(), Fail> {
-    assert_eq!(rt; first_row_told_otherwise(&rt, rt.alloc())?, None);
+    assert_eq!(rt; first_other_row(&rt, rt.alloc())?, None);
     Ok(())
 }
 
@@ -172,7 +172,7 @@ fn tells_a_write<R: Wait>(rt: &R, alloc: Global, good: usize) -> Result<bool, Fa
 
 /// Tries a writer that fails after each number of bytes of the replies. Returns the first number for which the session
 /// ends otherwise than `tells_a_write` requires, or `None` if there is no such number.
-fn first_untold_write<R: Wait>(rt: &R, alloc: Global) -> Result<Option<usize>, Fail> {
+fn first_other_write<R: Wait>(rt: &R, alloc: Global) -> Result<Option<usize>, Fail> {
     for good in 0..=ANA_GRANTED.len() {
         if !tells_a_write(rt, alloc, good)? {
             return Ok(Some(good));
@@ -185,7 +185,7 @@ fn first_untold_write<R: Wait>(rt: &R, alloc: Global) -> Result<Option<usize>, F
 /// end, and that their move isn't lost.
 #[test]
 fn failed_writes_are_told(rt: HostRuntime) -> Result<(), Fail> {
-    assert_eq!(rt; first_untold_write(&rt, rt.alloc())?, None);
+    assert_eq!(rt; first_other_write(&rt, rt.alloc())?, None);
     Ok(())
 }
 
@@ -216,7 +216,7 @@ fn tells_a_read<R: Wait>(rt: &R, alloc: Global, good: usize) -> Result<bool, Fai
 }
 
 /// Returns the first number of bytes for which `tells_a_read` is `false`, or `None` if there is no such number.
-fn first_untold_read<R: Wait>(rt: &R, alloc: Global) -> Result<Option<usize>, Fail> {
+fn first_other_read<R: Wait>(rt: &R, alloc: Global) -> Result<Option<usize>, Fail> {
     for good in 0..=ANA_MOVES.len() {
         if !tells_a_read(rt, alloc, good)? {
             return Ok(Some(good));
@@ -229,7 +229,7 @@ fn first_untold_read<R: Wait>(rt: &R, alloc: Global) -> Result<Option<usize>, Fa
 /// and that their move is granted exactly if its line was read whole.
 #[test]
 fn failed_reads_are_told(rt: HostRuntime) -> Result<(), Fail> {
-    assert_eq!(rt; first_untold_read(&rt, rt.alloc())?, None);
+    assert_eq!(rt; first_other_read(&rt, rt.alloc())?, None);
     Ok(())
 }
 

@@ -88,10 +88,7 @@ fn is_read_as(
 }
 
 /// Returns the index of the first row of `LINES` whose line is read wrongly, or `None` if all are right.
-fn first_line_read_otherwise(
-    alloc: Global,
-    scratch: &mut LineScratch,
-) -> Result<Option<usize>, Fail> {
+fn first_other_line(alloc: Global, scratch: &mut LineScratch) -> Result<Option<usize>, Fail> {
     for (row, (line, wanted)) in LINES.iter().enumerate() {
         if !is_read_as(alloc, scratch, line, wanted)? {
             return Ok(Some(row));
@@ -150,10 +147,7 @@ fn is_hello_told(alloc: Global, scratch: &mut LineScratch, row: &Hello) -> Resul
 
 /// Returns the index of the first row of `HELLOS` for which `is_hello_told` is `false`, or `None` if there is no such
 /// row.
-fn first_hello_told_otherwise(
-    alloc: Global,
-    scratch: &mut LineScratch,
-) -> Result<Option<usize>, Fail> {
+fn first_other_hello(alloc: Global, scratch: &mut LineScratch) -> Result<Option<usize>, Fail> {
     for (number, row) in HELLOS.iter().enumerate() {
         if !is_hello_told(alloc, scratch, row)? {
             return Ok(Some(number));
@@ -174,15 +168,15 @@ fn named_node(scratch: &mut LineScratch, line: &[u8]) -> Result<Option<u64>, Fai
 
 /// The first row of `LINES` and the first of `HELLOS` that are wrong, if there are any, and the numbers under `node` in
 /// three lines.
-type Told = (Option<usize>, Option<usize>, [Option<u64>; 3]);
+type Results = (Option<usize>, Option<usize>, [Option<u64>; 3]);
 
 /// Returns the results of three checks, all of which use `scratch` as memory for reading lines. These are the first row
 /// of `LINES` that is read wrongly, the first row of `HELLOS` that is written or read wrongly (`None` if all are
 /// right), and the numbers under `node` in three lines: a plain one, one with nested arrays and objects, and one with a
 /// number that is too great to be read.
-fn told_with(alloc: Global, scratch: &mut LineScratch) -> Result<Told, Fail> {
-    let line = first_line_read_otherwise(alloc, scratch)?;
-    let hello = first_hello_told_otherwise(alloc, scratch)?;
+fn results_with(alloc: Global, scratch: &mut LineScratch) -> Result<Results, Fail> {
+    let line = first_other_line(alloc, scratch)?;
+    let hello = first_other_hello(alloc, scratch)?;
     let plain = named_node(scratch, br#"{"do": "see", "node": 2}"#)?;
     let nested = named_node(scratch, br#"{"do":"see","node":3,"x":[{},[1.5]]}"#)?;
     let great = named_node(scratch, br#"{"do":"see","node":2,"x":[{},[1e999]]}"#)?;
@@ -194,7 +188,7 @@ fn told_with(alloc: Global, scratch: &mut LineScratch) -> Result<Told, Fail> {
 #[test]
 fn requests_are_read_and_written(rt: HostRuntime) -> Result<(), Fail> {
     let mut scratch = LineScratch::new(rt.alloc(), 4096)?;
-    let told = told_with(rt.alloc(), &mut scratch)?;
+    let told = results_with(rt.alloc(), &mut scratch)?;
     assert_eq!(rt; told, (None, None, [Some(2), Some(3), None]));
     Ok(())
 }

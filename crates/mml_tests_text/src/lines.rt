@@ -106,7 +106,7 @@ fn is_length_told(alloc: Global, row: &Length) -> Result<bool, Fail> {
 
 /// Checks each row of `LENGTHS` with `is_length_told`. Returns the index of the first row that is wrong, or `None` if
 /// all are right.
-fn first_length_told_otherwise(alloc: Global) -> Result<Option<usize>, Fail> {
+fn first_other_length(alloc: Global) -> Result<Option<usize>, Fail> {
     for (number, row) in LENGTHS.iter().enumerate() {
         if !is_length_told(alloc, row)? {
             return Ok(Some(number));
@@ -119,7 +119,7 @@ fn first_length_told_otherwise(alloc: Global) -> Result<Option<usize>, Fail> {
 // returned.
 #[test]
 fn a_line_is_as_long_as_the_limit(rt: HostRuntime) -> Result<(), Fail> {
-    assert_eq!(rt; first_length_told_otherwise(rt.alloc())?, None);
+    assert_eq!(rt; first_other_length(rt.alloc())?, None);
     Ok(())
 }
 
@@ -176,7 +176,7 @@ fn are_reads_told(alloc: Global, row: &Reads) -> Result<bool, Fail> {
 
 /// Returns the index of the first row of `READS` for which `are_reads_told` is `false`, or `None` if there is no such
 /// row.
-fn first_reads_told_otherwise(alloc: Global) -> Result<Option<usize>, Fail> {
+fn first_other_reads(alloc: Global) -> Result<Option<usize>, Fail> {
     for (number, row) in READS.iter().enumerate() {
         if !are_reads_told(alloc, row)? {
             return Ok(Some(number));
@@ -187,17 +187,17 @@ fn first_reads_told_otherwise(alloc: Global) -> Result<Option<usize>, Fail> {
 
 /// Returns three results, each `None` if all is right: the first cut of `TEXT` that changes the answers in reads of one
 /// byte, the first one in reads of up to 100 bytes, and the first row of `READS` that is wrong.
-fn first_told_otherwise(alloc: Global) -> Result<[Option<usize>; 3], Fail> {
+fn first_others(alloc: Global) -> Result<[Option<usize>; 3], Fail> {
     let by_bytes = first_cut_that_changes(alloc, 1)?;
     let at_once = first_cut_that_changes(alloc, 100)?;
-    Ok([by_bytes, at_once, first_reads_told_otherwise(alloc)?])
+    Ok([by_bytes, at_once, first_other_reads(alloc)?])
 }
 
 // Checks that the same lines are read however the input is cut into reads, that a failed read is the last answer, and
 // that the number of reads is right.
 #[test]
 fn cuts_change_nothing_and_a_failed_read_ends_the_lines(rt: HostRuntime) -> Result<(), Fail> {
-    assert_eq!(rt; first_told_otherwise(rt.alloc())?, [None; 3]);
+    assert_eq!(rt; first_others(rt.alloc())?, [None; 3]);
     Ok(())
 }
 

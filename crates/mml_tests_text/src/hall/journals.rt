@@ -74,7 +74,7 @@ fn fails_rightly_after(alloc: Global, script: &str, puts: usize) -> Result<bool,
 
 /// Returns the first number of bytes for which `fails_rightly_after` is `false` for the script of the ten acts, or
 /// `None` if there is no such number.
-fn first_byte_told_otherwise(alloc: Global) -> Result<Option<usize>, Fail> {
+fn first_other_count(alloc: Global) -> Result<Option<usize>, Fail> {
     let script = format!(in alloc; "{GREETINGS}{TEN_ACTS}")?;
     for puts in 0..=TEN_LINES.len() {
         if !fails_rightly_after(alloc, script.as_str(), puts)? {
@@ -88,6 +88,6 @@ fn first_byte_told_otherwise(alloc: Global) -> Result<Option<usize>, Fail> {
 // hall the events of their whole lines. Audits must pass whole lines, and no torn line.
 #[test]
 fn each_byte_of_a_journal_may_be_the_last(rt: HostRuntime) -> Result<(), Fail> {
-    assert_eq!(rt; first_byte_told_otherwise(rt.alloc())?, None);
+    assert_eq!(rt; first_other_count(rt.alloc())?, None);
     Ok(())
 }

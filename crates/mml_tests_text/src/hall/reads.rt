@@ -47,7 +47,7 @@ fn is_read_once(alloc: Global, script: &str, replies: &str) -> Result<bool, Fail
 /// Tries a failed read after each number of good reads of `GREETING`, of one byte each. Returns the first number for
 /// which the error isn't reported, or other lines are answered than those that came whole, or `None` if there is no
 /// such number.
-fn first_untold_read(alloc: Global) -> Result<Option<usize>, Fail> {
+fn first_other_read(alloc: Global) -> Result<Option<usize>, Fail> {
     let script = GREETING.as_bytes();
     for good in 0..=script.len() {
         let (given, rest) = script.split_at(good.min(script.len()));
@@ -120,7 +120,7 @@ fn are_read_once(alloc: Global) -> Result<[bool; 4], Fail> {
 /// right.
 fn reads_made(alloc: Global) -> Result<([bool; 4], [Option<usize>; 2]), Fail> {
     let are_read_once = are_read_once(alloc)?;
-    let firsts = [first_untold_read(alloc)?, first_other_buffer(alloc)?];
+    let firsts = [first_other_read(alloc)?, first_other_buffer(alloc)?];
     Ok((are_read_once, firsts))
 }
 

@@ -42,7 +42,7 @@ const WRITERS: [(usize, Refusal); 3] = [(1, FAILS), (1, Refusal::TakesNothing), 
 /// Tries writers that fail after each number of bytes of the replies. Returns the first number for which the script
 /// ends otherwise than `tells_a_write` requires, with the number of bytes in each write, or `None` if there is no such
 /// number.
-fn first_untold_write(alloc: Global) -> Result<Option<(usize, usize)>, Fail> {
+fn first_other_write(alloc: Global) -> Result<Option<(usize, usize)>, Fail> {
     for good in 0..=FIRST_LOOK_REPLIES.len() {
         for (step, refusal) in WRITERS {
             if !tells_a_write(alloc, step, good, refusal)? {
@@ -70,7 +70,7 @@ fn tells_a_flush(alloc: Global, good: usize) -> Result<bool, Fail> {
 /// Tries a writer whose flush fails after each number of good ones, from 0 to 6; the script makes seven flushes.
 /// Returns the first number for which the script ends otherwise than `tells_a_flush` requires, or `None` if there is no
 /// such number.
-fn first_untold_flush(alloc: Global) -> Result<Option<usize>, Fail> {
+fn first_other_flush(alloc: Global) -> Result<Option<usize>, Fail> {
     for good in 0..7 {
         if !tells_a_flush(alloc, good)? {
             return Ok(Some(good));
@@ -79,18 +79,18 @@ fn first_untold_flush(alloc: Global) -> Result<Option<usize>, Fail> {
     Ok(None)
 }
 
-/// The results of `first_untold_write` and of `first_untold_flush`; each is `None` if all is right.
-type Untold = (Option<(usize, usize)>, Option<usize>);
+/// The results of `first_other_write` and of `first_other_flush`; each is `None` if all is right.
+type Others = (Option<(usize, usize)>, Option<usize>);
 
 /// Returns the first failed write, and the first failed flush, that doesn't end a script as it should. Each is `None`
 /// if all failures do.
-fn first_untold(alloc: Global) -> Result<Untold, Fail> {
-    Ok((first_untold_write(alloc)?, first_untold_flush(alloc)?))
+fn first_others(alloc: Global) -> Result<Others, Fail> {
+    Ok((first_other_write(alloc)?, first_other_flush(alloc)?))
 }
 
 // Checks that a failed write or flush ends a script, and that the error says how many bytes were written.
 #[test]
 fn failed_writes_and_flushes_are_told(rt: HostRuntime) -> Result<(), Fail> {
-    assert_eq!(rt; first_untold(rt.alloc())?, (None, None));
+    assert_eq!(rt; first_others(rt.alloc())?, (None, None));
     Ok(())
 }

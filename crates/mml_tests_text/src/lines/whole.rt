@@ -36,7 +36,7 @@ const INPUTS: &[(&str, usize, ErrorKind, &str)] = &[
 ];
 
 /// Returns the index of the first row of `INPUTS` for which `bytes_or_fault` is wrong, or `None` if all are right.
-fn first_told_otherwise(alloc: Global) -> Result<Option<usize>, Fail> {
+fn first_other(alloc: Global) -> Result<Option<usize>, Fail> {
     for (row, (input, good, kind, wanted)) in INPUTS.iter().enumerate() {
         if bytes_or_fault(alloc, input.as_bytes(), *good, *kind)?.as_str() != *wanted {
             return Ok(Some(row));
@@ -49,7 +49,7 @@ fn first_told_otherwise(alloc: Global) -> Result<Option<usize>, Fail> {
 // right error.
 #[test]
 fn readers_are_read_up_to_a_limit(rt: HostRuntime) -> Result<(), Fail> {
-    assert_eq!(rt; first_told_otherwise(rt.alloc())?, None);
+    assert_eq!(rt; first_other(rt.alloc())?, None);
     Ok(())
 }
 
