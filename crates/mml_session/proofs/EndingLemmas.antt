@@ -1,5 +1,5 @@
 -- What has been answered so far, and how it ends.
-use Rattle.std.proofs.Common.{◌≡◌, ◌⊎◌, inl, inr, ℕ, ◌<◌, List, [], ◌++◌, length, take, refl, sym, ◌∙◌, ap, append_assoc, append-nil, Option, subst}
+use Rattle.std.proofs.Common.{◌≡◌, ◌⊎◌, inl, inr, ℕ, ◌<◌, ◌≤◌, List, [], ◌∷◌, ◌++◌, length, take, refl, sym, ◌∙◌, ap, append_assoc, append-nil, arith, Option, subst}
 use Rattle.std.{proofs.KnownBytes.Appends-trans, proofs.KnownBytes.Consumes-trans, specs.Io.KnownBytes.Consumes, specs.Io.KnownBytes.Appends, specs.Io.KnownBytes.prepend_known}
 use Rattle.mml_lab.specs.{declared.who.Who.Who, Labs.LabValue}
 use Rattle.mml_ids.specs.Lines.{ended}
@@ -8,11 +8,11 @@ use Rattle.mml_lines.proofs.{KnownBytesLemmas.nothing_held, KnownBytesLemmas.non
 use Rattle.mml_codec.specs.Replies.{reply_line}
 use Rattle.mml_window.specs.Windows.{WindowValue}
 use Rattle.mml_session.specs.declared.{session.SessionEnd.SessionEnd, session.Ending.Ending, session.Next.Next, recorder.Entry.Entry}
-use Rattle.mml_session.specs.{Turns.Standing, Ends.AllAnswered, Ends.LastAnswered, Ends.IsView, Holding.HoldsBack, Holding.BreaksOff, Holding.LetsOut, Serving.ServesNext}
+use Rattle.mml_session.specs.{declared.held.TheConstants.HELD_BYTES, Turns.Standing, Ends.AllAnswered, Ends.LastAnswered, Ends.IsView, Holding.HoldsBack, Holding.BreaksOff, Holding.LetsOut, Serving.ServesNext}
 use Rattle.mml_session.specs.Talks.{Talk, LineTurn, nobody_known, bytes_read, bytes_written, line_read, line_written}
 use Rattle.mml_session.specs.Records.{Kept, Records, EndedRecorded, entries_of, line_entries, left_at}
 use Rattle.mml_session.proofs.{LongerLemmas.longer_entries, RecordLemmas.records_nil, RecordLemmas.records_trans}
-use Rattle.mml_session.proofs.HoldingLemmas.{none_back, back_more, back_out, back_on, back_off, off_some, back_some, out_alike, off_alike}
+use Rattle.mml_session.proofs.HoldingLemmas.{none_back, back_more, back_out, back_on, back_off, held_off, off_some, back_some, out_alike, off_alike}
 use Rattle.mml_session.specs.declared.session.SessionEnd.TheVariants as ends
 use Rattle.mml_session.specs.declared.session.Next.TheVariants as next
 
@@ -22,17 +22,19 @@ pub record LastLine (lab : LabValue) (old : WindowValue) (st : Standing) (before
   pub last : LineTurn lab first.end st
   pub known : first.end.known ≡ before
   pub read : bytes_read talk ≡ bytes_read first ++ line_read last
-  pub written : bytes_written talk ≡ bytes_written first ++ line_written last
+  pub replies : talk.replies ≡ first.replies ++ last.reply ∷ []
   pub entries : entries_of talk ≡ entries_of first ++ line_entries last
 
--- the lines so far make a talk, which leads to the session's state, and what isn't written of its replies is held
+-- the lines so far make a talk, which leads to the session's state. What isn't written of its replies is held, and
+-- that is at most `HELD_BYTES` bytes
 pub record AnsweredSoFar (number : ℕ) (lab : LabValue) (old : WindowValue) (st : Standing) (before : Option Who) (input left : Option (List ℕ))
     (held : List ℕ) (wrote wrote' : Option (List ℕ)) (given given' : Option Kept) : Type 0 where
   pub talk : Talk lab (nobody_known old)
   pub stands : talk.end ≡ st
   pub last : (bytes_written talk ≡ []) ⊎ LastLine lab old st before talk
   pub consumed : Consumes input left (bytes_read talk)
-  pub appended : HoldsBack wrote wrote' (bytes_written talk) held
+  pub appended : HoldsBack lab wrote wrote' talk.replies held
+  pub few : length held ≤ HELD_BYTES
   pub recorded : Records number given given' (entries_of talk)
 
 pub nothing_yet : (number : ℕ) (lab : LabValue) (old : WindowValue) (before : Option Who) (input wrote : Option (List ℕ)) (given : Option Kept)
@@ -43,7 +45,8 @@ nothing_yet number lab old before input wrote given unread held none out = recor
   stands = refl;
   last = inl refl;
   consumed = nothing_held input unread none;
-  appended = none_back wrote held out;
+  appended = none_back lab wrote held out;
+  few = omega (arith, ap length out);
   recorded = records_nil number given;
 }
 
@@ -61,23 +64,23 @@ module _ {number : ℕ} {lab : LabValue} {old : WindowValue} {st : Standing} {be
   knew = ap (λ (t : Standing). t.known) so.stands
 
   -- with the next line's reply, what isn't written is held
-  held_with : (t : LineTurn lab so.talk.end after) → HoldsBack wrote c (bytes_written so.talk ++ line_written t) (held ++ line_written t)
-  held_with t = back_more wrote c (bytes_written so.talk) held (line_written t) so.appended
+  held_with : (t : LineTurn lab so.talk.end after) → HoldsBack lab wrote c (so.talk.replies ++ t.reply ∷ []) (held ++ line_written t)
+  held_with t = back_more lab wrote c so.talk.replies held t.reply so.appended
 
-  pub one_more : ServesNext next.Served number lab st after a unread left held held' c d y z
+  pub one_more : ServesNext next.Served number lab st after a unread left held held' c d y z → length held' ≤ HELD_BYTES
       → AnsweredSoFar number lab old after st.known input (prepend_known unread left) held' wrote d x z
-  one_more serves =
+  one_more serves few =
       let one = from_end next.Served serves in
       let t = so.talk in
       let read = flat_longer ended t.lines one.0.line in
-      let written = flat_longer (reply_line lab.ids lab.roster) t.replies one.0.reply in
       let entries = longer_entries lab (nobody_known old) t.end after t.lines t.replies one.0.line one.0.reply t.run one.0.turn in
       record {
         talk = longer t one.0 one.1;
         stands = refl;
-        last = inr (record { first = t; last = one.0; known = knew; read = read; written = written; entries = entries });
+        last = inr (record { first = t; last = one.0; known = knew; read = read; replies = refl; entries = entries });
         consumed = rw read (Consumes-trans input a (prepend_known unread left) (bytes_read t) (line_read one.0) so.consumed one.2);
-        appended = rw written (back_on wrote c d (bytes_written t ++ line_written one.0) (held ++ line_written one.0) held' (held_with one.0) one.3);
+        appended = back_on lab wrote c d (t.replies ++ one.0.reply ∷ []) (held ++ line_written one.0) held' (held_with one.0) one.3;
+        few = few;
         recorded = rw entries (records_trans number x y z (entries_of t) (line_entries one.0) so.recorded one.4);
       }
 
@@ -88,7 +91,7 @@ module _ {number : ℕ} {lab : LabValue} {old : WindowValue} {st : Standing} {be
     talk = so.talk;
     stands = ap (λ (t : Standing). t.window) (so.stands ∙ sym same);
     consumed = none_taken input a (prepend_known unread left) (bytes_read so.talk) so.consumed taken;
-    appended = back_out wrote c e (bytes_written so.talk) held so.appended (out_alike c d e held held' alike still out);
+    appended = back_out lab wrote c e so.talk.replies held so.appended (out_alike c d e held held' alike still out);
   }
 
   -- and a line more, and so much is written of all replies' lines
@@ -136,7 +139,7 @@ module _ {number : ℕ} {lab : LabValue} {old : WindowValue} {st : Standing} {be
         view = subst (λ (t : Standing). IsView t serves.1) (sym so.stands) serves.3;
         stands = ap (λ (t : Standing). t.window) (so.stands ∙ sym serves.0);
         consumed = Consumes-trans input a (prepend_known unread left) (bytes_read so.talk) (ended serves.1) so.consumed serves.4;
-        appended = back_out wrote c e (bytes_written so.talk) held so.appended (out_alike c d e held held' serves.6 serves.8 out);
+        appended = back_out lab wrote c e so.talk.replies held so.appended (out_alike c d e held held' serves.6 serves.8 out);
       },
       serves.5,
     ),
@@ -145,22 +148,23 @@ module _ {number : ℕ} {lab : LabValue} {old : WindowValue} {st : Standing} {be
   )
   told_so ends.Bye e o serves out fin =
       let one = from_end (next.Ended ends.Bye) serves in
-      let put = back_out wrote c d (bytes_written so.talk ++ line_written one.0) (held ++ line_written one.0) (held_with one.0) one.5 in
+      let put : Appends wrote d (bytes_written so.talk ++ line_written one.0) =
+      subst (λ (t : List ℕ). Appends wrote d t) (flat_longer (reply_line lab.ids lab.roster) so.talk.replies one.0.reply)
+      (back_out lab wrote c d (so.talk.replies ++ one.0.reply ∷ []) (held ++ line_written one.0) (held_with one.0) one.5) in
       ((unread, last_so (λ line. line) one.0 one.2 put one.4 out, one.1, one.3), knew, last_given o one.0 one.6 fin)
   told_so ends.WriteFault e o serves out fin =
       let one = from_end (next.Ended ends.WriteFault) serves in
-      let off = back_off wrote c d (bytes_written so.talk ++ line_written one.0) (held ++ line_written one.0) (held_with one.0) one.4 in
-      ((unread, off.0, last_so (take off.0) one.0 one.1 off.2 one.3 out, off.1, one.2), knew, last_given o one.0 one.5 fin)
+      let off = back_off lab wrote c d so.talk.replies held one.0.reply so.appended so.few one.4 in
+      ((unread, off.0, last_so (take off.0) one.0 one.1 off.2 one.3 out, off.1, one.2, off.3), knew, last_given o one.0 one.5 fin)
 
   -- what was held broke off: the last line that was answered is the last
   broken_at : (e : Option (List ℕ)) (o : Option Kept) (rest : List ℕ) → (bytes_written so.talk ≡ []) ⊎ LastLine lab old st before so.talk → after ≡ st
       → Consumes a (prepend_known rest left) [] → length rest < READ_SIZE → BreaksOff c e held
       → Records number y z [] → Records number z o (left_at after.window)
       → EndedRecorded ends.WriteFault before number lab old after.window input left wrote e x o
-  broken_at e o rest (inl none) same taken few off given fin = absurd (back_some wrote c e (bytes_written so.talk) held so.appended off none)
+  broken_at e o rest (inl none) same taken few off given fin = absurd (back_some lab wrote c e so.talk.replies held so.appended off none)
   broken_at e o rest (inr l) same taken few off given fin =
-      let all : BreaksOff wrote e (bytes_written l.first ++ line_written l.last) =
-      subst (λ (t : List ℕ). BreaksOff wrote e t) l.written (back_off wrote c e (bytes_written so.talk) held so.appended off) in (
+      let all = held_off lab wrote c e so.talk.replies held l.first.replies l.last.reply so.appended so.few l.replies off in (
         (
           rest,
           all.0,
@@ -175,6 +179,7 @@ module _ {number : ℕ} {lab : LabValue} {old : WindowValue} {st : Standing} {be
           },
           all.1,
           few,
+          all.3,
         ),
         l.known,
         subst (λ (t : List Entry). Records number x o t)

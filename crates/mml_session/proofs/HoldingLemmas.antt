@@ -1,41 +1,15 @@
--- Bytes that are written together, over several steps.
-use Rattle.std.proofs.Common.{◌≡◌, ◌≢◌, inl, inr, ℕ, ◌+◌, List, [], ◌++◌, length, take, sym, ◌∙◌, ap, append_assoc, append-nil, length-append, arith, subst, Option}
-use Rattle.std.{proofs.Math.Seq.take-append-add, proofs.KnownBytes.Appends-nil, proofs.KnownBytes.Appends-trans, specs.Io.KnownBytes.Appends}
-use Rattle.mml_session.specs.Holding.{IsHeldOrOut, HoldsBack, BreaksOff}
-
--- there were no bytes
-pub none_back : (a : Option (List ℕ)) (held : List ℕ) → held ≡ [] → HoldsBack a a [] held
-none_back a held none = ([], sym none, Appends-nil a)
-
--- more bytes are held
-pub back_more : (a b : Option (List ℕ)) (bytes held more : List ℕ) → HoldsBack a b bytes held → HoldsBack a b (bytes ++ more) (held ++ more)
-back_more a b bytes held more h = (h.0, ap (λ l. l ++ more) h.1 ∙ append_assoc h.0 held more, h.2)
-
--- what was held is written
-pub back_out : (a b c : Option (List ℕ)) (bytes held : List ℕ) → HoldsBack a b bytes held → Appends b c held → Appends a c bytes
-back_out a b c bytes held h k = subst (λ (t : List ℕ). Appends a c t) (sym h.1) (Appends-trans a b c h.0 held h.2 k)
-
--- or stays
-pub back_on : (a b c : Option (List ℕ)) (bytes held held' : List ℕ) → HoldsBack a b bytes held → IsHeldOrOut b c held held' → HoldsBack a c bytes held'
-back_on a b c bytes held held' h (inl k) = (h.0, h.1 ∙ ap (λ l. h.0 ++ l) (sym k.0), subst (λ (t : Option (List ℕ)). Appends a t h.0) (sym k.1) h.2)
-back_on a b c bytes held held' h (inr k) = (bytes, sym (ap (λ l. bytes ++ l) k.0 ∙ append-nil bytes), back_out a b c bytes held h k.1)
-
--- or breaks off
-pub back_off : (a b c : Option (List ℕ)) (bytes held : List ℕ) → HoldsBack a b bytes held → BreaksOff b c held → BreaksOff a c bytes
-back_off a b c bytes held h k = (
-  length h.0 + k.0,
-  omega (arith, k.1, ap length h.1, length-append h.0 held),
-  subst (λ (t : List ℕ). Appends a c t) (sym (ap (take (length h.0 + k.0)) h.1 ∙ take-append-add h.0 held k.0))
-      (Appends-trans a b c h.0 (take k.0 held) h.2 k.2),
-)
+-- Replies that are written together, over several steps.
+use Rattle.std.proofs.Common.{◌≡◌, ◌≢◌, inl, inr, ℕ, ◌+◌, ◌-◌, ◌<◌, ◌≤◌, List, [], ◌∷◌, ◌++◌, length, take, drop, false, refl, sym, ◌∙◌, ap, append_assoc, append-nil, length-append, length-drop, take-append-drop, arith, subst, Option, Some}
+use Rattle.std.{proofs.Math.Seq.take-append-add, proofs.KnownBytes.Appends-nil, proofs.KnownBytes.Appends-trans, proofs.lemmas.List.Concat.flat_map-append, specs.Io.KnownBytes.Appends, specs.List.AllByRecursion}
+use Rattle.mml_lab.specs.{Labs.LabValue}
+use Rattle.mml_lines.proofs.RunsLemmas.{flat_longer}
+use Rattle.mml_codec.specs.{declared.reply.Reply.Reply, Replies.reply_line}
+use Rattle.mml_session.specs.{declared.held.TheConstants.HELD_BYTES, Holding.IsHeldOrOut, Holding.HoldsBack, Holding.BreaksOff, Holding.BreaksInLastFlush, Holding.LacksLastFlush, Talks.reply_lines, Turns.is_bye}
+use Rattle.mml_session.proofs.ShortestLemmas.{few_lines}
 
 -- what breaks off is something
 pub off_some : (a b : Option (List ℕ)) (bytes : List ℕ) → BreaksOff a b bytes → bytes ≢ []
 off_some a b bytes h none = omega (arith, h.1, ap length none)
-
--- and so are the bytes of which it is held
-pub back_some : (a b c : Option (List ℕ)) (bytes held : List ℕ) → HoldsBack a b bytes held → BreaksOff b c held → bytes ≢ []
-back_some a b c bytes held h k none = omega (arith, k.1, ap length none, ap length h.1, length-append h.0 held)
 
 -- bytes that are held alike are written alike
 pub out_alike : (b c d : Option (List ℕ)) (held held' : List ℕ) → held' ≡ held → c ≡ b → Appends c d held' → Appends b d held
@@ -43,3 +17,154 @@ out_alike b c d held held' same still h = subst (λ (t : Option (List ℕ)). App
 
 pub off_alike : (b c d : Option (List ℕ)) (held held' : List ℕ) → held' ≡ held → c ≡ b → BreaksOff c d held' → BreaksOff b d held
 off_alike b c d held held' same still h = subst (λ (t : Option (List ℕ)). BreaksOff t d held) still (subst (λ (t : List ℕ). BreaksOff c d t) same h)
+
+-- what was written before a flush that broke off is among the bytes that are written
+breaks_later : (a b c : Option (List ℕ)) (sent flush all : List ℕ) → all ≡ sent ++ flush → Appends a b sent → BreaksOff b c flush
+    → (n : ℕ) × (n < length all) × Appends a c (take n all) × (length sent ≤ n)
+breaks_later a b c sent flush all is h k = (
+  length sent + k.0,
+  omega (arith, k.1, ap length is, length-append sent flush),
+  subst (λ (t : List ℕ). Appends a c t) (sym (ap (take (length sent + k.0)) is ∙ take-append-add sent flush k.0))
+      (Appends-trans a b c sent (take k.0 flush) h k.2),
+  omega arith,
+)
+
+-- if a list ends with an element, so does each part that ends it
+last_apart : {A : Type 0} (xs ys zs : List A) (x : A) → xs ++ x ∷ [] ≡ ys ++ zs → zs ≢ [] → (init : List A) × (xs ≡ ys ++ init) × (zs ≡ init ++ x ∷ [])
+last_apart xs [] zs x e some = (xs, refl, sym e)
+last_apart [] (y ∷ ys) [] x e some = absurd (some refl)
+last_apart [] (y ∷ ys) (z ∷ zs) x e some = absurd (omega (arith, ap length e, length-append ys (z ∷ zs)))
+last_apart (w ∷ xs) (y ∷ ys) zs x e some =
+    let first : w ≡ y = cc e in
+    let rest : xs ++ x ∷ [] ≡ ys ++ zs = cc e in
+    let more = last_apart xs ys zs x rest some in
+    (more.0, ap (λ l. w ∷ l) more.1 ∙ ap (λ v. v ∷ (ys ++ more.0)) first, more.2)
+
+module _ (lab : LabValue) where
+  -- the lines of these replies and of one more broke off in the last flush
+  abbrev pub BreaksLast : Option (List ℕ) → Option (List ℕ) → List Reply → Reply → Type 0
+  BreaksLast wrote wrote' rs last =
+      (n : ℕ) × (n < length (reply_lines lab rs ++ reply_line lab.ids lab.roster last))
+      × Appends wrote wrote' (take n (reply_lines lab rs ++ reply_line lab.ids lab.roster last)) × BreaksInLastFlush lab rs n
+
+  -- there were no replies
+  pub none_back : (a : Option (List ℕ)) (held : List ℕ) → held ≡ [] → HoldsBack lab a a [] held
+  none_back a held none = record { flushed = []; buffered = []; parts = refl; lines = none; written = Appends-nil a }
+
+  -- the lines of all replies are those that are written, and then those that are held
+  all_lines : (a b : Option (List ℕ)) (rs : List Reply) (held : List ℕ) (h : HoldsBack lab a b rs held)
+      → reply_lines lab rs ≡ reply_lines lab h.flushed ++ held
+  all_lines a b rs held h =
+      ap (λ (l : List Reply). reply_lines lab l) h.parts ∙ (flat_map-append (reply_line lab.ids lab.roster) h.flushed h.buffered
+      ∙ ap (λ l. reply_lines lab h.flushed ++ l) (sym h.lines))
+
+  -- one more reply is held
+  pub back_more : (a b : Option (List ℕ)) (rs : List Reply) (held : List ℕ) (r : Reply) → HoldsBack lab a b rs held
+      → HoldsBack lab a b (rs ++ r ∷ []) (held ++ reply_line lab.ids lab.roster r)
+  back_more a b rs held r h = record {
+    flushed = h.flushed;
+    buffered = h.buffered ++ r ∷ [];
+    parts = ap (λ l. l ++ r ∷ []) h.parts ∙ append_assoc h.flushed h.buffered (r ∷ []);
+    lines = ap (λ l. l ++ reply_line lab.ids lab.roster r) h.lines ∙ sym (flat_longer (reply_line lab.ids lab.roster) h.buffered r);
+    written = h.written;
+  }
+
+  -- what was held is written
+  pub back_out : (a b c : Option (List ℕ)) (rs : List Reply) (held : List ℕ) → HoldsBack lab a b rs held → Appends b c held → Appends a c (reply_lines lab rs)
+  back_out a b c rs held h k =
+      subst (λ (t : List ℕ). Appends a c t) (sym (all_lines a b rs held h)) (Appends-trans a b c (reply_lines lab h.flushed) held h.written k)
+
+  -- or stays
+  pub back_on : (a b c : Option (List ℕ)) (rs : List Reply) (held held' : List ℕ) → HoldsBack lab a b rs held → IsHeldOrOut b c held held'
+      → HoldsBack lab a c rs held'
+  back_on a b c rs held held' h (inl k) = record {
+    flushed = h.flushed;
+    buffered = h.buffered;
+    parts = h.parts;
+    lines = k.0 ∙ h.lines;
+    written = subst (λ (t : Option (List ℕ)). Appends a t (reply_lines lab h.flushed)) (sym k.1) h.written;
+  }
+  back_on a b c rs held held' h (inr k) = record {
+    flushed = rs;
+    buffered = [];
+    parts = sym (append-nil rs);
+    lines = k.0;
+    written = back_out a b c rs held h k.1;
+  }
+
+  -- what is held of no bytes doesn't break off
+  pub back_some : (a b c : Option (List ℕ)) (rs : List Reply) (held : List ℕ) → HoldsBack lab a b rs held → BreaksOff b c held → reply_lines lab rs ≢ []
+  back_some a b c rs held h k none =
+      omega (arith, k.1, ap length none, ap length (all_lines a b rs held h), length-append (reply_lines lab h.flushed) held)
+
+  -- the flush of what is held and of one more reply broke off
+  pub back_off : (a b c : Option (List ℕ)) (rs : List Reply) (held : List ℕ) (r : Reply) → HoldsBack lab a b rs held → length held ≤ HELD_BYTES
+      → BreaksOff b c (held ++ reply_line lab.ids lab.roster r) → BreaksLast a c rs r
+  back_off a b c rs held r h few k =
+      let line = reply_line lab.ids lab.roster r in
+      let all : reply_lines lab rs ++ line ≡ reply_lines lab h.flushed ++ (held ++ line) =
+      ap (λ l. l ++ line) (all_lines a b rs held h) ∙ append_assoc (reply_lines lab h.flushed) held line in
+      let n = breaks_later a b c (reply_lines lab h.flushed) (held ++ line) (reply_lines lab rs ++ line) all h.written k in (
+        n.0,
+        n.1,
+        n.2,
+        record {
+          flushed = h.flushed;
+          buffered = h.buffered;
+          parts = h.parts;
+          whole = n.3;
+          few = subst (λ (t : List ℕ). length t ≤ HELD_BYTES) h.lines few;
+        },
+      )
+
+  -- the flush of what is held broke off, of which this is the last reply
+  pub held_off : (a b c : Option (List ℕ)) (rs : List Reply) (held : List ℕ) (before : List Reply) (last : Reply) → HoldsBack lab a b rs held
+      → length held ≤ HELD_BYTES → rs ≡ before ++ last ∷ [] → BreaksOff b c held → BreaksLast a c before last
+  held_off a b c rs held before last h few is k =
+      let line = reply_line lab.ids lab.roster last in
+      let some : h.buffered ≢ [] = λ none. off_some b c held k (h.lines ∙ ap (λ (l : List Reply). reply_lines lab l) none) in
+      let apart = last_apart before h.flushed h.buffered last (sym is ∙ h.parts) some in
+      let all : reply_lines lab before ++ line ≡ reply_lines lab h.flushed ++ held =
+      sym (flat_longer (reply_line lab.ids lab.roster) before last) ∙ (ap (λ (l : List Reply). reply_lines lab l) (sym is) ∙ all_lines a b rs held h) in
+      let ends : held ≡ reply_lines lab apart.0 ++ line =
+      h.lines ∙ (ap (λ (l : List Reply). reply_lines lab l) apart.2 ∙ flat_longer (reply_line lab.ids lab.roster) apart.0 last) in
+      let n = breaks_later a b c (reply_lines lab h.flushed) held (reply_lines lab before ++ line) all h.written k in (
+        n.0,
+        n.1,
+        n.2,
+        record {
+          flushed = h.flushed;
+          buffered = apart.0;
+          parts = apart.1;
+          whole = n.3;
+          few = omega (arith, few, ap length ends, length-append (reply_lines lab apart.0) line);
+        },
+      )
+
+  -- what is written, and what lacks, if the writer's bytes are known
+  pub lacks_rest : (rs : List Reply) (last : Reply) (wrote wrote' : List ℕ) (n : ℕ) → n < length (reply_lines lab rs ++ reply_line lab.ids lab.roster last)
+      → Appends (Some wrote) (Some wrote') (take n (reply_lines lab rs ++ reply_line lab.ids lab.roster last)) → BreaksInLastFlush lab rs n
+      → AllByRecursion (λ r. is_bye r ≡ false) rs → LacksLastFlush lab rs last wrote wrote'
+  lacks_rest rs last wrote wrote' n less put b each =
+      let line = reply_line lab.ids lab.roster last in
+      let sent = reply_lines lab b.flushed in
+      let flush = reply_lines lab b.buffered ++ line in
+      let m = n - length sent in
+      let all : reply_lines lab rs ++ line ≡ sent ++ flush =
+      ap (λ (l : List Reply). reply_lines lab l ++ line) b.parts
+      ∙ (ap (λ l. l ++ line) (flat_map-append (reply_line lab.ids lab.roster) b.flushed b.buffered) ∙ append_assoc sent (reply_lines lab b.buffered) line) in
+      let count : n ≡ length sent + m = omega (arith, b.whole) in
+      let first : take n (reply_lines lab rs ++ line) ≡ sent ++ take m flush =
+      ap (λ k. take k (reply_lines lab rs ++ line)) count ∙ (ap (take (length sent + m)) all ∙ take-append-add sent flush m) in
+      record {
+        flushed = b.flushed;
+        buffered = b.buffered;
+        part = take m flush;
+        lacking = drop m flush;
+        parts = b.parts;
+        written = put ∙ ap (λ l. wrote ++ l) first;
+        rest = take-append-drop m flush;
+        some = omega (arith, less, ap length all, length-append sent flush, count, length-drop m flush);
+        few = b.few;
+        few_lines = few_lines lab rs b.flushed b.buffered b.parts each b.few;
+      }

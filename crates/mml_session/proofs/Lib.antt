@@ -4,6 +4,7 @@ pub mod GreetingLemmas
 pub mod MemoryLemmas
 pub mod RecordLemmas
 pub mod LongerLemmas
+pub mod ShortestLemmas
 pub mod HoldingLemmas
 pub mod EndingLemmas
 pub mod ServingLemmas

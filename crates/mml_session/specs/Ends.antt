@@ -7,7 +7,7 @@ use Rattle.mml_lines.specs.{LinesOf.IsWithinLimit, LinesOf.IsTooLong, declared.l
 use Rattle.mml_policy.specs.{declared.command.Command.Command, Acts.is_act}
 use Rattle.mml_codec.specs.{declared.TheConstants.MAX_REQUEST, Lines.request_in}
 use Rattle.mml_window.specs.Windows.{WindowValue}
-use Rattle.mml_session.specs.{declared.session.SessionEnd.SessionEnd, Turns.Standing}
+use Rattle.mml_session.specs.{declared.session.SessionEnd.SessionEnd, Turns.Standing, Holding.BreaksInLastFlush}
 use Rattle.mml_session.specs.Talks.{Talk, LineTurn, nobody_known, bytes_read, bytes_written, line_read, line_written}
 use Rattle.mml_codec.specs.declared.request.Request.TheVariants as requests
 use Rattle.mml_codec.specs.declared.reply.Reply.TheVariants as reply
@@ -52,7 +52,8 @@ pub record LastUnanswered (lab : LabValue) (old new : WindowValue) (input left w
 
 -- what was answered and written, by how the session ended. `held` are the bytes that were read and not used: after a
 -- bye, a failed write or a closed window fewer than one read brings; at the end of the input or after a failed read the
--- beginning of a line; else bytes that are too many for a line
+-- beginning of a line; else bytes that are too many for a line. If a write failed, `n` bytes of the replies' lines are
+-- written, and only lines of the last flush lack
 abbrev pub Ended : SessionEnd → LabValue → WindowValue → WindowValue → Option (List ℕ) → Option (List ℕ) → Option (List ℕ) → Option (List ℕ) → Type 0
 Ended end.Bye lab old new input left wrote wrote' =
     (held : List ℕ) × (a : LastAnswered (λ line. line) lab old new input (prepend_known held left) wrote wrote')
@@ -63,7 +64,7 @@ Ended end.ReadFault lab old new input left wrote wrote' =
     (held : List ℕ) × AllAnswered lab old new input (prepend_known held left) wrote wrote' × IsWithinLimit MAX_REQUEST held
 Ended end.WriteFault lab old new input left wrote wrote' =
     (held : List ℕ) × (n : ℕ) × (a : LastAnswered (take n) lab old new input (prepend_known held left) wrote wrote')
-    × (n < length (bytes_written a.talk ++ line_written a.last)) × (length held < READ_SIZE)
+    × (n < length (bytes_written a.talk ++ line_written a.last)) × (length held < READ_SIZE) × BreaksInLastFlush lab a.talk.replies n
 Ended end.TooLong lab old new input left wrote wrote' =
     (held : List ℕ) × AllAnswered lab old new input (prepend_known held left) wrote wrote' × IsTooLong MAX_REQUEST held
 Ended end.Closed lab old new input left wrote wrote' =

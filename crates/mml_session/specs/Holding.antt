@@ -1,20 +1,49 @@
--- The output buffer: which bytes are written, and which are held.
-use Rattle.std.specs.{Prelude.◌≡◌, Prelude.◌⊎◌, Prelude.ℕ, Prelude.◌<◌, Prelude.List, Prelude.[], Prelude.◌++◌, Prelude.length, Prelude.take, Prelude.Option, Io.KnownBytes.Appends}
-use Rattle.mml_lab.specs.declared.who.Who.{Who}
-use Rattle.mml_session.specs.declared.session.Ending.{Ending}
+-- The output buffer: which replies are written, and which are held.
+use Rattle.std.specs.{Prelude.◌≡◌, Prelude.◌⊎◌, Prelude.ℕ, Prelude.◌<◌, Prelude.◌≤◌, Prelude.List, Prelude.[], Prelude.◌++◌, Prelude.length, Prelude.take, Prelude.Option, Io.KnownBytes.Appends}
+use Rattle.mml_lab.specs.{declared.who.Who.Who, Labs.LabValue}
+use Rattle.mml_codec.specs.{declared.reply.Reply.Reply, Replies.reply_line}
+use Rattle.mml_session.specs.{declared.held.TheConstants.HELD_BYTES, declared.session.Ending.Ending, Talks.reply_lines}
 use Rattle.mml_session.specs.declared.session.SessionEnd.TheVariants as end
 
 -- the bytes are all buffered (`held`), or all written
 abbrev pub IsHeldOrOut : Option (List ℕ) → Option (List ℕ) → List ℕ → List ℕ → Type 0
 IsHeldOrOut wrote wrote' bytes held = ((held ≡ bytes) × (wrote' ≡ wrote)) ⊎ ((held ≡ []) × Appends wrote wrote' bytes)
 
--- the last of the bytes are buffered, and those before them are written
-abbrev pub HoldsBack : Option (List ℕ) → Option (List ℕ) → List ℕ → List ℕ → Type 0
-HoldsBack wrote wrote' bytes held = (sent : List ℕ) × (bytes ≡ sent ++ held) × Appends wrote wrote' sent
+-- the lines of the last replies are buffered, and those of the replies before them are written
+pub record HoldsBack (lab : LabValue) (wrote wrote' : Option (List ℕ)) (replies : List Reply) (held : List ℕ) : Type 0 where
+  pub flushed : List Reply
+  pub buffered : List Reply
+  pub parts : replies ≡ flushed ++ buffered
+  pub lines : held ≡ reply_lines lab buffered
+  pub written : Appends wrote wrote' (reply_lines lab flushed)
 
 -- only a beginning of the bytes is written
 abbrev pub BreaksOff : Option (List ℕ) → Option (List ℕ) → List ℕ → Type 0
 BreaksOff wrote wrote' bytes = (n : ℕ) × (n < length bytes) × Appends wrote wrote' (take n bytes)
+
+-- the first `written` bytes of these replies' lines, and of one line more, contain whole each line that an earlier
+-- flush wrote (`flushed`). The other lines were in the buffer at the last flush, and have at most `HELD_BYTES` bytes
+pub record BreaksInLastFlush (lab : LabValue) (replies : List Reply) (written : ℕ) : Type 0 where
+  pub flushed : List Reply
+  pub buffered : List Reply
+  pub parts : replies ≡ flushed ++ buffered
+  pub whole : length (reply_lines lab flushed) ≤ written
+  pub few : length (reply_lines lab buffered) ≤ HELD_BYTES
+
+-- of the lines of these replies and of the last one, the writer took all those that earlier flushes wrote, and then
+-- `part`. What lacks is the rest of the last flush: before the last line it has at most `HELD_BYTES` bytes, in at most
+-- 512 lines
+pub record LacksLastFlush (lab : LabValue) (replies : List Reply) (last : Reply) (wrote wrote' : List ℕ) : Type 0 where
+  pub flushed : List Reply
+  pub buffered : List Reply
+  pub part : List ℕ
+  pub lacking : List ℕ
+  pub parts : replies ≡ flushed ++ buffered
+  pub written : wrote' ≡ wrote ++ (reply_lines lab flushed ++ part)
+  pub rest : part ++ lacking ≡ reply_lines lab buffered ++ reply_line lab.ids lab.roster last
+  pub some : 0 < length lacking
+  pub few : length (reply_lines lab buffered) ≤ HELD_BYTES
+  pub few_lines : length buffered ≤ 512
 
 -- the buffered replies were written, and the session ended as `ending` says; or the write broke off, and the session
 -- ended by that, with `before` as the one who was known

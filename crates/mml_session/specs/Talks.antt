@@ -3,7 +3,7 @@ use Rattle.std.specs.Prelude.{◌≡◌, ℕ, false, List, flat_map, None}
 use Rattle.mml_lab.specs.Labs.{LabValue}
 use Rattle.mml_ids.specs.Lines.{ended}
 use Rattle.mml_lines.specs.{LinesOf.IsWithinLimit, Runs.Exchange, Runs.OneStep}
-use Rattle.mml_codec.specs.{declared.TheConstants.MAX_REQUEST, Replies.reply_line}
+use Rattle.mml_codec.specs.{declared.TheConstants.MAX_REQUEST, declared.reply.Reply.Reply, Replies.reply_line}
 use Rattle.mml_window.specs.Windows.{WindowValue}
 use Rattle.mml_session.specs.Turns.{Standing, standing, Turn, is_bye}
 
@@ -23,9 +23,13 @@ LineTurn lab st after = OneStep Turn (λ lab. IsWithinLimit MAX_REQUEST) lab st 
 abbrev pub bytes_read : {lab : LabValue} {st : Standing} → Talk lab st → List ℕ
 bytes_read t = flat_map ended t.lines
 
+-- the bytes of these replies' lines
+abbrev pub reply_lines : LabValue → List Reply → List ℕ
+reply_lines lab rs = flat_map (reply_line lab.ids lab.roster) rs
+
 -- the bytes of the replies' lines
 abbrev pub bytes_written : {lab : LabValue} {st : Standing} → Talk lab st → List ℕ
-bytes_written {lab} t = flat_map (reply_line lab.ids lab.roster) t.replies
+bytes_written {lab} t = reply_lines lab t.replies
 
 -- the bytes of the line, with its newline
 abbrev pub line_read : {lab : LabValue} {st after : Standing} → LineTurn lab st after → List ℕ

@@ -1,7 +1,7 @@
 //! The output buffer of a session's replies.
 //!
 //! Replies are held in the buffer until they are written together.
-ghost use Rattle.std.specs.Prelude.{◌≡◌, ◌<◌, ◌++◌, [], length, take, IfOk, IfErr, OnOk, IsTrue, if◌then◌else◌};
+ghost use Rattle.std.specs.Prelude.{◌≡◌, ◌<◌, ◌≤◌, ◌++◌, [], length, take, IfOk, IfErr, OnOk, IsTrue, if◌then◌else◌};
 ghost use Rattle.std.specs.Io.KnownBytes.{Appends};
 ghost use Rattle.mml_session.specs.Holding.{IsHeldOrOut};
 
@@ -35,7 +35,7 @@ impl Held {
 
     // Appends a reply's line to the buffer. If there is no room for it, or `at_once` is set, writes the buffer and the
     // line, and empties the buffer. If a write fails, empties the buffer, and returns how many bytes of the buffered
-    // lines and of this one were written.
+    // lines and of this one were written. Afterwards the buffer has at most `HELD_BYTES`.
     pub(crate) fn put<W: Write>(
         &mut self,
         line: &[u8],
@@ -53,6 +53,7 @@ impl Held {
             Appends (W.contents writer.old) (W.contents writer.new)
             (take fault.written (self.old.bytes.items ++ line.now))) }
         ensures none { IfErr result (λ _. self.new.bytes.items ≡ []) }
+        ensures within { length self.new.bytes.items ≤ HELD_BYTES }
     {
         if self.hold(line) {
             return self.let_out_when_due(at_once, writer);
@@ -63,7 +64,8 @@ impl Held {
     }
 
     // Writes all buffered lines and empties the buffer, if `at_once` is set or there are more than `HELD_BYTES`. If a
-    // write fails, empties the buffer, and returns how many bytes were written.
+    // write fails, empties the buffer, and returns how many bytes were written. Afterwards the buffer has at most
+    // `HELD_BYTES`.
     pub(crate) fn let_out_when_due<W: Write>(
         &mut self,
         at_once: bool,
@@ -79,6 +81,7 @@ impl Held {
             Appends (W.contents writer.old) (W.contents writer.new)
             (take fault.written self.old.bytes.items)) }
         ensures none { IfErr result (λ _. self.new.bytes.items ≡ []) }
+        ensures within { length self.new.bytes.items ≤ HELD_BYTES }
     {
         if at_once || self.bytes.len() > HELD_BYTES {
             return self.let_out(writer);

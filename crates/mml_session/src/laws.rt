@@ -3,13 +3,18 @@
 //! A session is one connection from its first line to its end. A turn is the reply to one of its lines and the state
 //! after it. A window is one session's view of the published events and board. An account is known on a connection from
 //! its granted hello to its bye. The place of an event is its number in the list of events, from 1.
-ghost use Rattle.std.specs.Prelude.{◌≡◌, ◌++◌, ℕ, List, flat_map, length};
+ghost use Rattle.std.specs.Prelude.{◌≡◌, ◌++◌, ℕ, List, Option, Some, flat_map, length};
 ghost use mathlib.Core.List.{IsPrefix};
 ghost use Rattle.mml_lab.specs.Labs.{LabValue};
 ghost use Rattle.mml_ids.specs.Lines.{IsUnbroken};
 ghost use Rattle.mml_lines.specs.LinesOf.{lines_of};
 ghost use Rattle.mml_session.specs.Turns.{Standing, places_in};
 ghost use Rattle.mml_session.specs.Talks.{Talk, LineTurn, bytes_read};
+ghost use Rattle.mml_session.specs.Ends.{Ended};
+ghost use Rattle.mml_session.specs.Holding.{LacksLastFlush};
+ghost use Rattle.mml_session.specs.declared.session.SessionEnd.TheVariants as end;
+ghost use Rattle.mml_session.specs.declared.held.TheConstants.{HELD_BYTES};
+ghost use Rattle.mml_window.specs.Windows.{WindowValue};
 
 /// The list of places (numbers of granted events) that a window keeps grows by those that the replies name, in order,
 /// and by no others.
@@ -42,4 +47,14 @@ pub fn lines_of_a_talk()
         lines_of (bytes_read t ++ rest) ≡ t.lines ++ lines_of rest }
     ensures all { (lab : LabValue) (st : Standing) (t : Talk lab st) (rest : List ℕ) →
         IsUnbroken rest → lines_of (bytes_read t ++ rest) ≡ t.lines }
+{}
+
+/// If a session ended because a write failed, the writer took all lines that earlier flushes wrote, and a beginning of
+/// the last flush. The rest of the last flush lacks, and it isn't empty. Before the last line, the last flush has at
+/// most 8192 bytes (`HELD_BYTES`), in at most 512 lines.
+pub fn a_broken_session_lacks_its_last_flush()
+    ensures lacks { (lab : LabValue) (old new : WindowValue) (input left : Option (List ℕ)) (wrote wrote' : List ℕ)
+        (e : Ended end.WriteFault lab old new input left (Some wrote) (Some wrote')) →
+        LacksLastFlush lab e.2.talk.replies e.2.last.reply wrote wrote' }
+    ensures limit { HELD_BYTES ≡ 8192 }
 {}

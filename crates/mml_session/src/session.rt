@@ -12,6 +12,7 @@ ghost use Rattle.mml_session.specs.Turns.{standing, is_bye, is_hello};
 ghost use Rattle.mml_session.specs.Ends.{Ended};
 ghost use Rattle.mml_session.specs.Records.{EndedRecorded};
 ghost use Rattle.mml_session.specs.Holding.{LetsOut};
+ghost use Rattle.mml_session.specs.declared.held.TheConstants.{HELD_BYTES};
 ghost use Rattle.mml_session.specs.Serving.{SendsReply, ServesLine, ServesNext, Tells, next_after, sent_of};
 ghost use Rattle.mml_codec.specs.Replies.{IsAbout};
 
@@ -59,8 +60,9 @@ pub struct Ending {
 }
 
 /// Answers the lines of a reader one by one through a window, and returns how the session ended. Replies are buffered,
-/// and all are written before the reader is read again. A granted event stays granted even if its reply can't be
-/// written. `gate` may pause the session, and is called with its number `connection`.
+/// and all are written before the reader is read again. If a write fails, all replies of earlier flushes were written
+/// whole, and only lines of the last flush can lack. A granted event stays granted even if its reply can't be written.
+/// `gate` may pause the session, and is called with its number `connection`.
 pub fn serve_one<Rt: Wait, S: Sink + Drop, H: House, R: Read, W: Write, G: Gate>(
     rt: &Rt,
     alloc: Global,
@@ -190,6 +192,7 @@ fn serve_next<Rt: Wait, S: Sink + Drop, H: House, R: Read, W: Write, O: Observer
     ensures out { result ≡ Next.Served
         → IsWithinLimit session.new.lines.limit session.new.lines.unread
         → session.new.held.bytes.items ≡ [] }
+    ensures within { result ≡ Next.Served → length session.new.held.bytes.items ≤ HELD_BYTES }
     ensures going { result ≡ Next.Served → session.new.lines.ending ≡ None }
     ensures number { session.new.connection ≡ session.old.connection }
     ensures limit { session.new.lines.limit ≡ MAX_REQUEST }
@@ -326,6 +329,7 @@ fn serve_line<Rt: Wait, S: Sink + Drop, H: House, W: Write, O: Observer>(
     ensures out { result ≡ Ok Sent.Told
         → IsWithinLimit session.new.lines.limit session.new.lines.unread
         → session.new.held.bytes.items ≡ [] }
+    ensures within { result ≡ Ok Sent.Told → length session.new.held.bytes.items ≤ HELD_BYTES }
     ensures serves { ServesLine result session.old.connection H.lab (standing session.old.known window.old)
         (standing session.new.known window.new) session.old.lines.line
         session.old.held.bytes.items session.new.held.bytes.items
@@ -391,6 +395,7 @@ fn tell<H: House, W: Write, O: Observer>(
     requires about { IsAbout H.lab.ids H.lab.roster reply }
     ensures room { REPLY_ROOM ≤ vec_capacity out.new }
     ensures out { IsTrue judged.entry.is_next_unknown → held.new.bytes.items ≡ [] }
+    ensures within { length held.new.bytes.items ≤ HELD_BYTES }
     ensures tells { Tells result judged.entry.number H.lab judged.entry.seen judged.entry.line.now reply
         held.old.bytes.items held.new.bytes.items
         (W.contents writer.old) (W.contents writer.new)
@@ -420,6 +425,7 @@ fn send<W: Write>(
         held.old.bytes.items held.new.bytes.items
         (W.contents writer.old) (W.contents writer.new) }
     ensures out { IsTrue at_once → held.new.bytes.items ≡ [] }
+    ensures within { length held.new.bytes.items ≤ HELD_BYTES }
 {
     let is_last = is_bye(reply);
     sent_of(held.put(line, at_once || is_last, writer), is_last)
@@ -432,6 +438,7 @@ fn send_held<W: Write>(reply: &Reply, held: &mut Held, at_once: bool, writer: &m
         [] held.new.bytes.items
         (W.contents writer.old) (W.contents writer.new) }
     ensures out { IsTrue at_once → held.new.bytes.items ≡ [] }
+    ensures within { length held.new.bytes.items ≤ HELD_BYTES }
 {
     let is_last = is_bye(reply);
     sent_of(held.let_out_when_due(at_once || is_last, writer), is_last)

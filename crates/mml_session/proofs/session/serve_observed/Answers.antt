@@ -18,7 +18,7 @@ loop-before-init g c = record {
 
 pub loop-before-preserved : goal.loop-before-preserved
 loop-before-preserved g c = record {
-  so_far = one_more _ _ _ _ _ _ c.loop-before.invariant.so_far (rw c.loop-before.invariant.number at c.in-Served.ensures.serves);
+  so_far = one_more _ _ _ _ _ _ c.loop-before.invariant.so_far (rw c.loop-before.invariant.number at c.in-Served.ensures.serves) (c.in-Served.ensures.within refl);
   few = c.in-Served.ensures.few refl;
   out = c.in-Served.ensures.out refl;
   number = c.in-Served.ensures.number ∙ c.loop-before.invariant.number;
