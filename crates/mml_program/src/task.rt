@@ -1,8 +1,9 @@
 //! From the command line to the work that it asks for.
 //!
 //! A sink is the destination of the journal's bytes. The journal is halted once a line couldn't be written to it.
-ghost use Rattle.std.specs.Prelude.{◌<◌, ◌≤◌, ◌-◌, ◌^◌};
+ghost use Rattle.std.specs.Prelude.{◌<◌, ◌≤◌, ◌-◌, ◌^◌, IfOk};
 ghost use Rattle.mml_journal.specs.Taken.{IsFresh};
+ghost use Rattle.mml_program.specs.Serving.{TellsServed};
 
 use crate::built_in::BUILT_IN;
 use crate::fault::{Fault, memory_if_lacked, memory_or};
@@ -15,7 +16,7 @@ use mml_hall::Hall;
 use mml_journal::{NullSink, Sink};
 use mml_lab::Lab;
 use mml_lab_file::read_lab;
-use mml_serving::{ServeFault, serve_on, write_listening};
+use mml_serving::{ServeFault, ServedHouse, Socket, serve_on, write_listening};
 use mml_session::NoGate;
 use std::alloc::Global;
 use std::fs::File;
@@ -198,24 +199,30 @@ fn serve_listener<
 {
     let mut writer = Retrying::new(io::writer(rt));
     match serve_lines(rt, lab, service, sink, &mut writer) {
-        Ok(()) => Ok(()),
+        Ok(house) => {
+            drop(house);
+            Ok(())
+        }
         Err(fault) => Err(memory_if_lacked(Fault::from(fault), writer.lacked_memory)),
     }
 }
 
 // Writes the line with the port to `writer`, serves the connections, and writes the last line, which has the numbers of
-// events and of the configuration. The journal's lines go to the sink. Returns the reason if the server failed.
+// events and of the configuration. The journal's lines go to the sink. Returns the result of the house (its run), or the
+// reason if the server failed.
 fn serve_lines<R: Threads + Wait + Sync + AllocGlobal, S: Sink + Send + Drop, W: Write>(
     rt: &R,
     lab: Lab,
     service: Service,
     sink: S,
     writer: &mut W,
-) -> Result<(), ServeFault>
+) -> Result<ServedHouse<S, Socket, Socket>, ServeFault>
     requires some { 0 < service.connections }
     requires sessions { service.connections ≤ lab.sessions }
     requires fresh { IsFresh (S.contents sink) }
     requires countable { S.failures sink < 2 ^ 64 - 1 }
+    ensures { IfOk result (TellsServed lab S.contents service.port service.connections
+        (W.contents writer.old) (W.contents writer.new)) }
 {
     let alloc = rt.alloc();
     let Service {
@@ -224,7 +231,10 @@ fn serve_lines<R: Threads + Wait + Sync + AllocGlobal, S: Sink + Send + Drop, W:
         connections,
     } = service;
     write_listening(alloc, port, writer)?;
-    serve_on(rt, alloc, lab, listener, connections, sink, &NoGate, writer)
+    match serve_on(rt, alloc, lab, listener, connections, sink, &NoGate, writer) {
+        Ok(house) => Ok(house),
+        Err(fault) => Err(fault),
+    }
 }
 
 // Listens on a port of this machine, which can't be reached from others, and returns the listener. Returns an error if

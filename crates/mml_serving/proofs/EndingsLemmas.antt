@@ -3,50 +3,48 @@ use Rattle.std.proofs.{Common.◌≡◌, Common.ℕ, Common.List, Common.All, Co
 use mathlib.Core.List.{IsPrefix}
 use Rattle.mml_lab.specs.Labs.{LabValue}
 use Rattle.mml_board.specs.World.{World}
-use Rattle.mml_window.specs.{declared.log.Log.Log, declared.log.Astray.Astray, Books.BookValue, Books.IsBook, Logs.IsAstray, Tallies.IsEachOnce, Tallies.told_of, Windows.WindowValue}
+use Rattle.mml_window.specs.{declared.log.Log.Log, declared.log.Astray.Astray, Books.BookValue, Books.IsBook, Logs.IsAstrayFrom, Tallies.IsEachOnceFrom, Tallies.told_of, Windows.WindowValue}
 use Rattle.mml_serving.specs.{declared.connection.EndedSession.EndedSession, declared.serving.ServeFault.ServeFault, Closings.IsCutShort, Closings.LacksLastLine, Closings.done_line, Endings.EndsBadly}
-use Rattle.mml_serving.specs.{Endings.EndsEarly, Endings.EndsWithout, Endings.WentAstray, Serving.ServesHouse, Serving.ServesWindows}
+use Rattle.mml_serving.specs.{Endings.EndsEarly, Endings.EndsWithout, Endings.WentAstrayFrom, Serving.ServesHouse, Serving.ServesWindows}
 use Rattle.mml_serving.specs.declared.serving.ServeFault.TheVariants as fault
 
 -- the list from which the windows went astray is the book's
-pub went_astray : {S : Type 0} (lab : LabValue) (sink : S → Option (List ℕ)) (b : BookValue S) (windows : List WindowValue) (astray : Astray)
+pub went_astray : {S : Type 0} (first : ℕ) (lab : LabValue) (sink : S → Option (List ℕ)) (b : BookValue S) (windows : List WindowValue) (astray : Astray)
     → IsBook lab sink b
-    → astray.found ≡ length b.events → All (λ w. IsPrefix w.seen b.events) windows → IsAstray windows astray → WentAstray lab windows
-went_astray lab sink b windows astray book found seen is = record {
-  events = b.events;
-  legal = book.legal;
-  few = book.few;
-  seen = seen;
-  places = subst (λ (n : ℕ). ¬ (IsEachOnce n (told_of windows))) found is.places;
+    → astray.found ≡ length b.events → All (λ w. IsPrefix w.seen b.events) windows → IsAstrayFrom first windows astray → WentAstrayFrom first lab sink windows
+went_astray first lab sink b windows astray book found seen is = record {
+  left = b;
+  leaves = record { book = book; seen = seen };
+  places = subst (λ (n : ℕ). ¬ (IsEachOnceFrom first n (told_of windows))) found is.places;
 }
 
-module _ {R W : Type 0} (lab : LabValue) (remaining : R → Option (List ℕ)) (contents : W → Option (List ℕ)) (to_come : Option (List (R × W))) (count : ℕ) where
+module _ {S R W : Type 0} (lab : LabValue) (sink : S → Option (List ℕ)) (remaining : R → Option (List ℕ)) (contents : W → Option (List ℕ))
+    (to_come : Option (List (R × W))) (count : ℕ) where
   pub early_so : (sessions : List (EndedSession R W)) (windows : List WindowValue) → ServesWindows lab remaining contents to_come count sessions windows
-      → (f : ServeFault) → EndsWithout lab windows f → EndsEarly lab remaining contents to_come count f
+      → (f : ServeFault) → EndsWithout lab sink windows f → EndsEarly lab sink remaining contents to_come count f
   early_so sessions windows serves fault.Memory without = tt
   early_so sessions windows serves fault.Astray without = record { sessions = sessions; windows = windows; serves = serves; astray = without }
   early_so sessions windows serves _ without = absurd without
 
-  module _ {S : Type 0} (sink : S → Option (List ℕ)) where
-    -- nothing is written if there is no log
-    pub badly_early : (wrote : Option (List ℕ)) (f : ServeFault) → EndsEarly lab remaining contents to_come count f
-        → EndsBadly lab sink remaining contents to_come count wrote wrote f
-    badly_early wrote fault.Astray early = (early, Appends-nil wrote)
-    badly_early wrote fault.Halted early = absurd early
-    badly_early wrote fault.Write early = absurd early
-    badly_early wrote _ early = Appends-nil wrote
+  -- nothing is written if there is no log
+  pub badly_early : (wrote : Option (List ℕ)) (f : ServeFault) → EndsEarly lab sink remaining contents to_come count f
+      → EndsBadly lab sink remaining contents to_come count wrote wrote f
+  badly_early wrote fault.Astray early = (early, Appends-nil wrote)
+  badly_early wrote fault.Halted early = absurd early
+  badly_early wrote fault.Write early = absurd early
+  badly_early wrote _ early = Appends-nil wrote
 
-    -- if there is one, the last line says why
-    pub badly_logged : (sessions : List (EndedSession R W)) (log : Log S) → ServesHouse lab sink remaining contents to_come count sessions log
-        → (wrote wrote' : Option (List ℕ)) (f : ServeFault)
-        → LacksLastLine log.halted wrote wrote' (done_line (length log.events) log.board.number) f
-        → EndsBadly lab sink remaining contents to_come count wrote wrote' f
-    badly_logged sessions log serves wrote wrote' fault.Memory lacks = lacks.1
-    badly_logged sessions log serves wrote wrote' fault.Halted lacks = (record { sessions = sessions; log = log; serves = serves; holds = lacks.0 }, lacks.1)
-    badly_logged sessions log serves wrote wrote' fault.Write lacks = record {
-      sessions = sessions;
-      log = log;
-      serves = serves;
-      holds = (lacks.0, subst (λ (w : World). IsCutShort wrote wrote' (done_line (length log.events) w.number) fault.Write) serves.kept.board lacks.1);
-    }
-    badly_logged sessions log serves wrote wrote' _ lacks = absurd lacks
+  -- if there is one, the last line says why
+  pub badly_logged : (sessions : List (EndedSession R W)) (log : Log S) → ServesHouse lab sink remaining contents to_come count sessions log
+      → (wrote wrote' : Option (List ℕ)) (f : ServeFault)
+      → LacksLastLine log.halted wrote wrote' (done_line (length log.events) log.board.number) f
+      → EndsBadly lab sink remaining contents to_come count wrote wrote' f
+  badly_logged sessions log serves wrote wrote' fault.Memory lacks = lacks.1
+  badly_logged sessions log serves wrote wrote' fault.Halted lacks = (record { sessions = sessions; log = log; serves = serves; holds = lacks.0 }, lacks.1)
+  badly_logged sessions log serves wrote wrote' fault.Write lacks = record {
+    sessions = sessions;
+    log = log;
+    serves = serves;
+    holds = (lacks.0, subst (λ (w : World). IsCutShort wrote wrote' (done_line (length log.events) w.number) fault.Write) serves.kept.board lacks.1);
+  }
+  badly_logged sessions log serves wrote wrote' _ lacks = absurd lacks

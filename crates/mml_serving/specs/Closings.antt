@@ -1,8 +1,6 @@
 -- A server's messages at its beginning and at its end.
 use Rattle.std.specs.Prelude.{◌≡◌, ◌<◌, ℕ, Bool, true, false, List, [], ◌∷◌, length, take, codes, decimal, Option}
 use Rattle.std.specs.{List.concat, Io.KnownBytes.Appends}
-use Rattle.mml_lab.specs.Labs.{LabValue}
-use Rattle.mml_board.specs.{declared.event.Event.Event, Lists.is_legal_in, Lists.world_in}
 use Rattle.mml_serving.specs.declared.serving.ServeFault.{ServeFault}
 use Rattle.mml_serving.specs.declared.serving.ServeFault.TheVariants as fault
 
@@ -13,11 +11,6 @@ listening_line port = concat (codes "listening on port " ∷ decimal port ∷ co
 -- a server's last line: how many events there were, and the number of the configuration that they led to
 abbrev pub done_line : ℕ → ℕ → List ℕ
 done_line events number = concat (codes "done: " ∷ decimal events ∷ codes " events, configuration " ∷ decimal number ∷ codes "\n" ∷ [])
-
--- what is written is a last line: how many events some legal list of the lab has, and the number of the configuration
--- that it leads to
-abbrev pub Closes : LabValue → Option (List ℕ) → Option (List ℕ) → Type 0
-Closes lab wrote wrote' = (l : List Event) × (is_legal_in lab l ≡ true) × Appends wrote wrote' (done_line (length l) (world_in lab l).number)
 
 -- nothing of a text was written, because memory ran out, or a front of it, if the writer failed
 abbrev pub IsCutShort : Option (List ℕ) → Option (List ℕ) → List ℕ → ServeFault → Type 0

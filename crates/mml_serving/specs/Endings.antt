@@ -1,44 +1,53 @@
 -- Houses that fail.
-use Rattle.std.specs.Prelude.{◌≡◌, ◌≤◌, ℕ, true, false, List, [], All, length, Option, None}
+use Rattle.std.specs.Prelude.{◌≡◌, ◌⊎◌, ℕ, true, false, List, [], All, length, Option, None}
 use Rattle.std.specs.{List.list_all, Io.KnownBytes.Appends}
 use mathlib.Core.List.{IsPrefix}
 use Rattle.mml_lab.specs.Labs.{LabValue}
-use Rattle.mml_board.specs.{declared.event.Event.Event, Lists.is_legal_in, Lists.world_in}
-use Rattle.mml_window.specs.{declared.log.Log.Log, Tallies.IsEachOnce, Tallies.told_of, Windows.WindowValue}
+use Rattle.mml_board.specs.Lists.{world_in}
+use Rattle.mml_window.specs.{declared.log.Log.Log, Books.BookValue, Books.IsBook, Tallies.IsEachOnceFrom, Tallies.told_of, Windows.WindowValue}
 use Rattle.mml_serving.specs.declared.{connection.EndedSession.EndedSession, serving.ServeFault.ServeFault, socket.Socket.Socket}
 use Rattle.mml_serving.specs.{Closings.IsCutShort, Closings.done_line, Serving.ServesWindows, Serving.ServesHouse, Serving.had_memory}
 use Rattle.mml_serving.specs.declared.serving.ServeFault.TheVariants as fault
 
--- each window has seen a beginning of the house's legal list of events, but the places that the windows were given
--- aren't those of its events, each once
-pub record WentAstray (lab : LabValue) (windows : List WindowValue) : Type 0 where
-  pub events : List Event
-  pub legal : is_legal_in lab events ≡ true
-  pub few : length events ≤ lab.events
-  pub seen : All (λ w. IsPrefix w.seen events) windows
-  pub places : ¬ (IsEachOnce (length events) (told_of windows))
+-- the house ended with this book: its events are legal, and each window has seen a beginning of them; its sink has
+-- their journal
+pub record LeavesBook {S : Type 0} (lab : LabValue) (sink : S → Option (List ℕ)) (windows : List WindowValue) (left : BookValue S) : Type 0 where
+  pub book : IsBook lab sink left
+  pub seen : All (λ w. IsPrefix w.seen left.events) windows
+
+-- the house ended with a book, but the places that the windows were given aren't those of its events after the first so
+-- many, each once
+pub record WentAstrayFrom {S : Type 0} (first : ℕ) (lab : LabValue) (sink : S → Option (List ℕ)) (windows : List WindowValue) : Type 0 where
+  pub left : BookValue S
+  pub leaves : LeavesBook lab sink windows left
+  pub places : ¬ (IsEachOnceFrom first (length left.events) (told_of windows))
+
+-- what `WentAstrayFrom` says, of a house before whose opening no event came
+abbrev pub WentAstray : {S : Type 0} → LabValue → (S → Option (List ℕ)) → List WindowValue → Type 0
+WentAstray lab sink windows = WentAstrayFrom 0 lab sink windows
 
 -- why no log is left: memory ran out, or the places of these windows went astray
-abbrev pub EndsWithout : LabValue → List WindowValue → ServeFault → Type 0
-EndsWithout lab windows fault.Memory = Unit {0}
-EndsWithout lab windows fault.Astray = WentAstray lab windows
-EndsWithout lab windows _ = ⊥
+abbrev pub EndsWithout : {S : Type 0} → LabValue → (S → Option (List ℕ)) → List WindowValue → ServeFault → Type 0
+EndsWithout lab sink windows fault.Memory = Unit {0}
+EndsWithout lab sink windows fault.Astray = WentAstray lab sink windows
+EndsWithout lab sink windows _ = ⊥
 
 -- the connections were served, and the windows' places went astray
-pub record EndsAstray {R W : Type 0} (lab : LabValue) (remaining : R → Option (List ℕ)) (contents : W → Option (List ℕ)) (to_come : Option (List (R × W)))
-    (count : ℕ) : Type 0 where
+pub record EndsAstray {S R W : Type 0} (lab : LabValue) (sink : S → Option (List ℕ)) (remaining : R → Option (List ℕ)) (contents : W → Option (List ℕ))
+    (to_come : Option (List (R × W))) (count : ℕ) : Type 0 where
   pub sessions : List (EndedSession R W)
   pub windows : List WindowValue
   pub serves : ServesWindows lab remaining contents to_come count sessions windows
-  pub astray : WentAstray lab windows
+  pub astray : WentAstray lab sink windows
 
 -- why there is no log: memory ran out, or a connection couldn't be accepted; or all connections were served, and the
 -- places of the windows went astray
-abbrev pub EndsEarly : {R W : Type 0} → LabValue → (R → Option (List ℕ)) → (W → Option (List ℕ)) → Option (List (R × W)) → ℕ → ServeFault → Type 0
-EndsEarly lab remaining contents to_come count fault.Memory = Unit {0}
-EndsEarly lab remaining contents to_come count fault.Accept = Unit {0}
-EndsEarly lab remaining contents to_come count fault.Astray = EndsAstray lab remaining contents to_come count
-EndsEarly lab remaining contents to_come count _ = ⊥
+abbrev pub EndsEarly : {S R W : Type 0} → LabValue → (S → Option (List ℕ)) → (R → Option (List ℕ)) → (W → Option (List ℕ)) → Option (List (R × W)) → ℕ
+    → ServeFault → Type 0
+EndsEarly lab sink remaining contents to_come count fault.Memory = Unit {0}
+EndsEarly lab sink remaining contents to_come count fault.Accept = Unit {0}
+EndsEarly lab sink remaining contents to_come count fault.Astray = EndsAstray lab sink remaining contents to_come count
+EndsEarly lab sink remaining contents to_come count _ = ⊥
 
 -- the connections were served, and the house left a log, of which `Holds` is true
 pub record EndsLogged {S R W : Type 0} (lab : LabValue) (sink : S → Option (List ℕ)) (remaining : R → Option (List ℕ)) (contents : W → Option (List ℕ))
@@ -54,19 +63,26 @@ abbrev pub EndsBadly : {S R W : Type 0} → LabValue → (S → Option (List ℕ
 EndsBadly lab sink remaining contents to_come count wrote wrote' fault.Memory = Appends wrote wrote' []
 EndsBadly lab sink remaining contents to_come count wrote wrote' fault.Place = Appends wrote wrote' []
 EndsBadly lab sink remaining contents to_come count wrote wrote' fault.Accept = Appends wrote wrote' []
-EndsBadly lab sink remaining contents to_come count wrote wrote' fault.Astray = EndsAstray lab remaining contents to_come count × Appends wrote wrote' []
+EndsBadly lab sink remaining contents to_come count wrote wrote' fault.Astray = EndsAstray lab sink remaining contents to_come count × Appends wrote wrote' []
 EndsBadly lab sink remaining contents to_come count wrote wrote' fault.Halted =
     EndsLogged lab sink remaining contents to_come count (λ log. log.halted ≡ true) × Appends wrote wrote' []
 EndsBadly lab sink remaining contents to_come count wrote wrote' fault.Write =
     EndsLogged lab sink remaining contents to_come count (λ log. (log.halted ≡ false)
     × IsCutShort wrote wrote' (done_line (length log.events) (world_in lab log.events).number) fault.Write)
 
--- the connections of a listener were served, and the house left a log that isn't halted. The last line is that of its
--- events. Neither a session nor a socket ran out of memory. Nothing is known of a socket's bytes
-pub record ServesWithMemory {S : Type 0} (lab : LabValue) (sink : S → Option (List ℕ)) (count : ℕ) (wrote wrote' : Option (List ℕ)) : Type 0 where
+-- the connections of a listener were served, and the house left a log that isn't halted, whose last line was written.
+-- But memory ran out in a session or a socket. Nothing is known of a socket's bytes
+pub record LacksMemory {S : Type 0} (lab : LabValue) (sink : S → Option (List ℕ)) (count : ℕ) (wrote wrote' : Option (List ℕ)) : Type 0 where
   pub sessions : List (EndedSession Socket Socket)
   pub log : Log S
   pub serves : ServesHouse lab sink (λ _. None) (λ _. None) None count sessions log
   pub unhalted : log.halted ≡ false
-  pub told : Appends wrote wrote' (done_line (length log.events) (world_in lab log.events).number)
-  pub memory : list_all had_memory sessions ≡ true
+  pub last : Appends wrote wrote' (done_line (length log.events) (world_in lab log.events).number)
+  pub lacked : list_all had_memory sessions ≡ false
+
+-- what the failed house of a listener has written: what `EndsBadly` says of it; or its last line, though memory had run
+-- out
+abbrev pub ServesBadly : {S : Type 0} → LabValue → (S → Option (List ℕ)) → ℕ → Option (List ℕ) → Option (List ℕ) → ServeFault → Type 0
+ServesBadly lab sink count wrote wrote' why =
+    EndsBadly {R = Socket} {W = Socket} lab sink (λ _. None) (λ _. None) None count wrote wrote' why
+    ⊎ ((why ≡ fault.Memory) × LacksMemory lab sink count wrote wrote')

@@ -3,21 +3,22 @@
 //!
 //! A house is one run of a lab that threads share: its list of granted events, the board after them, and their journal.
 //! A window is one session's view of the published events and board.
-ghost use Rattle.std.specs.Prelude.{◌≡◌, ◌<◌, ◌≤◌, ◌+◌, ◌-◌, ◌^◌, ◌++◌, Err, false, length, IfOk, IfErr, OnOk};
+ghost use Rattle.std.specs.Prelude.{◌≡◌, ◌<◌, ◌≤◌, ◌+◌, ◌-◌, ◌^◌, ◌++◌, Err, None, true, false, length, IfOk, IfErr};
+ghost use Rattle.std.specs.List.{list_all};
 ghost use Rattle.std.specs.Io.KnownBytes.{Appends};
 ghost use Rattle.mml_journal.specs.Taken.{IsFresh};
 ghost use Rattle.mml_window.specs.Houses.{house_of};
 ghost use Rattle.mml_board.specs.Lists.{world_in};
 ghost use Rattle.mml_window.specs.Logs.{IsLog};
-ghost use Rattle.mml_serving.specs.Closings.{Closes, done_line};
-ghost use Rattle.mml_serving.specs.Endings.{EndsBadly, EndsEarly, EndsWithout};
-ghost use Rattle.mml_serving.specs.Serving.{ServesHouse};
-ghost use Rattle.mml_serving.specs.Endings.{ServesWithMemory};
+ghost use Rattle.mml_serving.specs.Closings.{done_line};
+ghost use Rattle.mml_serving.specs.Endings.{EndsBadly, EndsEarly, EndsWithout, ServesBadly};
+ghost use Rattle.mml_serving.specs.Serving.{ServesHouse, had_memory};
 
 use crate::announcing::write_last;
 use crate::arrivals::{Arrivals, HangUp, LetGo};
 use crate::connection::{EndedSession, all_had_memory};
 use crate::seating::{SeatingFault, serve_all};
+use crate::socket::Socket;
 use mml_journal::Sink;
 use mml_lab::Lab;
 use mml_session::{Gate, Setting};
@@ -54,9 +55,10 @@ pub enum ServeFault {
 }
 
 /// Serves the next `connections` connections of a listener in a new house of the lab. Then writes the last line: the
-/// number of events, and the configuration that they led to. If accepting fails, the connections that had come are
-/// still served to their ends. If memory ran out in a session or a socket, returns `Memory`, though the last line was
-/// written. The contract can't speak of a socket's bytes; see `serve_arrivals`.
+/// number of events, and the configuration that they led to. Returns the result of the house, or why it failed. If
+/// accepting fails, the connections that had come are still served to their ends. If memory ran out in a session or a
+/// socket, returns `Memory`, though the last line was written. The contract can't speak of a socket's bytes; see
+/// `serve_arrivals`.
 pub fn serve_on<Rt: Threads + Wait + Sync, S: Sink + Send + Drop, G: Gate + Sync, W: Write>(
     rt: &Rt,
     alloc: Global,
@@ -66,18 +68,26 @@ pub fn serve_on<Rt: Threads + Wait + Sync, S: Sink + Send + Drop, G: Gate + Sync
     sink: S,
     gate: &G,
     writer: &mut W,
-) -> Result<(), ServeFault>
+) -> Result<ServedHouse<S, Socket, Socket>, ServeFault>
     requires some { 0 < connections }
     requires sessions { connections ≤ lab.sessions }
     requires fresh { IsFresh (S.contents sink) }
     requires countable { S.failures sink < 2 ^ 64 - 1 }
-    ensures closes { OnOk result (Closes lab (W.contents writer.old) (W.contents writer.new)) }
-    ensures had_memory { OnOk result (ServesWithMemory lab S.contents connections
+    ensures served { IfOk result (λ house. ServesHouse lab S.contents (λ _. None) (λ _. None) None
+        connections house.sessions.items house.log) }
+    ensures unhalted { IfOk result (λ house. house.log.halted ≡ false) }
+    ensures last { IfOk result (λ house. Appends (W.contents writer.old) (W.contents writer.new)
+        (done_line (length house.log.events) (world_in lab house.log.events).number)) }
+    ensures had_memory { IfOk result (λ house. list_all had_memory house.sessions.items ≡ true) }
+    ensures badly { IfErr result (ServesBadly lab S.contents connections
         (W.contents writer.old) (W.contents writer.new)) }
 {
-    let house = serve_arrivals(rt, alloc, lab, listener, connections, sink, gate, writer)?;
+    let house = match serve_arrivals(rt, alloc, lab, listener, connections, sink, gate, writer) {
+        Ok(house) => house,
+        Err(fault) => return Err(fault),
+    };
     if all_had_memory(&house.sessions) {
-        Ok(())
+        Ok(house)
     } else {
         Err(ServeFault::Memory)
     }
@@ -162,7 +172,7 @@ fn serve_in_house<
     ensures served { IfOk result (λ house. ServesHouse H.lab S.contents R.remaining W.contents
         (A.to_come arrivals) connections house.sessions.items house.log) }
     ensures early { IfErr result
-        (EndsEarly H.lab R.remaining W.contents (A.to_come arrivals) connections) }
+        (EndsEarly H.lab S.contents R.remaining W.contents (A.to_come arrivals) connections) }
 {
     let Ok((desk, mut windows)) = blank.start::<H>(alloc) else {
         return Err(ServeFault::Memory);
@@ -210,7 +220,7 @@ fn end_house<Rt: Wait, S: Sink + Drop, H: House>(
 ) -> Result<Log<S>, ServeFault>
     requires few { length windows.items + length unused.items ≤ H.lab.sessions }
     ensures log { IfOk result (IsLog H.lab S.contents (windows.items ++ unused.items)) }
-    ensures without { IfErr result (EndsWithout H.lab (windows.items ++ unused.items)) }
+    ensures without { IfErr result (EndsWithout H.lab S.contents (windows.items ++ unused.items)) }
 {
     let mut windows = windows;
     let mut unused = unused;

@@ -69,7 +69,7 @@ fn is_served<R: Threads + Wait + Sync>(
     let sink = MemorySink::new(alloc, None);
     let mut out = Vec::new(alloc);
     let ended = serve_on(rt, alloc, lab, listener, 2, sink, &gate, &mut out);
-    Ok(ended == Ok(()) && out.as_slice() == last.as_bytes())
+    Ok(ended.is_ok() && out.as_slice() == last.as_bytes())
 }
 
 /// Returns whether a client got exactly these replies before its connection ended.

@@ -8,5 +8,5 @@ pub returns-clause-without : goal.returns-clause-without
 returns-clause-without g c =
     let all : c.append.new.self.items ≡ c.args.windows.items ++ c.args.unused.items = search rules in
     let left = c.in-Err.ensures.left in
-    subst (λ (ws : List WindowValue). WentAstray g.H.House.lab ws) all
-    (went_astray g.H.House.lab g.S.Sink.contents left.0 c.append.new.self.items c.in-Err.field-0 left.1 left.2 left.3 c.in-Err.ensures.astray)
+    subst (λ (ws : List WindowValue). WentAstray g.H.House.lab g.S.Sink.contents ws) all
+    (went_astray 0 g.H.House.lab g.S.Sink.contents left.0 c.append.new.self.items c.in-Err.field-0 left.1 left.2 left.3 c.in-Err.ensures.astray)

@@ -9,6 +9,6 @@ returns-in-Err-write_last-clause-badly g c =
     let house = c.in-Ok-served.house in
     let serves = subst (λ (l : LabValue). ServesHouse l g.S.Sink.contents g.R.Read.remaining g.W.Write.contents
     (g.A.Arrivals.to_come c.args.arrivals) c.args.connections house.sessions.items house.log) c.in-Ok.ensures c.in-Ok-served.ensures.served in
-    badly_logged c.args.lab g.R.Read.remaining g.W.Write.contents
-    (g.A.Arrivals.to_come c.args.arrivals) c.args.connections g.S.Sink.contents house.sessions.items house.log serves
+    badly_logged c.args.lab g.S.Sink.contents g.R.Read.remaining g.W.Write.contents
+    (g.A.Arrivals.to_come c.args.arrivals) c.args.connections house.sessions.items house.log serves
     _ _ c.in-Err-write_last.fault c.in-Err-write_last.ensures.lacking

@@ -28,7 +28,7 @@ returns-in-Ok-end_house-clause-served g c = record {
 
 pub returns-in-Ok-serve_all-clause-early : goal.returns-in-Ok-serve_all-clause-early
 returns-in-Ok-serve_all-clause-early g c =
-    early_so _ _ _ _ _ _ _
+    early_so _ _ _ _ _ _ _ _
     (serves_windows _ _ _ _ _ _ _ _ _ _ c.in-Ok-serve_all.ensures c.from.ensures c.in-Ok-split_off.ensures.tail c.in-Ok.ensures.count
     c.requires.few c.in-Ok.ensures.windows)
     c.in-Err.fault c.in-Err.ensures.without
