@@ -1,5 +1,5 @@
 -- A house through whose windows one connection after another was served.
-use Rattle.std.specs.{Prelude.◌≡◌, Prelude.ℕ, Prelude.false, Prelude.List, Prelude.[], Prelude.◌++◌, Prelude.flat_map, Prelude.length, Prelude.All, Prelude.Option, List.AllZip, List.range_with_len}
+use Rattle.std.specs.{Prelude.◌≡◌, Prelude.◌==◌, Prelude.ℕ, Prelude.false, Prelude.List, Prelude.[], Prelude.◌++◌, Prelude.flat_map, Prelude.length, Prelude.All, Prelude.Option, List.AllZip, List.range_with_len}
 use Rattle.mml_lab.specs.Labs.{LabValue}
 use Rattle.mml_window.specs.{Windows.WindowValue, Windows.window, Logs.IsLogFrom}
 use mathlib.Core.List.{IsPrefix}
@@ -8,8 +8,9 @@ use Rattle.mml_hosting.specs.{declared.seat.ServedSession.ServedSession, declare
 use Rattle.mml_session.specs.Records.{Kept}
 use Rattle.mml_hosting.specs.Seats.{IsDismissed, Led, came_to, sessions_of, terms}
 
--- nobody was served in the seat so far, and its recorder is as at the beginning
+-- nobody was served in the seat so far, and its recorder is as at the beginning; the desk's seat has the number 1
 pub record IsUnused {H K C : Type 0} (begun : List Event) (given : ℕ → Option Kept) (recorded : C → Option Kept) (s : Seat H K C) : Type 0 where
+  pub desk : s.is_desk ≡ (s.record.number == 1)
   pub unseen : s.window ≡ window begun []
   pub recorder : recorded s.record.recorder ≡ given s.record.number
   pub sessions : s.record.sessions.items ≡ []

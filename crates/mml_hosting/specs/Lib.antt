@@ -4,5 +4,6 @@ pub mod Counting
 pub mod Bringing
 pub mod Hosting
 pub mod Faults
+pub mod Failing
 pub mod Away
 pub mod Marks

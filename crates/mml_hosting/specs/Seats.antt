@@ -82,8 +82,10 @@ IsDismissed {R} {W} ss =
 abbrev pub Led : {K C R W : Type 0} → Terms K C R W → SeatRecord K C → WindowValue → Type 0
 Led t r w = Chain (Leads t r.number) (stand (window t.begun []) (t.given r.number)) (sessions_of t.shows r) (stand w (t.recorded r.recorder))
 
--- the seat's sessions led its window, and at the desk it is noted whether the teacher's bye came
+-- the seat's sessions led its window, and at the desk, which has the number 1, it is noted whether the teacher's bye
+-- came
 pub record IsSeat {H K C R W : Type 0} (t : Terms K C R W) (s : Seat H K C) : Type 0 where
+  pub desk : s.is_desk ≡ (s.record.number == 1)
   pub led : Led t s.record s.window
   pub dismissed : s.is_dismissed ≡ true → IsDismissed (sessions_of t.shows s.record)
   pub going_on : s.is_desk ≡ true → s.is_dismissed ≡ false → AreGoingOn (sessions_of t.shows s.record)

@@ -3,6 +3,7 @@
 //! A window is one session's view of the published events and board. A gate is a point at which tests can stop a
 //! session. The desk is the port at which the teacher's bye ends the class.
 ghost use Rattle.std.specs.Prelude.{◌≡◌, ◌&&◌};
+ghost use Rattle.mml_session.specs.Records.{EndedRecorded};
 ghost use Rattle.mml_hosting.specs.Seats.{IsReady, ServesIn, is_teachers_bye, terms};
 
 use crate::begun::Begun;
@@ -107,7 +108,6 @@ pub fn serve_in<
     requires { IsReady (terms H.lab H.begun H.given R.remaining W.contents C.kept K.shows) seat }
     ensures { ServesIn (terms H.lab H.begun H.given R.remaining W.contents C.kept K.shows) seat ends result }
 {
-    let came = Snapshot::of(&ends);
     let Seat {
         is_desk,
         mut window,
@@ -119,35 +119,10 @@ pub fn serve_in<
         mut sessions,
         recorder,
     } = record;
-    let (mut reader, mut writer) = ends;
-    let replies = writer.reply_observer();
-    let mut observer = Both {
-        observer: Gated { gate, recorder },
-        replies,
-    };
-    let ending = serve_observed(
-        setting,
-        &mut window,
-        &mut reader,
-        &mut writer,
-        number,
-        &mut observer,
-    );
-    let Both {
-        observer,
-        replies: _,
-    } = observer;
-    let Gated { gate: _, recorder } = observer;
-    writer.hang_up();
+    let (session, recorder) = serve_session(setting, &mut window, ends, number, recorder, gate);
     // From here on this thread waits for nobody, so the thread that joins it doesn't have to wait either.
     set_mark(marks, number, true);
-    let is_dismissed = is_dismissed_by(&ending, is_desk);
-    let session = ServedSession {
-        came,
-        ending,
-        reader,
-        writer,
-    };
+    let is_dismissed = is_dismissed_by(&session.ending, is_desk);
     sessions.push_reserved(K::keep(session));
     Seat {
         is_desk,
@@ -159,6 +134,59 @@ pub fn serve_in<
         },
         is_dismissed,
     }
+}
+
+// Serves a connection through the window of the seat with this number, and closes its writing end. Returns the session
+// that has ended, and the seat's recorder.
+fn serve_session<
+    Rt: Wait,
+    S: Sink + Drop,
+    H: Begun,
+    C: Recorder + Drop,
+    R: Read + Drop,
+    W: Write + HangUp + Observed + Drop,
+    G: Gate,
+>(
+    setting: &Setting<'_, Rt, S, H>,
+    window: &mut Window<H>,
+    ends: (R, W),
+    number: u8,
+    recorder: C,
+    gate: &G,
+) -> (ServedSession<R, W>, C)
+    ensures came { result.0.came.value ≡ ends }
+    ensures ended { EndedRecorded result.0.ending.end result.0.ending.who number H.lab window.old
+        window.new (R.remaining ends.0) (R.remaining result.0.reader) (W.contents ends.1)
+        (W.contents result.0.writer) (C.kept recorder) (C.kept result.1) }
+{
+    let came = Snapshot::of(&ends);
+    let (mut reader, mut writer) = ends;
+    let replies = writer.reply_observer();
+    let mut observer = Both {
+        observer: Gated { gate, recorder },
+        replies,
+    };
+    let ending = serve_observed(
+        setting,
+        window,
+        &mut reader,
+        &mut writer,
+        number,
+        &mut observer,
+    );
+    let Both {
+        observer,
+        replies: _,
+    } = observer;
+    let Gated { gate: _, recorder } = observer;
+    writer.hang_up();
+    let session = ServedSession {
+        came,
+        ending,
+        reader,
+        writer,
+    };
+    (session, recorder)
 }
 
 // Returns whether a session that ended like this ends the house: it was at the desk, and its last line was the

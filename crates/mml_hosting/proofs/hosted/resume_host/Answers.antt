@@ -1,21 +1,37 @@
 use Rattle.std.{proofs.Common.◌≡◌, proofs.Common.◌∷◌, proofs.Common.length, proofs.Common.refl, proofs.Common.subst, specs.Io.KnownBytes.Appends}
 use Rattle.mml_board.specs.{World.World, Lists.world_in}
 use Rattle.mml_serving.specs.Closings.{done_line}
-use Rattle.mml_hosting.specs.Seats.{kept_from}
-use Rattle.mml_hosting.proofs.HouseLemmas.{are_given}
+use Rattle.mml_hosting.specs.Seats.{kept_from, terms}
+use Rattle.mml_hosting.proofs.HouseLemmas.{are_given, badly_early, badly_logged}
 use Rattle.mml_hosting.proofs.hosted.resume_host.Goals as goal
 
 pub returns-in-Ok-write_last-clause-hosts : goal.returns-in-Ok-write_last-clause-hosts
-returns-in-Ok-write_last-clause-hosts g c = rw (c.in-Ok.ensures.begun, c.in-Ok.ensures.lab) at c.in_ok-hosted.ensures
+returns-in-Ok-write_last-clause-hosts g c = rw (c.in-Ok.ensures.begun, c.in-Ok.ensures.lab) at c.in-Ok-ended.ensures.hosts
 
 pub returns-in-Ok-write_last-clause-last : goal.returns-in-Ok-write_last-clause-last
 returns-in-Ok-write_last-clause-last g c =
-    let log = c.in_ok-hosted.hosted.log in
+    let log = c.in-Ok-ended.hosted.log in
     let board : log.board ≡ world_in c.args.lab log.events = (returns-in-Ok-write_last-clause-hosts g c).kept.board in
     subst (λ (w : World). Appends (g.O.Write.contents c.args.writer.now) (g.O.Write.contents c.write_last.new.writer) (done_line (length log.events) w.number))
     board c.in-Ok-write_last.ensures.told
 
-pub host_in_house-requires-clause-recorders : goal.host_in_house-requires-clause-recorders
-host_in_house-requires-clause-recorders g c κs within =
+pub returns-in-Err-clause-badly : goal.returns-in-Err-clause-badly
+returns-in-Err-clause-badly g c =
+    let given = kept_from g.C.Recorder.kept 1 (c.args.recorders.at_desk ∷ c.args.recorders.others.items) in
+    let t = terms c.args.lab c.args.events.now given g.R.Read.remaining g.W.Write.contents g.C.Recorder.kept g.K.Keep.shows in
+    badly_early t g.S.Sink.contents (g.D.Accept.to_come c.args.at_desk) (g.A.Accept.to_come c.args.arrivals) (g.O.Write.contents c.args.writer.now)
+    c.in-Err.fault (rw (c.in-Ok.ensures.begun, c.in-Ok.ensures.lab) at c.in-Err.ensures.early)
+
+pub returns-in-Err-write_last-clause-badly : goal.returns-in-Err-write_last-clause-badly
+returns-in-Err-write_last-clause-badly g c =
+    let given = kept_from g.C.Recorder.kept 1 (c.args.recorders.at_desk ∷ c.args.recorders.others.items) in
+    let t = terms c.args.lab c.args.events.now given g.R.Read.remaining g.W.Write.contents g.C.Recorder.kept g.K.Keep.shows in
+    rw c.closing_fault.ensures
+    (badly_logged t g.S.Sink.contents (g.D.Accept.to_come c.args.at_desk) (g.A.Accept.to_come c.args.arrivals) c.in-Ok-ended.hosted
+    (rw (c.in-Ok.ensures.begun, c.in-Ok.ensures.lab) at c.in-Ok-ended.ensures.hosts)
+    (g.O.Write.contents c.args.writer.now) (g.O.Write.contents c.write_last.new.writer) c.in-Err-write_last.fault c.in-Err-write_last.ensures.lacking)
+
+pub host_in_house-ended-requires-clause-recorders : goal.host_in_house-ended-requires-clause-recorders
+host_in_house-ended-requires-clause-recorders g c κs within =
     let cs = c.args.recorders.at_desk ∷ c.args.recorders.others.items in
     are_given (kept_from g.C.Recorder.kept 1 cs) g.C.Recorder.kept 1 cs (λ m le. refl)
