@@ -2,13 +2,14 @@
 //!
 //! A seat serves one connection after another, each through the seat's window. The text of a seat has its lines with
 //! their replies. The place of an event is its number in the list of events, from 1.
-ghost use Rattle.std.specs.Prelude.{◌≡◌, ℕ, List, Option, Some, true, IfOk, IfErr, IfSome, OnOk};
+ghost use Rattle.std.specs.Prelude.{◌≡◌, ℕ, List, Option, None, Some, true, IfOk, IfErr, IfSome, OnOk};
 ghost use Rattle.mml_board.specs.Lists.{is_legal_in};
 ghost use Rattle.mml_class.specs.Begun.{begun_in};
 ghost use Rattle.mml_class.specs.Granting.{IsFound};
 ghost use Rattle.mml_record.specs.Verdicts.{IsVerdict};
 ghost use Rattle.mml_class.specs.Classes.{Tell, IsClassRecord, IsClassRefused};
 ghost use Rattle.mml_class.specs.inside.Seats.{IsSeatRead, AddsSeat, IsSeatRefused};
+ghost use Rattle.mml_class.specs.inside.Unread.{of_pieces, of_whole};
 
 use crate::begun::begun_in;
 use crate::findings::{no_findings, together};
@@ -119,7 +120,8 @@ fn find_amiss(
     count: u64,
     whole: bool,
 ) -> Result<Option<Misgranted>, SeatFault>
-    ensures { IfOk result (IsFound begun count whole places.now) }
+    ensures found { IfOk result (IsFound begun count whole places.now) }
+    ensures memory { IfErr result (λ why. why ≡ SeatFault.Memory) }
 {
     match find_misgranted(alloc, places, begun, count, whole) {
         Ok(amiss) => Ok(amiss),
@@ -135,7 +137,16 @@ fn read_begun<R: Read + Drop, S: Seats<R>>(alloc: Global, seats: &S) -> Result<u
 {
     let reader = seats.open_begun()?;
     let text = read_all(alloc, reader, MAX_BEGUN)?;
-    match begun_in(&text) {
+    stated_begun(&text)
+}
+
+// Returns the number of events that came before the record, from the text that states it. Returns `Read` if the text
+// states no number.
+fn stated_begun(text: &[u8]) -> Result<u64, SeatFault>
+    ensures number { IfOk result (λ begun. begun_in text.now ≡ Some begun) }
+    ensures unstated { IfErr result (λ why. (why ≡ SeatFault.Read) × (begun_in text.now ≡ None)) }
+{
+    match begun_in(text) {
         Some(begun) => Ok(begun),
         None => Err(SeatFault::Read),
     }
@@ -241,8 +252,17 @@ fn read_pieces<R: Read + Drop>(
     let mut reader = reader;
     match read_record_from(alloc, lab, events, number, MAX_RECORD, &mut reader, granted) {
         Ok(verdict) => Ok(verdict),
-        Err(PieceFault::Memory) => Err(SeatFault::Memory),
-        Err(PieceFault::Read | PieceFault::TooLong) => Err(SeatFault::Read),
+        Err(why) => Err(of_pieces(why)),
+    }
+}
+
+// Returns why a text couldn't be read, by why it couldn't be read piece by piece. A text that is too long is `Read`.
+fn of_pieces(why: PieceFault) -> SeatFault
+    ensures { result ≡ of_pieces why }
+{
+    match why {
+        PieceFault::Read | PieceFault::TooLong => SeatFault::Read,
+        PieceFault::Memory => SeatFault::Memory,
     }
 }
 
@@ -253,7 +273,16 @@ fn read_all<R: Read + Drop>(alloc: Global, reader: R, limit: u32) -> Result<Vec<
 {
     match read_whole(alloc, reader, limit) {
         Ok(bytes) => Ok(bytes),
-        Err(WholeFault::Memory) => Err(SeatFault::Memory),
-        Err(WholeFault::Read | WholeFault::TooLong) => Err(SeatFault::Read),
+        Err(why) => Err(of_whole(why)),
+    }
+}
+
+// Returns why a text couldn't be read, by why it couldn't be read as a whole. A text that is too long is `Read`.
+fn of_whole(why: WholeFault) -> SeatFault
+    ensures { result ≡ of_whole why }
+{
+    match why {
+        WholeFault::Read | WholeFault::TooLong => SeatFault::Read,
+        WholeFault::Memory => SeatFault::Memory,
     }
 }

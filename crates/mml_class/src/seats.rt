@@ -17,6 +17,10 @@ pub enum SeatFault {
 }
 
 impl From<Memory> for SeatFault {
+    ghost use Rattle.mml_class.specs.declared.seats.SeatFault.TheVariants as faults;
+
+    ghost from_gives = { λ _ e. e ≡ faults.Memory };
+
     // Returns the fault for memory that ran out.
     fn from(_memory: Memory) -> SeatFault {
         SeatFault::Memory

@@ -7,14 +7,14 @@ use Rattle.mml_audit.specs.AuditMeaning.{IsJournalOf}
 use Rattle.mml_tally.specs.{declared.ask.Ask.Ask, RecordTexts.recorded_text, Rounds.rounds_line}
 use Rattle.mml_class.specs.{declared.class_record.ClassRecord.ClassRecord, Classes.IsClassRecord}
 use Rattle.mml_judging_program.specs.{declared.class_error.ClassError.ClassError, Verifying.verified_text}
-use Rattle.mml_judging_program.specs.Classes.{IsVerified, IsTallied, IsUntold, IsWritten, IsUnwritten}
+use Rattle.mml_judging_program.specs.Classes.{IsVerified, IsTallied, IsWritten, IsUnwritten}
 use Rattle.mml_judging_program.specs.declared.class_error.ClassError.TheVariants as error
 
 pub weaker_ok : {X E : Type 0} (r : Result X E) (P Q : X → Type 0) → ((x : X) → P x → Q x) → IfOk r P → IfOk r Q
 weaker_ok (Ok x) P Q weaker holds = weaker x holds
 weaker_ok (Err e) P Q weaker holds = tt
 
-module _ (lab : LabValue) (bytes start : List ℕ) (texts : ℕ → List ℕ) (P : List ℕ → Type 0) (wrote wrote' : Option (List ℕ)) where
+module _ (U : ClassError → Type 0) (P : List ℕ → Type 0) (wrote wrote' : Option (List ℕ)) where
   -- a text of which P holds went out, or not all of it
   pub all_written : (r : Result (Unit {0}) ClassError) (text now : List ℕ) → P text → now ≡ text → OnOk r (Appends wrote wrote' now) → OnOk r (IsWritten P wrote wrote')
   all_written (Ok x) text now holds same all = (text, holds, subst (λ t. Appends wrote wrote' t) same all)
@@ -22,10 +22,10 @@ module _ (lab : LabValue) (bytes start : List ℕ) (texts : ℕ → List ℕ) (P
 
   pub part_written : (r : Result (Unit {0}) ClassError) (text now : List ℕ) → P text → now ≡ text
       → IfErr r (λ e. (e ≡ error.Write) × ((n : ℕ) × (n < length now) × Appends wrote wrote' (take n now)))
-      → IfErr r (IsUnwritten lab bytes start texts P wrote wrote')
+      → IfErr r (IsUnwritten U P wrote wrote')
   part_written (Ok x) text now holds same part = tt
   part_written (Err e) text now holds same part =
-      subst (IsUnwritten lab bytes start texts P wrote wrote') (sym part.0) (
+      subst (IsUnwritten U P wrote wrote') (sym part.0) (
         text,
         part.1.0,
         holds,
@@ -34,11 +34,11 @@ module _ (lab : LabValue) (bytes start : List ℕ) (texts : ℕ → List ℕ) (P
       )
 
   -- there was nothing to write
-  pub none_written : (e : ClassError) → wrote' ≡ wrote → IsUntold lab bytes start texts e → IsUnwritten lab bytes start texts P wrote wrote' e
-  none_written (error.Audit why) same untold = (same, untold)
-  none_written (error.Record why) same untold = (same, untold)
-  none_written error.Memory same untold = same
-  none_written error.Write same untold = absurd untold
+  pub none_written : ¬ (U error.Write) → (e : ClassError) → wrote' ≡ wrote → U e → IsUnwritten U P wrote wrote' e
+  none_written never (error.Audit why) same untold = (same, untold)
+  none_written never (error.Record why) same untold = (same, untold)
+  none_written never error.Memory same untold = same
+  none_written never error.Write same untold = absurd (never untold)
 
 module _ (lab : LabValue) (bytes start : List ℕ) (texts : ℕ → List ℕ) where
   pub verified : (events : List Event) (class : ClassRecord) (text : List ℕ) → IsJournalOf lab events bytes → IsClassRecord lab events false start texts class

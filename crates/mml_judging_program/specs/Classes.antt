@@ -48,9 +48,10 @@ IsWritten P wrote wrote' = (text : List ℕ) × P text × Appends wrote wrote' t
 abbrev pub IsPartWritten : (List ℕ → Type 0) → Option (List ℕ) → Option (List ℕ) → Type 0
 IsPartWritten P wrote wrote' = (text : List ℕ) × (n : ℕ) × P text × (n < length text) × Appends wrote wrote' (take n text)
 
--- why a text of which P holds wasn't written whole: a write failed, after a front of it; or there was nothing to write
-abbrev pub IsUnwritten : LabValue → List ℕ → List ℕ → (ℕ → List ℕ) → (List ℕ → Type 0) → Option (List ℕ) → Option (List ℕ) → ClassError → Type 0
-IsUnwritten lab bytes start texts P wrote wrote' error.Write = IsPartWritten P wrote wrote'
-IsUnwritten lab bytes start texts P wrote wrote' (error.Audit why) = (wrote' ≡ wrote) × IsUntold lab bytes start texts (error.Audit why)
-IsUnwritten lab bytes start texts P wrote wrote' (error.Record why) = (wrote' ≡ wrote) × IsUntold lab bytes start texts (error.Record why)
-IsUnwritten lab bytes start texts P wrote wrote' error.Memory = wrote' ≡ wrote
+-- why a text of which P holds wasn't written whole: a write failed, after a front of it; or there was nothing to write, and U holds of
+-- the reason
+abbrev pub IsUnwritten : (ClassError → Type 0) → (List ℕ → Type 0) → Option (List ℕ) → Option (List ℕ) → ClassError → Type 0
+IsUnwritten U P wrote wrote' error.Write = IsPartWritten P wrote wrote'
+IsUnwritten U P wrote wrote' (error.Audit why) = (wrote' ≡ wrote) × U (error.Audit why)
+IsUnwritten U P wrote wrote' (error.Record why) = (wrote' ≡ wrote) × U (error.Record why)
+IsUnwritten U P wrote wrote' error.Memory = wrote' ≡ wrote

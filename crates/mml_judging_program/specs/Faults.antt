@@ -1,13 +1,16 @@
 -- The program's error for each reason why a class isn't one.
 use Rattle.std.specs.Prelude.{◌≡◌, ◌+◌, ◌-◌, ◌^◌, min, ℕ, List, codes, Option, None, Some}
+use Rattle.mml_audit.specs.declared.auditing.AuditFault.{AuditFault}
 use Rattle.mml_record.specs.declared.verdict.{BadEntry.BadEntry, Why.Why}
 use Rattle.mml_class.specs.declared.{class_record.ClassFault.ClassFault, granting.Misgranted.Misgranted}
-use Rattle.mml_judging_program.specs.declared.{fault.Fault.Fault, record_refusal.RecordRefusal.RecordRefusal}
+use Rattle.mml_judging_program.specs.declared.{class_error.ClassError.ClassError, fault.Fault.Fault, record_refusal.RecordRefusal.RecordRefusal}
+use Rattle.mml_program.specs.Faults.{IsAuditError, status_of}
 use Rattle.mml_program.specs.declared.fault.Fault.TheVariants as common
 use Rattle.mml_record.specs.declared.verdict.Why.TheVariants as why
 use Rattle.mml_class.specs.declared.class_record.ClassFault.TheVariants as class
 use Rattle.mml_class.specs.declared.granting.Misgranted.TheVariants as granted
 use Rattle.mml_class.specs.declared.seats.SeatFault.TheVariants as seat
+use Rattle.mml_judging_program.specs.declared.class_error.ClassError.TheVariants as error
 use Rattle.mml_judging_program.specs.declared.fault.Fault.TheVariants as fault
 use Rattle.mml_judging_program.specs.declared.record_refusal.RecordRefusal.TheVariants as refusal
 
@@ -62,8 +65,20 @@ IsOfRecord (class.Places amiss) f = IsRefusal (IsOfPlace amiss) f
 IsOfRecord (class.Unread seat.Read) f = f ≡ fault.ReadRecord
 IsOfRecord (class.Unread seat.Memory) f = f ≡ fault.Common common.Memory
 
--- the exit status of the error: 3 if the record is refused, and 4 if it can't be read
-abbrev pub IsStatus : Fault → ℕ → Type 0
-IsStatus (fault.Common why) status = Unit {0}
-IsStatus (fault.Record why) status = status ≡ 3
-IsStatus fault.ReadRecord status = status ≡ 4
+-- the error says that the journal doesn't pass the audit, because of this fault, or that memory ran out in the audit
+abbrev pub IsOfJournal : AuditFault → Fault → Type 0
+IsOfJournal why (fault.Common told) = IsAuditError why told
+IsOfJournal why _ = ⊥
+
+-- the error for the reason why the result of checking a class wasn't written
+abbrev pub IsOfClass : ClassError → Fault → Type 0
+IsOfClass (error.Audit why) f = IsOfJournal why f
+IsOfClass (error.Record why) f = IsOfRecord why f
+IsOfClass error.Memory f = f ≡ fault.Common common.Memory
+IsOfClass error.Write f = f ≡ fault.Common common.Write
+
+-- the exit status of an error: 3 if the record is refused, 4 if it can't be read, and else as in `mml_server`
+abbrev pub exit_status : Fault → ℕ
+exit_status (fault.Common why) = status_of why
+exit_status (fault.Record why) = 3
+exit_status fault.ReadRecord = 4

@@ -1,3 +1,4 @@
+pub mod Words
 pub mod Tallies
 pub mod Verifying
 pub mod Classes

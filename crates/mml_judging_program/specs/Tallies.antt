@@ -1,9 +1,11 @@
 -- The tally that a program prints of a journal.
-use Rattle.std.specs.{Prelude.◌≡◌, Prelude.◌++◌, Prelude.ℕ, Prelude.List, Prelude.Option, Io.KnownBytes.Appends}
+use Rattle.std.specs.Prelude.{◌≡◌, ◌++◌, List, ℕ, Err, MatchBool}
 use Rattle.mml_lab.specs.Labs.{LabValue}
 use Rattle.mml_board.specs.{declared.event.Event.Event, Lists.world_in}
-use Rattle.mml_audit.specs.AuditMeaning.{IsJournalOf}
+use Rattle.mml_audit.specs.{Audit.audited, Audit.is_audit_memory, AuditMeaning.IsJournalOf}
 use Rattle.mml_tally.specs.{Texts.tally_text, Rounds.rounds_line}
+use Rattle.mml_judging_program.specs.declared.class_error.ClassError.{ClassError}
+use Rattle.mml_judging_program.specs.declared.class_error.ClassError.TheVariants as error
 
 -- the bytes are the journal of a legal list of the lab's, and the text is the tally of that list, with the line of its
 -- rounds
@@ -12,8 +14,9 @@ pub record IsTally (lab : LabValue) (bytes text : List ℕ) : Type 0 where
   pub journal : IsJournalOf lab events bytes
   pub told : text ≡ tally_text lab (world_in lab events) events ++ rounds_line lab events
 
--- what was written is the tally of the bytes
-pub record TellsTally (lab : LabValue) (bytes : List ℕ) (wrote wrote' : Option (List ℕ)) : Type 0 where
-  pub text : List ℕ
-  pub tally : IsTally lab bytes text
-  pub told : Appends wrote wrote' text
+-- why there is no tally to write: the journal doesn't pass the audit; of memory nothing is said
+abbrev pub HasNoTally : LabValue → List ℕ → ClassError → Type 0
+HasNoTally lab bytes (error.Audit why) = MatchBool (is_audit_memory why) (Unit {0}) (audited lab bytes ≡ Err why)
+HasNoTally lab bytes (error.Record why) = ⊥
+HasNoTally lab bytes error.Memory = Unit {0}
+HasNoTally lab bytes error.Write = ⊥

@@ -1,6 +1,6 @@
 //! Errors that end a subcommand early: one line on standard error and a status.
 ghost use Rattle.std.specs.Prelude.{◌≡◌};
-ghost use Rattle.mml_judging_program.specs.Faults.{IsStatus};
+ghost use Rattle.mml_judging_program.specs.Faults.{exit_status};
 
 use crate::record_refusal::RecordRefusal;
 use mml_ids::Memory;
@@ -26,7 +26,7 @@ impl Fault {
     /// Returns the exit status of the error: 3 if the record is refused, and 4 if it can't be read. An error that
     /// `mml_server` has too has the same status as there.
     pub fn status(&self) -> u8
-        ensures { IsStatus self.now result }
+        ensures { result ≡ exit_status self.now }
     {
         match self {
             Fault::Common(fault) => fault.status(),

@@ -1,11 +1,12 @@
 //! The folder of a record.
-ghost use Rattle.std.specs.Prelude.{◌≡◌, ◌++◌, codes, decimal, string_bytes, IfOk};
+ghost use Rattle.std.specs.Prelude.{◌≡◌, ◌≢◌, ◌++◌, codes, decimal, string_bytes, IfOk};
+ghost use Rattle.std.specs.IoError.{error_kind};
 
 use mml_class::{SeatFault, Seats};
 use mml_ids::Memory;
-use mml_program::{Fault as ProgramFault, memory_or};
 use std::alloc::Global;
 use std::fs::File;
+use std::io::{Error as IoError, ErrorKind};
 use std::rt::Files;
 use std::{fs, io};
 
@@ -63,10 +64,19 @@ fn open_part<R: Files<File = File> + AllocGlobal>(rt: &R, path: &str) -> Result<
     match open_plain(rt, path) {
         Ok(Some(file)) => Ok(file),
         Ok(None) => Err(SeatFault::Read),
-        Err(error) => match memory_or(&error, ProgramFault::ReadJournal) {
-            ProgramFault::Memory => Err(SeatFault::Memory),
-            _ => Err(SeatFault::Read),
-        },
+        Err(error) => Err(open_fault(&error)),
+    }
+}
+
+// Returns why a file can't be opened: `Memory` if the system's error says that memory ran out, and otherwise `Read`.
+fn open_fault(error: &IoError) -> SeatFault
+    ensures memory { error_kind error.now ≡ ErrorKind.OutOfMemory → result ≡ SeatFault.Memory }
+    ensures read { error_kind error.now ≢ ErrorKind.OutOfMemory → result ≡ SeatFault.Read }
+{
+    if error.kind() == ErrorKind::OutOfMemory {
+        SeatFault::Memory
+    } else {
+        SeatFault::Read
     }
 }
 

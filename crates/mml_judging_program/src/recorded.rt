@@ -10,7 +10,7 @@ ghost use Rattle.mml_tally.specs.Rounds.{rounds_line};
 ghost use Rattle.mml_class.specs.Classes.{Tell};
 ghost use Rattle.mml_judging_program.specs.Classes.{IsTallied, IsUntold, IsUnwritten, IsWritten};
 
-use crate::class_error::ClassError;
+use crate::class_error::{ClassError, result_of};
 use crate::class_writing::{audit_class, write_class};
 use crate::fault::Fault;
 use crate::folder::Folder;
@@ -20,7 +20,7 @@ use mml_class::{Seats, read_class};
 use mml_ends::Retrying;
 use mml_ids::Memory;
 use mml_lab::Lab;
-use mml_program::{lab_of, memory_if_lacked, read_journal};
+use mml_program::{lab_of, read_journal};
 use mml_tally::{Ask, Findings, put_recorded_tally, put_rounds};
 use std::alloc::Global;
 use std::fs::File;
@@ -38,13 +38,11 @@ pub fn tally_recorded<R: Files<File = File> + Print + AllocGlobal>(
     let journal = read_journal(rt, task.journal)?;
     let seats = Folder {
         rt,
-        path: task.record,
+        path: task.folder,
     };
     let mut writer = Retrying::new(io::writer(rt));
-    match tally_class(rt.alloc(), &lab, journal, &seats, &mut writer) {
-        Ok(()) => Ok(()),
-        Err(error) => Err(memory_if_lacked(Fault::from(error), writer.lacked_memory)),
-    }
+    let written = tally_class(rt.alloc(), &lab, journal, &seats, &mut writer);
+    result_of(written, writer.lacked_memory)
 }
 
 /// Audits a journal, and checks the record of its class: the texts of `seats`, one for each seat, with the lines and
@@ -64,8 +62,8 @@ pub fn tally_class<R: Read + Drop, S: Seats<R>, W: Write>(
         (W.contents writer.old) (W.contents writer.new)) }
     ensures unwritten { (start : List ℕ) (texts : ℕ → List ℕ) →
         Tell (S.begun seats.now) (S.text seats.now) start texts →
-        IfErr result (IsUnwritten lab.now journal.items start texts (IsTallied lab.now journal.items start texts)
-        (W.contents writer.old) (W.contents writer.new)) }
+        IfErr result (IsUnwritten (IsUntold lab.now journal.items start texts)
+        (IsTallied lab.now journal.items start texts) (W.contents writer.old) (W.contents writer.new)) }
 {
     let text = tallied_text(alloc, lab, journal, seats)?;
     write_class(&text, writer)

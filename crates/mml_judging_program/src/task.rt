@@ -16,7 +16,7 @@ pub fn run<R: Files<File = File> + Input + Print + AllocGlobal>(
     match read_words(rt.alloc(), words)? {
         Task::Answer { lab } => answer(rt, lab),
         Task::Verify(task) => verify(rt, task),
-        Task::Tally(task) => Ok(tally(rt, task)?),
+        Task::Tally(task) => tally(rt, task),
         Task::TallyRecorded(task) => tally_recorded(rt, task),
     }
 }

@@ -9,7 +9,7 @@ ghost use Rattle.mml_class.specs.Classes.{Tell};
 ghost use Rattle.mml_judging_program.specs.Classes.{IsVerified, IsUntold, IsUnwritten, IsWritten};
 ghost use Rattle.mml_judging_program.specs.Verifying.{begun_line, end_of, verified_text};
 
-use crate::class_error::ClassError;
+use crate::class_error::{ClassError, result_of};
 use crate::class_writing::{audit_class, write_class};
 use crate::fault::Fault;
 use crate::folder::Folder;
@@ -19,7 +19,7 @@ use mml_class::{ClassRecord, Seats, read_class};
 use mml_ends::Retrying;
 use mml_ids::{Memory, Piece, put};
 use mml_lab::Lab;
-use mml_program::{lab_of, memory_if_lacked, read_journal};
+use mml_program::{lab_of, read_journal};
 use mml_tally::{Findings, put_recorded};
 use std::alloc::Global;
 use std::fs::File;
@@ -37,13 +37,11 @@ pub fn verify<R: Files<File = File> + Print + AllocGlobal>(
     let journal = read_journal(rt, task.journal)?;
     let seats = Folder {
         rt,
-        path: task.record,
+        path: task.folder,
     };
     let mut writer = Retrying::new(io::writer(rt));
-    match verify_class(rt.alloc(), &lab, journal, &seats, &mut writer) {
-        Ok(()) => Ok(()),
-        Err(error) => Err(memory_if_lacked(Fault::from(error), writer.lacked_memory)),
-    }
+    let written = verify_class(rt.alloc(), &lab, journal, &seats, &mut writer);
+    result_of(written, writer.lacked_memory)
 }
 
 /// Audits a journal, checks the seats' texts as the record of its class, and writes what was found. If the journal or
@@ -61,8 +59,8 @@ pub fn verify_class<R: Read + Drop, S: Seats<R>, W: Write>(
         (W.contents writer.old) (W.contents writer.new)) }
     ensures unwritten { (start : List ℕ) (texts : ℕ → List ℕ) →
         Tell (S.begun seats.now) (S.text seats.now) start texts →
-        IfErr result (IsUnwritten lab.now journal.items start texts (IsVerified lab.now journal.items start texts)
-        (W.contents writer.old) (W.contents writer.new)) }
+        IfErr result (IsUnwritten (IsUntold lab.now journal.items start texts)
+        (IsVerified lab.now journal.items start texts) (W.contents writer.old) (W.contents writer.new)) }
 {
     let text = verified_text(alloc, lab, journal, seats)?;
     write_class(&text, writer)

@@ -1,4 +1,9 @@
 //! Reading the words of the command line.
+ghost use Rattle.std.specs.Prelude.{◌≡◌, option_map};
+ghost use Rattle.clap.specs.Matches.{found_of};
+ghost use Rattle.mml_journal.specs.Words.{seen};
+ghost use Rattle.mml_judging_program.specs.Words.{tally_in, tally_wanted, verify_in, wanted_by, wanted_in, wanted_over};
+
 use clap::{ArgMatches, Command};
 use mml_program::{Fault as ProgramFault, match_words, subcommand_of, with_optional};
 use std::alloc::{AllocError, Global};
@@ -21,7 +26,7 @@ pub enum Task<'a> {
 pub struct VerifyTask<'a> {
     pub lab: &'a str,
     pub journal: &'a str,
-    pub record: &'a str,
+    pub folder: &'a str,
 }
 
 /// A lab, and the journal of one of its runs.
@@ -56,27 +61,65 @@ fn command_line<'a>(alloc: Global) -> Result<Command<'a>, AllocError> {
 
 // Returns the task of the subcommand `name` with these values. Returns `None` if there is no such subcommand, or a
 // value is missing.
-fn task_of<'a>(name: &str, values: &ArgMatches<'a>) -> Option<Task<'a>> {
+#[tactic(auto, unfolding(crate::specs::Words::wanted_in))]
+fn task_of<'a>(name: &str, values: &ArgMatches<'a>) -> Option<Task<'a>>
+    ensures { option_map wanted_by result ≡ wanted_in name.now (found_of values.now) }
+{
     let lab = values.get_str("lab")?;
-    match name {
-        "answer" => Some(Task::Answer { lab }),
-        "verify" => Some(Task::Verify(VerifyTask {
-            lab,
-            journal: values.get_str("journal")?,
-            record: values.get_str("record")?,
-        })),
-        "tally" => Some(tally_of(lab, values.get_str("journal")?, values.get_str("record"))),
-        _ => None,
+    task_over(lab, name, values)
+}
+
+// Returns the task of the subcommand `name` with these values, over the lab in the file `lab`. Returns `None` if there
+// is no such subcommand, or a value is missing.
+#[tactic(auto, unfolding(crate::specs::Words::wanted_over))]
+fn task_over<'a>(lab: &'a str, name: &str, values: &ArgMatches<'a>) -> Option<Task<'a>>
+    ensures { option_map wanted_by result ≡ wanted_over lab.now name.now (found_of values.now) }
+{
+    if name == "answer" {
+        Some(Task::Answer { lab })
+    } else if name == "verify" {
+        verify_over(lab, values)
+    } else if name == "tally" {
+        tally_over(lab, values)
+    } else {
+        None
     }
 }
 
-// Returns the task of printing a tally: of a journal alone, or together with a record if one is named.
-fn tally_of<'a>(lab: &'a str, journal: &'a str, record: Option<&'a str>) -> Task<'a> {
-    match record {
-        Some(record) => Task::TallyRecorded(VerifyTask {
+// Returns the task of checking the record of a class that these values name. Returns `None` if the journal or the
+// record is missing.
+#[tactic(auto, unfolding(crate::specs::Words::verify_in))]
+fn verify_over<'a>(lab: &'a str, values: &ArgMatches<'a>) -> Option<Task<'a>>
+    ensures { option_map wanted_by result ≡ verify_in lab.now (found_of values.now) }
+{
+    let journal = values.get_str("journal")?;
+    let folder = values.get_str("record")?;
+    Some(Task::Verify(VerifyTask {
+        lab,
+        journal,
+        folder,
+    }))
+}
+
+// Returns the task of printing the tally of the journal that these values name, together with a record if they name
+// one. Returns `None` if the journal is missing.
+#[tactic(auto, unfolding(crate::specs::Words::tally_in))]
+fn tally_over<'a>(lab: &'a str, values: &ArgMatches<'a>) -> Option<Task<'a>>
+    ensures { option_map wanted_by result ≡ tally_in lab.now (found_of values.now) }
+{
+    let journal = values.get_str("journal")?;
+    Some(tally_task(lab, journal, values.get_str("record")))
+}
+
+// Returns the task of printing a tally: of a journal alone, or together with the record in a folder if one is named.
+fn tally_task<'a>(lab: &'a str, journal: &'a str, folder: Option<&'a str>) -> Task<'a>
+    ensures { wanted_by result ≡ tally_wanted lab.now journal.now (seen folder.entry) }
+{
+    match folder {
+        Some(folder) => Task::TallyRecorded(VerifyTask {
             lab,
             journal,
-            record,
+            folder,
         }),
         None => Task::Tally(TallyTask { lab, journal }),
     }

@@ -2,6 +2,7 @@
 ghost use Rattle.std.specs.Prelude.{◌≡◌, ◌≢◌, ◌⊎◌, true, false};
 ghost use Rattle.std.specs.IoError.{error_kind};
 ghost use Rattle.mml_program.specs.declared.fault.Fault.TheVariants.{Memory};
+ghost use Rattle.mml_program.specs.Faults.{status_of};
 
 use crate::lab_refusal::{AuditRefusal, LabRefusal};
 use mml_audit::AuditFault;
@@ -67,7 +68,9 @@ impl Fault {
     /// Returns the exit status of the error: 1 if the command line isn't understood; 2 if the lab, the script or the
     /// number of connections is refused; 3 if an audit fails; 4 if a read, a write, the journal or the network failed,
     /// or the places don't fit the events; 5 if memory ran out or a reader's slot is missing.
-    pub fn status(&self) -> u8 {
+    pub fn status(&self) -> u8
+        ensures { result ≡ status_of self.now }
+    {
         match self {
             Fault::CommandLine => 1,
             Fault::Lab(_) | Fault::BadLine(_) | Fault::TooManyConnections => 2,
@@ -145,6 +148,10 @@ impl From<LabFault> for Fault {
 }
 
 impl From<AuditFault> for Fault {
+    ghost use Rattle.mml_program.specs.Faults.{IsAuditError};
+
+    ghost from_gives = { IsAuditError };
+
     // Turns the error of a journal's text into the program's error: `Audit` with the reason why the text is refused, or
     // `Memory`.
     fn from(fault: AuditFault) -> Fault {

@@ -1,4 +1,6 @@
 //! Why a lab file or a journal is refused, in the words of the error lines.
+ghost use Rattle.mml_program.specs.Faults.{IsOfAudit};
+
 use mml_audit::AuditFault;
 use mml_ids::IdFault;
 use mml_lab::{Key, LabFault};
@@ -79,7 +81,9 @@ pub enum AuditRefusal {
 impl AuditRefusal {
     /// Returns the reason why the text of a journal with this error is refused, or `None` if the error is that memory
     /// ran out.
-    pub fn of(fault: AuditFault) -> Option<AuditRefusal> {
+    pub fn of(fault: AuditFault) -> Option<AuditRefusal>
+        ensures { IsOfAudit fault result }
+    {
         match fault {
             AuditFault::Torn(line) => Some(AuditRefusal::Line(line, "torn")),
             AuditFault::Shape(line) => Some(AuditRefusal::Line(line, "not an event")),

@@ -22,11 +22,11 @@ pub returns-in-Some-clause-refused : goal.returns-in-Some-clause-refused
 returns-in-Some-clause-refused g c = λ start texts tell.
     let all : c.seats.seat ≡ c.args.lab.now.sessions = omega (arith, c.seats-test.false, c.sessions-seat-end.ensures, c.seats.auto.seat-end) in
     misgranted c.args.lab.now c.args.events.now texts c.args.with_asks start c.seats.seat _ _ _ _ _ _ c.in-Some.amiss all (c.in_ok-begun.ensures start tell.0)
-    (c.seats.invariant start texts tell) c.deref.ensures.value c.in-Some.is c.in_ok-amiss.ensures
+    (c.seats.invariant start texts tell) c.deref.ensures.value c.in-Some.is c.in_ok-amiss.ensures.found
 
 pub returns-clause-passes : goal.returns-clause-passes
 returns-clause-passes g c = λ start texts tell.
     let all : c.seats.seat ≡ c.args.lab.now.sessions = omega (arith, c.seats-test.false, c.sessions-seat-end.ensures, c.seats.auto.seat-end) in
     passed c.args.lab.now c.args.events.now texts c.args.with_asks start c.seats.seat _ _ _
     (record { begun = c.in_ok-begun.begun; findings = c.seats.findings; asks = c.seats.asks }) all (c.in_ok-begun.ensures start tell.0)
-    (c.seats.invariant start texts tell) c.deref.ensures.value c.in-None.is c.in_ok-amiss.ensures
+    (c.seats.invariant start texts tell) c.deref.ensures.value c.in-None.is c.in_ok-amiss.ensures.found

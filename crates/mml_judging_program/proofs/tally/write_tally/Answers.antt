@@ -1,7 +1,23 @@
-use Rattle.mml_judging_program.proofs.TallyLemmas.{tally_told}
+use Rattle.std.proofs.{Common.refl, lemmas.Result.err_from_is_err_and}
+use Rattle.mml_judging_program.specs.Tallies.{HasNoTally, IsTally}
+use Rattle.mml_judging_program.proofs.ClassLemmas.{all_written, part_written, none_written}
 use Rattle.mml_judging_program.proofs.tally.write_tally.Goals as goal
 
-pub returns : goal.returns
-returns g c =
-    tally_told c.write_text.result c.args.lab.now c.args.journal.now c.in_ok-text.text.items c.deref.result.now (g.W.Write.contents c.args.writer.now)
-    (g.W.Write.contents c.write_text.new.writer) c.in_ok-text.ensures c.deref.ensures.value c.write_text.ensures
+pub returns-in_err-text-clause-unwritten : goal.returns-in_err-text-clause-unwritten
+returns-in_err-text-clause-unwritten g c =
+    let p = err_from_is_err_and c.from_residual.result c.from_residual.ensures.1 in
+    rw (p.1, p.2)
+    (none_written (HasNoTally c.args.lab.now c.args.journal.items) (IsTally c.args.lab.now c.args.journal.items) (g.W.Write.contents c.args.writer.now) _
+    (λ never. never) _ refl c.in_err-text.ensures.untold)
+
+pub returns-clause-written : goal.returns-clause-written
+returns-clause-written g c =
+    all_written (HasNoTally c.args.lab.now c.args.journal.items) (IsTally c.args.lab.now c.args.journal.items) (g.W.Write.contents c.args.writer.now)
+    (g.W.Write.contents c.write_class.new.writer) c.write_class.result c.in_ok-text.text.items c.deref.result.now c.in_ok-text.ensures.told
+    c.deref.ensures.value c.write_class.ensures.all
+
+pub returns-clause-unwritten : goal.returns-clause-unwritten
+returns-clause-unwritten g c =
+    part_written (HasNoTally c.args.lab.now c.args.journal.items) (IsTally c.args.lab.now c.args.journal.items) (g.W.Write.contents c.args.writer.now)
+    (g.W.Write.contents c.write_class.new.writer) c.write_class.result c.in_ok-text.text.items c.deref.result.now c.in_ok-text.ensures.told
+    c.deref.ensures.value c.write_class.ensures.part
