@@ -95,7 +95,7 @@ module _ (lab : LabValue) (l first : List Event) where
   one_named : (s : ℕ) (line : List ℕ) (r : Reply) (known' : Option Who) → Fits lab l first (Some (who.Student s)) line r known' → IsNamedIn r
   one_named s line r known' fact = grind (arith, nat_tests, asked_named)
 
-  named_of : (known : Option Who) (line : List ℕ) (r : Reply) (known' : Option Who) → Fits lab l first known line r known'
+  pub named_of : (known : Option Who) (line : List ℕ) (r : Reply) (known' : Option Who) → Fits lab l first known line r known'
       → IsNamed (student_of known) (clause_in r) (denial_in r)
   named_of None line r known' f = tt
   named_of (Some who.Teacher) line r known' f = tt
