@@ -36,8 +36,8 @@ def target(word: str, names: Sequence[str]) -> list[int] | None:
 
 
 def addressed(line: str, names: Sequence[str]) -> tuple[list[int], str]:
-    """Returns the indices of the networks that a line is for, and the command for them. Raises `ValueError` if the line
-    names a missing network."""
+    """Returns the indices of the networks that a line is for, and the command for them. A line that names no network is
+    for all of them. Raises `ValueError` if the line names a network that doesn't exist."""
     words = line.split()
     before = re.fullmatch(r"\s*(\S+?)\s*:\s*(.*?)\s*", line)
     if before and before[1] not in WORDS:

@@ -24,13 +24,14 @@ USED = 0.5  # the share of a program's events after which another program is sta
 
 
 def scheduled(rules: Mapping[int, str], nodes: Sequence[int]) -> int:
-    """Returns the node that moves next by the schedule. The schedule depends only on the names of the nodes' enabled
-    rules."""
+    """Returns which of these nodes moves next by the schedule. `rules` has the name of each node's enabled rule. The
+    schedule depends only on these names and on the numbers of the nodes."""
     return min(nodes, key=lambda node: (ORDER[rules[node]], -node if rules[node] in HIGHEST else node))
 
 
 class Adversary:
-    """Searches on its own bench for the moves that make a run long."""
+    """Searches on its own bench for the moves that make a run long. A method that uses the bench raises `Fault` if the
+    program of the bench can't be started or asked."""
 
     def __init__(self, seed: str, partner_of: Partner = min) -> None:
         """`seed` determines the random choices. `partner_of` chooses the node to marry among those that point at a
@@ -45,8 +46,8 @@ class Adversary:
         return lambda nodes: [scheduled(rules, nodes)] if how.kind == "schedule" else self.choose(seen(), nodes)
 
     def choose(self, made: labs.Lab, chosen: Sequence[int]) -> list[int]:
-        """Returns the nodes whose moves a close is to apply: one of those in `chosen`, or all of them. `made` is the
-        network with its present registers."""
+        """Returns the nodes whose moves a close is to apply: one of those in `chosen`, or all of them. Nodes of which
+        no rule is enabled on the bench are left out. `made` is the network with its present registers."""
         if len(chosen) < 2:
             return list(chosen)
         bench = self.bench_over(made)
@@ -78,10 +79,10 @@ class Adversary:
         return [first, *(others if len(others) < FIRST else self.chance.sample(others, FIRST - 1))]
 
     def value_of(self, bench: Bench, report: dict[str, Any], nodes: list[int], steps: int) -> int:
-        """Returns the value of moving these nodes now, and then one node in each step by the schedule, to the end or
-        for `steps` steps. The value is the number of moves, and of privileged nodes at the end, according to the
-        program's reports. Undoes all moves afterwards, so that only the number of the configuration in `report`
-        changes."""
+        """Returns the value of moving these nodes now, and then one node in each step by the schedule, until no node
+        is privileged, or for `steps` steps in all. The value is the sum of the number of moves and the number of
+        privileged nodes after them. `report` is the bench's report of the configuration before the moves. Undoes all
+        moves afterwards, and sets the number of the configuration in `report` to the present one."""
         after, moves, moved = bench.step(report, nodes, self.partner_of), len(nodes), {*nodes}
         for _ in range(steps - 1):
             rules = {node: rule for node, rule in after["privileged"]}

@@ -50,7 +50,7 @@ class Announcer:
         self.over = ""
         self.lost_journal: Callable[[], str] = str  # Returns the server's text about a journal that can't be written.
         self.comeback = Comeback(lab)
-        self.edits: list[Event] = []  # the links and cuts that weren't printed yet
+        self.edits: list[Event] = []  # the faults, links and cuts that weren't printed yet
 
     def announce_resumed(self) -> None:
         """Counts the present recovery along the past events, and prints the configuration from which the class
@@ -114,8 +114,9 @@ class Announcer:
         return f"events {self.known.count} of {self.lab.events}"
 
     def tell_event(self, at: int, what: str) -> None:
-        """Prints the line of an event: the number `at` of the configuration after it, what happened, the moves beside
-        their bound, and the events. The number of privileged nodes is added if the report is of that configuration."""
+        """Prints the line of an event: the number `at` of the configuration after it, the text `what` of what happened,
+        the moves since the last fault, link or cut beside their bound, and the number of events. If the latest report
+        is of that configuration, the line also has the number of privileged nodes."""
         known = self.known
         most = bounds.told(len(self.lab.nodes), len(self.lab.links) + known.book.links)
         limit = f" of at most {most.moves}" if most else ""
@@ -125,7 +126,8 @@ class Announcer:
 
     def count_close(self, event: Event, moved: list[int], before: Report) -> None:
         """Counts a close in the recovery. `moved` are the nodes that moved, and `before` is the report before the
-        close. If the close ended the recovery, prints the counts."""
+        close. If the close ended the recovery, prints the counts. If there is no report of the configuration before or
+        after the close, the recovery has no counts."""
         report = self.known.report
         if (before.at, report.at) != (event.at, event.at + 1):
             self.comeback.miss()
@@ -154,7 +156,7 @@ class Announcer:
 
     def end_by(self, word: str) -> None:
         """Ends the run because nothing is granted any longer. `word` is the server's refusal, `full` or `journal`.
-        Prints the reason and the remedy."""
+        Prints the reason and the remedy. Does nothing if the run was ended before."""
         if self.over:
             return
         self.over = word

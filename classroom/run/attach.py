@@ -31,8 +31,9 @@ def add_words(words: argparse.ArgumentParser) -> None:
 
 
 def wait_for_desk(folder: Path, record: Record) -> None:
-    """Waits until no process holds the desk. A `run` that has lost its terminal is asked to leave it. Raises `Fault` if
-    another process holds the desk."""
+    """Waits until no process holds the desk of the run in a folder. `record` is the record in that folder. A `run` that
+    has lost its terminal is asked to leave the desk. Raises `Fault` if it still has it after a minute, or if the
+    process that holds the desk hasn't lost its terminal."""
     holder = record.run
     if holder.lives() and not record.left:
         raise Fault(f"{folder}: process {holder.number} controls this run already")
@@ -46,8 +47,9 @@ def wait_for_desk(folder: Path, record: Record) -> None:
 
 
 def attach(words: argparse.Namespace) -> int:
-    """Takes the desk of the run in the folder that the arguments name, and runs it to its end. Returns the exit status.
-    Raises `Fault` if there is no such desk."""
+    """Takes the desk of the run or class in the folder that the arguments name, and continues it to its end. Returns
+    the exit status. Raises `Fault` if the server has ended, if another process keeps the desk, or if the options don't
+    suit the run."""
     folder = Path(words.folder)
     if is_class(folder):
         return class_again.hold_again(words, folder)

@@ -1,8 +1,8 @@
 """A run from its first step to its last: steps are closed, and typed commands are run. It also watches the room for the
 journal, on the disk and by the limit on the size of files.
 
-The *desk* is the teacher's connection to the server. The functions return the reason for the end of a run as a word,
-which is empty while the run continues.
+The *desk* is the teacher's connection to the server. The *house* plays for absent students. The functions return the
+reason for the end of a run as a word, which is empty while the run continues.
 """
 from __future__ import annotations
 
@@ -54,8 +54,8 @@ def disk_line(left: int, why: str) -> tuple[str, str]:
 
 
 def limit_of(process: int) -> int | None:
-    """Returns the limit on the size of a process's files in bytes (ulimit -f), or None if there is no limit or it can't
-    be read."""
+    """Returns the limit in bytes (ulimit -f) on the size of the files of the process with this number, or None if there
+    is no limit or it can't be read."""
     try:
         limit = resource.prlimit(process, resource.RLIMIT_FSIZE)[0]
     except (OSError, ValueError):
@@ -142,8 +142,10 @@ class DiskRoom:
 
 
 def turn(desk: Desk, room: DiskRoom, until_stable: bool) -> str:
-    """Reads new events, lets the house play, and prints all news of a desk. Connects to the desk first if its
-    connection was lost. Returns the reason if the run ends, and an empty text otherwise."""
+    """Reads new events, lets the house play, and prints what is new: events, connections, the room for the journal, and
+    the end of the lesson. If the desk's connection was lost, first connects again, and does nothing else if that fails.
+    Returns the reason if the run ends, and an empty text otherwise. `until_stable` says whether the run ends as soon as
+    its configuration is stable."""
     if not desk.reconnect():
         return ""
     desk.read()
@@ -183,7 +185,8 @@ def next_typed(typed: Typed, seconds: float) -> str | None:
 
 def run_typed(desk: Desk, line: str | None, hung: Callable[[], None]) -> str:
     """Runs a typed line at the desk, if there is one. Calls `hung` if the line says that the terminal is closed.
-    Returns the reason if the line ends the run, and an empty text otherwise."""
+    Returns the reason if the line ends the run, and an empty text otherwise. While the desk has no connection, only
+    `end` is run, and for other lines the reason is printed."""
     if line is None:
         return ""
     if line == HUNG:
@@ -201,7 +204,8 @@ def run_typed(desk: Desk, line: str | None, hung: Callable[[], None]) -> str:
 
 def attend(desk: Desk, it: Server, until_stable: bool, typed: Typed, room: DiskRoom, hung: Callable[[], None]) -> str:
     """Closes steps and runs typed commands until the run ends. Returns the reason: `stable`, `full`, `journal`, `end`,
-    `clock`, `left` or `died`. Calls `hung` if the terminal is closed."""
+    `clock`, `left` (another process takes the desk) or `died` (the server `it` has ended). Calls `hung` if the terminal
+    is closed. `until_stable` says whether the run ends as soon as its configuration is stable."""
     with contextlib.closing(Striker()) as striker:
         while not it.has_ended():
             try:

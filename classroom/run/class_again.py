@@ -19,8 +19,9 @@ PATIENCE = 60.0  # seconds in which a process that has lost its terminal has to 
 
 
 def wait_for_desks(folder: Path, kept: Class) -> None:
-    """Waits until no process holds the desks of the class in a folder. A process that has lost its terminal is asked to
-    leave them. Raises `Fault` if another process holds them."""
+    """Waits until no process holds the desks of the class in a folder, of which `kept` is the description. A process
+    that has lost its terminal is asked to leave them. Raises `Fault` if it still has them after a minute, or if the
+    process that holds them hasn't lost its terminal."""
     if not kept.desk.lives():
         return
     if not kept.left:
@@ -48,7 +49,9 @@ def begin(member: Member, several: Several, again: bool, starts: bool) -> None:
 
 
 def hold_again(words: argparse.Namespace, folder: Path) -> int:
-    """Takes over the desk of the class in a folder, and runs it to its end. Returns the exit status."""
+    """Takes over the desks of the class in a folder, and continues the class to its end. Returns the exit status.
+    `words` are the arguments of `attach` or of `run --resume`. Raises `Fault` if another process keeps the desks, or if
+    all runs of the class were ended and `--again` isn't given."""
     kept = Class.read(folder)
     assert kept is not None
     wait_for_desks(folder, kept)

@@ -19,7 +19,7 @@ Row = tuple[int, int, str, str]
 
 def rows() -> Iterator[Row]:
     """Yields each of the system's TCP sockets over IPv4 with its own port, the other end's port, its state and its
-    number."""
+    number. Raises `OSError` if the system doesn't report them."""
     for line in (PROC / "net/tcp").read_text(encoding="ascii").splitlines()[1:]:
         _, own, other, state, *_, = words = line.split()
         yield int(own.rpartition(":")[2], 16), int(other.rpartition(":")[2], 16), state, words[9]
@@ -64,8 +64,8 @@ class Connected:
         self.due = 0.0
 
     def news(self) -> list[str]:
-        """Returns lines about the connections that began or ended since the last check, and a line if all seats are
-        taken. Checks at most once a second."""
+        """Returns lines about the connections that began or ended since the last check, and once a line if all seats
+        are taken. Returns none if the last check is less than a second ago, or if the system reports no sockets."""
         now = time.monotonic()
         if now < self.due:
             return []
@@ -77,7 +77,8 @@ class Connected:
 
     def look(self) -> list[Row]:
         """Returns the system's sockets. The system's list isn't of one moment, so it is read again, a few times, while
-        a new connection lacks its client's end. Clients on other machines have none in it."""
+        a new connection lacks its client's end. Clients on other machines have none in it. Raises `OSError` if the
+        system doesn't report its sockets."""
         for _ in range(READINGS):
             found = list(rows())
             if not self.tells or self.client_ports(found) <= self.client_sockets(found).keys() | self.known.keys():
@@ -94,8 +95,9 @@ class Connected:
         return {other for own, other, state, _ in found if own == self.port and state == ESTABLISHED} - {self.but}
 
     def changes(self, found: list[Row]) -> list[str]:
-        """Returns lines about the connections that began or ended since the last call, and a line if all seats are
-        taken."""
+        """Returns lines about the connections that began or ended since the last call, and once a line if newcomers
+        aren't let in any longer, because all seats are taken or the server has stopped listening. `found` are the
+        system's sockets."""
         ends, here = self.client_sockets(found), self.client_ports(found)
         gone = [self.known.pop(port) for port in sorted(self.known.keys() - here)]
         come = sorted(here - self.known.keys())

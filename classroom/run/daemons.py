@@ -69,7 +69,7 @@ class Sight:
 
 def heads(nodes: Sequence[int], probability: float, chance: random.Random) -> list[int]:
     """Tosses a coin for each node, which shows heads with this probability. Returns the nodes with heads, or one random
-    node if there are none."""
+    node if no coin shows heads."""
     found = [node for node in nodes if chance.random() < probability]
     return found or [chance.choice(list(nodes))]
 

@@ -21,8 +21,8 @@ SIGNALS = (signal.SIGINT, signal.SIGTERM)
 
 
 def bots_of(lab: labs.Lab, port: int, room: Path) -> list[subprocess.Popen[bytes]]:
-    """Writes the slips of a lab into a folder, and starts a bot for each student, which connects to the port. Returns
-    the processes."""
+    """Writes the slips of a lab into the folder `slips` of the folder `room`, and starts a bot for each student, which
+    connects to the port. Returns the processes."""
     slips.write_all(lab, Way(port, "demo"), room / "slips")
     return [
         subprocess.Popen([sys.executable, TOP / "examples/bot.py", room / "slips" / f"{name}.slip"],
@@ -33,7 +33,7 @@ def bots_of(lab: labs.Lab, port: int, room: Path) -> list[subprocess.Popen[bytes
 
 def demo(words: argparse.Namespace) -> int:
     """Calls `run` over the cycle of `examples/`, with a bot for each of its four students, until it is stable. Returns
-    the exit status."""
+    the exit status of `run`. Raises `Fault` if there are no `examples/`, or if the server isn't built."""
     if not LAB.exists():
         raise Fault("this is the archive for students: it has no finished bots to show; ./class practise bot.py tries yours")
     server.require_built(False)

@@ -30,7 +30,8 @@ class Desk:
     """The desk of a run: reads its events, prints them, and runs the teacher's commands."""
 
     def __init__(self, lab: labs.Lab, journal: Path, client: Client, how: Closing, tell: Callable[[str], None]) -> None:
-        """`client` is the desk's connection, `how` the daemon that closes steps, and the callback prints a line."""
+        """`journal` is the journal's file in the run's folder, `client` the desk's connection, `how` the daemon that
+        closes steps, and `tell` prints a line."""
         self.lab, self.tell, self.closing = lab, tell, how
         self.known = Follower(lab, journal, client)
         self.announcer = Announcer(lab, journal.parent, self.known, tell)
@@ -88,8 +89,8 @@ class Desk:
         self.lost, self.known.is_old = "", True
 
     def give_up_connection(self, error: Closed) -> None:
-        """Closes a connection that has failed by this error, or on which a reply is late. `reconnect` makes another
-        one."""
+        """Closes the desk's connection, which has failed by this error or on which a reply is late, and prints that.
+        `reconnect` makes another one."""
         self.lost = str(error)
         self.client.hang_up()
         self.tell(f"the desk: {error}; saying hello again")
@@ -130,7 +131,8 @@ class Desk:
         return self.watch
 
     def stand_in(self) -> None:
-        """Lets the house ask for moves that the class waits for: for one at a time, if a close applies one."""
+        """Lets the house ask for moves that the class waits for. Under the central daemon, which applies one move in a
+        step, the house asks for one, and only if no move is chosen."""
         if self.house is None or self.known.is_old or self.announcer.over:
             return
         self.house.begun = self.heard is None or self.heard.came
@@ -231,7 +233,7 @@ class Desk:
 
     def renew_page(self) -> None:
         """Moves the page on which the teacher acts to another address. Requests at the old one are refused from then
-        on."""
+        on. Raises `ValueError` if the run has no page."""
         if self.another_page is None:
             raise ValueError("there is no page: start the run with --page")
         self.another_page()
@@ -250,7 +252,8 @@ class Desk:
             self.watch.present.put(closing=spelled(self.closing))
 
     def shake(self, count: str, seed: str | None = None) -> None:
-        """Sets the registers of `count` random nodes, or of `all`, to random values that are drawn with a seed."""
+        """Sets the registers of `count` random nodes to random values, or those of all nodes if `count` is `all`. The
+        nodes and values are drawn with the seed, or with a random one if it is None."""
         self.set_all(shaken(self.nodes(), self.announcer.comeback.links, count, int(seed) if seed is not None else None))
 
     def set_all(self, registers: list[Registers]) -> None:
