@@ -132,7 +132,8 @@ class Desk:
 
     def stand_in(self) -> None:
         """Lets the house ask for moves that the class waits for. Under the central daemon, which applies one move in a
-        step, the house asks for one, and only if no move is chosen."""
+        step, the house asks for one, and only if no move is chosen. Does nothing without a house, while the report is
+        old, or once nothing more is granted."""
         if self.house is None or self.known.is_old or self.announcer.over:
             return
         self.house.begun = self.heard is None or self.heard.came
@@ -253,7 +254,8 @@ class Desk:
 
     def shake(self, count: str, seed: str | None = None) -> None:
         """Sets the registers of `count` random nodes to random values, or those of all nodes if `count` is `all`. The
-        nodes and values are drawn with the seed, or with a random one if it is None."""
+        nodes and values are drawn with the seed, or with a random one if it is None. Raises `Fault` if there aren't so
+        many nodes."""
         self.set_all(shaken(self.nodes(), self.announcer.comeback.links, count, int(seed) if seed is not None else None))
 
     def set_all(self, registers: list[Registers]) -> None:

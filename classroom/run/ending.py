@@ -33,8 +33,8 @@ def put_back(journal: IO[bytes], path: Path, tell: Callable[[str], None]) -> Non
 
 
 def cut_torn_end(journal: Path) -> None:
-    """Moves the incomplete last line of a journal into a file beside the journal. Makes an empty journal if there is
-    none."""
+    """Moves the incomplete last line of a journal, if it has one, into the file `journal.torn` beside the journal. Makes
+    an empty journal if there is none."""
     content = journal.read_bytes() if journal.exists() else b""
     whole, found, torn = content.rpartition(b"\n")
     if torn or not journal.exists():
@@ -45,8 +45,10 @@ def cut_torn_end(journal: Path) -> None:
 
 
 def finish(folder: Path, tell: Callable[[str], None], brief: bool = False) -> int:
-    """Writes the audit, the page, the marks and the students' pages of a run into its folder, and prints what they say.
-    Returns 0, or the status of what failed. If `brief` is set, prints only the name of the file with the marks."""
+    """Writes the audit, the page, the marks and the students' pages of a run into its folder, and prints the audit and
+    the marks. If `brief` is set, prints the name of the file with the marks in place of the marks. Returns the exit
+    status: 0, that of a `Fault`, or 4 if a file can't be read or written. Prints the reason for a status other than
+    0."""
     try:
         cut_torn_end(folder / "journal")
         answer = call("audit", folder / "lab.toml", folder / "journal")

@@ -20,7 +20,7 @@ ASKED, PAUSE = 50, 0.1  # how often the first report is asked for at most, and s
 
 def first_report(client: Client) -> Report:
     """Returns the report at the beginning. Asks for it again while the server is out of memory. Raises `Refused` if it
-    is out of memory for too long."""
+    is out of memory for too long, or if the server refuses for another reason."""
     for _ in range(ASKED):
         try:
             return client.report()
@@ -32,7 +32,7 @@ def first_report(client: Client) -> Report:
 
 
 def raise_unless_memory(refused: Refused) -> None:
-    """Raises a refusal unless it is `memory`, which passes."""
+    """Raises a refusal unless it is `memory`: the server is out of memory, which is temporary."""
     if refused.word != "memory":
         raise refused
 
@@ -104,7 +104,8 @@ class Follower:
         return is_torn or os.fstat(self.journal.fileno()).st_size < self.journal.tell()
 
     def ask_report(self) -> None:
-        """Asks for the report. If the server is out of memory, keeps the old one, and `news` asks again."""
+        """Asks for the report, and keeps it in `report`. If the server is out of memory, keeps the old one there and
+        sets `is_old`, and `news` asks again."""
         try:
             self.report = self.client.report()
             self.is_old = False

@@ -57,7 +57,8 @@ def denial_words(word: str) -> str:
 
 
 def together(what: str, who: list[str]) -> list[str]:
-    """Returns a line with `what` and a name for each of these names, or a single line if they are many."""
+    """Returns the lines that say `what` (`connected` or `gone`) of the names in `who`: one line for each name, or one
+    line for all if they are more than FEW."""
     if len(who) <= FEW:
         return [f"{what}: {each}" for each in who]
     return [f"{what}: {plural(len(who), 'student')}: {'; '.join(who)}"]
@@ -97,8 +98,8 @@ class Heard:
         self.over = ""
 
     def begin(self) -> None:
-        """Notes whether a student is connected to a server that begins. Students who had come to the earlier server
-        don't count."""
+        """Notes in `came` whether a student is connected now, when a new server has started. Students who had come to
+        an earlier server of the run don't count."""
         self.came = not self.students.isdisjoint(self.connected())
 
     def news(self, step: int) -> list[str]:
@@ -128,7 +129,8 @@ class Heard:
         return more
 
     def take(self, seat: Seat, entry: Entry) -> None:
-        """Counts an entry of a seat."""
+        """Counts an entry in the file of a seat, and notes from it the name with which the seat's connection greets, or
+        that the connection has ended."""
         who = seat.name or NOBODY
         if entry.mark == ENDED:
             seat.name = None
@@ -154,7 +156,8 @@ class Heard:
         self.wrong[name if known and name else OTHERS] += 1
 
     def forget_before(self, step: int) -> None:
-        """Forgets the denials that came before the last step, whose place is `step`."""
+        """Forgets the denials that came before the last step, whose place is `step`. If this step is a new one, also
+        forgets how many denials of each student were printed."""
         if step != self.step:
             self.told = Counter({key: count for key, count in self.told.items() if key[0] == "wrong"})
         self.step = step

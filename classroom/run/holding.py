@@ -51,14 +51,14 @@ class Running:
     """A run, with the options of its desk and with its pages."""
 
     folder: Path
-    lab_file: Path
+    lab_file: Path  # the lab from which the run was started, not its copy in the folder
     lab: labs.Lab
     close: Closing
-    until: str | None
-    page: int | None
-    takes_lines: bool
+    until: str | None  # `stable` if the run ends at the first stable configuration
+    page: int | None  # the port of the page for the projector, if the run has one
+    takes_lines: bool  # Whether commands are read from standard input even if it isn't a terminal.
     tell: Teller
-    play: int | None = None
+    play: int | None = None  # the port of the page on which students play, if the run has one
     goes_on: bool = False  # Whether the run is one that began earlier and continues.
     by_number: bool = False  # Whether the server was started for a number of connections.
     stand_in: float | None = None  # seconds that the class waits for a node before the house plays it
@@ -111,7 +111,7 @@ class Running:
 def open_desk(it: server.Server, run: Running) -> Desk:
     """Writes the record into the run's folder, connects to the desk of the server `it`, and sets up the house, the
     clock and the watch on connections. Catches up with a run that continues. Raises `Left` if another process wants the
-    desk."""
+    desk, and `Closed` or `Refused` if it can't be connected to."""
     run.record(it).write(run.folder)
     client = take_desk(it, run.lab.teacher, run.typed, run.tell, run.hung)
     desk = Desk(run.lab, run.folder / "journal", client, run.close, run.tell)
@@ -140,7 +140,8 @@ def open_desk(it: server.Server, run: Running) -> Desk:
 
 def renew(run: Running, it: server.Server, desk: Desk, name: str) -> None:
     """Gives the student `name` another key, which replaces the values of the server `it` by those of a new server, and
-    connects the desk to it. Raises `ValueError` if there is no such student."""
+    connects the desk to it. Prints the key if only the teacher can read what is printed. Raises `ValueError` if there
+    is no such student, and `Fault` if the class can't continue."""
     renewing.renew(run.folder, run.lab, it, desk, name)
     if run.hands is not None:
         run.hands.students = it.port
@@ -189,7 +190,8 @@ def start_reading(run: Running) -> None:
 
 
 def read_typed(run: Running) -> None:
-    """Queues typed lines until there are no more. In a run of a class, then queues that the desk is left."""
+    """Queues typed lines until there are no more. In a run of a class, whose lines come from the class's desk, then
+    queues HUNG, as if a terminal had been closed."""
     (run.terminal.read if run.terminal else read_lines)(run.typed.put)
     if run.terminal is None and run.is_in_class():
         run.typed.put(HUNG)
@@ -294,7 +296,8 @@ def wait_for_server(it: server.Server, run: Running) -> bool:
 
 def to_the_end(run: Running, start: Callable[[], server.Server]) -> int:
     """Opens the pages of a run, and runs its desk over the server that `start` returns. At the end, writes marks and
-    pages into the folder. Returns the exit status."""
+    pages into the folder. Returns the exit status, which is FAILED, without marks and pages, if the run continues
+    without this process."""
     try:
         if run.page is not None:
             kept_layout.load(run.folder)

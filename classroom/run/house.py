@@ -90,7 +90,8 @@ class House:
 
     def turn(self, waiting: Collection[int], most: int) -> None:
         """Asks for moves of nodes that the house may play now, at most `most`. `waiting` are the nodes that the class
-        waits for."""
+        waits for. If the server refuses or ends the connection, the house asks again AGAIN seconds later at the
+        earliest."""
         now = time.monotonic()
         nodes = self.due(waiting, now)[:most]
         if not nodes or now < self.again:
@@ -109,8 +110,8 @@ class House:
             self.again = now + AGAIN
 
     def ask(self, me: Client, node: int) -> None:
-        """Asks for the enabled rule of a node on the house's connection. Does nothing if there is none, for example
-        because the student was quicker."""
+        """Asks on the house's connection `me` for the move by a node's enabled rule. Does nothing if no rule is enabled
+        or a move is chosen, for example because the student was quicker. A denial is ignored."""
         look = me.look(node)
         if look.rule is None or look.chosen is not None:
             return

@@ -12,8 +12,8 @@ LONGEST = 1.0  # seconds that one try may take
 
 def held(port: int) -> socket.socket:
     """Returns a socket that is bound to a port, or to a free one if the port is 0, and doesn't listen. While it is
-    open, the system gives the port to no other program, but a host can listen there, since both set SO_REUSEADDR.
-    Raises `OSError` if the port is taken."""
+    open, the system gives the port to no other program, but a host can listen there, since both set SO_REUSEADDR. If
+    the port is taken, the socket isn't bound, and no error is raised."""
     it = socket.socket()
     it.setsockopt(socket.SOL_SOCKET, socket.SO_REUSEADDR, 1)
     try:
@@ -27,7 +27,8 @@ class Knock:
     """Connects to a port of this machine as soon as a program listens there."""
 
     def __init__(self, port: int) -> None:
-        """Reserves the port, or a free one if `port` is 0. Raises `OSError` if the port is taken."""
+        """Reserves the port, or a free one if `port` is 0. Reserves nothing if another program has the port, since the
+        host reports that when it starts."""
         self.held = held(port)
         self.port: int = port or self.held.getsockname()[1]
         self.connection: socket.socket | None = None
@@ -55,7 +56,7 @@ class Knock:
 
 
 def opened(port: int) -> socket.socket | None:
-    """Returns a connection to a port, or None if no program listens there."""
+    """Returns a connection to a port of this machine, or None if no program accepts it within LONGEST seconds."""
     try:
         return socket.create_connection(("127.0.0.1", port), timeout=LONGEST)
     except OSError:

@@ -28,9 +28,9 @@ def add_words(words: argparse.ArgumentParser) -> None:
 
 @contextmanager
 def door(words: argparse.Namespace, labs: Iterable[Path], tell: Callable[[str], None], before: str | None = None) -> Iterator[str | None]:
-    """Opens a door if the options ask for one, or opens again the one whose folder is `before`. Yields the door's
-    folder, or None if there is none, and closes the door at the end. A door that another process has opened stays open.
-    Raises `Fault` if that isn't possible."""
+    """Opens a door if the options in `words` ask for one, or opens again the one whose folder is `before`. Yields the
+    door's folder, or None if there is none, and closes the door at the end. A door that another process has opened
+    stays open. `labs` are the files of the labs. Raises `Fault` if the door can't be opened."""
     every, opened, folder = [*labs], None, words.door_at
     if words.door is not None:
         file = words.certificate or certificate.beside(every[0])
@@ -58,7 +58,8 @@ def door_lines(opened: opening.OpenDoor, labs: list[Path], file: Path) -> Iterat
 
 
 def route_to(folder: str | None, lab: Path, run: Path) -> None:
-    """Makes the door forward connections for a lab's network to a run. Does nothing without a door."""
+    """Makes the door forward connections for the network of the lab in a file to the run in the folder `run`. `folder`
+    is the door's. Does nothing without a door."""
     if folder is not None:
         opening.route_to(Path(folder), lab, run)
 
@@ -76,7 +77,7 @@ def page_lines(folder: str | None, lab: Path, looks: str | None) -> Iterator[str
 
 def place_of(folder: str | None, lab: Path) -> Place | None:
     """Returns the address and port of the door, or None if there is none. The address is the one in the slips of the
-    lab."""
+    lab, or if they name none, that of the door or the name of this machine."""
     kept = DoorData.read(Path(folder)) if folder is not None else None
     if kept is None:
         return None
@@ -87,7 +88,7 @@ def place_of(folder: str | None, lab: Path) -> Place | None:
 def page_for_all(folder: str | None, lab: Path, port: int, looks: str) -> str:
     """Makes the door forward requests for the page for all networks of a class, which this process serves at `port`.
     Returns the address of the page through the door, or an empty text without a door. `looks` is the token of the
-    page."""
+    page, and the slips of the lab in the file `lab` name the address of the door."""
     place = place_of(folder, lab)
     if folder is None or place is None:
         return ""

@@ -49,15 +49,15 @@ class Member:
 
     number: int
     network: Network
-    folder: Path
+    folder: Path  # the folder of the network's run
     lab: Lab  # the lab without the house
     more: list[str]  # The arguments with which the run is started.
-    news: News
+    news: News  # the queue of functions that the class's desk calls
     child: Child | None = None
     facts: dict[str, str] = field(default_factory=dict)  # the values in the lines that the process printed while it started, by their names
     wanted: set[str] = field(default_factory=set)  # the names of the facts that the process prints before it has started
     status: str = STARTS
-    alarm: str = ""
+    alarm: str = ""  # Why the network is down, and which command is the remedy; empty if it isn't down.
     code: int = 0  # The exit status of the network's last process.
     why: str = ""  # The reason that the process gave for its end.
     begun: bool = False  # Whether the process has printed that it accepts commands.

@@ -56,7 +56,8 @@ def plural_privileged(count: int) -> str:
 
 
 def named(names: Sequence[str]) -> str:
-    """Returns the number of missing students with some of their names, as a text."""
+    """Returns the number of missing students with the first MOST_NAMED of their names, as a text, or NONE if no student
+    is missing."""
     if not names:
         return NONE
     more = f" and {len(names) - MOST_NAMED} more" if len(names) > MOST_NAMED else ""

@@ -73,7 +73,8 @@ def add_words(words: argparse.ArgumentParser) -> None:
 
 
 def run_lab(words: argparse.Namespace) -> int:
-    """Runs the only lab that the arguments name, from making its folder to its marks. Returns the exit status."""
+    """Runs the only lab that the arguments name, from making its folder to its marks. Returns the exit status. Raises
+    `Fault` if the run can't be started, and then removes its folder if it has no events."""
     lab_file, into = Path(words.labs[0]), Path(words.into)
     server.require_built(words.serve)
     lab = labs.read(lab_file)
@@ -142,7 +143,8 @@ def refuse_second_run(into: Path, lab_file: Path) -> None:
 
 
 def start_server(run: Running, port_asked: int, record: Record | None = None) -> server.Server:
-    """Starts the server of a run, and prints its ports and its folder. `record` is that of a run that continues."""
+    """Starts the server of a run at the port `port_asked` or the next free one, prints its ports and its folder, and
+    returns it. `record` is that of a run that continues. Raises `Fault` if no server can be started."""
     letting.route_to(run.door, run.lab_file, run.folder)
     by_number = run.lab.sessions if run.by_number else None
     it = server.start(run.folder, run.folder / "lab.toml", port_asked, run.folder / "journal", by_number, record)
@@ -160,8 +162,8 @@ def start_server(run: Running, port_asked: int, record: Record | None = None) ->
 
 
 def ports_for(asked: int | None, default: int, known: Sequence[int | None]) -> list[int]:
-    """Returns a port for each lab: consecutive ones from `asked`, or if that is None the ones in `known`, those on the
-    slips, if all differ, or else consecutive ones from `default`."""
+    """Returns a port for each lab: consecutive ones from `asked`, or if that is None the ones in `known` if all differ,
+    or else consecutive ones from `default`. `known` has for each lab the port on its slips, or None."""
     ports = [port for port in known if port is not None]
     if asked is None and len(set(ports)) == len(known):
         return ports
@@ -169,7 +171,8 @@ def ports_for(asked: int | None, default: int, known: Sequence[int | None]) -> l
 
 
 def run(words: argparse.Namespace) -> int:
-    """Runs a lab, runs several side by side, or resumes a run. Returns the exit status."""
+    """Runs a lab, runs several side by side, or resumes a run. Returns the exit status. Raises `Fault` if options don't
+    go together, or if the run can't be started."""
     if bool(words.labs) == bool(words.resume):
         raise Fault("run: name a LAB or several, or --resume FOLDER")
     if words.again and not words.resume:

@@ -31,7 +31,7 @@ class Server:
     desk: int
     hosted: bool
     output: Path
-    child: subprocess.Popen[bytes] | None = None  # None where another process has started it.
+    child: subprocess.Popen[bytes] | None = None  # None if another process has started it.
     first: socket.socket | None = None  # The first connection at the desk, until the hello on it is sent.
 
     def has_ended(self, seconds: float = 0.0) -> bool:
@@ -127,7 +127,7 @@ class Call:
     def at(self, port: int, desk: int = 0) -> Server | None:
         """Starts a server that listens at this port, and returns it, or None if a port is taken. `desk` may be 0 for
         any port. While a host starts, this process already tries to connect to its desk, so that no other process is
-        first."""
+        first. Raises `Fault` if the server doesn't start for another reason than a taken port."""
         hosting = host() if self.by_number is None else None
         if hosting is None:
             return self.start([program(), "serve"], port, self.by_number or 0, None)

@@ -68,7 +68,9 @@ class Several:
             pass  # The terminal went away; each run keeps its lines.
 
     def hear(self, member: Member, line: str) -> None:
-        """Handles a line that a network's process has printed."""
+        """Notes the facts in a line that a network's process has printed, and prints the line after the network's name
+        unless the table of networks has it. The address to act at is printed only if nobody but the teacher reads
+        it."""
         is_private_line = line.startswith("page to act http")
         if member.note_line(line) and (not is_private_line or is_private(self.is_typed)):
             self.say(f"{member.name}: {line}", is_private_line)
@@ -201,7 +203,8 @@ class Several:
             self.hall.show(self.state(False), self.state(True))
 
     def check_clock(self) -> None:
-        """Prints the warnings before the end of the lesson, and ends all networks when the end has come."""
+        """Prints the warnings before the end of the lesson, and ends all networks when the end has come. Networks that
+        are down are given up then."""
         if self.clock is None:
             return
         if warning := self.clock.warning(datetime.now()):
@@ -216,8 +219,9 @@ class Several:
             self.ask(member, addressed.END, addressed.END, False)
 
     def state(self, acts: bool, ended: bool = False) -> ClassState:
-        """Returns the state of the class, as the page for all networks shows it. `acts` selects the addresses of the
-        networks' pages."""
+        """Returns the state of the class, as the page for all networks shows it. It has the addresses of the networks'
+        pages: those to act at if `acts` is set, and otherwise those to look at. `ended` says whether the class has
+        ended."""
         return ClassState(title(self.folder), [member.shown(acts) for member in self.members], self.lines, ended)
 
     def goes_on(self) -> bool:
@@ -226,7 +230,9 @@ class Several:
         return any(member.status in (STARTS, RUNS) or member.status == DOWN and can_be_told for member in self.members)
 
     def attend(self) -> int:
-        """Runs the desk until each network has ended. Returns the exit status."""
+        """Runs the desk until each network has ended, or is down and can't be resumed by a line or by the page, or until
+        another process takes the desks. Returns the exit status: the highest of the networks' processes, or FAILED if
+        another process takes the desks."""
         while self.goes_on() and not self.is_left:
             try:
                 self.news.get(timeout=TICK)()
@@ -303,7 +309,8 @@ def words_of(words: argparse.Namespace, index: int) -> list[str]:
 
 
 def members_of(folder: Path, networks: Sequence[Network], words: argparse.Namespace, news: News) -> list[Member]:
-    """Returns the members of the class in a folder. No process is started yet."""
+    """Returns the members of the class in a folder, for which no process is started yet. `words` are the arguments of
+    the class, from which those of each network's run are made. Raises `Fault` if a lab can't be read."""
     found = []
     for index, network in enumerate(networks):
         own = folder / network.name
@@ -341,8 +348,9 @@ def require_ports(words: argparse.Namespace, count: int) -> None:
 
 
 def hold_class(folder: Path, members: list[Member], news: News, words: argparse.Namespace, first: Callable[[Several], None]) -> int:
-    """Runs the desk of a class to its end. Calls `first`, which starts the networks, once the desk is open. Returns the
-    exit status."""
+    """Opens the page and the door of a class if the arguments ask for them, calls `first`, which starts the networks, and
+    then runs the desk of the class to its end. Returns the exit status. Raises `Fault` if the page or the door can't be
+    opened, or if the end of the lesson has passed."""
     typed = words.typed or sys.stdin is not None and sys.stdin.isatty()
     kept = Class.read(folder)
     end = end_of(words.ends, kept.ends if kept else None)
@@ -374,7 +382,7 @@ def with_door(words: argparse.Namespace) -> argparse.Namespace:
 
 def side_by_side(words: argparse.Namespace) -> int:
     """Runs the labs that the arguments name, as the networks of one class. A signal to this process ends all of them.
-    Returns the exit status."""
+    Returns the exit status. Raises `Fault` if the class can't be started, or if nobody could close its steps."""
     typed = words.typed or sys.stdin is not None and sys.stdin.isatty()
     if words.close is not None and words.close.kind == "by-hand" and not typed:
         raise Fault("steps of several labs are closed by time (--close every:SECONDS or when-idle:SECONDS), or by what you type (--typed)")

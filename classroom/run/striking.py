@@ -26,8 +26,8 @@ class Striker:
 
     def strike(self, desk: Desk) -> None:
         """Closes a step if the desk's daemon decides so, after releasing the chosen moves that the close mustn't apply.
-        If nothing has come for SECONDS, prints for whom the class waits, unless steps are closed by hand. If the search
-        of the adversary fails, changes the daemon to when-idle."""
+        If no step is closed and no event has come for SECONDS, prints for whom the class waits, unless steps are closed
+        by hand. If the search of the adversary fails, changes the daemon to when-idle."""
         now = time.monotonic()
         if desk.closing != self.how:
             self.how, self.closed = desk.closing, now
@@ -52,8 +52,8 @@ class Striker:
             desk.announcer.tell_waiting()
 
     def by_clock(self, desk: Desk, now: float) -> None:
-        """Closes a step under a daemon that closes by time, if the time has come. If no move is chosen, the desk prints
-        for whom the class waits."""
+        """Closes a step under a daemon that closes by time, if its time has come at the time `now`. If no move is
+        chosen, the desk prints for whom the class waits."""
         seconds = desk.closing.value
         if now - self.closed >= seconds and not (desk.closing.kind == "when-idle" and now - desk.known.news_came < seconds):
             self.closed = now

@@ -20,8 +20,9 @@ class Left(Exception):
 
 def take_desk(it: Server, teacher: tuple[str, str], typed: Typed, tell: Callable[[str], None], hung: Callable[[], None]) -> Client:
     """Connects to the desk of the server `it`, with the name and key of the teacher, and returns the connection. Tries
-    again for a minute if that fails, and prints once that it does. Raises the last error after the minute, or if the
-    server has ended or the run is to end. Raises `Left` if another process wants the desk."""
+    again for a minute if that fails, and prints once by `tell` that it does. Meanwhile reads `typed`, the queue of
+    typed lines, for signals, and calls `hung` if the terminal was closed. Raises the last `Closed` or `Refused` after
+    the minute, or if the server has ended or the run is to end. Raises `Left` if another process wants the desk."""
     end, is_told = time.monotonic() + PATIENCE, False
     while True:
         try:
@@ -42,7 +43,7 @@ def take_desk(it: Server, teacher: tuple[str, str], typed: Typed, tell: Callable
 
 def greet(it: Server, teacher: tuple[str, str]) -> Client:
     """Returns a connection to the desk after its hello. Uses the connection that was made while the server started, if
-    there is one."""
+    there is one. Raises `Closed` or `Refused` if the server doesn't accept the connection or the hello."""
     first, it.first = it.first, None
     return Client(it.desk, *teacher, connection=first)
 
@@ -53,8 +54,9 @@ def reason_line(error: Closed | Refused) -> str:
 
 
 def wait_for_end(typed: Typed, hung: Callable[[], None]) -> bool:
-    """Waits a moment for a signal. Returns whether a signal came that ends the run. Calls `hung` if the terminal was
-    closed. Raises `Left` if another process wants the desk."""
+    """Waits a moment for a signal among the typed lines. Returns whether a signal came that ends the run. Calls `hung`
+    if the terminal was closed. A typed command that comes meanwhile is dropped. Raises `Left` if another process wants
+    the desk."""
     try:
         word = typed.get(timeout=PAUSE)
     except queue.Empty:

@@ -57,7 +57,8 @@ class Teller:
                 os.dup2(nowhere.fileno(), sys.stdout.fileno())
 
     def keep(self, line: str) -> None:
-        """Appends one or several lines to `run.txt`, each after the hour and minute."""
+        """Appends one or several lines to `run.txt`, each after the hour and minute. Raises `OSError` if the file can't
+        be written."""
         now = time.strftime("%H:%M")
         with self.path.open("a", encoding="utf-8") as it:
             it.writelines(f"{now} {each}\n" for each in line.split("\n"))

@@ -20,8 +20,8 @@ HELP = ", ".join(FORMS.values())
 
 
 def parse_command(line: str) -> list[str]:
-    """Returns the words of a typed line if they are a command of the desk. An empty line is `wait`. Raises `ValueError`
-    with the right form otherwise."""
+    """Returns the words of a typed line. An empty line is the command `wait`. Raises `ValueError`, with the right form,
+    if they aren't a command of the desk."""
     word, *rest = line.split() or ["wait"]
     if word not in FORMS:
         near = difflib.get_close_matches(word, WORDS, 1)
@@ -68,7 +68,7 @@ class Terminal:
         return f"\r\x1b[K{line}{self.prompt}{self.readline.get_line_buffer()}" if self.reads else line
 
     def read(self, put: Callable[[str], None]) -> None:
-        """Calls `put` with each typed line, until the terminal is closed."""
+        """Calls `put` with each typed line, and with EOF for Ctrl-D, until the terminal is closed."""
         while True:
             self.reads = True
             try:

@@ -43,7 +43,7 @@ def named(nodes: Sequence[int]) -> str:
 
 
 def some(texts: Sequence[str], most: int, what: str) -> str:
-    """Returns a text that lists these texts, or the first `most` of them and the number of the others. `what` is what
-    they are called."""
+    """Returns a text that lists these texts, or the first `most` of them and the number of the others. `what` is the
+    noun for one of them, such as `node`."""
     more = len(texts) - most
     return ", ".join(texts[:most]) + (f", and {plural(more, f'more {what}')}" if more > 0 else "")
