@@ -84,8 +84,8 @@ def show(target: str, source: str) -> None:
 
 
 def hide(target: str) -> None:
-    """Covers the file or folder at the path `target` with an empty one. Does nothing if there is none. Raises `OSError`
-    if the system refuses the call."""
+    """Covers the file or folder at the path `target` with an empty one. Does nothing if nothing is at this path. Raises
+    `OSError` if the system refuses the call."""
     if os.path.isdir(target):
         mount("none", target, "tmpfs", READ_ONLY | NO_SETUID | NO_DEVICES, "size=4k")
     elif os.path.exists(target):
@@ -93,7 +93,8 @@ def hide(target: str) -> None:
 
 
 def map_user(user: int, group: int) -> None:
-    """Maps the user and the group with these numbers, and no others, into this process's user namespace."""
+    """Maps the user and the group with these numbers, and no others, into this process's user namespace. Raises
+    `OSError` if the system refuses that."""
     for name, text in (("setgroups", "deny"), ("uid_map", f"{user} {user} 1"), ("gid_map", f"{group} {group} 1")):
         Path(f"/proc/self/{name}").write_text(text, encoding="ascii")
 
@@ -129,7 +130,7 @@ def enter_own_root(world: World, folder: str, megabytes: int) -> None:
 
 def mount_own_processes() -> None:
     """Mounts /proc, so that it lists only the processes of this namespace. Forbids further namespaces, and makes the
-    settings of the kernel read-only."""
+    settings of the kernel read-only. Raises the `OSError` of a call that the system refuses."""
     mount("proc", "/proc", "proc", NO_SETUID | NO_DEVICES | NO_PROGRAMS)
     Path("/proc/sys/user/max_user_namespaces").write_text("0", encoding="ascii")
     for name in OF_KERNEL:
@@ -139,8 +140,8 @@ def mount_own_processes() -> None:
 
 
 def pass_listener(port: int, channel: int) -> None:
-    """Listens on a port of this namespace's loopback, and sends the listening socket through the Unix socket with the
-    descriptor `channel`."""
+    """Enables this namespace's loopback, listens there on a port, and sends the listening socket through the Unix socket
+    with the descriptor `channel`. Closes its own descriptors of both sockets. Raises `OSError` if that fails."""
     with socket.socket() as it:
         fcntl.ioctl(it, SET_FLAGS, struct.pack("16sh22x", b"lo", UP))
     with socket.socket(fileno=channel) as its, socket.create_server(("127.0.0.1", port), backlog=32) as listener:
@@ -166,7 +167,8 @@ def enter(world: World, folder: str, megabytes: int, channel: int) -> None:
 
 
 def drop_rights() -> None:
-    """Drops the rights that the first process has in its namespaces, for this process and all that it starts."""
+    """Drops the rights that the first process has in its namespaces, for this process and all that it starts. Raises
+    `OSError` if the system refuses that."""
     for right in range(MOST_RIGHTS):
         LIBC.prctl(DROP_BOUND, right, 0, 0, 0)
     LIBC.prctl(AMBIENT, CLEAR_ALL, 0, 0, 0)

@@ -56,8 +56,8 @@ class Stopped(Exception):
 class Limits:
     """The limits of a bot in a case."""
 
-    seconds: float = 20.0
-    megabytes: int = 512
+    seconds: float = 20.0  # the processor time of the bot, and the most time of each wait for it
+    megabytes: int = 512  # the memory of the bot and all processes that it starts
     own_rule: bool = False  # whether no look shows it the enabled rule
 
 
@@ -75,8 +75,9 @@ class Attempt:
     """One bot in one case, with the class that it plays in."""
 
     def __init__(self, bot: Bot, case: Case, limits: Limits, room: Surroundings, stop: threading.Event) -> None:
-        """Opens the class of the case, and writes the bot's slip. Doesn't start the bot. `stop` is set by an
-        interrupt."""
+        """Opens the class of the case, and writes the bot's slip into the folder of `room`, unless the bot is kept
+        apart. Doesn't start the bot. `stop` is set by an interrupt. Raises `OSError` if the slip can't be written, and
+        `Fault` if the class can't be opened."""
         self.bot, self.case, self.limits, self.room, self.stop = bot, case, limits, room, stop
         self.playing = Playing(case.made, [case.who], case.daemon, case.name(), own_rule=limits.own_rule)
         self.playing.relay.piece = case.piece
@@ -215,7 +216,8 @@ class Attempt:
 
     def write_evidence(self, folder: Path) -> None:
         """Makes a folder, and writes into it the lab, the script that repeats the run, the conversation, the bot's
-        output and the page of the run."""
+        output and, if the script can be repeated, the page of the run. Raises `OSError` if the folder exists or can't
+        be written."""
         folder.mkdir(parents=True)
         self.playing.write(folder)
         (folder / "output.txt").write_bytes(os.pread(self.room.output.fileno(), MOST_KEPT, 0))

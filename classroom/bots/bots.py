@@ -43,9 +43,9 @@ class Bot:
 
     @staticmethod
     def of(word: str) -> Bot:
-        """Returns the bot of a command, which is split as a shell does it. The command's first word may also be a file
-        in this folder. A single file that ends in .py, .java or .js, and that can't be run directly, is run by Python,
-        Java or Node. If the command can't be run, the bot's `fault` says why."""
+        """Returns the bot of the command `word`, which is split as a shell does it. The command's first word may also
+        be a file in the working directory. A single file that ends in .py, .java or .js, and that can't be run
+        directly, is run by Python, Java or Node. If the command can't be run, the bot's `fault` says why."""
         try:
             words = shlex.split(word)
         except ValueError as error:
@@ -68,8 +68,8 @@ class Bot:
 
 
 def runs_itself(file: Path) -> bool:
-    """Returns whether a file can be run directly: it is executable, and if its name is that of a source, it begins
-    with `#!` or can't be read."""
+    """Returns whether a file can be run directly: it is executable, and if its name ends in .py, .java or .js, it
+    begins with `#!` or can't be read."""
     if not os.access(file, os.X_OK):
         return False
     if file.suffix not in RUN_BY or not os.access(file, os.R_OK):

@@ -1,7 +1,7 @@
 """The chart of an experiment: moves, closes and rounds by number of nodes, together with the proved bounds.
 
 A *row* is the result of one run. A *panel* shows the rows of one family of networks under one daemon, the part of a run
-that decides which nodes move.
+that decides which nodes move. A *theme* is `colours.LIGHT` or `colours.DARK`: the colours of a light or a dark page.
 """
 from __future__ import annotations
 
@@ -69,8 +69,8 @@ def tick_distance(high: int, parts: int = 5) -> int:
 
 
 def line(points: Sequence[tuple[float, float]], kind: str, colour: str = "", theme: str = colours.LIGHT) -> str:
-    """Returns the SVG path through some points. A single point becomes a short line. `kind` is its CSS class, and
-    `colour` the name of its colour in the theme."""
+    """Returns the SVG path through some points. A single point becomes a short line. `kind` is the path's CSS class,
+    and `colour` the name of its colour in the theme, or empty if the CSS class has one."""
     if len(points) == 1:
         points = [(points[0][0] - 8, points[0][1]), (points[0][0] + 8, points[0][1])]
     path = " ".join(f"{'M' if index == 0 else 'L'}{x:.1f} {y:.1f}" for index, (x, y) in enumerate(points))
@@ -93,7 +93,8 @@ def axes(scale: Scale) -> list[str]:
 
 
 def panel(title: str, rows: list[Row], theme: str) -> str:
-    """Returns the SVG drawing of a panel: the bounds, and for each measure all runs, their maximum and their median."""
+    """Returns the SVG drawing of a panel: the bounds, and for each of moves, closes and rounds the counts of all runs,
+    their maximum and their median."""
     sizes = sorted({row.nodes for row in rows})
     links = {size: max(row.links for row in rows if row.nodes == size) for size in sizes}
     most = {size: bounds.of(size, links[size]) for size in sizes}

@@ -133,6 +133,7 @@ class Conduct:
         self.wrong = self.wrong or why
 
     def is_flooding(self, nodes: int) -> bool:
-        """Returns whether the last FLOOD lines came almost without pauses. A correct bot pauses after it has looked at
-        all its nodes. So one pause is enough for each four lines per node, and four more."""
+        """Returns whether the last FLOOD lines of a bot with so many nodes came almost without pauses. A correct bot
+        pauses after it has looked at all its nodes. So one pause is enough for 4 * nodes + 4 lines. With fewer lines
+        than FLOOD, returns false."""
         return len(self.pauses) == FLOOD and sum(self.pauses) * (4 * nodes + 4) < FLOOD

@@ -44,8 +44,9 @@ Key = tuple[str, int, str, str, int]
 
 
 def sizes(word: str) -> range:
-    """Returns the numbers of nodes in an argument: `A..B`, `A..B/STEP`, or one number. If the programs aren't built yet,
-    `settings` compares the greatest with the limit."""
+    """Returns the numbers of nodes in an argument: `A..B`, `A..B/STEP`, or one number. Raises `ArgumentTypeError` for
+    any other text, and for a number above the limit of nodes. If the programs aren't built yet, the limit isn't known,
+    and `settings` checks it."""
     found, known = re.fullmatch(r"(\d+)(?:\.\.(\d+))?(?:/(\d+))?", word), limits.known()
     least, most = (int(found[1]), int(found[2] or found[1])) if found else (0, 0)
     if not found or not 1 <= least <= most <= (known.nodes if known else most) or found[3] == "0":
@@ -98,13 +99,14 @@ def settings(words: argparse.Namespace) -> list[Setting]:
 
 
 def links_of(nodes: int) -> int:
-    """Returns the number of links of a random network: three for two nodes, but at least those of a tree, and at
-    most all."""
+    """Returns the number of links of a random network with so many nodes: three for each two nodes, but at least those
+    of a tree, and at most all that are possible."""
     return max(nodes - 1, min(3 * nodes // 2, nodes * (nodes - 1) // 2))
 
 
 def row_of(words: dict[str, str]) -> Row:
-    """Returns the row with the texts of these cells, by the names of their columns."""
+    """Returns the row whose cells have these texts, by the names of their columns. Raises `KeyError` if a column is
+    missing, and `ValueError` or `TypeError` if a number isn't one."""
     numbers = {name: int(words[name]) for name in ("nodes", "links", "seed", "moves", "closes", "rounds")}
     return Row(family=words["family"], daemon=words["daemon"], start=words["start"], stable=words["stable"] == "true", **numbers)
 
@@ -147,8 +149,8 @@ def follow_parent() -> None:
 
 def measure(tasks: list[tuple[Setting, list[int]]], at_once: int) -> Iterator[tuple[Row, bytes]]:
     """Measures the runs of all tasks in `at_once` processes. A task is a setting and the seeds of its runs. Yields each
-    row as its task ends, with the run's script if the run exceeds a bound. Kills the processes if the caller stops
-    early."""
+    row as its task ends, with the run's script if the run exceeds a bound, and otherwise with no bytes. Kills the
+    processes if the caller stops early. Raises the `Fault` of a task that fails."""
     context = multiprocessing.get_context("fork")
     with concurrent.futures.ProcessPoolExecutor(at_once, context, follow_parent) as pool:
         going = [pool.submit(runs, *task) for task in tasks]
@@ -242,9 +244,9 @@ def write_sorted(path: Path, rows: list[Row]) -> None:
 
 
 def merge(words: argparse.Namespace, asked: set[Key]) -> int:
-    """Joins the table with those that `--merge` names, prints the result and draws the chart. `asked` identifies the
-    runs of the arguments. Returns the exit status. Raises `Fault` if two tables have different numbers of the same
-    run."""
+    """Joins the table with those that `--merge` names, writes the joined table, prints the result and draws the chart.
+    `asked` identifies the runs of the arguments. Returns the exit status. Raises `Fault` if a file is missing or isn't
+    a table, if two tables have different numbers of the same run, or if a file can't be written."""
     rows: dict[Key, Row] = {key(row): row for row in read_rows(Path(words.csv))}
     for file in map(Path, words.merge):
         if not file.exists():
@@ -272,8 +274,8 @@ def missing(every: list[Setting], seeds: range, done: set[Key]) -> list[tuple[Se
 
 def print_results(own: list[Row], asked: int, words: argparse.Namespace, broken: list[Path]) -> None:
     """Prints the text of the rows `own`, and whether all runs are within the proved bounds. Draws the chart if the
-    arguments ask for one. `asked` is the number of runs in all, and `broken` has the folders of runs that exceed a
-    bound."""
+    arguments ask for one. `asked` is the number of runs in all. `broken` has for each run that exceeds a bound its
+    folder, or after a merge its line of the table. Raises `Fault` if the chart can't be written."""
     if own:
         print(table(own))
     print(f"WARNING: {len(broken)} runs exceed a proved bound, which is an error of the program: please report it. "
@@ -287,7 +289,7 @@ def print_results(own: list[Row], asked: int, words: argparse.Namespace, broken:
 
 @contextlib.contextmanager
 def naming_file(file: str, remedy: str) -> Iterator[None]:
-    """Turns an `OSError` into a fault that names the file and a remedy."""
+    """Turns an `OSError` in the `with` block into a `Fault` that names the file and the remedy."""
     try:
         yield
     except OSError as error:
@@ -295,8 +297,9 @@ def naming_file(file: str, remedy: str) -> Iterator[None]:
 
 
 def experiment(words: argparse.Namespace) -> int:
-    """Measures the runs that the table lacks, prints the results of all runs, and draws the chart. Returns the exit
-    status."""
+    """Measures the runs that the table lacks, prints the results of all runs, and draws the chart; or joins tables if
+    the arguments have `--merge`. Returns the exit status. Raises `Fault` if the arguments can't be used, or if a file
+    can't be read or written."""
     answerer()
     every, path = settings(words), Path(words.csv)
     seeds = range(words.seed, words.seed + words.runs)

@@ -40,12 +40,12 @@ class Plan:
     """A program with its limits. With 0 seconds of processor time only its memory is limited, as for a student's own
     program at home."""
 
-    words: list[str]
-    folder: str
-    megabytes: int
-    seconds: int
+    words: list[str]  # the command
+    folder: str  # the program's folder
+    megabytes: int  # the most memory of all its processes
+    seconds: int  # the most processor time
     channel: int = -1  # the descriptor of the socket through which the listener in its namespaces is sent
-    world: apart.World | None = None
+    world: apart.World | None = None  # what the program sees in its namespaces, if it has its own
 
     @staticmethod
     def read() -> Plan:
@@ -161,7 +161,7 @@ class Watch:
 
     def memory(self, every: set[int]) -> int:
         """Returns the memory in bytes that these processes use, with shared memory and files that exist only in
-        memory."""
+        memory. If the plan has no seconds, counts only their resident memory."""
         if not self.plan.seconds:
             return sum(map(resident, every))
         own = os.stat("/").st_dev if self.plan.world else -1  # the device of the own root, whose files count as files and not as memory

@@ -31,7 +31,7 @@ class Setting:
     family: str
     nodes: int
     daemon: Daemon
-    start: str
+    start: str  # the kind of the registers at the beginning, one of `networks.STARTS`
 
 
 @dataclass(frozen=True)
@@ -57,7 +57,8 @@ class Row:
 
 def drawn(setting: Setting, seed: int) -> labs.Lab:
     """Returns a lab with the network and the registers at the beginning of a run. They depend on the family, size,
-    start and seed, but not on the daemon."""
+    start and seed, but not on the daemon. Raises `Fault` if there is no such family, or if it has no network of this
+    size."""
     chance = random.Random(f"{setting.family} {setting.nodes} {setting.start} {seed}")
     count = None if setting.family.startswith(SIZED) else setting.nodes
     nodes, links = networks.family(setting.family, count, 0, chance)
@@ -76,7 +77,8 @@ def partner_chooser(how: Daemon, chance: random.Random) -> Callable[[Sequence[in
 
 def run(bench: Bench, setting: Setting, made: labs.Lab, seed: int) -> Row:
     """Runs the network of `made` until it is stable, or until there are more moves than the proved bound. Returns the
-    row with the run's counts."""
+    row with the run's counts. Raises `Denied`, `Refused` or `Fault` if the proved program denies or refuses a request,
+    or ends."""
     named = f"{setting.family} {setting.nodes} {setting.start} {seed} {setting.daemon.spelled()}"
     chance = random.Random(named)
     partner_of = partner_chooser(setting.daemon, chance)

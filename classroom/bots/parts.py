@@ -44,7 +44,7 @@ def add_words(words: argparse.ArgumentParser, what: str, files: str) -> None:
 
 
 def of(every: Sequence[Each], which: Part | None) -> list[Each]:
-    """Returns the items of a part: each N-th one from the K-th on. Returns all items if there is no part."""
+    """Returns the items of the part `which`: each N-th one from the K-th on. Returns all items if it is None."""
     return list(every) if which is None else list(every[which[0] - 1::which[1]])
 
 
@@ -74,7 +74,8 @@ def joined(files: Iterable[Path], order: Sequence[Case]) -> tuple[list[Result], 
 
 def merged(words: argparse.Namespace, order: Sequence[Case]) -> int:
     """Joins the results in the files that `--merge` names, and writes and prints them. `order` has all cases of the
-    grade. Returns the exit status."""
+    grade. Returns the exit status. Raises `Fault` if a file can't be read or written, or if the files contradict each
+    other or the cases."""
     results, missing = joined(map(Path, words.merge), order)
     for form in graded.FORMS:
         if getattr(words, form):

@@ -192,8 +192,8 @@ class Playing:
             self.house_move(node)
 
     def hide_rule(self, who: str, reply: bytes, told: dict[str, Any]) -> bytes:
-        """Returns the bytes of a reply as the program gets them. With `own_rule`, the enabled rule in a look is
-        replaced by null, and this is counted."""
+        """Returns the bytes of a reply as the program of the student `who` gets them. With `own_rule`, the enabled rule
+        in a look is replaced by null, and this is counted. `told` has the values of the reply."""
         if not self.own_rule or told.get("ok") != "look" or told["rule"] is None:
             return reply
         self.heard[who].conduct.rules_hidden += 1
@@ -205,8 +205,9 @@ class Playing:
             self.conversation += [f"{connection} > {line.decode(errors='backslashreplace')}", f"{connection} < {reply.decode() or '(lost)'}"]
 
     def record_line(self, who: str, asked: dict[str, Any], sent: bytes, told: dict[str, Any]) -> None:
-        """Counts a line of a student's program by its reply. Calls `on_no` if the line wasn't granted. `sent` is the
-        line with its connection's number before it."""
+        """Counts a line of the program of the student `who` by its reply. Calls `on_no` if the line was denied or
+        refused. `asked` has the line's values, `sent` is the line after its connection's number, and `told` has the
+        reply's values."""
         heard, line = self.heard[who], sent.partition(b" ")[2]
         self.note_row(who, sent, told)
         heard.lines += 1
@@ -229,8 +230,9 @@ class Playing:
             self.on_no(NotGranted(who, told["refuse"], f"{text}: {line[:SHOWN_LINE].decode(errors='backslashreplace')}", kind, sent))
 
     def note_row(self, who: str, sent: bytes, told: dict[str, Any]) -> None:
-        """Appends a row about a line to `rows` if it asked for a move or wasn't granted. The rows are shown on the
-        programs' own pages."""
+        """Appends a row about a line to `rows` if a move was granted to it, or if it was denied or refused. Appends
+        nothing once there are KEPT_ROWS rows. The rows are shown on the programs' own pages. `sent` is the line after
+        its connection's number, and `told` has the reply's values."""
         if told.get("ok") not in ("move", None) or len(self.rows) >= KEPT_ROWS:
             return
         connection, _, line = sent.partition(b" ")
@@ -244,7 +246,8 @@ class Playing:
         return [row for row, owner in zip(self.rows, self.owners) if owner == who]
 
     def explain_denial(self, asked: dict[str, Any], told: dict[str, Any]) -> str:
-        """Returns a text about a denial: its clause, the node's registers, and the rule that would be granted there."""
+        """Returns a text about a denial: its clause, and, unless the node isn't the asker's or the number was old, the
+        node's registers and the rule that would be granted there."""
         what = " ".join(str(asked[key]) for key in ("do", "node", "rule", "with") if key in asked)
         text = f"{what} is denied as {told['deny']}, clause {told['clause']}: {told['text']}"
         if "at" in told:
@@ -331,13 +334,13 @@ class Playing:
         self.news = time.monotonic()
 
     def release(self, node: int) -> None:
-        """Takes a chosen move back without a close."""
+        """Takes the chosen move of a node back without a close."""
         self.program.ask(TEACHER, do="release", node=node)
         self.chosen.pop(node)
 
     def next_configuration(self) -> None:
-        """Makes a new configuration: closes a step with all chosen moves. If there are none, sets a node's registers to
-        their present values."""
+        """Makes a new configuration: closes a step with all chosen moves. If no move is chosen, sets a node's registers
+        to their present values by a fault."""
         if self.chosen:
             return self.close(list(self.chosen))
         node = next((each for each in self.lab.nodes if not set(each.owners) & set(self.programs)), self.lab.nodes[0])
@@ -379,7 +382,7 @@ class Playing:
 
     def house_move(self, node: int) -> None:
         """Asks for the enabled rule at a node that the house plays. Does nothing if no rule is enabled, or if a move is
-        chosen there."""
+        chosen there. A denial is ignored."""
         name = self.house_owner(node)
         assert name is not None
         self.program.greet(HOUSE, name)
@@ -426,7 +429,8 @@ class Playing:
                          for node, rule in self.report["privileged"] if node not in self.chosen)
 
     def write(self, folder: Path) -> None:
-        """Writes the lab, the script that repeats the run, and the conversation into files of a folder."""
+        """Writes the lab, the script that repeats the run, and the conversation into the files `lab.toml`, `script` and
+        `conversation.txt` of a folder. Raises `OSError` if that fails."""
         (folder / "lab.toml").write_text(labs.text(self.lab), encoding="utf-8")
         (folder / "script").write_bytes(self.program.script())
         (folder / "conversation.txt").write_text("".join(f"{line}\n" for line in self.conversation), encoding="utf-8")

@@ -100,8 +100,9 @@ def made(words: argparse.Namespace, names: list[str]) -> labs.Lab:
 
 
 def opened(lab: labs.Lab, names: list[str], words: argparse.Namespace) -> Playing:
-    """Returns the class of a lab. Its port is that of the arguments or the next free one. If a bot but no port is
-    given, the port is any free one."""
+    """Returns the class of a lab, in which programs play the students in `names`. Its port is that of the arguments or
+    the next free one. If the arguments have a bot but no port, the port is any free one. Raises `Fault` if no port is
+    free."""
     def at(port: int) -> Playing | None:
         """Returns the class at that port, or None if the port is taken."""
         try:
@@ -120,13 +121,13 @@ class Practice:
 
     playing: Playing
     tell: Callable[[str], None]
-    timeout: float | None
-    kept: list[tuple[str, RunningBot]] = field(default_factory=list)
-    told: str = ""
-    told_at: float = float("-inf")
-    stop: bool = False
+    timeout: float | None  # seconds without an event after which the class is given up; None is no limit
+    kept: list[tuple[str, RunningBot]] = field(default_factory=list)  # the running bots, each after its student's name
+    told: str = ""  # the last line about whom the class waits for
+    told_at: float = float("-inf")  # when it was printed
+    stop: bool = False  # whether an interrupt came
     times: Counter[tuple[str, str]] = field(default_factory=Counter)  # how many lines of a student and a kind weren't granted
-    floods: set[str] = field(default_factory=set)
+    floods: set[str] = field(default_factory=set)  # the students whose programs sent lines without a pause
 
     def __post_init__(self) -> None:
         """Begins to count the moves and rounds, and to listen to the events of the class."""
@@ -173,13 +174,14 @@ class Practice:
         return text + f"; {heard.conduct.wrong}" * bool(heard.conduct.wrong)
 
     def explain_silence(self) -> str:
-        """Returns why no lines come from the programs, as far as that is known."""
+        """Returns for each program a semicolon, its student's name and why no lines come from it, as far as that is
+        known."""
         hints = {name: self.playing.explain_silence(name).removeprefix("; ") for name in self.playing.programs}
         return "".join(f"; {name}: {hint}" for name, hint in hints.items() if hint)
 
     def run(self) -> bool:
-        """Runs the class until it is stable, until nothing happens for the time limit, or until it is interrupted.
-        Returns whether it is stable."""
+        """Runs the class until it is stable, until nothing happens for the time limit, until no bot is left that could
+        move, or until it is interrupted. Returns whether it is stable."""
         playing, news = self.playing, self.playing.news
         while not playing.is_stable() and not self.stop:
             self.turn()
@@ -206,8 +208,8 @@ class Practice:
 
 
 def write_run(playing: Playing, folder: Path, tell: Callable[[str], None]) -> None:
-    """Writes the files of the run and a page for each program into the folder, and prints their paths. Raises `Fault`
-    if the page can't be made."""
+    """Writes the files of the run and a page for each program into the folder, and prints their paths by `tell`. Raises
+    `Fault` if the page can't be made, and `OSError` if a file can't be written."""
     playing.write(folder)
     answer = call("script", folder / "lab.toml", folder / "script", folder / "journal")
     if answer.status != 0:
@@ -246,7 +248,8 @@ def open_private(path: str, flags: int) -> int:
 
 
 def play(it: ClassWithPrograms, bots: list[Bot], words: argparse.Namespace, folder: Path) -> int:
-    """Starts the bots, and runs the class to its end. The files of the run are in `folder`. Returns the exit status."""
+    """Starts the bots, and runs the class to its end. The files of the run are in `folder`. Returns the exit status.
+    Raises `OSError` or `Fault` if a file can't be written, and `Fault` if a bot can't be started."""
     lab, names, tell = it.playing.lab, it.playing.programs, Teller(folder)
     practice = Practice(it.playing, tell, words.timeout if bots else None)
     for number in (signal.SIGINT, signal.SIGTERM, signal.SIGHUP):

@@ -22,7 +22,8 @@ APART = "=:,"  # the letters that separate paths in a word of a command
 
 
 def link_steps(path: Path) -> list[Path]:
-    """Returns a path, the target of its link, the target of that link, and so on."""
+    """Returns a path, the target of its link, the target of that link, and so on, and the path without any links in
+    it."""
     found: list[Path] = []
     while path not in found:
         found.append(path)

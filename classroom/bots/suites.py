@@ -36,8 +36,8 @@ class Plan:
 
     name: str
     family: str
-    nodes: int | None
-    start: str
+    nodes: int | None  # the number of nodes; None if the family's name has it
+    start: str  # the kind of the registers at the beginning, one of `networks.STARTS`
     own: int  # the number of nodes that the bot owns alone
     shared: int = 0  # the number of nodes that the bot shares with the house
     troubles: tuple[str, ...] = ()
@@ -51,13 +51,13 @@ class Plan:
 class Case:
     """A lab whose student `who` is played by the bot, with a daemon and the troubles during the run."""
 
-    lab: str
+    lab: str  # the name of the lab
     made: labs.Lab
     who: str
     daemon: Daemon
     seed: int
     troubles: tuple[str, ...]
-    piece: int = 0
+    piece: int = 0  # the most bytes of a reply that come at once; 0 is no limit
 
     def name(self) -> str:
         """Returns the text that identifies the case: its lab, daemon and seed. The text is also the seed of the case's

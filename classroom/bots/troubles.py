@@ -53,8 +53,9 @@ def run(attempt: Attempt) -> None:
 
 
 def check_rest(attempt: Attempt, seconds: float) -> None:
-    """Runs the stable class for so many seconds, and checks that the bot asks for nothing. Accepts one move for each of
-    its nodes, because it may follow from an earlier look. Raises `Fails` if the bot asks for more."""
+    """Runs the stable class for so many seconds, and checks that the bot asks for no move. Accepts one move for each of
+    its nodes, because it may follow from an earlier look. Raises `Fails` if the bot asks for more, or if it sends its
+    lines too fast."""
     attempt.run_for(LATE)
     before, lines, since = attempt.heard.asked, attempt.heard.lines, time.monotonic()
     attempt.run_for(seconds)
@@ -66,8 +67,8 @@ def check_rest(attempt: Attempt, seconds: float) -> None:
 
 
 def hurt(attempt: Attempt, of: list[int] | None = None) -> int:
-    """Sets the registers of a node so that it is privileged, and returns the node. It is one of those in `of`, or
-    without `of` one that the bot owns alone."""
+    """Sets the registers of a random node so that it is privileged, and returns the node. It is one of those in `of`,
+    or if `of` is None one that the bot owns alone. Raises `Fails` if no registers make one of these privileged."""
     playing, nodes = attempt.playing, attempt.nodes_owned_alone() if of is None else of
     for node in attempt.chance.sample(nodes, len(nodes)):
         look = playing.program.ask(TEACHER, do="look", node=node)
@@ -203,8 +204,8 @@ def drop(attempt: Attempt) -> None:
 
 
 def link_nodes(attempt: Attempt, node: int, other: int) -> None:
-    """Links a node of the bot with another node that isn't its neighbour, which is then the only one that points at
-    it."""
+    """Links a node of the bot with the node `other`, which isn't its neighbour, and sets registers so that `other` is
+    the only node that points at it. The bot has to ask for the marriage."""
     playing = attempt.playing
     playing.is_held = True
     playing.relink("link", node, other)
@@ -218,8 +219,8 @@ def link_nodes(attempt: Attempt, node: int, other: int) -> None:
 
 
 def cut_pair(attempt: Attempt, node: int, other: int) -> None:
-    """Cuts the link between a node of the bot and the node that it is married to, after the bot has looked at its
-    node."""
+    """Sets registers so that a node of the bot is married to its neighbour `other`, waits until the bot has looked at
+    the node, and cuts the link between the two. The bot has to move the node."""
     playing = attempt.playing
     playing.is_held = True
     for each in near_of(attempt, node):
@@ -279,8 +280,8 @@ def taken(attempt: Attempt) -> None:
 
 
 def lost(attempt: Attempt) -> None:
-    """Loses the reply to a granted move of the bot, and stops listening for a moment, like the server of a class that
-    is resumed."""
+    """Loses the reply to a granted move of the bot, closes its connections, and stops listening for GONE seconds, like
+    the server of a class that is resumed. Raises `Fault` if another program has taken the port meanwhile."""
     playing = attempt.playing
     playing.is_held = playing.loses = True
     node, before = hurt(attempt), attempt.heard.greeted
@@ -307,7 +308,8 @@ def lost(attempt: Attempt) -> None:
 
 
 def turned_away(attempt: Attempt) -> None:
-    """Answers the bot's connections with `busy` for TURNED_AWAY seconds."""
+    """Answers the bot's connections with `busy` for TURNED_AWAY seconds, and checks that it doesn't connect too often
+    meanwhile. Then waits for its hello."""
     port, end = attempt.playing.relay, time.monotonic() + attempt.limits.seconds
     while not port.calls:
         if time.monotonic() > end:
@@ -354,8 +356,9 @@ def until_looked(attempt: Attempt, node: int) -> None:
 
 
 def draw_registers(attempt: Attempt, node: int, known: set[tuple[str | None, int, bool]]) -> None:
-    """Draws the registers of a node and its neighbours until the proved program reports a combination of rule and
-    registers that isn't in `known`. Adds it to `known`. Gives up after TRIES draws."""
+    """Draws the registers of a node and its neighbours until their kind isn't in `known`, and adds it there. The kind
+    is the node's enabled rule as the proved program reports it, whether its p is null (0) or a higher (1) or lower (-1)
+    node, and its m. Gives up after TRIES draws."""
     near = networks.neighbours([each.id for each in attempt.case.made.nodes], attempt.case.made.links)
     for _ in range(TRIES):
         for each in (*near[node], node):
