@@ -11,8 +11,8 @@ from client import Client, Closed, Denied, NoSlip, Refused, Slip, again, enter, 
 
 
 def ask(me: Client, nodes: tuple[int, ...], patience: float) -> None:
-    """Looks at each node again and again, and asks for its enabled rule. Returns if nothing was new for `patience`
-    seconds."""
+    """Looks at each node again and again, and asks for its enabled rule. Returns if no new configuration came for
+    `patience` seconds. Raises the denials and refusals after which a bot doesn't go on."""
     newest, since = -1, time.monotonic()
     while time.monotonic() - since < patience:
         for node in nodes:
@@ -30,8 +30,8 @@ def ask(me: Client, nodes: tuple[int, ...], patience: float) -> None:
 
 
 def seconds_of(words: list[str]) -> float:
-    """Returns how long a bot waits for something new, in seconds: the word that may come last among the arguments, or
-    infinity."""
+    """Returns how long a bot waits for a new configuration, in seconds: the only one of these words, or infinity if
+    there is none. Raises `NoSlip` if they are no number of seconds."""
     try:
         seconds = float(words[0]) if words else float("inf")
     except ValueError:
@@ -42,8 +42,8 @@ def seconds_of(words: list[str]) -> float:
 
 
 def play(words: list[str]) -> None:
-    """Plays the nodes that the arguments name. Greets again if the connection is lost: what was granted stays
-    granted."""
+    """Plays the nodes that the arguments name. Greets again if the connection is lost: what was granted stays granted.
+    Raises `NoSlip` if the arguments don't name a slip with nodes."""
     slip, rest = Slip.of(words)
     if not slip.nodes:
         raise NoSlip(f"no nodes in {words[0]}")

@@ -27,7 +27,8 @@ def halves(n: int) -> tuple[list[tuple[int, int]], list[int]]:
 
 
 def lab(links: list[tuple[int, int]], pointers: list[int]) -> str:
-    """Returns the text of a lab with these links and pointers. Each node claims to be married, and none is."""
+    """Returns the text of a lab with these links and pointers. The pointer 0 points at no node. The register m of each
+    node is true, as if the node were married, and none is."""
     text = f'events = 100000\nsessions = 2\nlinks = {[list(link) for link in links]}\nteacher = {{ name = "tess", key = "slate-40" }}\n'
     text += 'student = [{ name = "ana", key = "rook-17" }]\n'
     for node, pointer in enumerate(pointers, 1):
@@ -39,7 +40,8 @@ FAMILIES = {"crowd": (crowd, 4), "comb": (comb, 4), "halves": (halves, 2)}
 
 
 def main(words: list[str]) -> None:
-    """Prints the lab that the arguments name."""
+    """Prints the lab that the arguments name, a family and a number of nodes. Exits with the reason if they name
+    none."""
     if len(words) != 2 or words[0] not in FAMILIES or not words[1].isdecimal():
         sys.exit(__doc__)
     family, least = FAMILIES[words[0]]

@@ -14,7 +14,7 @@ PAUSE = 0.5  # seconds for the students before each close
 
 def owners_of(lab: list[str]) -> dict[int, list[str]]:
     """Returns the owners of each node by the lab's file, which is the first of these arguments. Returns none if there
-    is no argument."""
+    is no argument. Raises `NoSlip` if the file isn't a lab."""
     if not lab:
         return {}
     try:
@@ -25,7 +25,8 @@ def owners_of(lab: list[str]) -> dict[int, list[str]]:
 
 
 def close_steps(me: Client, owners: dict[int, list[str]]) -> None:
-    """Closes steps until no node is privileged. Prints for whom each step waits, by the owners of the nodes."""
+    """Closes a step every PAUSE seconds until no node is privileged. Prints for whom each step waits: the privileged
+    nodes without a chosen move, with their owners."""
     report, told = me.report(), ""
     while not report.stable:
         time.sleep(PAUSE)

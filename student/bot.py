@@ -22,8 +22,8 @@ def rule_of(look: Look) -> Rule | None:
 
 
 def play(me: Client, nodes: tuple[int, ...]) -> None:
-    """Looks at each of the nodes again and again, and asks for the rule that `rule_of` returns. Runs until an error is
-    raised."""
+    """Looks at each of the nodes again and again, and asks for the rule that `rule_of` returns. Runs until the
+    connection is lost, the class is over, or a denial shows a mistake, and then raises that error."""
     while True:
         for node in nodes:
             try:

@@ -193,7 +193,7 @@ class Playing:
 
     def hide_rule(self, who: str, reply: bytes, told: dict[str, Any]) -> bytes:
         """Returns the bytes of a reply as the program of the student `who` gets them. With `own_rule`, the enabled rule
-        in a look is replaced by null, and this is counted. `told` has the values of the reply."""
+        in a look is replaced by null, and this is counted. The last parameter has the values of the reply."""
         if not self.own_rule or told.get("ok") != "look" or told["rule"] is None:
             return reply
         self.heard[who].conduct.rules_hidden += 1
@@ -206,8 +206,8 @@ class Playing:
 
     def record_line(self, who: str, asked: dict[str, Any], sent: bytes, told: dict[str, Any]) -> None:
         """Counts a line of the program of the student `who` by its reply. Calls `on_no` if the line was denied or
-        refused. `asked` has the line's values, `sent` is the line after its connection's number, and `told` has the
-        reply's values."""
+        refused. `asked` has the line's values, `sent` is the line after its connection's number, and the last parameter
+        has the reply's values."""
         heard, line = self.heard[who], sent.partition(b" ")[2]
         self.note_row(who, sent, told)
         heard.lines += 1
@@ -232,7 +232,7 @@ class Playing:
     def note_row(self, who: str, sent: bytes, told: dict[str, Any]) -> None:
         """Appends a row about a line to `rows` if a move was granted to it, or if it was denied or refused. Appends
         nothing once there are KEPT_ROWS rows. The rows are shown on the programs' own pages. `sent` is the line after
-        its connection's number, and `told` has the reply's values."""
+        its connection's number, and the last parameter has the reply's values."""
         if told.get("ok") not in ("move", None) or len(self.rows) >= KEPT_ROWS:
             return
         connection, _, line = sent.partition(b" ")

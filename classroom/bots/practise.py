@@ -208,7 +208,7 @@ class Practice:
 
 
 def write_run(playing: Playing, folder: Path, tell: Callable[[str], None]) -> None:
-    """Writes the files of the run and a page for each program into the folder, and prints their paths by `tell`. Raises
+    """Writes the files of the run and a page for each program into the folder, and prints their paths. Raises
     `Fault` if the page can't be made, and `OSError` if a file can't be written."""
     playing.write(folder)
     answer = call("script", folder / "lab.toml", folder / "script", folder / "journal")

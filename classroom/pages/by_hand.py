@@ -98,7 +98,8 @@ class PlayRequest(PageRequest):
         self.answer(200, "text/html; charset=utf-8", page.encode(), policy)
 
     def do_POST(self) -> None:
-        """Handles a hello or a move. The answer to a hello ends only when the page is closed."""
+        """Handles a hello (`/enter`) or a move (`/move`), whose values are the JSON object in the request's body. The
+        answer to a hello ends only when the page is closed."""
         if self.reject_foreign_host():
             return
         does = {"/enter": self.enter, "/move": self.move}.get(self.path)
@@ -159,7 +160,8 @@ class PlayRequest(PageRequest):
         self.send_row({"ended": last_word(seat)})
 
     def move(self, asked: dict[str, Any]) -> None:
-        """Asks for the move in `asked` on the connection of the page's seat, and answers with the reply."""
+        """Asks for the move in `asked` on the connection of the page's seat, and answers with the reply, or with the
+        reason if there is no such seat or the request isn't one for a move."""
         seat = self.server.seat(asked.get("token"))
         if seat is None:
             return self.answer_json(404, told="this page has lost its seat: come in again")

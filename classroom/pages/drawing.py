@@ -97,8 +97,9 @@ class Drawing:
         return min(1.0, FAINT_ABOVE * len(self.lab.nodes) / max(links, 1))
 
     def rows(self, name: str, thick: float, drawn: list[tuple[int, str]], opacity: float = 1.0) -> list[str]:
-        """Returns a group with the class `name` as SVG, with one path for each node. `drawn` has the lines, each with
-        the lower of its ends, to whose path it belongs. So few paths change from one state to the next."""
+        """Returns a group with the CSS class `name` as SVG, with one path for each node. `drawn` has the lines, each
+        after the node to whose path it belongs, and `thick` is their width. So few paths change from one state to the
+        next."""
         lines: dict[int, list[str]] = {node.id: [] for node in self.lab.nodes}
         for node, line in drawn:
             lines[node].append(line)
@@ -137,8 +138,8 @@ class Drawing:
         return f"M{at(start, along, near)}L{at(start, along, far)}"
 
     def node(self, node: int, owners: list[str], state: State, event: Event | None) -> str:
-        """Returns the SVG element of a node: its values, its disc, its label and its rule. If `event` has changed the
-        node, this is marked."""
+        """Returns the SVG element of a node: its values, its disc, its label and its rule. If `event` is a fault, link
+        or cut at the node, the element has the class `hit`."""
         (x, y), sizes = self.points[node], self.measures
         pointer, rule = state.pointers[node], state.privileged.get(node, "")
         chosen, m = state.chosen.get(node, ""), true_or_false(state.ms[node])
@@ -165,8 +166,8 @@ class Drawing:
                 f' font-size="{self.view.form.size:g}">{escape(label.text)}</text>']
 
     def pill(self, node: int, rule: str, chosen: str) -> str:
-        """Returns the SVG element of a node's rule in a frame. `chosen` is the rule of its chosen move, which is shown
-        with a tick."""
+        """Returns the SVG element of a node's rule in a frame. `rule` is its enabled rule, and `chosen` the rule of its
+        chosen move, which is shown instead, with a tick. Each is empty if there is none."""
         form, word = self.view.form, chosen or rule
         width, high = form.pill_width(word, bool(chosen)), self.measures["pillHigh"]
         x, y = self.view.pill_at(node, width)
@@ -224,7 +225,8 @@ def married(node: int, state: State) -> bool:
 
 
 def describe_node(node: int, owners: list[str], pointer: int | None, m: bool, partner: int | None, rule: str, chosen: str) -> str:
-    """Returns the description of a node with these values, in words. The page's script produces the same text."""
+    """Returns the description of a node with these values, in words. `rule` is its enabled rule and `chosen` the rule
+    of its chosen move, or empty if there is none. The page's script produces the same text."""
     return ", ".join([
         f"node {node} of {' and '.join(owners)}", f"p {'null' if pointer is None else pointer}", f"m {true_or_false(m)}",
         *([f"married to {partner}"] if partner is not None else []), *([f"privileged: {rule}"] if rule else []),
@@ -244,7 +246,7 @@ def at(start: Point, along: Point, far: float) -> str:
 
 
 def path(name: str, drawn: str, thick: float) -> str:
-    """Returns a path element with a class, its path data, and its line width."""
+    """Returns a path element with the CSS class `name`, the path data `drawn` and the line width `thick`."""
     return f'<path class="{name}" stroke-width="{thick:g}" d="{drawn}"/>'
 
 

@@ -14,7 +14,7 @@ from classroom.core.journal import Event
 from classroom.core.program import Fault, call
 from classroom.pages.replay import REPORT, Replay, Script, Take, look
 
-OpenLink = tuple[int, int, int, str]
+OpenLink = tuple[int, int, int, str]  # a link between nodes without a partner: its ends, a node near it that can move, and that node's rule
 
 
 @dataclass
@@ -22,16 +22,16 @@ class State:
     """The state of the run at a place: registers, chosen moves, and the values of the report."""
 
     place: int
-    number: int
+    number: int  # the number of the configuration
     links: frozenset[tuple[int, int]]
-    pointers: dict[int, int | None] = field(default_factory=dict)
-    ms: dict[int, bool] = field(default_factory=dict)
-    chosen: dict[int, str] = field(default_factory=dict)
-    privileged: dict[int, str] = field(default_factory=dict)
+    pointers: dict[int, int | None] = field(default_factory=dict)  # the register p of each node
+    ms: dict[int, bool] = field(default_factory=dict)  # the register m of each node
+    chosen: dict[int, str] = field(default_factory=dict)  # the rule of each node that has a chosen move
+    privileged: dict[int, str] = field(default_factory=dict)  # the rule that is enabled at each privileged node
     pairs: list[tuple[int, int]] = field(default_factory=list)
     open: list[OpenLink] = field(default_factory=list)
     stable: bool = False
-    moves: int = 0
+    moves: int = 0  # moves since the beginning
     since: int = 0  # moves since the last fault, link or cut
 
     def copy(self) -> State:
@@ -65,7 +65,8 @@ class Looking(Replay):
 
     def ask(self, script: Script, event: Event | None, named: set[int]) -> None:
         """Asks for a look at each node that an event may have changed, and for the report if the event made a
-        configuration. The last reply completes the frame."""
+        configuration. The last reply completes the frame. Without an event, asks for all nodes and the report. `named`
+        has the nodes of the events since the last configuration."""
         if event is None or event.makes_configuration:
             for node in sorted(named if event else self.registers):
                 script.ask(look(node), self.take_look)
@@ -94,8 +95,8 @@ class Looking(Replay):
             state.chosen[node] = reply["chosen"]
 
     def take_report(self, reply: dict[str, Any]) -> None:
-        """Copies the values of a report into the state. The report's number counts from the beginning of a part of the
-        replay, which is added."""
+        """Copies the values of a report into the state. A report's number counts from the beginning of the replay's
+        present part, so the number at that beginning is added."""
         state = self.state
         state.number = reply["at"] + self.number
         state.privileged = {node: rule for node, rule in reply["privileged"]}

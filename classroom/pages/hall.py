@@ -69,7 +69,8 @@ class Hall(TwoAddresses):
             return self.version, self.ended
 
     def stop(self, looks: ClassState, acts: ClassState) -> None:
-        """Shows the last states at the two addresses, waits until all pages have them, and closes the port."""
+        """Shows `looks` and `acts`, the last states for the two addresses, waits at most LAST_WORD seconds until all
+        pages have them, and closes the port."""
         self.ended = True
         self.show(looks, acts)
         with self.turn:
@@ -131,8 +132,8 @@ def view(folder: Path, lab: Lab) -> dict[str, Any]:
 
 
 def hall_page(title: str, state: str, views: Views, acts: bool) -> tuple[str, str]:
-    """Returns the text of the page, and the content policy that allows only the page's own style and script. `acts`
-    says whether the teacher can act on it."""
+    """Returns the text of the page, and the content policy that allows only the page's own style and script. `state`
+    is the state of the class as `text` returns it, and `acts` says whether the teacher can act on the page."""
     drawn = data_element(json.dumps(views, separators=(",", ":"))).replace('id="data"', 'id="views"', 1)
     parts = {"TITLE": title, "DATA": data_element(state) + drawn, "ACTS": "acts" if acts else "looks"}
     return assembled("hall", parts, "", ("drawing.css", "hall.css"), ("hall.js",))
@@ -140,8 +141,9 @@ def hall_page(title: str, state: str, views: Views, acts: bool) -> tuple[str, st
 
 def opened(port: int, title: str, act: Callable[[str], None], state: ClassState, looks: str | None = None,
            views: Callable[[], Views] = list) -> Hall:
-    """Returns the server of the page, which listens at a port or the next free one and answers from now on. `looks` is
-    the token of the address to look at if the class continues. Raises `Fault` if no port is free."""
+    """Returns the server of the page, which listens at a port or the next free one and answers from now on. `act`
+    handles a line of the teacher, `state` is the first state that is shown, `looks` is the token of the address to look
+    at if the class continues, and `views` returns the positions of the nodes. Raises `Fault` if no port is free."""
     it = web_opened(port, lambda number: Hall(number, title, act, state, looks, views))
     it.open()
     return it

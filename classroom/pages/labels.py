@@ -35,7 +35,7 @@ FULL = "✓ "  # the sign before the rule of a chosen move
 
 
 def text_width(text: str, size: float, bold: bool = False) -> float:
-    """Returns an upper estimate of the width of a text."""
+    """Returns an upper estimate of the width of a text in letters of this size."""
     return size * sum(map(letter_width, text)) * (BOLD if bold else 1.0)
 
 
@@ -212,7 +212,8 @@ def framed(middle: Point, corner: Point, radius: float) -> Box:
 
 
 def pads(kind: str, field: Field, form: Form, owners: dict[int, list[str]]) -> Pads:
-    """Returns the margins that labels of this form need at the edges of a field, in a layout of this kind of shape."""
+    """Returns the margins that labels of this form need at the edges of a field, in a layout of a shape of this kind.
+    `owners` has the owners of each node, whose names are in the labels."""
     most = field.most_radius
     if not form.letters:
         return Pads(1.7 * most, 1.9 * most, 1.7 * most, 1.5 * most)

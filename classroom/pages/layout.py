@@ -23,7 +23,7 @@ class Field:
 
     width: float
     height: float
-    share: float = MOST_RADIUS
+    share: float = MOST_RADIUS  # the largest radius of a node, as a share of the height
 
     @property
     def most_radius(self) -> float:

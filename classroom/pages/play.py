@@ -34,8 +34,9 @@ def places(word: str) -> list[int]:
 
 
 def picture(lab_file: Path, journal: Path, asked: list[int], theme: str = LIGHT) -> str:
-    """Returns the text of an SVG file with the configurations at these places: one alone, or several in rows. Raises
-    `Fault` if the run has no such place."""
+    """Returns the text of an SVG file with the configurations at the places in `asked`: one alone, or several in rows.
+    `theme` names the colours, `light` or `dark`. Raises `Fault` if the run has no such place, or if the audit refuses
+    the journal."""
     kept_layout.load(lab_file.parent)
     lab, frames = frames_of(lab_file, journal)
     first = next(frames)

@@ -29,7 +29,7 @@ class Pages(TwoAddresses):
 
     def __init__(self, port: int, title: str, lab: Lab, typed: queue.SimpleQueue[str], looks: str | None = None) -> None:
         """Listens at the port, but doesn't answer before `show`. Lines of the teacher are put into `typed`, and `looks`
-        is the token of the address to look at, if it has one already."""
+        is the token of the address to look at, if it has one already. Raises `OSError` if the port is taken."""
         super().__init__(port, Page, title, looks)
         self.lab, self.typed = lab, typed
         self.drawing = drawing_of(lab.without_house(), lab.links)
@@ -48,7 +48,8 @@ class Pages(TwoAddresses):
         self.open()
 
     def stop(self) -> None:
-        """Informs all open pages that the run is over, waits until they have received that, and closes the port."""
+        """Informs all open pages that the run is over, waits at most LAST_WORD seconds until they have received that,
+        and closes the port."""
         if self.present is not None:
             self.present.put(ended=True)
         self.close_after(LAST_WORD)
@@ -94,7 +95,7 @@ class Page(AtAddress):
 
 def message(rows: Frames, present: Present, before: Now | None, now: Now) -> dict[str, Any]:
     """Returns the values of the message that brings a page from the snapshot `before`, or from nothing, to `now`.
-    `rows` has what was sent to that page."""
+    `rows` has the links and the state that were sent to that page before, and is brought to `now` too."""
     links = len(rows.links)
     rows.add(Frame(present.events[now.events - 1] if now.events else None, now.state), len(now.state.links))
     events = present.events[max(before.events if before else 0, now.events - LISTED):now.events]
@@ -107,6 +108,7 @@ def message(rows: Frames, present: Present, before: Now | None, now: Now) -> dic
 
 
 def open_pages(port: int, title: str, lab: Lab, typed: queue.SimpleQueue[str], looks: str | None = None) -> Pages:
-    """Returns the server of the page, which listens at a port or the next free one. It doesn't answer yet. `looks` is
-    the token of the address to look at, if the run had one before. Raises `Fault` if no port is free."""
+    """Returns the server of the page, which listens at a port or the next free one. It doesn't answer yet. Lines of the
+    teacher are put into `typed`, and `looks` is the token of the address to look at, if the run had one before. Raises
+    `Fault` if no port is free."""
     return opened(port, lambda number: Pages(number, title, lab, typed, looks))

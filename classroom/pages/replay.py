@@ -176,8 +176,8 @@ def another(line: str, reply: str) -> Fault:
 
 
 def report(lab: labs.Lab, lines: list[list[str]]) -> dict[str, Any]:
-    """Returns the report after the events in these lines of a lab's journal. Raises `Fault` if an event isn't granted
-    again."""
+    """Returns the report after the events in these lines of a lab's journal, each split into its words: the place, the
+    number of the configuration, and the event. Raises `Fault` if an event isn't granted again."""
     nodes = [labs.Node(node.id, [STUDENT], node.p, node.m) for node in lab.nodes]
     script = [*HELLOS, *(request(at, words) for _, at, *words in lines), REPORT]
     replies = all_of(alone(nodes, lab.links, max(1, len(lines))), script)

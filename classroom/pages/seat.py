@@ -86,7 +86,8 @@ class Seat:
 
     def ask_server(self, ask: Callable[[], Told]) -> Told:
         """Calls `ask`, which uses the connection, and returns its result. Raises `Closed` with the server's reason once
-        the server has closed the connection."""
+        the server has closed the connection or refuses as `busy`. Other refusals and all denials are raised as they
+        come."""
         with self.turn:
             try:
                 return ask()
@@ -99,7 +100,8 @@ class Seat:
         raise Closed(self.end_reason)
 
     def move(self, request: dict[str, Any]) -> dict[str, Any]:
-        """Sends a request for a move, and returns the values of the reply, also of a denial or refusal."""
+        """Sends a request for a move, and returns the values of the reply, also of a denial or refusal. Raises `Closed`
+        once the server has closed the connection."""
         try:
             return self.ask_server(lambda: self.client.ask(**request))
         except Denied as denied:
@@ -109,7 +111,8 @@ class Seat:
 
     def present(self) -> dict[str, Any]:
         """Returns the values that the page shows now. Returns the same object as before if nothing has changed, or if
-        the nodes can't be read in one configuration at the moment."""
+        the nodes can't be read in one configuration at the moment. Raises `Closed` once the server has closed the
+        connection, and `Denied` if a look is denied."""
         try:
             looks = self.ask_server(lambda: self.client.snapshot(self.nodes))
         except (Moving, Refused):

@@ -16,8 +16,8 @@ ARROW = re.compile("<defs>.*?</defs>", re.DOTALL)  # the definition of arrows, o
 
 
 def sheet(drawing: Drawing, frames: list[Frame], theme: str = colours.LIGHT) -> str:
-    """Returns the text of an SVG file with the configurations of all frames. The drawing is that of a single one, for
-    the field CELL."""
+    """Returns the text of an SVG file with the configurations of all frames. `drawing` is the drawing of one of them,
+    for the field CELL, and `theme` names the colours, `light` or `dark`."""
     across, down = min(ACROSS, len(frames)), -(-len(frames) // ACROSS)
     key, whole = drawing.key(), down * (CELL.height + TITLE)
     high = whole + (KEY_HIGH if key else 0)
@@ -35,7 +35,8 @@ def sheet(drawing: Drawing, frames: list[Frame], theme: str = colours.LIGHT) -> 
 
 
 def cell(drawing: Drawing, frame: Frame, index: int) -> str:
-    """Returns the SVG elements of one frame below its title. `index` is its position in the rows."""
+    """Returns the SVG elements of a frame's title and, below it, of its configuration. `index` is the frame's position
+    in the list, from which its row and column follow."""
     x, y = index % ACROSS * CELL.width, index // ACROSS * (CELL.height + TITLE)
     state = frame.state
     left = f"{plural(len(state.privileged), 'node')} can move" if not state.stable else "at rest"

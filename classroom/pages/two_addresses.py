@@ -27,7 +27,7 @@ class TwoAddresses(Web):
 
     def __init__(self, port: int, asked: type[AtAddress], title: str, looks: str | None = None) -> None:
         """Listens at the port. `asked` is the class that handles a request, and `looks` the token to look at, if there
-        is one already."""
+        is one already. Raises `OSError` if the port is taken."""
         super().__init__(port, asked, title)
         self.looks, self.acts = looks or new_token(), new_token()
         self.leaving = threading.Condition()
@@ -45,7 +45,7 @@ class TwoAddresses(Web):
 
     @contextmanager
     def receiving_page(self) -> Iterator[None]:
-        """Counts a page as one that receives events until the caller is done."""
+        """Counts a page as one that receives events while the `with` block runs."""
         self.count(1)
         try:
             yield

@@ -78,7 +78,7 @@ class Present:
     def put(self, state: State | None = None, events: Iterable[Event] = (), line: str | None = None,
             closing: str | None = None, ended: bool = False) -> None:
         """Publishes a new snapshot with these changes: another state, more events, a further line, another way of
-        closing steps, or the end of the run."""
+        closing steps, or the end of the run. What isn't given stays as it is."""
         with self.turn:
             now = self.now
             for event in events:

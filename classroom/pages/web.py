@@ -131,7 +131,8 @@ class PageRequest(BaseHTTPRequestHandler):
         return True
 
     def body(self, most: int) -> bytes | None:
-        """Returns the body of a request, or None if it is larger than `most` bytes or its size isn't a number."""
+        """Returns the body of a request, or None if it is larger than `most` bytes or its size isn't a number. Raises
+        `TimeoutError` if the body doesn't come in time."""
         size = self.headers.get("Content-Length") or "0"
         if not (size.isascii() and size.isdecimal() and len(size) <= DIGITS and int(size) <= most):
             return None
