@@ -140,8 +140,8 @@ def mount_own_processes() -> None:
 
 
 def pass_listener(port: int, channel: int) -> None:
-    """Enables this namespace's loopback, listens there on a port, and sends the listening socket through the Unix socket
-    with the descriptor `channel`. Closes its own descriptors of both sockets. Raises `OSError` if that fails."""
+    """Enables this namespace's loopback, listens there on a port, and sends the listening socket through the Unix
+    socket with the descriptor `channel`. Closes its own descriptors of both sockets. Raises `OSError` if that fails."""
     with socket.socket() as it:
         fcntl.ioctl(it, SET_FLAGS, struct.pack("16sh22x", b"lo", UP))
     with socket.socket(fileno=channel) as its, socket.create_server(("127.0.0.1", port), backlog=32) as listener:

@@ -25,8 +25,8 @@ def of_denial(playing: Playing, line: bytes) -> str:
 
 
 def of_waiting(playing: Playing, who: str) -> str:
-    """Returns a semicolon and what a correct bot would send for those nodes of the student `who` that could move, or an
-    empty text if no such node could move or the model doesn't answer."""
+    """Returns a semicolon and what a correct bot would send for those nodes of the student `who` that could move.
+    Returns an empty text if no such node could move, or if the model doesn't answer."""
     own = [str(node) for node in playing.lab.nodes_of(who)]
     found = [text for place, node, text in lines_of(playing) if place == "now" and node in own]
     return f"; {MARK}{'; '.join(found)}" if found else ""

@@ -217,8 +217,8 @@ def numbered(bots: list[Bot]) -> list[Bot]:
 
 def grade(words: argparse.Namespace) -> int:
     """Tries each bot in each case, prints the results, and writes them to the files that the options name. With
-    `--merge` tries nothing, and joins the results of parts. Returns the exit status. Raises `Fault` if the options can't
-    be used."""
+    `--merge` tries nothing, and joins the results of parts. Returns the exit status. Raises `Fault` if the options
+    can't be used."""
     program(), answerer()
     bots = numbered([Bot.of(word) for word in words.bots])
     faults: list[str] = []

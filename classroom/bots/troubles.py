@@ -219,8 +219,8 @@ def link_nodes(attempt: Attempt, node: int, other: int) -> None:
 
 
 def cut_pair(attempt: Attempt, node: int, other: int) -> None:
-    """Sets registers so that a node of the bot is married to its neighbour `other`, waits until the bot has looked at
-    the node, and cuts the link between the two. The bot has to move the node."""
+    """Sets registers so that a node of the bot is married to its neighbour `other`. Waits until the bot has looked at
+    the node, and cuts the link between the two. The bot has to move the node then."""
     playing = attempt.playing
     playing.is_held = True
     for each in near_of(attempt, node):

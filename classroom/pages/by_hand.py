@@ -160,8 +160,8 @@ class PlayRequest(PageRequest):
         self.send_row({"ended": last_word(seat)})
 
     def move(self, asked: dict[str, Any]) -> None:
-        """Asks for the move in `asked` on the connection of the page's seat, and answers with the reply, or with the
-        reason if there is no such seat or the request isn't one for a move."""
+        """Asks for the move in `asked` on the connection of the page's seat, and answers with the reply. If there is no
+        such seat or `asked` isn't a request for a move, answers with the reason."""
         seat = self.server.seat(asked.get("token"))
         if seat is None:
             return self.answer_json(404, told="this page has lost its seat: come in again")

@@ -14,7 +14,8 @@ from classroom.core.journal import Event
 from classroom.core.program import Fault, call
 from classroom.pages.replay import REPORT, Replay, Script, Take, look
 
-OpenLink = tuple[int, int, int, str]  # a link between nodes without a partner: its ends, a node near it that can move, and that node's rule
+# A link between two nodes without a partner: its ends, a node near it that can move, and the rule by which it can.
+OpenLink = tuple[int, int, int, str]
 
 
 @dataclass

@@ -142,8 +142,9 @@ def hall_page(title: str, state: str, views: Views, acts: bool) -> tuple[str, st
 def opened(port: int, title: str, act: Callable[[str], None], state: ClassState, looks: str | None = None,
            views: Callable[[], Views] = list) -> Hall:
     """Returns the server of the page, which listens at a port or the next free one and answers from now on. `act`
-    handles a line of the teacher, `state` is the first state that is shown, `looks` is the token of the address to look
-    at if the class continues, and `views` returns the positions of the nodes. Raises `Fault` if no port is free."""
+    handles a line of the teacher, and `views` returns the positions of each network's nodes. `state` is the first state
+    that is shown. `looks` is the token of the address to look at if the class continues. Raises `Fault` if no port is
+    free."""
     it = web_opened(port, lambda number: Hall(number, title, act, state, looks, views))
     it.open()
     return it

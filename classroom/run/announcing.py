@@ -114,9 +114,9 @@ class Announcer:
         return f"events {self.known.count} of {self.lab.events}"
 
     def tell_event(self, at: int, what: str) -> None:
-        """Prints the line of an event: the number `at` of the configuration after it, the text `what` of what happened,
-        the moves since the last fault, link or cut beside their bound, and the number of events. If the latest report
-        is of that configuration, the line also has the number of privileged nodes."""
+        """Prints the line of an event. `at` is the number of the configuration after it, and `what` says what happened.
+        The line also has the moves since the last fault, link or cut beside their bound, and the number of events. If
+        the latest report is of that configuration, it has the number of privileged nodes too."""
         known = self.known
         most = bounds.told(len(self.lab.nodes), len(self.lab.links) + known.book.links)
         limit = f" of at most {most.moves}" if most else ""

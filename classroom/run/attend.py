@@ -54,8 +54,8 @@ def disk_line(left: int, why: str) -> tuple[str, str]:
 
 
 def limit_of(process: int) -> int | None:
-    """Returns the limit in bytes (ulimit -f) on the size of the files of the process with this number, or None if there
-    is no limit or it can't be read."""
+    """Returns the limit in bytes (ulimit -f) on the size of a file that the process with this number writes. Returns
+    None if there is no limit or it can't be read."""
     try:
         limit = resource.prlimit(process, resource.RLIMIT_FSIZE)[0]
     except (OSError, ValueError):

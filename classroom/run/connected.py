@@ -95,8 +95,8 @@ class Connected:
         return {other for own, other, state, _ in found if own == self.port and state == ESTABLISHED} - {self.but}
 
     def changes(self, found: list[Row]) -> list[str]:
-        """Returns lines about the connections that began or ended since the last call, and once a line if newcomers
-        aren't let in any longer, because all seats are taken or the server has stopped listening. `found` are the
+        """Returns lines about the connections that began or ended since the last call. Also returns a line, but only
+        once, if newcomers aren't let in: all seats are taken, or the server has stopped listening. `found` are the
         system's sockets."""
         ends, here = self.client_sockets(found), self.client_ports(found)
         gone = [self.known.pop(port) for port in sorted(self.known.keys() - here)]

@@ -14,8 +14,8 @@ from classroom.pages import kept_layout, play
 
 
 def put_back(journal: IO[bytes], path: Path, tell: Callable[[str], None]) -> None:
-    """Writes the content of an open journal to its path again if the file there is gone, or to this path with `.saved`
-    at its end if there is another file. Does nothing if the file at the path is the open one. Gives `tell` a line that
+    """Writes the content of an open journal to its path again if the file there is gone. If there is another file,
+    writes it to this path with `.saved` at its end. Does nothing if the file at the path is the open one. Gives `tell` a line that
     says where the content is saved, or why it can't be saved there."""
     try:
         if os.path.samestat(os.fstat(journal.fileno()), path.stat()):
@@ -33,8 +33,8 @@ def put_back(journal: IO[bytes], path: Path, tell: Callable[[str], None]) -> Non
 
 
 def cut_torn_end(journal: Path) -> None:
-    """Moves the incomplete last line of a journal, if it has one, into the file `journal.torn` beside the journal. Makes
-    an empty journal if there is none."""
+    """Moves the incomplete last line of a journal, if it has one, into the file `journal.torn` beside the journal.
+    Makes an empty journal if there is none. Raises `OSError` if a file can't be read or written."""
     content = journal.read_bytes() if journal.exists() else b""
     whole, found, torn = content.rpartition(b"\n")
     if torn or not journal.exists():

@@ -45,8 +45,8 @@ def renew(folder: Path, lab: labs.Lab, it: server.Server, desk: Desk, name: str)
 
 
 def follow(folder: Path, lab: labs.Lab, it: server.Server, desk: Desk) -> None:
-    """Makes the desk follow the record in the run's folder from its beginning, as the new server `it` writes it, and
-    makes the list of connections and the house use the port of this server."""
+    """Makes the desk follow the record in the run's folder from its beginning again, as the new server `it` writes it.
+    Makes the desk's list of connections and the house use the port of this server."""
     if desk.heard is not None:
         came, desk.heard = desk.heard.came, Heard(folder / record.FOLDER, lab)
         desk.heard.came = came

@@ -230,9 +230,9 @@ class Several:
         return any(member.status in (STARTS, RUNS) or member.status == DOWN and can_be_told for member in self.members)
 
     def attend(self) -> int:
-        """Runs the desk until each network has ended, or is down and can't be resumed by a line or by the page, or until
-        another process takes the desks. Returns the exit status: the highest of the networks' processes, or FAILED if
-        another process takes the desks."""
+        """Runs the desk until each network has ended, or is down and can't be resumed by a line or by the page, or
+        until another process takes the desks. Returns the exit status: the highest of the networks' processes, or
+        FAILED if another process takes the desks."""
         while self.goes_on() and not self.is_left:
             try:
                 self.news.get(timeout=TICK)()
@@ -348,9 +348,9 @@ def require_ports(words: argparse.Namespace, count: int) -> None:
 
 
 def hold_class(folder: Path, members: list[Member], news: News, words: argparse.Namespace, first: Callable[[Several], None]) -> int:
-    """Opens the page and the door of a class if the arguments ask for them, calls `first`, which starts the networks, and
-    then runs the desk of the class to its end. Returns the exit status. Raises `Fault` if the page or the door can't be
-    opened, or if the end of the lesson has passed."""
+    """Opens the page and the door of a class if the arguments ask for them. Then calls `first`, which starts the
+    networks, and runs the desk of the class to its end. Returns the exit status. Raises `Fault` if the page or the door
+    can't be opened, or if the end of the lesson has passed."""
     typed = words.typed or sys.stdin is not None and sys.stdin.isatty()
     kept = Class.read(folder)
     end = end_of(words.ends, kept.ends if kept else None)
