@@ -46,7 +46,8 @@ def close_steps(me: Client, owners: dict[int, list[str]]) -> None:
 
 
 def teach(words: list[str]) -> None:
-    """Greets as the teacher whom the arguments name, and closes steps."""
+    """Greets as the teacher whom the arguments name, and closes steps until no node is privileged. Raises `NoSlip` if
+    the arguments name no slip, or a file that isn't a lab."""
     slip, lab = Slip.of(words)
     owners = owners_of(lab)
     with enter(slip) as me:

@@ -216,8 +216,8 @@ class Attempt:
 
     def write_evidence(self, folder: Path) -> None:
         """Makes a folder, and writes into it the lab, the script that repeats the run, the conversation and the bot's
-        output, and also the page of the run if the script can be run. Raises `OSError` if the folder exists or can't be
-        written."""
+        output. If the script can be run, also writes the page of the run. Raises `OSError` if the folder exists or
+        can't be written."""
         folder.mkdir(parents=True)
         self.playing.write(folder)
         (folder / "output.txt").write_bytes(os.pread(self.room.output.fileno(), MOST_KEPT, 0))

@@ -2,7 +2,7 @@
 that it started.
 
 The process that starts the bot and enforces its limits is its *keeper* (`classroom.bots.keeper`). A bot is *kept apart*
-if it runs in namespaces of its own (`classroom.bots.apart`).
+if it runs in namespaces of its own (`classroom.bots.apart`). A *slip* is the file with what a bot needs to connect.
 """
 from __future__ import annotations
 

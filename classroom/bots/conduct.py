@@ -3,8 +3,8 @@ wouldn't have sent.
 
 Each rule here is one that `docs/STUDENT.md` asks a bot to keep. Guards, the conditions under which a node may move,
 aren't among them, because the server denies those moves. The *number* of a look or a move is that of the configuration
-in which the program asked. In the functions, `asked` has the values of a request, and the next parameter those of its
-reply.
+in which the program asked. A granted move is *chosen* until a step applies it, and `stale` is the denial of a move with
+an old number. In the functions, `asked` has the values of a request, and the next parameter those of its reply.
 """
 from __future__ import annotations
 

@@ -242,12 +242,13 @@ class Playing:
         self.owners.append(who)
 
     def own_rows(self, who: str) -> list[Row]:
-        """Returns the rows about the lines of one program, in their order."""
+        """Returns the rows about the lines of the program of the student `who`, in their order."""
         return [row for row, owner in zip(self.rows, self.owners) if owner == who]
 
     def explain_denial(self, asked: dict[str, Any], told: dict[str, Any]) -> str:
-        """Returns a text about a denial: its clause, and, unless the node isn't the asker's or the number was old, the
-        node's registers and the rule that would be granted there."""
+        """Returns a text about a denial: its clause, the node's registers, and the rule that would be granted there. If
+        it was denied as `not-owner`, `hidden` or `stale`, or there is no such node, the text is only about the
+        clause and the numbers of configurations."""
         what = " ".join(str(asked[key]) for key in ("do", "node", "rule", "with") if key in asked)
         text = f"{what} is denied as {told['deny']}, clause {told['clause']}: {told['text']}"
         if "at" in told:
@@ -263,8 +264,8 @@ class Playing:
         return f"{text}; {look['rule'] or 'nothing'} would be granted there"
 
     def explain_silence(self, who: str) -> str:
-        """Returns a semicolon and the reason why no line of a program comes, as far as its connections show it, or an
-        empty text."""
+        """Returns a semicolon and the reason why no line comes from the program of the student `who`, as far as its
+        connections and earlier lines show it."""
         if self.relay.has_partial_line():
             return "; it sent a line without a newline at the end"
         if self.heard[who].greeted:
@@ -273,8 +274,8 @@ class Playing:
         return "; it connected, but no hello was granted" if strangers else f"; it never connected to port {self.relay.port}"
 
     def last_words(self, who: str) -> str:
-        """Returns a text about a program that has fallen silent: when its last line came, the line, and those of its
-        nodes at which it never looked."""
+        """Returns a semicolon and a text about the program of the student `who`, which has fallen silent: when its last
+        line came, the line, and those of its nodes at which it never looked."""
         heard = self.heard[who]
         ago = time.monotonic() - heard.last_at
         never = [node for node in self.lab.nodes_of(who) if node not in heard.conduct.seen]
@@ -436,8 +437,8 @@ class Playing:
         (folder / "conversation.txt").write_text("".join(f"{line}\n" for line in self.conversation), encoding="utf-8")
 
     def own_page(self, folder: Path, who: str) -> str:
-        """Returns the HTML page of a program's own run: its requests, and each denial at its moment. `folder` must have
-        the files of `write`, and the journal that the script makes."""
+        """Returns the HTML page of what the program of the student `who` did: its requests, and each denial at its
+        moment. `folder` must have the files of `write`, and the journal that the script makes."""
         lab, journal = folder / "lab.toml", folder / "journal"
         return own_page(f"{who}: {title(lab, journal)}", who, lab, journal, [], self.own_rows(who))
 

@@ -171,7 +171,8 @@ class Relay:
             self.hang_up(caller)
 
     def end_all(self, last: bytes) -> None:
-        """Sends the replies that are due and the line `last` on all connections, and closes them."""
+        """Sends the replies that are due and the line `last` on all connections, closes them, and calls `left` for
+        each."""
         for caller in list(self.callers):
             try:
                 caller.socket.send(caller.out + last)

@@ -139,7 +139,7 @@ def long_rest(attempt: Attempt) -> None:
 
 
 def open_step(attempt: Attempt) -> None:
-    """Leaves a step open for LONG_OPEN seconds after a move of the bot was granted."""
+    """Hurts a node, and leaves the step open for LONG_OPEN seconds after the bot's move of this node was granted."""
     attempt.playing.is_held = True
     node = hurt(attempt)
     until_granted(attempt, node, f"it didn't ask for {node}, which a fault made privileged,")
@@ -255,7 +255,8 @@ def memory(attempt: Attempt) -> None:
 
 
 def seat(attempt: Attempt) -> None:
-    """Closes the bot's connections with `busy`, as if newcomers needed its seats, and hurts a node."""
+    """Closes the bot's connections with the line `busy`, as if newcomers needed its seats, waits until it says hello
+    again, and hurts a node."""
     before = attempt.heard.greeted
     attempt.playing.relay.end_all(relay.BUSY)
     attempt.until_greeted_again(before, "its seat went to a newcomer, so that its last line was `busy`")
@@ -346,7 +347,7 @@ def near_of(attempt: Attempt, node: int) -> list[int]:
 
 
 def until_looked(attempt: Attempt, node: int) -> None:
-    """Runs the class until the bot has looked at a node in this configuration. Raises `Fails` after the time
+    """Runs the class until the bot has looked at a node in the present configuration. Raises `Fails` after the time
     limit."""
     at, end = attempt.playing.report["at"], time.monotonic() + attempt.limits.seconds
     while (node, at) not in attempt.heard.conduct.looked:

@@ -157,8 +157,8 @@ class Drawing:
         ])
 
     def label(self, node: int) -> list[str]:
-        """Returns the text element with a node's name, as a list. Returns an empty list if there is no room for
-        names."""
+        """Returns a list with the text element that shows the names of a node's owners. Returns an empty list if there
+        is no room for names."""
         label = self.view.labels.get(node)
         if label is None:
             return []

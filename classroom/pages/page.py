@@ -1,7 +1,8 @@
 """A single HTML file that shows a run, and needs no other file.
 
 A *frame* is the state of the run after an event, and a *place* is the number of events up to it. The page's script is
-sent one *row* for each frame, with the changes since the frame before.
+sent one *row* for each frame, with the changes since the frame before. An *open* link joins two nodes without a
+partner, and its *witness* is a node near it that can move.
 """
 from __future__ import annotations
 
@@ -187,7 +188,8 @@ def drawing_page(name: str, title: str, drawing: Drawing, picture: str, data: st
 
 def assembled(name: str, parts: dict[str, str], more: str, styles: tuple[str, ...], programs: tuple[str, ...]) -> tuple[str, str]:
     """Returns a page made of the template `name` and its parts, and the content policy that allows only its own styles
-    and scripts. These are files of this folder, and `more` is added to the styles."""
+    and scripts. `styles` and `programs` are the names of their files in this folder, and `more` is CSS that is added to
+    the styles."""
     style = "".join((FOLDER / file).read_text("utf-8") for file in styles) + more
     program = "".join((FOLDER / file).read_text("utf-8") for file in programs)
     page = fill_template(name, parts | {"TITLE": escape(parts["TITLE"]), "STYLE": style, "PROGRAM": program, "LEGEND": legend()})

@@ -82,7 +82,8 @@ class Replay:
         """Handles the reply to an event. Here it does nothing."""
 
     def replies(self) -> Iterator[None]:
-        """Replays all events, and yields after each reply was handled."""
+        """Replays all events, and yields after each reply was handled. Raises `Fault` if an event isn't granted again
+        or the program names another place for it."""
         left, is_first = self.events, True
         while is_first or left:
             self.place, self.number = self.now

@@ -3,7 +3,8 @@
 They are computed by stress majorization (Gansner, Koren and North, 'Graph drawing by stress majorization', 2004),
 beginning with classical scaling. In a large network a node is pulled by its neighbours and by some pivots, which
 stand for the nodes around them (Ortmann, Klimenta and Brandes, 'A sparse stress model', 2016). Nothing is random:
-the same network always has the same layout.
+the same network always has the same layout. In the functions, `far` has the distances between all nodes, as `distances`
+returns them.
 """
 from __future__ import annotations
 

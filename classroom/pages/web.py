@@ -49,7 +49,7 @@ class Web(ThreadingHTTPServer):
         threading.Thread(target=self.serve_forever, kwargs={"poll_interval": 0.1}, daemon=True).start()
 
     def close(self) -> None:
-        """Stops answering, and closes the port."""
+        """Stops answering, and closes the port. Connections that are open already aren't closed."""
         if self.is_open:
             self.shutdown()
         self.server_close()

@@ -1,8 +1,8 @@
 """Daemons that make a run long: the *schedule*, an order of moves that the proof of the bound uses, and the
 *adversary*, which searches ahead.
 
-A *daemon* decides which chosen moves a close applies. The adversary has a process of the proved program of its own, a
-bench, on which it tries moves.
+A *close* ends a step. A granted move is *chosen* until a close applies it, and a *daemon* decides which chosen moves a
+close applies. The adversary has a process of the proved program of its own, a *bench*, on which it tries moves.
 """
 from __future__ import annotations
 

@@ -1,8 +1,9 @@
 """The lines that a run prints as it continues: each event, each recovery, the nodes that it waits for, and why nothing
 more is granted.
 
-The class *waits* for a node that is privileged and has no chosen move. A *recovery* is the part of a run from a fault,
-link or cut to the next stable configuration. A *grant* is the event of a move.
+A *privileged* node has an enabled rule. A *grant* is the event of a move, which is then *chosen* until a *close*, the
+end of a step, applies it. The class *waits* for a node that is privileged and has no chosen move. A *recovery* is the
+part of a run from a fault, link or cut to the next stable configuration.
 """
 from __future__ import annotations
 
@@ -54,7 +55,7 @@ class Announcer:
 
     def announce_resumed(self) -> None:
         """Counts the present recovery along the past events, and prints the configuration from which the class
-        continues."""
+        continues. Ends the run if all events of the lab are used."""
         self.recount()
         self.known.ask_report()
         self.tell(f"the class goes on at configuration {self.known.report.at}, {self.events_used()}")

@@ -114,8 +114,8 @@ class DiskRoom:
         return ""
 
     def news(self) -> list[str]:
-        """Returns the lines about changes since the last check: little room, no room, or room again. Checks at most
-        once a second."""
+        """Returns the lines about changes since the last check: little room, no room, or room again. Returns none if
+        the last check is less than a second ago."""
         now = time.monotonic()
         if now < self.due:
             return []
@@ -132,7 +132,8 @@ class DiskRoom:
         return [line] if line else [AGAIN_ROOM] if before == "full" else []
 
     def limit_news(self) -> list[str]:
-        """Returns a line if the limit on the size of files has come to leave little room for the journal, or none."""
+        """Returns a line if the limit on the size of files leaves little room for the journal, or no room, and left
+        more at the last check."""
         limit = limit_of(self.server) if self.server is not None else None
         journal = self.folder / "journal"
         left = LITTLE if limit is None or not journal.exists() else limit - journal.stat().st_size

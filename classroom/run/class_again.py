@@ -1,5 +1,5 @@
 """A class of several networks whose desk has ended: `attach` takes over the desks of its networks, and `run --resume`
-also starts the servers that have ended."""
+also starts the servers that have ended. The *desk* of a network is the teacher's connection to its server."""
 from __future__ import annotations
 
 import argparse
@@ -35,8 +35,9 @@ def wait_for_desks(folder: Path, kept: Class) -> None:
 
 
 def begin(member: Member, several: Several, again: bool, starts: bool) -> None:
-    """Takes the desk of a network in a class. If its server has ended, starts it first if `starts` is set, and if its
-    run wasn't ended on purpose or `again` is set. Otherwise marks the network as ended or as down."""
+    """Takes the desk of a network in a class. If its server has ended, starts the server first if `starts` is set, and
+    otherwise marks the network as down and prints its alarm. If its run was ended on purpose, only marks the network as
+    ended, unless both `starts` and `again` are set."""
     record = Record.read(member.folder)
     if record is not None and record.ended and not record.goes_on() and not (starts and again):
         member.status = ENDED

@@ -15,14 +15,14 @@ mode = daemon
 
 
 def closing(word: str) -> Closing:
-    """Returns the daemon that a word such as `every:5` names. If the word has no number of seconds, they are
-    SECONDS."""
+    """Returns the daemon that a word such as `every:5` names. If the word has no number of seconds, they are SECONDS.
+    Raises `ValueError` if the word names no daemon."""
     return Daemon.of(word, SECONDS)
 
 
 def kept(folder: Path, record: Record) -> Closing:
-    """Returns the daemon of a continuing run, from the record in its folder. Raises `Fault` if the record names
-    none."""
+    """Returns the daemon of a continuing run, from the record in its folder. Raises `Fault` if the word in the record
+    names no daemon."""
     try:
         return closing(record.close)
     except ValueError as error:

@@ -27,7 +27,7 @@ def rows() -> Iterator[Row]:
 
 def leads_to(end: Path, wanted: str) -> bool:
     """Returns whether the descriptor `end` of a process, a path in /proc, is the wanted socket. Returns false if the
-    descriptor has been closed."""
+    descriptor has been closed. Raises `OSError` if this user may not read it."""
     try:
         return os.readlink(end) == wanted
     except FileNotFoundError:
@@ -56,7 +56,7 @@ class Connected:
                  tells: bool = True) -> None:
         """`port` is the students' port, `seats` the number of seats, and `but` the port of the desk's own end, which
         isn't counted. `names` has texts for clients that are known otherwise than by a process, by the port of their
-        end. If a record shows connections, `tells` is false, and only full seats are reported here."""
+        end. Without `tells`, connections aren't reported here, because a record shows them, but only full seats."""
         self.port, self.seats, self.but, self.tells = port, seats, but, tells
         self.names = {} if names is None else names
         self.known: dict[int, str] = {}

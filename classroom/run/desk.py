@@ -1,7 +1,10 @@
 """The teacher's desk: its connection to the server, the commands that the teacher types, and the lines and pages that
 show how the run goes on.
 
-The *house* plays for absent students. The class *waits* for a node that is privileged and has no chosen move.
+The *house* plays for absent students. A *privileged* node has an enabled rule, and a granted move is *chosen* until a
+*close*, the end of a step, applies it. The class *waits* for a node that is privileged and has no chosen move. The
+*daemon* decides when a step is closed and which moves it applies. The *report* is the server's reply about the present
+configuration.
 """
 from __future__ import annotations
 
@@ -143,7 +146,7 @@ class Desk:
 
     def close(self) -> None:
         """Closes a step. If no move is chosen, prints for whom the class waits. If no more events are granted, ends the
-        run."""
+        run. Ignores any other refusal, since the close is asked for again."""
         try:
             self.client.close()
         except Denied as denied:
@@ -189,11 +192,12 @@ class Desk:
         return False
 
     def ask(self, word: str, rest: list[str]) -> None:
-        """Sends the request of a command, with the values that were typed after its word."""
+        """Sends the request of a command to the server, with the values that were typed after its word. Raises `Denied`
+        or `Refused` if the server doesn't grant it."""
         self.client.ask(**request(word, rest))
 
     def tell_report(self) -> None:
-        """Prints the report, and the number of events."""
+        """Asks for the report of the present configuration, and prints it with the number of events."""
         self.known.ask_report()
         self.tell(f"{report_line(self.known.report)}; {self.announcer.events_used()}")
 

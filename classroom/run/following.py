@@ -1,6 +1,6 @@
 """The state of a run at its desk, the teacher's connection: the journal as it grows, and the report after its last
-event. The *report* has the number of the configuration, the pairs, and the privileged nodes. A *grant* is the event of
-a move."""
+event. The *report* has the number of the configuration, the pairs, and the privileged nodes, those with an enabled
+rule. A *grant* is the event of a move, which is then *chosen* until a step applies it."""
 from __future__ import annotations
 
 import os

@@ -220,9 +220,9 @@ class Heard:
         return [f"the rest of what {name} sends isn't recorded: {why}" for name in dict.fromkeys(names)]
 
     def who(self, count: int, all_seats: int, otherwise: Iterable[str] = ()) -> str:
-        """Returns a text about who is connected, and how many of all seats are taken. `count` is the number that the
-        system reports. `otherwise` has texts about some connections: a name, a comma, and how the student is
-        connected."""
+        """Returns a text about who is connected, and how many of all seats are taken. `count` is the number of
+        connections that the system reports. `otherwise` has texts about some connections: a name, a comma, and how the
+        student is connected."""
         known, every = self.connected(), self.connected().total()
         how = [text for text in otherwise if known[text.partition(",")[0]]]
         known.subtract(text.partition(",")[0] for text in how)

@@ -2,7 +2,8 @@
 continues a run.
 
 The *desk* is the teacher's connection to the server. `run.json` in the folder of a run is its *record*, by which other
-processes find it. An exit status of None means that the run continues without this process.
+processes find it. A server is *hosted* if it is `mml_host`, which has a port for the desk and ends after the teacher's
+bye. An exit status of None means that the run continues without this process.
 """
 from __future__ import annotations
 
@@ -204,8 +205,8 @@ def queue_signals(typed: Typed) -> None:
 
 
 def hold(run: Running, it: server.Server) -> int | None:
-    """Runs the desk of the server `it` to the end of the run. Returns the exit status, or None if another process takes
-    over the desk."""
+    """Runs the desk of the server `it` to the end of the run. Returns the exit status, or None if the run continues
+    without this process, for example because another one takes over the desk."""
     try:
         desk = open_desk(it, run)
         if it.hosted:

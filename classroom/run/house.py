@@ -1,5 +1,5 @@
-"""The house of a run: the second owner of each node, which plays for absent students in its own name. The class *waits*
-for a node that is privileged and has no chosen move."""
+"""The house of a run: the second owner of each node, which plays for absent students in its own name. A granted move is
+*chosen* until a step applies it. The class *waits* for a node that has an enabled rule and no chosen move."""
 from __future__ import annotations
 
 import time

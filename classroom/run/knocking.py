@@ -1,5 +1,5 @@
 """The first connection at a host's desk. It is tried while the host starts, before any other process can know the
-desk's port."""
+desk's port. The *host* is the server of a class, and its *desk* is the port for the teacher."""
 from __future__ import annotations
 
 import socket

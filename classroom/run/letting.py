@@ -1,6 +1,6 @@
 """A door for the runs of a class: its options, and the lines that are printed about it. A *door* is a TLS port at which
-students on other machines connect, and its folder has its data. In each function, a folder of None means that there is
-no door."""
+students on other machines connect, and its folder has its data. A *slip* is the file with what a student needs to
+connect. In each function, a folder of None means that there is no door."""
 from __future__ import annotations
 
 import argparse

@@ -1,6 +1,6 @@
-"""One network of a class: the process that runs its desk, the output of that process, and its alarm. A network is
-*down* if its server or its desk is gone, and the lines that its process prints while it starts have *facts*, such as a
-port."""
+"""One network of a class: the process that runs its desk, the output of that process, and its alarm. The *desk* is the
+teacher's connection to the network's server. A network is *down* if its server or its desk is gone, and the *alarm* is
+the text about that. The lines that its process prints while it starts have *facts*, such as a port."""
 from __future__ import annotations
 
 import os
@@ -87,8 +87,8 @@ class Member:
         threading.Thread(target=self.follow, args=[self.child, hear, ended], daemon=True).start()
 
     def resume_words(self, *but: str) -> list[str]:
-        """Returns the arguments for a run that continues: those of the network without its port and folder, and without
-        the options in `but`, each with its value."""
+        """Returns the arguments for a run that continues: those of the network without its port and folder, without
+        `--serve` and `--beside`, and without the options in `but`, each with its value."""
         words = list(self.more)
         for word in ("--port", "--into", *but):
             if word in words:

@@ -1,4 +1,8 @@
-"""`./class run`: starts a server with its own folder and a desk that closes steps, and writes marks at the end."""
+"""`./class run`: starts a server with its own folder and a desk that closes steps, and writes marks at the end.
+
+The *desk* is the teacher's connection to the server, and the *house* plays for absent students. A *record* is the file
+`run.json` in the folder of a run, by which other processes find it.
+"""
 from __future__ import annotations
 
 import argparse

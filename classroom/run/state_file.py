@@ -1,4 +1,8 @@
-"""The state of a network of a class, which its run writes into a file for the desk and the page of the class."""
+"""The state of a network of a class, which its run writes into a file for the desk and the page of the class.
+
+The *desk* of a run is the teacher's connection to its server. The *record* is what the server keeps about connections
+and requests. A *privileged* node has an enabled rule, and a granted move is *chosen* until a step applies it.
+"""
 from __future__ import annotations
 
 import time

@@ -1,5 +1,6 @@
 """Closes the steps of a run at its desk, when its daemon decides so. The *daemon* also decides which of the chosen
-moves, those that were granted, a close applies."""
+moves, those that were granted, a close applies. The class *waits* for the nodes that could move and have no chosen
+move."""
 from __future__ import annotations
 
 import random

@@ -1,5 +1,5 @@
-"""Takes the desk of a running server: says the teacher's hello there, and retries while another process is connected.
-Signals come as words in the queue of typed lines."""
+"""Takes the *desk*, the teacher's connection to a running server: says the teacher's hello there, and retries while
+another process is connected. Signals come as words in the queue of typed lines."""
 from __future__ import annotations
 
 import queue
