@@ -40,7 +40,7 @@ COLUMNS = [each.name for each in fields(Row)]
 CHUNK = 20  # runs of a task
 OTHER = "name another file by --csv; the same command continues this table"
 DIES = 1  # prctl's PR_SET_PDEATHSIG
-Key = tuple[str, int, str, str, int]
+Key = tuple[str, int, str, str, int]  # what identifies a run: its family, nodes, daemon, start and seed
 
 
 def sizes(word: str) -> range:

@@ -32,7 +32,7 @@ MOST_PROCESSES = 64
 FILE_BYTES = 16 << 20  # the size of one file
 FOLDER_MEGABYTES = 64
 LEAST = 1 << 12  # bytes that each file counts at least, also an empty one
-Identity = tuple[int, int]
+Identity = tuple[int, int]  # of a file: the number of its device and of its inode
 
 
 @dataclass(frozen=True)

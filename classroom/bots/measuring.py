@@ -77,8 +77,7 @@ def partner_chooser(how: Daemon, chance: random.Random) -> Callable[[Sequence[in
 
 def run(bench: Bench, setting: Setting, made: labs.Lab, seed: int) -> Row:
     """Runs the network of `made` until it is stable, or until there are more moves than the proved bound. Returns the
-    row with the run's counts. Raises `Denied`, `Refused` or `Fault` if the proved program denies or refuses a request,
-    or ends."""
+    row with the run's counts. Raises `Fault` if the program of the bench denies or refuses a request, or ends."""
     named = f"{setting.family} {setting.nodes} {setting.start} {seed} {setting.daemon.spelled()}"
     chance = random.Random(named)
     partner_of = partner_chooser(setting.daemon, chance)

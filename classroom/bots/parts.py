@@ -19,7 +19,7 @@ from classroom.core.printable import printable
 from classroom.core.program import Fault
 from classroom.core.statuses import FAILED, WARNED
 
-Part = tuple[int, int]
+Part = tuple[int, int]  # the number of a part, and the number of parts
 Case = tuple[str, str]  # a bot's name and a case's
 Each = TypeVar("Each")
 MOST = 64 << 20  # bytes of the file with a part's results

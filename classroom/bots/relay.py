@@ -17,6 +17,7 @@ from classroom.core import limits
 
 MOST_WAITING = 1 << 16  # bytes of unsent replies from which on no more lines of a caller are read
 PAUSE = 2  # so many turns without a line are a pause
+# A function that returns the reply to a line, by the connection's number, the line, and whether it came after a pause.
 Answer = Callable[[int, bytes, bool], bytes]
 BUSY, OVER = b'{"refuse":"busy"}\n', b'{"refuse":"over"}\n'
 MOST_CALLS = 1000  # connections whose times are kept

@@ -34,7 +34,7 @@ from classroom.pages.web import opened as web_opened
 LISTED = 25  # the most lines that the page shows
 LAST_WORD = 2.0  # seconds that pages have to receive the news that the class is over
 ACTS = ("close", "shake", "resume", "end")
-Views = list[dict[str, Any]]
+Views = list[dict[str, Any]]  # for each network what `view` returns
 LINE = re.compile(r"[^\s:]+: (?:close|resume|end|shake (?:\d{1,3}|all))")
 
 

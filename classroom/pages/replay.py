@@ -25,7 +25,7 @@ TEACHER, STUDENT, KEY = "teacher", "student", "key"
 # Connection 1 is the teacher's, and 2 the student's.
 HELLOS = [f'{who} {{"do":"hello","name":"{name}","key":"{KEY}"}}' for who, name in ((1, TEACHER), (2, STUDENT))]
 REPORT = '1 {"do":"report"}'
-Take = Callable[[dict[str, Any]], None]
+Take = Callable[[dict[str, Any]], None]  # a function that handles the values of a reply
 raw_decode, encode = json.JSONDecoder().raw_decode, json.JSONEncoder(separators=(",", ":")).encode
 
 

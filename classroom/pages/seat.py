@@ -17,7 +17,7 @@ from classroom.pages.layout import CELL
 
 NEIGHBOUR = "a neighbour"  # instead of its owners, whom no reply names; no student has such a name
 Told = TypeVar("Told")
-Looks = dict[int, Look]
+Looks = dict[int, Look]  # the look at each node
 
 
 @dataclass(frozen=True)

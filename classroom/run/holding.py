@@ -112,7 +112,7 @@ class Running:
 def open_desk(it: server.Server, run: Running) -> Desk:
     """Writes the record into the run's folder, connects to the desk of the server `it`, and sets up the house, the
     clock and the watch on connections. Catches up with a run that continues. Raises `Left` if another process wants the
-    desk, and `Closed` or `Refused` if it can't be connected to."""
+    desk, and `Closed`, `Refused` or `Denied` if it can't be connected to."""
     run.record(it).write(run.folder)
     client = take_desk(it, run.lab.teacher, run.typed, run.tell, run.hung)
     desk = Desk(run.lab, run.folder / "journal", client, run.close, run.tell)

@@ -76,8 +76,8 @@ def page_lines(folder: str | None, lab: Path, looks: str | None) -> Iterator[str
 
 
 def place_of(folder: str | None, lab: Path) -> Place | None:
-    """Returns the address and port of the door, or None if there is none. The address is the one in the slips of the
-    lab, or if they name none, that of the door or the name of this machine."""
+    """Returns the address and port of the door, or None if there is no door or its folder lacks its data. The address
+    is the one in the slips of the lab, or if they name none, that of the door or the name of this machine."""
     kept = DoorData.read(Path(folder)) if folder is not None else None
     if kept is None:
         return None

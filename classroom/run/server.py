@@ -27,10 +27,10 @@ class Server:
     """A listening server. Its output goes to `server.txt` in its folder."""
 
     process: Process
-    port: int
-    desk: int
-    hosted: bool
-    output: Path
+    port: int  # the port for students
+    desk: int  # the port for the teacher; that for students if the server isn't a host
+    hosted: bool  # Whether the server is a host.
+    output: Path  # the file with its output
     child: subprocess.Popen[bytes] | None = None  # None if another process has started it.
     first: socket.socket | None = None  # The first connection at the desk, until the hello on it is sent.
 
@@ -117,12 +117,12 @@ def require_built(by_number: bool) -> None:
 class Call:
     """The command that starts a server, without its ports."""
 
-    folder: Path
+    folder: Path  # the folder of the run
     lab: Path
     journal: Path
-    by_number: int | None
-    is_resumed: bool
-    record: Path
+    by_number: int | None  # the number of connections for `mml serve`, or None for a host
+    is_resumed: bool  # Whether the server continues the journal.
+    record: Path  # the folder in which a host keeps its record
 
     def at(self, port: int, desk: int = 0) -> Server | None:
         """Starts a server that listens at this port, and returns it, or None if a port is taken. `desk` may be 0 for

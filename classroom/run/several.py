@@ -1,7 +1,8 @@
 """A class of several networks: one process for each network, and one desk for all of them.
 
-The *desk* is where the teacher types commands, a terminal or a program. A *member* is a network with its process. A network is *down* if its server or its desk is gone, which is printed as an
-alarm. *News* are functions in a queue, which one thread calls one after another.
+The *desk* is where the teacher types commands, a terminal or a program. A *member* is a network with its process. A
+network is *down* if its server or its desk is gone, which is printed as an alarm. *News* are functions in a queue,
+which one thread calls one after another.
 """
 from __future__ import annotations
 

@@ -22,7 +22,8 @@ def take_desk(it: Server, teacher: tuple[str, str], typed: Typed, tell: Callable
     """Connects to the desk of the server `it`, with the name and key of the teacher, and returns the connection. Tries
     again for a minute if that fails, and prints once that it does. Meanwhile reads `typed`, the queue of
     typed lines, for signals, and calls `hung` if the terminal was closed. Raises the last `Closed` or `Refused` after
-    the minute, or if the server has ended or the run is to end. Raises `Left` if another process wants the desk."""
+    the minute, or if the server has ended or the run is to end. Raises `Denied` at once if the name and the key aren't
+    those of the teacher, and `Left` if another process wants the desk."""
     end, is_told = time.monotonic() + PATIENCE, False
     while True:
         try:
@@ -43,7 +44,8 @@ def take_desk(it: Server, teacher: tuple[str, str], typed: Typed, tell: Callable
 
 def greet(it: Server, teacher: tuple[str, str]) -> Client:
     """Returns a connection to the desk after its hello. Uses the connection that was made while the server started, if
-    there is one. Raises `Closed` or `Refused` if the server doesn't accept the connection or the hello."""
+    there is one. Raises `Closed` or `Refused` if the server doesn't accept the connection, and `Denied` if the name and
+    the key aren't those of the teacher."""
     first, it.first = it.first, None
     return Client(it.desk, *teacher, connection=first)
 
