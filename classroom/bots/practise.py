@@ -283,7 +283,7 @@ def play(it: ClassWithPrograms, bots: list[Bot], words: argparse.Namespace, fold
 @contextlib.contextmanager
 def served(practice: Practice, lab: labs.Lab, name: str, is_asked: bool) -> Iterator[None]:
     """Serves the page on which the student `name` plays by hand while the class runs. Does nothing if `is_asked` isn't
-    set. The key is after the `#` of the page's address, and browsers don't send that part."""
+    set. Prints the page's address. The student's key is after the `#` there, and browsers don't send that part."""
     if not is_asked:
         yield
         return

@@ -165,7 +165,8 @@ def release(attempt: Attempt) -> None:
 
 
 def overtake(attempt: Attempt) -> None:
-    """Closes a step between the bot's look and its move, so that the move is stale."""
+    """Hurts nodes until a step was closed OVERTAKES times between the bot's look and its move, so that the move is
+    stale. Gives up after ROUNDS nodes."""
     attempt.doing = f", after a step was closed between its look and its move (`stale` is no error: look again){ON}"
     attempt.playing.overtakes = OVERTAKES
     for _ in range(ROUNDS):
@@ -177,7 +178,8 @@ def overtake(attempt: Attempt) -> None:
 
 
 def turn(attempt: Attempt) -> None:
-    """Changes a node's registers between the bot's look and its move, so that another rule is enabled there."""
+    """Hurts a node TURNS times. Each time changes its registers again between the bot's look and its move, so that
+    another rule is enabled there."""
     attempt.doing = f", after a step was closed between its look and its move (`stale` is no error: look again){ON}"
     for _ in range(TURNS):
         attempt.playing.turns = 1

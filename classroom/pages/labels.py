@@ -278,8 +278,8 @@ def widest_gap(layout: Layout, node: int, others: list[int]) -> float:
 
 
 def label_at(middle: Point, radius: float, angle: float, form: Form, text: str, width: float) -> Label:
-    """Returns the label beside the node at `middle`, in the direction of an angle. `width` is that of its text or of
-    its widest frame."""
+    """Returns the label with this text beside the node at `middle`, in the direction of an angle. `width` is that of
+    the text or of the widest frame of a rule."""
     level, upright = math.cos(angle), math.sin(angle)
     x, y = level * REACH * radius, upright * REACH * radius
     anchor = "start" if level > SIDEWAYS else "end" if level < -SIDEWAYS else "middle"

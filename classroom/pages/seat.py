@@ -61,7 +61,8 @@ def drawing_of_part(part: Lab, looks: Looks) -> Seen:
 
 
 def state_of(part: Lab, looks: Looks) -> State:
-    """Returns the state that a picture of the looks shows."""
+    """Returns the state of a part of the network for its picture: the registers, links, chosen moves and enabled rules
+    that the looks show."""
     registers = {each.node: each for look in looks.values() for each in (*look.near, look)}
     state = State(0, max(look.at for look in looks.values()), frozenset(part.links))
     for node in part.nodes:

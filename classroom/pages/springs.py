@@ -96,7 +96,7 @@ def levelled(points: list[Point]) -> list[Point]:
 
 
 def pushed_apart(points: list[Point]) -> list[Point]:
-    """Returns the points, of which those that were closer than LEAST are pushed apart."""
+    """Returns the points, of which those that were closer than LEAST are pushed apart, in at most PUSHES rounds."""
     now = [*points]
     for _ in range(PUSHES):
         close = [pair for pair in near_pairs(now) if math.dist(now[pair[0]], now[pair[1]]) < LEAST - 1e-6]

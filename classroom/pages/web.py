@@ -162,8 +162,8 @@ class PageRequest(BaseHTTPRequestHandler):
 
 
 def opened(port: int, make: Callable[[int], Opened]) -> Opened:
-    """Returns the server that `make` returns for a port: this one, or the next free one. Raises `Fault` if no port is
-    free."""
+    """Returns the server that `make` returns for a port: this one, or the next free one. `make` raises `OSError` if the
+    port is taken. Raises `Fault` if no port is free."""
     def at(number: int) -> Opened | None:
         """Returns the server at a port, or None if the port is taken."""
         try:

@@ -41,8 +41,9 @@ class Adversary:
         self.registers: dict[int, tuple[int | None, bool]] = {}
 
     def search_of(self, how: Daemon, rules: Mapping[int, str], seen: Callable[[], labs.Lab]) -> Search:
-        """Returns the function by which the daemon `how` chooses among nodes whose chosen moves have these rules.
-        `seen` returns the network with its present registers."""
+        """Returns the function by which `how`, the schedule or the adversary, chooses among nodes that may move.
+        `rules` has the rule of each node's move, and `seen` returns the network with its present registers. The
+        function may raise `Fault`."""
         return lambda nodes: [scheduled(rules, nodes)] if how.kind == "schedule" else self.choose(seen(), nodes)
 
     def choose(self, made: labs.Lab, chosen: Sequence[int]) -> list[int]:

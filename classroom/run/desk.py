@@ -107,8 +107,8 @@ class Desk:
         self.announcer.announce_resumed()
 
     def read(self) -> None:
-        """Reads the new events of the journal, prints each one except grants, and updates the pages. Ends the run
-        if the journal is halted."""
+        """Reads the new events of the journal, prints each one except grants, and updates the pages. Ends the run if
+        all events of the lab are used, or if the journal is halted."""
         for news in self.known.news():
             self.announcer.event(news)
             if self.watch:
@@ -161,7 +161,7 @@ class Desk:
 
     def command(self, line: str) -> bool:
         """Runs a line that the teacher has typed. Returns false if it ends the run. Prints what is wrong if the line
-        can't be run."""
+        can't be run. Raises `Closed` if the desk's connection has ended."""
         if line == EOF:
             self.tell("to end the run, type `end`")
             return True

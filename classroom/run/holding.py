@@ -179,7 +179,8 @@ def show(pages: projector.Pages, desk: Desk, tell: Teller, typed: bool) -> None:
 
 
 def start_reading(run: Running) -> None:
-    """Starts a thread that reads typed commands, if there is a terminal or another input."""
+    """Prints the commands, and starts a thread that reads typed ones. Does nothing if standard input isn't a terminal
+    and the run doesn't take lines from elsewhere."""
     at_terminal = sys.stdin is not None and sys.stdin.isatty()
     if not at_terminal and not run.takes_lines:
         return

@@ -105,7 +105,8 @@ class Member:
         self.news.put(partial(ended, self))
 
     def note_line(self, line: str) -> bool:
-        """Notes the facts in a line that the process has printed. Returns whether the class's desk shows the line."""
+        """Notes what a printed line of the process says: a fact, that the process accepts commands, or why it ends.
+        Returns whether the class's desk shows the line."""
         fact, value = fact_in(line)
         is_new = fact != "" and fact not in self.facts
         if fact:

@@ -168,8 +168,8 @@ class Several:
         return [str(node) for node in sorted({node.id for member in self.members for node in member.lab.nodes})]
 
     def tell_table(self) -> None:
-        """Prints the table of networks, once all of them have started or are down. Does nothing if it was printed
-        already."""
+        """Prints the table of networks with the addresses of the page for all, once all networks have started or are
+        down. Does nothing if the table was printed already."""
         if self.is_told or any(member.status == STARTS for member in self.members):
             return
         self.is_told = True
