@@ -1,9 +1,9 @@
 """Gives a student another key while the class goes on: kills the host, and starts a new one that continues from
 its journal.
 
-The *host* is the server of a class, the *desk* is the teacher's connection to it, and the *record* is what it keeps
-about connections and requests. The roster of a running server can't change. A killed host tells nobody that the class is over, so programs connect
-again. All granted events are in the journal, because each line was synced.
+The *host* is the server of a class, and the *desk* is the teacher's connection to it. The *record* is what the host
+keeps about connections and requests. The roster of a running server can't change. A killed host tells nobody that the
+class is over, so programs connect again. All granted events are in the journal, because each line was synced.
 """
 from __future__ import annotations
 
