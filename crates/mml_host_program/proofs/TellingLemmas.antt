@@ -1,25 +1,38 @@
--- The lines of a class that goes on.
-use Rattle.std.{proofs.Common.◌≡◌, proofs.Common.ℕ, proofs.Common.List, proofs.Common.◌++◌, proofs.Common.Option, proofs.Common.subst, specs.Io.KnownBytes.Appends}
+-- The lines of a class, and of one that goes on.
+use Rattle.std.{proofs.Common.◌≡◌, proofs.Common.ℕ, proofs.Common.false, proofs.Common.List, proofs.Common.◌++◌, proofs.Common.length, proofs.Common.Option, proofs.Common.sym, proofs.Common.subst, specs.Io.KnownBytes.Appends}
+use mathlib.Core.List.{IsPrefix}
 use Rattle.mml_lab.specs.Labs.{LabValue}
-use Rattle.mml_board.specs.Lists.{world_in}
+use Rattle.mml_board.specs.{declared.event.Event.Event, Lists.world_in}
+use Rattle.mml_window.specs.declared.log.Log.{Log}
 use Rattle.mml_session.specs.Records.{Kept}
-use Rattle.mml_hosting.specs.declared.{seat.ServedSession.ServedSession, hosted.Hosted.Hosted}
+use Rattle.mml_serving.specs.Closings.{done_line}
+use Rattle.mml_hosting.specs.{declared.seat.ServedSession.ServedSession, declared.hosted.Hosted.Hosted, Hosting.HostsFrom}
 use Rattle.mml_resuming.specs.Resuming.{resumed_line, Resumes}
-use Rattle.mml_host_program.specs.Telling.{ports_line, TellsResumed}
+use Rattle.mml_host_program.specs.Telling.{EndsWell, ports_line, TellsResumed}
+
+module _ {S K C R W : Type 0} (lab : LabValue) (given : ℕ → Option Kept) (sink : S → Option (List ℕ)) (remaining : R → Option (List ℕ))
+    (contents : W → Option (List ℕ)) (recorded : C → Option Kept) (shows : K → ServedSession R W) (to_desk to_come : Option (List (R × W)))
+    (wrote wrote' : Option (List ℕ)) (house : Hosted S K C) (log : Log S) (same : log ≡ house.log) (unhalted : house.log.halted ≡ false) where
+  -- a host that ended with a last line
+  pub ends_well : (begun : List Event) → HostsFrom begun given lab sink remaining contents recorded shows to_desk to_come house
+      → Appends wrote wrote' (done_line (length house.log.events) (world_in lab house.log.events).number)
+      → EndsWell (length begun) lab sink wrote wrote' log
+  ends_well begun hosts last =
+      subst (λ (l : Log S). EndsWell (length begun) lab sink wrote wrote' l) (sym same)
+      (record { windows = hosts.desk_windows ++ hosts.windows; kept = hosts.kept; unhalted = unhalted; last = last })
 
 -- a host that went on, and wrote the ports first
-pub told_resumed : {S K C R W : Type 0} (lab : LabValue) (old first : List ℕ) (given : ℕ → Option Kept) (sink : S → Option (List ℕ)) (remaining : R → Option (List ℕ))
+module _ {S K C R W : Type 0} (lab : LabValue) (old first : List ℕ) (given : ℕ → Option Kept) (sink : S → Option (List ℕ)) (remaining : R → Option (List ℕ))
     (contents : W → Option (List ℕ)) (recorded : C → Option Kept) (shows : K → ServedSession R W) (to_desk to_come : Option (List (R × W)))
-    (wrote wrote' : Option (List ℕ)) (house : Hosted S K C) (port desk : ℕ)
-    → Resumes lab old first given sink remaining contents recorded shows to_desk to_come wrote wrote' house → first ≡ ports_line port desk
-    → TellsResumed lab old port desk wrote wrote'
-told_resumed lab old first given sink remaining contents recorded shows to_desk to_come wrote wrote' house port desk r same = record {
-  begun = r.begun;
-  events = house.log.events;
-  between = r.between;
-  journal = r.journal;
-  begins = r.hosts.begins;
-  legal = r.hosts.kept.book.legal;
-  first = subst (λ (f : List ℕ). Appends wrote r.between (f ++ resumed_line (world_in lab r.begun))) same r.begins;
-  last = r.ends;
-}
+    (wrote wrote' : Option (List ℕ)) (house : Hosted S K C) (log : Log S) (port desk : ℕ) where
+  pub told_resumed : log ≡ house.log → house.log.halted ≡ false
+      → Resumes lab old first given sink remaining contents recorded shows to_desk to_come wrote wrote' house → first ≡ ports_line port desk
+      → TellsResumed lab sink old port desk wrote wrote' log
+  told_resumed same unhalted r ports = record {
+    begun = r.begun;
+    between = r.between;
+    journal = r.journal;
+    begins = subst (λ (l : Log S). IsPrefix r.begun l.events) (sym same) r.hosts.begins;
+    first = subst (λ (f : List ℕ). Appends wrote r.between (f ++ resumed_line (world_in lab r.begun))) ports r.begins;
+    ends = ends_well lab given sink remaining contents recorded shows to_desk to_come r.between wrote' house log same unhalted r.begun r.hosts r.ends;
+  }

@@ -1,32 +1,40 @@
 -- The lines of a host at its beginning and at its end.
-use Rattle.std.specs.Prelude.{◌≡◌, ℕ, true, List, [], ◌∷◌, ◌++◌, length, codes, decimal, Option}
+use Rattle.std.specs.Prelude.{◌≡◌, ℕ, false, List, [], ◌∷◌, ◌++◌, length, codes, decimal, Option}
 use Rattle.std.specs.{List.concat, Io.KnownBytes.Appends}
 use mathlib.Core.List.{IsPrefix}
 use Rattle.mml_lab.specs.Labs.{LabValue}
-use Rattle.mml_board.specs.{declared.event.Event.Event, Lists.is_legal_in, Lists.world_in}
+use Rattle.mml_board.specs.{declared.event.Event.Event, Lists.world_in}
+use Rattle.mml_window.specs.{declared.log.Log.Log, Logs.IsLogFrom, Windows.WindowValue}
 use Rattle.mml_audit.specs.AuditMeaning.{IsJournalOf}
-use Rattle.mml_serving.specs.Closings.{Closes, done_line}
+use Rattle.mml_serving.specs.Closings.{done_line}
 use Rattle.mml_resuming.specs.Resuming.{whole_of, resumed_line}
 
 -- the first line of a class, which names its ports
 abbrev pub ports_line : ℕ → ℕ → List ℕ
 ports_line port desk = concat (codes "listening on port " ∷ decimal port ∷ codes ", desk on port " ∷ decimal desk ∷ codes "\n" ∷ [])
 
--- what a class writes: first its ports, and at last the number of events in some legal list of the lab, and the number
--- of the configuration that they lead to
-pub record TellsClass (lab : LabValue) (port desk : ℕ) (wrote wrote' : Option (List ℕ)) : Type 0 where
+-- The house of a class left this log, which isn't halted. It is one legal list of events. The places after the first so
+-- many are those that the windows of the house were given, each once, and the sink has the journal of the list. What is
+-- written is the last line of this log: how many events it has, and the number of the configuration after them
+pub record EndsWell {S : Type 0} (first : ℕ) (lab : LabValue) (sink : S → Option (List ℕ)) (wrote wrote' : Option (List ℕ)) (log : Log S) : Type 0 where
+  pub windows : List WindowValue
+  pub kept : IsLogFrom first lab sink windows log
+  pub unhalted : log.halted ≡ false
+  pub last : Appends wrote wrote' (done_line (length log.events) (world_in lab log.events).number)
+
+-- what a class with this log writes: first its ports, and at last the line of the log
+pub record TellsClass {S : Type 0} (lab : LabValue) (sink : S → Option (List ℕ)) (port desk : ℕ) (wrote wrote' : Option (List ℕ)) (log : Log S) : Type 0 where
   pub between : Option (List ℕ)
   pub first : Appends wrote between (ports_line port desk)
-  pub last : Closes lab between wrote'
+  pub ends : EndsWell 0 lab sink between wrote' log
 
--- what a class that goes on writes: first its ports and the state after the old journal's lines; at last the number of
--- events in some legal list that begins with theirs, and the number of the configuration that they lead to
-pub record TellsResumed (lab : LabValue) (old : List ℕ) (port desk : ℕ) (wrote wrote' : Option (List ℕ)) : Type 0 where
+-- what a class with this log writes that goes on from an old journal, with whose events the log begins: first its ports
+-- and the state after the old journal's lines, and at last the line of the log
+pub record TellsResumed {S : Type 0} (lab : LabValue) (sink : S → Option (List ℕ)) (old : List ℕ) (port desk : ℕ) (wrote wrote' : Option (List ℕ))
+    (log : Log S) : Type 0 where
   pub begun : List Event
-  pub events : List Event
   pub between : Option (List ℕ)
   pub journal : IsJournalOf lab begun (whole_of old)
-  pub begins : IsPrefix begun events
-  pub legal : is_legal_in lab events ≡ true
+  pub begins : IsPrefix begun log.events
   pub first : Appends wrote between (ports_line port desk ++ resumed_line (world_in lab begun))
-  pub last : Appends between wrote' (done_line (length events) (world_in lab events).number)
+  pub ends : EndsWell (length begun) lab sink between wrote' log

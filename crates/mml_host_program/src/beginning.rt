@@ -1,19 +1,19 @@
 //! A class that begins: from its first line of output to its last.
-ghost use Rattle.std.specs.Prelude.{◌≡◌, ◌<◌, ◌+◌, ◌-◌, ◌^◌, IsOk, OnOk, length};
+ghost use Rattle.std.specs.Prelude.{◌≡◌, ◌<◌, ◌+◌, ◌-◌, ◌^◌, IfOk, OnOk, length};
 ghost use Rattle.std.specs.Io.KnownBytes.{Appends};
 ghost use Rattle.mml_journal.specs.Taken.{IsFresh};
-ghost use Rattle.mml_serving.specs.Closings.{Closes};
-ghost use Rattle.mml_host_program.specs.Telling.{ports_line, TellsClass};
+ghost use Rattle.mml_host_program.specs.Telling.{EndsWell, ports_line, TellsClass};
 
 use crate::class::Ready;
 use crate::fault::Fault;
 use crate::system::System;
-use mml_hosting::{HostFault, Hosted, serve_host};
+use mml_hosting::{Hosted, serve_host};
 use mml_ids::Piece;
 use mml_journal::Sink;
 use mml_ports::{HostState, SocketSession, TwoPorts, bell_of, open_ports};
 use mml_program::{Fault as ProgramFault, write_pieces};
 use mml_session::{NoGate, Recorder};
+use mml_window::Log;
 use std::alloc::Global;
 use std::io::Write;
 use std::net::{Net, TcpListener, TcpStream};
@@ -21,50 +21,52 @@ use std::sync::Wait;
 
 impl<C: Recorder + Send + Drop> Ready<C> {
     /// Serves a new class: writes the first line, serves the connections, and writes the last line. Granted events go
-    /// to the journal's `sink`. Returns the reason if the class can't begin, or fails.
+    /// to the journal's `sink`. Returns the log whose events the last line counts. Returns the reason if the class
+    /// can't begin, or fails.
     pub(crate) fn begin<
         R: System + Net<Listener = TcpListener, Stream = TcpStream> + Sync,
         S: Sink + Send + Drop,
         W: Write,
-    >(self, rt: &R, sink: S, writer: &mut W) -> Result<(), Fault>
+    >(self, rt: &R, sink: S, writer: &mut W) -> Result<Log<S>, Fault>
         requires fresh { IsFresh (S.contents sink) }
         requires countable { S.failures sink < 2 ^ 64 - 1 }
         requires as_many { length self.recorders.others.items + 1 ≡ self.lab.sessions }
-        ensures { OnOk result (TellsClass self.lab self.ports.port self.ports.desk
+        ensures { IfOk result (TellsClass self.lab S.contents self.ports.port self.ports.desk
             (W.contents writer.old) (W.contents writer.new)) }
     {
         write_listening(rt.alloc(), self.ports.port, self.ports.desk, writer)?;
         self.serve_with_state(rt, sink, writer)
     }
 
-    // Serves the connections with a new host state, and writes the last line. If a session ran out of memory, returns
-    // that error after the last line.
+    // Serves the connections with a new host state, and writes the last line. Returns the log. If a session ran out of
+    // memory, returns that error after the last line.
     fn serve_with_state<
         R: System + Net<Listener = TcpListener, Stream = TcpStream> + Sync,
         S: Sink + Send + Drop,
         W: Write,
-    >(self, rt: &R, sink: S, writer: &mut W) -> Result<(), Fault>
+    >(self, rt: &R, sink: S, writer: &mut W) -> Result<Log<S>, Fault>
         requires fresh { IsFresh (S.contents sink) }
         requires countable { S.failures sink < 2 ^ 64 - 1 }
         requires as_many { length self.recorders.others.items + 1 ≡ self.lab.sessions }
-        ensures { OnOk result (Closes self.lab (W.contents writer.old) (W.contents writer.new)) }
+        ensures { IfOk result (EndsWell 0 self.lab S.contents (W.contents writer.old) (W.contents writer.new)) }
     {
         let state = HostState::new(rt.alloc(), &self.lab);
-        self.serve_to_the_end(rt, sink, &state, writer)?;
-        told_memory(rt, &state)
+        let log = self.serve_to_the_end(rt, sink, &state, writer)?;
+        told_memory(rt, &state)?;
+        Ok(log)
     }
 
-    // Serves the connections with this host state until the class is over, and writes the last line. If a session ran
-    // out of memory, that is only noted in the state.
+    // Serves the connections with this host state until the class is over, and writes the last line. Returns the log.
+    // If a session ran out of memory, that is only noted in the state.
     fn serve_to_the_end<
         R: System + Net<Listener = TcpListener, Stream = TcpStream> + Sync,
         S: Sink + Send + Drop,
         W: Write,
-    >(self, rt: &R, sink: S, state: &HostState, writer: &mut W) -> Result<(), Fault>
+    >(self, rt: &R, sink: S, state: &HostState, writer: &mut W) -> Result<Log<S>, Fault>
         requires fresh { IsFresh (S.contents sink) }
         requires countable { S.failures sink < 2 ^ 64 - 1 }
         requires as_many { length self.recorders.others.items + 1 ≡ self.lab.sessions }
-        ensures { OnOk result (Closes self.lab (W.contents writer.old) (W.contents writer.new)) }
+        ensures { IfOk result (EndsWell 0 self.lab S.contents (W.contents writer.old) (W.contents writer.new)) }
     {
         let alloc = rt.alloc();
         let bell = bell_of(rt, state, &self.ports)?;
@@ -80,23 +82,10 @@ impl<C: Recorder + Send + Drop> Ready<C> {
         let served = serve_host::<_, _, SocketSession<'_, R>, _, _, _, _, _, _, _, _, _>(
             rt, alloc, lab, sink, recorders, at_desk, at_port, &bell, &NoGate, writer,
         );
-        end_of_class(served)
-    }
-}
-
-// Returns the host's error if serving the class failed. Otherwise drops the result of its house (its run), and returns
-// `Ok`.
-fn end_of_class<S: Drop, K: Drop, C: Drop>(
-    served: Result<Hosted<S, K, C>, HostFault>,
-) -> Result<(), Fault>
-    ensures { OnOk result (IsOk served) }
-{
-    match served {
-        Ok(house) => {
-            let_go(house);
-            Ok(())
+        match served {
+            Ok(house) => Ok(log_of(house)),
+            Err(fault) => Err(Fault::from(fault)),
         }
-        Err(fault) => Err(Fault::from(fault)),
     }
 }
 
@@ -109,9 +98,16 @@ pub(crate) fn told_memory<R: Wait>(rt: &R, state: &HostState) -> Result<(), Faul
     }
 }
 
-/// Drops the result of a house (one run of a lab) whose class has ended.
-pub(crate) fn let_go<S: Drop, K: Drop, C: Drop>(house: Hosted<S, K, C>) {
-    drop(house);
+/// Returns the log of a house (one run of a lab) whose class has ended, and drops the records of its seats.
+pub(crate) fn log_of<S: Drop, K: Drop, C: Drop>(house: Hosted<S, K, C>) -> Log<S>
+    ensures { result ≡ house.log }
+{
+    let Hosted {
+        log,
+        at_desk: _,
+        others: _,
+    } = house;
+    log
 }
 
 /// Writes the first line of a class, which names its two ports. Returns an error if the write fails, or memory runs

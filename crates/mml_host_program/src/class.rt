@@ -1,5 +1,5 @@
 //! Serving a class whose ports are open, with its journal and its record.
-ghost use Rattle.std.specs.Prelude.{◌≡◌, ◌+◌, length};
+ghost use Rattle.std.specs.Prelude.{◌≡◌, ◌+◌, IsOk, OnOk, length};
 ghost use Rattle.std.specs.Thread.{IsSync, IsSend};
 
 use crate::fault::{Fault, of_record};
@@ -10,10 +10,11 @@ use mml_files::OldJournal;
 use mml_hosting::{Recorders, no_recorders};
 use mml_journal::{FileSink, NullSink};
 use mml_lab::Lab;
-use mml_ports::Ports;
+use mml_ports::{HostState, Ports};
 use mml_program::memory_if_lacked;
 use mml_recording::{RecordFolder, RecordState, Seats, end_syncing, sync_until_done};
 use mml_session::Recorder;
+use mml_window::Log;
 use std::fs::File;
 use std::io::Write;
 use std::net::{Net, TcpListener, TcpStream};
@@ -224,11 +225,27 @@ fn serve_journaled<
         recorders,
     };
     match journal {
-        ClassJournal::None => ready.begin(rt, NullSink::new(), writer),
+        ClassJournal::None => without_log(ready.begin(rt, NullSink::new(), writer)),
         ClassJournal::Plain(file, watch) => {
-            ready.begin(rt, WatchedSink::new(file, 0, watch), writer)
+            without_log(ready.begin(rt, WatchedSink::new(file, 0, watch), writer))
         }
-        ClassJournal::Other(file) => ready.begin(rt, FileSink::new(file), writer),
-        ClassJournal::Old(past) => ready.go_on(rt, past, writer),
+        ClassJournal::Other(file) => without_log(ready.begin(rt, FileSink::new(file), writer)),
+        ClassJournal::Old(past) => {
+            let state = HostState::new(rt.alloc(), &ready.lab);
+            without_log(ready.go_on(rt, &state, past, writer))
+        }
+    }
+}
+
+// Drops the log of a class that has ended well. Returns `Ok`, or the error if the class failed.
+fn without_log<S: Drop>(ended: Result<Log<S>, Fault>) -> Result<(), Fault>
+    ensures { OnOk result (IsOk ended) }
+{
+    match ended {
+        Ok(log) => {
+            drop(log);
+            Ok(())
+        }
+        Err(fault) => Err(fault),
     }
 }

@@ -1,10 +1,11 @@
 //! A class that goes on: from the end of its journal to its last line of output.
-ghost use Rattle.std.specs.Prelude.{◌≡◌, ◌+◌, IfOk, OnOk, length};
+ghost use Rattle.std.specs.Prelude.{◌≡◌, ◌+◌, IfOk, None, length};
 ghost use Rattle.mml_host_program.specs.Telling.{ports_line, TellsResumed};
 
-use crate::beginning::{let_go, told_memory, write_listening};
+use crate::beginning::{log_of, told_memory, write_listening};
 use crate::class::{Past, Ready};
 use crate::fault::Fault;
+use crate::journal_watch::WatchedSink;
 use crate::old_file::OldFile;
 use crate::system::System;
 use mml_journal::Sink;
@@ -12,6 +13,7 @@ use mml_ports::{HostState, Ports, SocketSession, TwoPorts, bell_of, open_ports};
 use mml_program::Fault as ProgramFault;
 use mml_resuming::{ResumeFault, Store, resume_class};
 use mml_session::{NoGate, Recorder};
+use mml_window::Log;
 use std::alloc::Global;
 use std::fs::File;
 use std::io::Write;
@@ -19,18 +21,24 @@ use std::net::{Net, TcpListener, TcpStream};
 use std::rt::Files;
 
 impl<C: Recorder + Send + Drop> Ready<C> {
-    /// Serves a class that goes on from the journal `past`: writes the first two lines, serves the connections, and
-    /// writes the last line. Returns the reason if the class doesn't go on, or fails.
+    /// Serves a class that goes on from the journal `past`, in the host state `state`: writes the first two lines,
+    /// serves the connections, and writes the last line. Returns the log whose events the last line counts. Returns the
+    /// reason if the class doesn't go on, or fails.
     pub(crate) fn go_on<
+        'a,
         R: System + Files<File = File> + Net<Listener = TcpListener, Stream = TcpStream> + Sync,
         W: Write,
-    >(self, rt: &R, past: Past<'_>, writer: &mut W) -> Result<(), Fault>
+    >(
+        self,
+        rt: &'a R,
+        state: &'a HostState,
+        past: Past<'a>,
+        writer: &mut W,
+    ) -> Result<Log<WatchedSink<'a>>, Fault>
         requires as_many { length self.recorders.others.items + 1 ≡ self.lab.sessions }
-        ensures { OnOk result (TellsResumed self.lab past.entry.bytes.now self.ports.port
-            self.ports.desk
-            (W.contents writer.old) (W.contents writer.new)) }
+        ensures { IfOk result (TellsResumed self.lab (λ _. None) past.entry.bytes.now
+            self.ports.port self.ports.desk (W.contents writer.old) (W.contents writer.new)) }
     {
-        let state = HostState::new(rt.alloc(), &self.lab);
         let first = first_line(rt.alloc(), &self.ports)?;
         let Past {
             journal,
@@ -39,18 +47,17 @@ impl<C: Recorder + Send + Drop> Ready<C> {
         } = past;
         let store = OldFile {
             rt,
-            state: &state,
+            state,
             journal,
             bytes,
             watch,
         };
-        self.go_on_after(rt, bytes, store, first.as_slice(), &state, writer)
+        self.go_on_after(rt, bytes, store, first.as_slice(), state, writer)
     }
 
     // Serves a class that goes on from a journal with the bytes `old`, which `store` cuts to their whole lines. The
     // line `first`, which names the ports, is written together with the next line, about the state that the journal
-    // leads to.
-    #[tactic(auto, using(crate::proofs::TellingLemmas::told_resumed))]
+    // leads to. Returns the log. If a session ran out of memory, returns that error after the last line.
     fn go_on_after<
         R: System + Net<Listener = TcpListener, Stream = TcpStream> + Sync,
         S: Sink + Send + Drop,
@@ -64,11 +71,11 @@ impl<C: Recorder + Send + Drop> Ready<C> {
         first: &[u8],
         state: &HostState,
         writer: &mut W,
-    ) -> Result<(), Fault>
+    ) -> Result<Log<S>, Fault>
         requires as_many { length self.recorders.others.items + 1 ≡ self.lab.sessions }
         requires first { first.now ≡ ports_line self.ports.port self.ports.desk }
-        ensures { OnOk result (TellsResumed self.lab old.now self.ports.port self.ports.desk
-            (W.contents writer.old) (W.contents writer.new)) }
+        ensures { IfOk result (TellsResumed self.lab S.contents old.now self.ports.port
+            self.ports.desk (W.contents writer.old) (W.contents writer.new)) }
     {
         let alloc = rt.alloc();
         let bell = bell_of(rt, state, &self.ports)?;
@@ -84,11 +91,12 @@ impl<C: Recorder + Send + Drop> Ready<C> {
         let resumed = resume_class::<_, _, _, SocketSession<'_, R>, _, _, _, _, _, _, _, _, _>(
             rt, alloc, lab, old, store, first, recorders, at_desk, at_port, &bell, &NoGate, writer,
         );
-        match resumed {
-            Ok(house) => let_go(house),
+        let log = match resumed {
+            Ok(house) => log_of(house),
             Err(fault) => return Err(told_as(fault, state.lacked_memory(rt))),
-        }
-        told_memory(rt, state)
+        };
+        told_memory(rt, state)?;
+        Ok(log)
     }
 }
 
