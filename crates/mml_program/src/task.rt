@@ -16,7 +16,7 @@ use mml_hall::Hall;
 use mml_journal::{NullSink, Sink};
 use mml_lab::Lab;
 use mml_lab_file::read_lab;
-use mml_serving::{ServeFault, ServedHouse, Socket, serve_on, write_listening};
+use mml_serving::{ServeFault, ServedHouse, Socket, serve_house_on, write_listening};
 use mml_session::NoGate;
 use std::alloc::Global;
 use std::fs::File;
@@ -231,7 +231,7 @@ fn serve_lines<R: Threads + Wait + Sync + AllocGlobal, S: Sink + Send + Drop, W:
         connections,
     } = service;
     write_listening(alloc, port, writer)?;
-    match serve_on(rt, alloc, lab, listener, connections, sink, &NoGate, writer) {
+    match serve_house_on(rt, alloc, lab, listener, connections, sink, &NoGate, writer) {
         Ok(house) => Ok(house),
         Err(fault) => Err(fault),
     }

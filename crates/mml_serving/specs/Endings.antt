@@ -71,6 +71,16 @@ EndsBadly lab sink remaining contents to_come count wrote wrote' fault.Write =
     × IsCutShort wrote wrote' (done_line (length log.events) (world_in lab log.events).number) fault.Write)
 
 -- the connections of a listener were served, and the house left a log that isn't halted, whose last line was written.
+-- Memory ran out neither in a session nor in a socket. Nothing is known of a socket's bytes
+pub record ServesWithMemory {S : Type 0} (lab : LabValue) (sink : S → Option (List ℕ)) (count : ℕ) (wrote wrote' : Option (List ℕ)) : Type 0 where
+  pub sessions : List (EndedSession Socket Socket)
+  pub log : Log S
+  pub serves : ServesHouse lab sink (λ _. None) (λ _. None) None count sessions log
+  pub unhalted : log.halted ≡ false
+  pub last : Appends wrote wrote' (done_line (length log.events) (world_in lab log.events).number)
+  pub memory : list_all had_memory sessions ≡ true
+
+-- the connections of a listener were served, and the house left a log that isn't halted, whose last line was written.
 -- But memory ran out in a session or a socket. Nothing is known of a socket's bytes
 pub record LacksMemory {S : Type 0} (lab : LabValue) (sink : S → Option (List ℕ)) (count : ℕ) (wrote wrote' : Option (List ℕ)) : Type 0 where
   pub sessions : List (EndedSession Socket Socket)

@@ -16,5 +16,5 @@ pub use announcing::{write_last, write_listening};
 pub use arrivals::{Arrivals, HangUp, LetGo};
 pub use connection::{Connection, EndedSession};
 pub use number_words::{read_connections, read_port};
-pub use serving::{ServeFault, ServedHouse, end_for, serve_arrivals, serve_on};
+pub use serving::{ServeFault, ServedHouse, end_for, serve_arrivals, serve_house_on, serve_on};
 pub use socket::{Socket, linger};

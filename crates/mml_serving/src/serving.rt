@@ -3,7 +3,7 @@
 //!
 //! A house is one run of a lab that threads share: its list of granted events, the board after them, and their journal.
 //! A window is one session's view of the published events and board.
-ghost use Rattle.std.specs.Prelude.{◌≡◌, ◌<◌, ◌≤◌, ◌+◌, ◌-◌, ◌^◌, ◌++◌, Err, None, true, false, length, IfOk, IfErr};
+ghost use Rattle.std.specs.Prelude.{◌≡◌, ◌<◌, ◌≤◌, ◌+◌, ◌-◌, ◌^◌, ◌++◌, Err, None, true, false, length, IfOk, IfErr, OnOk};
 ghost use Rattle.std.specs.List.{list_all};
 ghost use Rattle.std.specs.Io.KnownBytes.{Appends};
 ghost use Rattle.mml_journal.specs.Taken.{IsFresh};
@@ -11,7 +11,7 @@ ghost use Rattle.mml_window.specs.Houses.{house_of};
 ghost use Rattle.mml_board.specs.Lists.{world_in};
 ghost use Rattle.mml_window.specs.Logs.{IsLog};
 ghost use Rattle.mml_serving.specs.Closings.{done_line};
-ghost use Rattle.mml_serving.specs.Endings.{EndsBadly, EndsEarly, EndsWithout, ServesBadly};
+ghost use Rattle.mml_serving.specs.Endings.{EndsBadly, EndsEarly, EndsWithout, ServesBadly, ServesWithMemory};
 ghost use Rattle.mml_serving.specs.Serving.{ServesHouse, had_memory};
 
 use crate::announcing::write_last;
@@ -54,12 +54,39 @@ pub enum ServeFault {
     Write,
 }
 
+/// Serves the next `connections` connections of a listener in a new house of the lab, as `serve_house_on` does, and
+/// drops the result of the house.
+pub fn serve_on<Rt: Threads + Wait + Sync, S: Sink + Send + Drop, G: Gate + Sync, W: Write>(
+    rt: &Rt,
+    alloc: Global,
+    lab: Lab,
+    listener: TcpListener,
+    connections: u8,
+    sink: S,
+    gate: &G,
+    writer: &mut W,
+) -> Result<(), ServeFault>
+    requires some { 0 < connections }
+    requires sessions { connections ≤ lab.sessions }
+    requires fresh { IsFresh (S.contents sink) }
+    requires countable { S.failures sink < 2 ^ 64 - 1 }
+    ensures served { OnOk result (ServesWithMemory lab S.contents connections
+        (W.contents writer.old) (W.contents writer.new)) }
+    ensures badly { IfErr result (ServesBadly lab S.contents connections
+        (W.contents writer.old) (W.contents writer.new)) }
+{
+    match serve_house_on(rt, alloc, lab, listener, connections, sink, gate, writer) {
+        Ok(_house) => Ok(()),
+        Err(fault) => Err(fault),
+    }
+}
+
 /// Serves the next `connections` connections of a listener in a new house of the lab. Then writes the last line: the
 /// number of events, and the configuration that they led to. Returns the result of the house, or why it failed. If
 /// accepting fails, the connections that had come are still served to their ends. If memory ran out in a session or a
 /// socket, returns `Memory`, though the last line was written. The contract can't speak of a socket's bytes; see
 /// `serve_arrivals`.
-pub fn serve_on<Rt: Threads + Wait + Sync, S: Sink + Send + Drop, G: Gate + Sync, W: Write>(
+pub fn serve_house_on<Rt: Threads + Wait + Sync, S: Sink + Send + Drop, G: Gate + Sync, W: Write>(
     rt: &Rt,
     alloc: Global,
     lab: Lab,

@@ -1,18 +1,12 @@
-use Rattle.std.proofs.Common.{inl, inr, refl, arith}
+use Rattle.std.proofs.Common.{refl}
 use Rattle.mml_serving.proofs.serving.serve_on.Goals as goal
 
-pub returns-in-Err-clause-badly : goal.returns-in-Err-clause-badly
-returns-in-Err-clause-badly g c = inl c.in-Err.ensures.badly
-
-pub returns-else-all_had_memory-clause-badly : goal.returns-else-all_had_memory-clause-badly
-returns-else-all_had_memory-clause-badly g c = inr (
-  refl,
-  record {
-    sessions = c.in-Ok.house.sessions.items;
-    log = c.in-Ok.house.log;
-    serves = c.in-Ok.ensures.served;
-    unhalted = c.in-Ok.ensures.unhalted;
-    last = c.in-Ok.ensures.last;
-    lacked = grind arith;
-  },
-)
+pub returns-in-Ok-clause-served : goal.returns-in-Ok-clause-served
+returns-in-Ok-clause-served g c = record {
+  sessions = c.in-Ok._house.sessions.items;
+  log = c.in-Ok._house.log;
+  serves = c.in-Ok.ensures.served;
+  unhalted = c.in-Ok.ensures.unhalted;
+  last = c.in-Ok.ensures.last;
+  memory = c.in-Ok.ensures.had_memory;
+}
