@@ -7,12 +7,12 @@ use Rattle.mml_board.specs.{declared.event.Event.Event, declared.denial.Denial.D
 use Rattle.mml_codec.specs.declared.{request.LineFault.LineFault, request.Request.Request, greeting.Greeting.Greeting, reply.Reply.Reply}
 use Rattle.mml_codec.specs.{Facts.object_text, Lines.request_in, Replies.text, Replies.reply_line, Replies.place_in}
 use Rattle.mml_session.specs.Turns.{is_bye}
-use Rattle.mml_record.specs.{declared.kept_entry.Entry.Entry, declared.stage.Stage.Stage, DenialNames.denial_told, DenialNames.denial_in, Refusals.reason_told, Refusals.reason_in}
+use Rattle.mml_record.specs.{declared.kept_entry.Entry.Entry, declared.stage.Stage.Stage, DenialMembers.if_clause, DenialMembers.from_clause, DenialMembers.denial_members, DenialNames.denial_told, DenialNames.denial_in, Refusals.reason_told, Refusals.reason_in}
 use Rattle.mml_record.specs.Certified.{seen_after, stage_after, FitsGreeting, FitsAsked, Fits, GoesOn}
-use Rattle.mml_record.specs.Asks.{unended, clause_first, clause_second, clause_member, clause_told, memory_text, known_by, known_asked, known_after, line_of, student_of, asks_from, clause_in}
+use Rattle.mml_record.specs.Asks.{unended, clause_of_members, clause_told, memory_text, known_by, known_asked, known_after, line_of, student_of, asks_from, clause_in}
 use Rattle.mml_record.specs.Asks.{AreAskedOf}
-use Rattle.mml_journal.proofs.CuttingLemmas.{cut_here}
-use Rattle.mml_record.proofs.{TextLineLemmas.front_of, OnceLemmas.fits_once, NumberedLemmas.no_comma, NumberedLemmas.numbered, RefusalsLemmas.reason_is, DenialNamesLemmas.named_is}
+use Rattle.mml_journal.specs.Words.{◌>>=◌}
+use Rattle.mml_record.proofs.{TextLineLemmas.front_of, OnceLemmas.fits_once, DenialMembersLemmas.behind_number, DenialMembersLemmas.none_in, NumberedLemmas.numbered, RefusalsLemmas.reason_is, DenialNamesLemmas.named_is}
 use Rattle.mml_board.specs.declared.denial.Denial.TheVariants as denial
 use Rattle.mml_codec.specs.declared.reply.Refused.TheVariants as refused
 use Rattle.mml_codec.specs.declared.reply.Reply.TheVariants as replies
@@ -21,55 +21,32 @@ use Rattle.mml_record.specs.declared.stage.Stage.TheVariants as stages
 
 -- ---- the clause in a reply's text
 
-second : (n : ℕ) (rest : List ℕ) → clause_second (34 ∷ 97 ∷ 116 ∷ 34 ∷ 58 ∷ (decimal n ++ 44 ∷ rest)) ≡ clause_first rest
-unfolding clause_second
-second n rest = rw (cut_here 44 (decimal n) rest (no_comma n)) refl
-
-member : (n : ℕ) (rest : List ℕ) → clause_member (34 ∷ 97 ∷ 116 ∷ 34 ∷ 58 ∷ (decimal n ++ 44 ∷ rest)) ≡ clause_first rest
-unfolding clause_member
-member n rest = second n rest
-
-behind_number : (n : ℕ) (rest : List ℕ) (c : Option ℕ) → clause_first rest ≡ c → clause_told (numbered n rest) ≡ c
-unfolding clause_told
-behind_number n rest c h = member n rest ∙ h
-
--- another member comes first
-first_member : (members : List ℕ) (c : Option ℕ) → clause_member members ≡ c → clause_told (123 ∷ members) ≡ c
-unfolding clause_told
-first_member members c h = h
-
 -- the digit of a clause
 unfoldable clause_digit : ℕ → List ℕ → Option ℕ
-clause_digit n rest = clause_first (codes "\"clause\":" ++ (decimal n ++ rest))
+clause_digit n rest = clause_of_members (codes "\"clause\":" ++ (decimal n ++ rest))
 
 digit_is : (d : Denial) (rest : List ℕ) → clause_digit (clause_of d) rest ≡ Some (clause_of d)
-unfolding clause_digit clause_first digits
+unfolding clause_digit digits
 digit_is denial.NotGreeted rest = refl
 digit_is _ rest = refl
 
 plain : (n : ℕ) (rest : List ℕ) → clause_told (123 ∷ (codes "\"clause\":" ++ (decimal n ++ rest))) ≡ clause_digit n rest
-unfolding clause_told clause_member clause_digit
+unfolding denial_members from_clause if_clause clause_digit
 plain n rest = refl
 
 stale : (at : ℕ) (rest : List ℕ) → clause_told (numbered at (codes "\"clause\":" ++ (decimal 2 ++ rest))) ≡ Some 2
-unfolding clause_digit
-stale at rest = behind_number at (codes "\"clause\":" ++ (decimal 2 ++ rest)) (Some 2) (digit_is (denial.Stale at) rest)
+unfolding if_clause clause_digit
+stale at rest =
+    let members : List ℕ = codes "\"clause\":" ++ (decimal 2 ++ rest) in
+    ap (λ (m : Option (List ℕ)). m >>= clause_of_members) (behind_number at members (Some members) refl) ∙ digit_is (denial.Stale at) rest
 
 denied_is : (ids : List ℕ) (roster : RosterValue) (d : Denial) → clause_told (text ids roster (replies.Deny d)) ≡ Some (clause_of d)
 unfolding object_text
 denied_is ids roster d = grind (arith, nat_tests, plain, digit_is, stale)
 
 pub told_is : (ids : List ℕ) (roster : RosterValue) (r : Reply) → clause_told (text ids roster r) ≡ clause_in r
-unfolding object_text clause_member clause_first
-told_is ids roster (replies.See s) = behind_number s.at _ None refl
-told_is ids roster (replies.Look l) = behind_number l.at _ None refl
-told_is ids roster (replies.Move at place node kind) = behind_number at _ None refl
-told_is ids roster (replies.Close at place moved) = behind_number at _ None refl
-told_is ids roster (replies.Fault at place node dropped) = behind_number at _ None refl
-told_is ids roster (replies.Release at place node) = behind_number at _ None refl
-told_is ids roster (replies.Report r) = behind_number r.at _ None refl
 told_is ids roster (replies.Deny d) = denied_is ids roster d
-told_is ids roster _ = first_member _ None refl
+told_is ids roster r = ap (λ (m : Option (List ℕ)). m >>= clause_of_members) (none_in ids roster r tt)
 
 -- ---- who is known
 

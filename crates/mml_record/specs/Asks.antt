@@ -8,9 +8,9 @@ use Rattle.mml_board.specs.{declared.event.Event.Event, Denials.clause_of}
 use Rattle.mml_policy.specs.declared.command.{Asked.Asked, Command.Command}
 use Rattle.mml_codec.specs.{declared.request.LineFault.LineFault, declared.request.Request.Request, declared.reply.Reply.Reply, Greetings.greeting, Lines.request_in, Replies.reply_line}
 use Rattle.mml_codec.specs.declared.greeting.Greeting.{Greeting, TheVariants.Answered, TheVariants.LeftToJudge}
-use Rattle.mml_journal.specs.Words.{◌>>=◌, split_at_byte, is_word}
+use Rattle.mml_journal.specs.Words.{◌>>=◌, split_at_byte}
 use Rattle.mml_tally.specs.declared.ask.{Ask.Ask, Line.Line}
-use Rattle.mml_record.specs.{declared.kept_entry.Entry.Entry, Certified.Fits, DenialNames.denial_told, DenialNames.denial_in, Refusals.reason_told, Refusals.reason_in}
+use Rattle.mml_record.specs.{declared.kept_entry.Entry.Entry, Certified.Fits, DenialMembers.denial_members, DenialNames.denial_told, DenialNames.denial_in, Refusals.reason_told, Refusals.reason_in}
 use Rattle.mml_rules.specs.declared.rule.Kind.TheVariants as kind
 use Rattle.mml_lab.specs.declared.who.Who.TheVariants as who
 use Rattle.mml_policy.specs.declared.command.Asked.TheVariants as asked
@@ -65,25 +65,13 @@ digit_first rest = do
   digit ← slice_get bytes 0
   Some (digit - 48)
 
--- the number of a clause, if the member `clause` is the first of the members of a reply
-unfoldable pub clause_first : List ℕ → Option ℕ
-clause_first members = if is_word (codes "\"clause\"") (split_at_byte 58 members).0 then digit_first (split_at_byte 58 members).1 else None
-
--- the number of a clause, if the member `clause` stands after the first comma of the members of a reply
-unfoldable pub clause_second : List ℕ → Option ℕ
-clause_second members = do
-  rest ← (split_at_byte 44 members).1
-  clause_first rest
-
--- the number of a clause, if the member `clause` is the first of the members of a reply, or stands after `at`
-unfoldable pub clause_member : List ℕ → Option ℕ
-clause_member members = if is_word (codes "\"at\"") (split_at_byte 58 members).0 then clause_second members else clause_first members
+-- the number of the clause that the first of these members has
+abbrev pub clause_of_members : List ℕ → Option ℕ
+clause_of_members members = digit_first (split_at_byte 58 members).1
 
 -- the number of the clause that a reply's text names
-unfoldable pub clause_told : List ℕ → Option ℕ
-clause_told text = do
-  members ← (split_at_byte 123 text).1
-  clause_member members
+abbrev pub clause_told : List ℕ → Option ℕ
+clause_told text = denial_members text >>= clause_of_members
 
 -- the text of the reply that memory ran out
 abbrev pub memory_text : List ℕ

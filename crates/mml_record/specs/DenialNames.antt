@@ -2,6 +2,7 @@
 use Rattle.std.specs.Prelude.{ℕ, List, codes, Option, None, Some, if◌then◌else◌}
 use Rattle.mml_codec.specs.declared.reply.Reply.{Reply}
 use Rattle.mml_journal.specs.Words.{◌>>=◌, split_at_byte, is_word}
+use Rattle.mml_record.specs.DenialMembers.{denial_members}
 use Rattle.mml_tally.specs.{declared.student_denials.StudentDenial.StudentDenial, StudentDenials.student_denial}
 use Rattle.mml_codec.specs.declared.reply.Reply.TheVariants as reply
 use Rattle.mml_tally.specs.declared.student_denials.StudentDenial.TheVariants as named
@@ -17,31 +18,15 @@ denial_word member =
     else (if is_word (codes "\"deny\":\"chosen\"") member then Some named.Chosen
     else (if is_word (codes "\"deny\":\"guard\"") member then Some named.Guard else None))))))
 
--- the denial that the member after the first comma names
+-- the denial that the second of these members names
 unfoldable pub denial_after : List ℕ → Option StudentDenial
 denial_after members = do
   rest ← (split_at_byte 44 members).1
   denial_word (split_at_byte 44 rest).0
 
--- the denial, if the member `clause` is the first of the members of a reply
-unfoldable pub denial_first : List ℕ → Option StudentDenial
-denial_first members = if is_word (codes "\"clause\"") (split_at_byte 58 members).0 then denial_after members else None
-
--- the denial, if the member `clause` stands after the first comma of the members of a reply
-unfoldable pub denial_second : List ℕ → Option StudentDenial
-denial_second members = do
-  rest ← (split_at_byte 44 members).1
-  denial_first rest
-
--- the denial, if the member `clause` is the first of the members of a reply, or stands after `at`
-unfoldable pub denial_member : List ℕ → Option StudentDenial
-denial_member members = if is_word (codes "\"at\"") (split_at_byte 58 members).0 then denial_second members else denial_first members
-
--- the denial that a reply's text names
-unfoldable pub denial_told : List ℕ → Option StudentDenial
-denial_told text = do
-  members ← (split_at_byte 123 text).1
-  denial_member members
+-- the denial that a reply's text names, in the member after its clause
+abbrev pub denial_told : List ℕ → Option StudentDenial
+denial_told text = denial_members text >>= denial_after
 
 -- the denial with which the reply denies, if a student who is known can get it
 abbrev pub denial_in : Reply → Option StudentDenial

@@ -13,8 +13,9 @@ ghost use Rattle.mml_record.specs.Certified.{IsRecordOf};
 ghost use Rattle.mml_record.specs.Entries.{record_text};
 ghost use Rattle.mml_journal.specs.Words.{seen};
 ghost use Rattle.mml_record.specs.inside.RawEntries.{entry_view};
-ghost use Rattle.mml_record.specs.Asks.{kind_asked, line_of_command, line_of_request, line_of, digit_first, clause_first, clause_second, clause_member, clause_told, memory_text, known_by, known_asked, known_after, student_in, student_of, ask_of, asks_at, known_behind, asks_in};
+ghost use Rattle.mml_record.specs.Asks.{kind_asked, line_of_command, line_of_request, line_of, digit_first, clause_told, memory_text, known_by, known_asked, known_after, student_in, student_of, ask_of, asks_at, known_behind, asks_in};
 
+use crate::denial_members::denial_members;
 use crate::denial_names::denial_told;
 use crate::reading::{RawEntry, entry_in};
 use crate::refusals::reason_told;
@@ -75,54 +76,14 @@ fn digit_first(rest: Option<&[u8]>) -> Option<u8>
     Some(digit.saturating_sub(b'0'))
 }
 
-// Returns the clause's number, if `clause` is the first member of a reply. `members` is the reply's text after the
-// `{`. Returns `None` if another member is first, or nothing follows the colon. Only the first byte of the value is
-// read, by `digit_first`: in a reply it is the number, since clauses have one digit.
-#[tactic(auto, unfolding(crate::specs::Asks::clause_first))]
-fn clause_first(members: &[u8]) -> Option<u8>
-    ensures { result ≡ clause_first members.now }
-{
-    let (word, rest) = split_at_byte(members, b':');
-    if word == b"\"clause\"".as_slice() {
-        digit_first(rest)
-    } else {
-        None
-    }
-}
-
-// Returns the number of the clause if `clause` is the second member of a reply, or `None` if it isn't, or has no
-// value. `members` is the reply's text after the `{`.
-#[tactic(auto, unfolding(crate::specs::Asks::clause_second))]
-fn clause_second(members: &[u8]) -> Option<u8>
-    ensures { result ≡ clause_second members.now }
-{
-    let (_, rest) = split_at_byte(members, b',');
-    let rest = rest?;
-    clause_first(rest)
-}
-
-// Returns the number of the clause if `clause` is the first member of a reply, or the second, after `at`. Returns
-// `None` if it is neither. `members` is the reply's text after the `{`.
-#[tactic(auto, unfolding(crate::specs::Asks::clause_member))]
-fn clause_member(members: &[u8]) -> Option<u8>
-    ensures { result ≡ clause_member members.now }
-{
-    let (word, _) = split_at_byte(members, b':');
-    if word == b"\"at\"".as_slice() {
-        clause_second(members)
-    } else {
-        clause_first(members)
-    }
-}
-
-// Returns the number of the clause in a reply's text, or `None` if the reply is no denial.
-#[tactic(auto, unfolding(crate::specs::Asks::clause_told))]
+// Returns the number of the clause in a reply's text, or `None` if the reply is no denial. Only the first byte of the
+// number is read, by `digit_first`, since clauses have one digit.
 fn clause_told(text: &[u8]) -> Option<u8>
     ensures { result ≡ clause_told text.now }
 {
-    let (_, members) = split_at_byte(text, b'{');
-    let members = members?;
-    clause_member(members)
+    let members = denial_members(text)?;
+    let (_, rest) = split_at_byte(members, b':');
+    digit_first(rest)
 }
 
 // Returns whether the reply `text` is the refusal for memory.

@@ -1,8 +1,9 @@
 //! Finds the names of denials in the replies of a record, for those denials that a known student can get. In a reply
-//! the name follows the number of the clause, which is the first member, or the second after `at` (see `asks`).
+//! the name follows the number of the clause (see `denial_members`).
 ghost use Rattle.std.specs.Prelude.{◌≡◌};
-ghost use Rattle.mml_record.specs.DenialNames.{denial_word, denial_after, denial_first, denial_second, denial_member, denial_told};
+ghost use Rattle.mml_record.specs.DenialNames.{denial_word, denial_after, denial_told};
 
+use crate::denial_members::denial_members;
 use mml_journal::split_at_byte;
 use mml_tally::StudentDenial;
 
@@ -43,52 +44,11 @@ fn denial_after(members: &[u8]) -> Option<StudentDenial>
     denial_word(member)
 }
 
-// Returns the denial that the second member of a reply names, if the first one is `clause`, and otherwise `None`.
-// `members` is the reply's text after the `{`.
-#[tactic(auto, unfolding(crate::specs::DenialNames::denial_first))]
-fn denial_first(members: &[u8]) -> Option<StudentDenial>
-    ensures { result ≡ denial_first members.now }
-{
-    let (word, _) = split_at_byte(members, b':');
-    if word == b"\"clause\"".as_slice() {
-        denial_after(members)
-    } else {
-        None
-    }
-}
-
-// Returns the denial that the third member of a reply names, if the second one is `clause`, and otherwise `None`.
-// `members` is the reply's text after the `{`.
-#[tactic(auto, unfolding(crate::specs::DenialNames::denial_second))]
-fn denial_second(members: &[u8]) -> Option<StudentDenial>
-    ensures { result ≡ denial_second members.now }
-{
-    let (_, rest) = split_at_byte(members, b',');
-    let rest = rest?;
-    denial_first(rest)
-}
-
-// Returns the denial in a reply. Its name follows the member `clause`, which is the first one, or the second after
-// `at`. Returns `None` if neither is so. `members` is the reply's text after the `{`.
-#[tactic(auto, unfolding(crate::specs::DenialNames::denial_member))]
-fn denial_member(members: &[u8]) -> Option<StudentDenial>
-    ensures { result ≡ denial_member members.now }
-{
-    let (word, _) = split_at_byte(members, b':');
-    if word == b"\"at\"".as_slice() {
-        denial_second(members)
-    } else {
-        denial_first(members)
-    }
-}
-
 // Returns the denial in a reply's text. Returns `None` if the reply is no denial, or is one that a known student can't
 // get.
-#[tactic(auto, unfolding(crate::specs::DenialNames::denial_told))]
 pub(crate) fn denial_told(text: &[u8]) -> Option<StudentDenial>
     ensures { result ≡ denial_told text.now }
 {
-    let (_, members) = split_at_byte(text, b'{');
-    let members = members?;
-    denial_member(members)
+    let members = denial_members(text)?;
+    denial_after(members)
 }

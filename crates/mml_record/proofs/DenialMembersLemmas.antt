@@ -1,0 +1,42 @@
+-- The members of a reply's text from `clause` on: those of a denial, and none of another reply.
+use Rattle.std.proofs.Common.{◌≡◌, ℕ, List, ◌∷◌, ◌++◌, decimal, refl, ◌∙◌, Option, None}
+use Rattle.mml_lab.specs.Rosters.{RosterValue}
+use Rattle.mml_codec.specs.{declared.reply.Reply.Reply, Facts.object_text, Replies.text}
+use Rattle.mml_journal.proofs.CuttingLemmas.{cut_here}
+use Rattle.mml_record.specs.DenialMembers.{if_clause, after_comma, from_clause, denial_members}
+use Rattle.mml_record.proofs.NumberedLemmas.{no_comma, numbered}
+use Rattle.mml_codec.specs.declared.reply.Reply.TheVariants as replies
+
+second : (n : ℕ) (rest : List ℕ) → after_comma (34 ∷ 97 ∷ 116 ∷ 34 ∷ 58 ∷ (decimal n ++ 44 ∷ rest)) ≡ if_clause rest
+unfolding after_comma
+second n rest = rw (cut_here 44 (decimal n) rest (no_comma n)) refl
+
+member : (n : ℕ) (rest : List ℕ) → from_clause (34 ∷ 97 ∷ 116 ∷ 34 ∷ 58 ∷ (decimal n ++ 44 ∷ rest)) ≡ if_clause rest
+unfolding from_clause
+member n rest = second n rest
+
+pub behind_number : (n : ℕ) (rest : List ℕ) (m : Option (List ℕ)) → if_clause rest ≡ m → denial_members (numbered n rest) ≡ m
+unfolding denial_members
+behind_number n rest m h = member n rest ∙ h
+
+-- another member comes first
+first_member : (members : List ℕ) (m : Option (List ℕ)) → from_clause members ≡ m → denial_members (123 ∷ members) ≡ m
+unfolding denial_members
+first_member members m h = h
+
+-- the reply is no denial
+abbrev pub IsOther : Reply → Type 0
+IsOther (replies.Deny d) = ⊥
+IsOther _ = Unit {0}
+
+pub none_in : (ids : List ℕ) (roster : RosterValue) (r : Reply) → IsOther r → denial_members (text ids roster r) ≡ None
+unfolding object_text from_clause if_clause
+none_in ids roster (replies.See s) other = behind_number s.at _ None refl
+none_in ids roster (replies.Look l) other = behind_number l.at _ None refl
+none_in ids roster (replies.Move at place node kind) other = behind_number at _ None refl
+none_in ids roster (replies.Close at place moved) other = behind_number at _ None refl
+none_in ids roster (replies.Fault at place node dropped) other = behind_number at _ None refl
+none_in ids roster (replies.Release at place node) other = behind_number at _ None refl
+none_in ids roster (replies.Report r) other = behind_number r.at _ None refl
+none_in ids roster (replies.Deny d) other = absurd other
+none_in ids roster _ other = first_member _ None refl
