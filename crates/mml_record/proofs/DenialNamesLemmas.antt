@@ -1,11 +1,11 @@
 -- The denial that is read in a reply's text is that of the reply.
-use Rattle.std.proofs.Common.{◌≡◌, ℕ, List, ◌++◌, codes, decimal, refl, ap, ◌∙◌, Option, None, Some}
+use Rattle.std.proofs.Common.{◌≡◌, ℕ, List, ◌++◌, codes, decimal, refl, ap, ◌∙◌, Option, Some}
 use Rattle.std.specs.Fmt.{digits}
 use Rattle.mml_lab.specs.Rosters.{RosterValue}
 use Rattle.mml_board.specs.declared.denial.Denial.{Denial}
 use Rattle.mml_codec.specs.{declared.reply.Reply.Reply, Facts.object_text, Replies.text}
 use Rattle.mml_journal.specs.Words.{◌>>=◌}
-use Rattle.mml_tally.specs.{declared.student_denials.StudentDenial.StudentDenial, StudentDenials.student_denial}
+use Rattle.mml_tally.specs.StudentDenials.{student_denial}
 use Rattle.mml_record.specs.{DenialMembers.if_clause, DenialMembers.from_clause, DenialMembers.denial_members, DenialNames.denial_word, DenialNames.denial_after, DenialNames.denial_told, DenialNames.denial_in}
 use Rattle.mml_record.proofs.{DenialMembersLemmas.behind_number, DenialMembersLemmas.none_in, NumberedLemmas.numbered}
 use Rattle.mml_board.specs.declared.denial.Denial.TheVariants as denial
