@@ -26,7 +26,8 @@ class Parser(argparse.ArgumentParser):
 
 
 def version() -> str:
-    """Returns a text with version, commit and toolchain, as `mml` prints them."""
+    """Returns a text with version, commit and toolchain, as `mml --version` prints them, or `of no known version` if it
+    prints nothing."""
     said = subprocess.run([TOP / "mml", "--version"], stdin=subprocess.DEVNULL, capture_output=True, text=True, check=False)
     return said.stdout.strip().removeprefix("Cenduwa ") or "of no known version"
 
@@ -126,10 +127,10 @@ def add_play(words: argparse.ArgumentParser) -> None:
 
 
 def options_of(module: str) -> Callable[[argparse.ArgumentParser], None]:
-    """Returns a function that imports `classroom.MODULE` and adds its options to a parser. The module is imported only
-    when the function is called."""
+    """Returns a function that imports `classroom.MODULE`, where MODULE is `module`, and adds that module's options to a
+    parser. The module is imported only when the function is called."""
     def add(words: argparse.ArgumentParser) -> None:
-        """Imports the module, and adds its options."""
+        """Imports the module, and adds its options to the parser `words`."""
         import_module(f"classroom.{module}").add_words(words)
 
     return add
@@ -154,8 +155,8 @@ EACH: dict[str, tuple[str, Callable[[argparse.ArgumentParser], None]]] = {
 
 
 def parser(asked: str | None = None) -> argparse.ArgumentParser:
-    """Returns the parser with all subcommands. If `asked` names one, only its options are added, and the modules of
-    the others aren't imported."""
+    """Returns the parser with all subcommands. If `asked` is None, each has its options. Otherwise only the subcommand
+    with the name `asked` has them, and the modules of the others aren't imported."""
     every = Parser(prog="class", description="A class from its list of names to its marks.", epilog=TABLE)
     every.add_argument("--version", action="store_true", help="show version, commit and toolchain, and exit")
     each = every.add_subparsers(title="words", required=True)
@@ -168,7 +169,7 @@ def parser(asked: str | None = None) -> argparse.ArgumentParser:
 
 def main(words: list[str] | None = None) -> int:
     """Runs the subcommand that the arguments name, those of the command line if `words` is None. Returns the exit
-    status."""
+    status. Raises `SystemExit` if the arguments are wrong or ask for help."""
     given = sys.argv[1:] if words is None else words
     if given[:1] == ["--version"]:
         print(f"class {version()}")

@@ -51,7 +51,7 @@ def started(lab: labs.Lab) -> subprocess.Popen[bytes]:
 
 def all_of(lab: labs.Lab, script: list[str]) -> str:
     """Runs a whole script over a lab. Returns the replies, one per line, each after its connection number. Raises
-    `Fault` if the program fails."""
+    `Fault` if the program isn't built, fails, or doesn't reply to each line."""
     with started(lab) as process:
         out, error = process.communicate("\n".join([*script, ""]).encode("ascii"))
     replies, said = out.decode("ascii"), error.decode(errors="replace").strip()
@@ -98,8 +98,8 @@ class Answering:
         return replies
 
     def ended(self) -> Fault:
-        """Kills the program, and returns the fault to raise if it has ended or doesn't answer. The fault names its
-        status and its output."""
+        """Kills the program, which has ended or doesn't answer. Returns the fault for the caller to raise, whose text
+        has the program's exit status and error output."""
         assert self.process.stderr is not None
         self.process.kill()
         said = self.process.stderr.read().decode(errors="replace").strip()
@@ -107,15 +107,16 @@ class Answering:
         return Fault(f"the program has ended, status {status}: {said}", 4)
 
     def answer(self, connection: int, line: bytes) -> dict[str, Any]:
-        """Sends a line on a connection, and returns the values of the reply. Keeps the line for the script if it was
-        granted."""
+        """Sends a line on a connection, and returns the values of the JSON reply. Adds the line to the script of
+        granted lines, as `keep` does. Raises `Fault` if the program has ended."""
         reply = reply_of(self.answers([(connection, line)])[0])
         self.keep(connection, line, reply)
         return reply
 
     def keep(self, connection: int, line: bytes, reply: dict[str, Any]) -> None:
-        """Keeps a line for the script that repeats the run, if its reply shows that it was a hello, a bye or an event.
-        A line for which the script has no room isn't kept."""
+        """Adds a line to the script that repeats the run (`script`), if its `reply` shows that it was a granted hello,
+        a bye or an event. Does nothing if the script would become larger than MOST_SCRIPT. Also notes the place of the
+        last event."""
         self.place = reply.get("place", self.place)
         if (reply.get("ok") in ("hello", "bye") or "place" in reply) and self.size + len(line) < MOST_SCRIPT:
             self.granted.append(b"%d %s\n" % (connection, line))
@@ -123,7 +124,7 @@ class Answering:
 
     def ask(self, connection: int, **request: object) -> dict[str, Any]:
         """Sends a request with these values on a connection, and returns the values of the reply. Raises `Denied` or
-        `Refused` if the reply isn't `ok`."""
+        `Refused` if the reply isn't `ok`, and `Fault` if the program has ended."""
         reply = self.answer(connection, json.dumps(request, separators=(",", ":")).encode())
         if "deny" in reply:
             raise Denied(reply["clause"], reply["deny"], reply["text"], reply.get("at"))
@@ -133,7 +134,7 @@ class Answering:
 
     def greet(self, connection: int, name: str) -> None:
         """Sends a hello with the key of the student or teacher `name`, and a bye before it if another name has greeted
-        on that connection."""
+        on that connection. Does nothing if `name` has greeted there already. Raises like `ask`."""
         if self.names.get(connection) == name:
             return
         if connection in self.names:
@@ -143,7 +144,7 @@ class Answering:
         self.names[connection] = name
 
     def script(self) -> bytes:
-        """Returns the script that repeats all lines that were kept."""
+        """Returns the script, a list of request lines, with all lines that `keep` has added."""
         return b"".join(self.granted)
 
     def close(self) -> None:

@@ -1,8 +1,9 @@
-"""A program over a network, on which runs follow each other: each begins by setting all registers, and nodes move at
-once.
+"""The host's program over one network, which serves several runs one after another. Each run begins by setting all
+registers.
 
-A *lab* is a network with its students. A node's enabled *rule* is the move that it can make, and the *report* lists the
-nodes with such a rule. One program serves many short runs, because starting one takes much longer than a run.
+A *lab* is a network with its students. A node's enabled *rule* is the move that it can make, and the *report* is the
+reply that lists the nodes with such a rule. One program serves many short runs, because starting one takes much longer
+than a run.
 """
 from __future__ import annotations
 
@@ -20,7 +21,8 @@ ROOM = 4  # how many events a run can need for each move of its bound: moves and
 
 
 def network(nodes: list[labs.Node], links: list[tuple[int, int]]) -> labs.Lab:
-    """Returns a lab in which one student owns all these nodes."""
+    """Returns a lab with these nodes and links, in which a student named `student` owns all nodes. The owners in
+    `nodes` are ignored."""
     own = [labs.Node(node.id, ["student"], node.p, node.m) for node in nodes]
     return labs.Lab(limits.allowed().events, 2, ("teacher", "teacher"), {"student": "student"}, own, links)
 
@@ -60,7 +62,8 @@ class Bench:
         return replies
 
     def begin(self, made: labs.Lab) -> dict[str, Any]:
-        """Begins a run: sets the registers to those of `made`. Returns the report."""
+        """Begins a run: sets the registers to those of the lab `made`, which has the same network. Returns the report
+        on the configuration at which the run begins. Raises `Fault` like `asked`."""
         self.requests = []
         faults = [{"do": "fault", "node": node.id, "p": node.p, "m": node.m} for node in made.nodes]
         report = self.asked(TEACHER, [*faults, {"do": "report"}])[-1]
@@ -68,20 +71,22 @@ class Bench:
         return report
 
     def present(self) -> labs.Lab:
-        """Returns the network with its present registers, as a lab."""
+        """Returns the network with its present registers, as a lab. Raises `Fault` like `asked`."""
         seen = self.asked(TEACHER, [{"do": "see", "node": node.id} for node in self.made.nodes])
         del self.requests[-len(seen):]  # The looks have no effect on the run.
         return network([labs.Node(it["node"], [], it["p"], it["m"]) for it in seen], self.made.links)
 
     def script(self) -> bytes:
-        """Returns the script that repeats the present run over its own lab."""
+        """Returns the script, a list of request lines, that repeats the current run over a new lab with this network.
+        It begins with the hellos and with setting all registers."""
         hello = [(TEACHER, {"do": "hello", "name": "teacher", "key": "teacher"}), (STUDENT, {"do": "hello", "name": "student", "key": "student"})]
         own = [(who, request | {"at": request["at"] - self.before} if "at" in request else request) for who, request in self.requests]
         return "".join(f"{who} {json.dumps(request)}\n" for who, request in [*hello, *own]).encode()
 
     def step(self, report: dict[str, Any], nodes: list[int], partner_of: Callable[[Sequence[int]], int]) -> dict[str, Any]:
-        """Moves these nodes in one step, each by its enabled rule in `report`. A node that marries takes the one that
-        `partner_of` chooses among those that point at it. Returns the report after the step."""
+        """Moves these nodes in one step, each by its enabled rule in `report`, the latest report. A node that marries
+        takes the partner that `partner_of` chooses among the nodes that point at it. Returns the report after the step.
+        Raises `Fault` like `asked`."""
         rules = dict(report["privileged"])
         suited = [node for node in nodes if rules[node] == "marriage"]
         looks = self.asked(STUDENT, [{"do": "look", "node": node} for node in suited])

@@ -47,7 +47,8 @@ class Signals:
 
 
 def build() -> int:
-    """Runs `./mml build` to its end, and returns its status. After a signal, ends the build and raises `SystemExit`."""
+    """Runs `./mml build` to its end, and returns its exit status. If one of SIGNALS comes meanwhile, ends the build and
+    raises `SystemExit`."""
     signals = Signals()
     try:
         process = subprocess.Popen([TOP / "mml", "build"], stdin=subprocess.DEVNULL, stdout=STDERR)

@@ -89,7 +89,8 @@ class Class:
 
 
 def title(folder: Path) -> str:
-    """Returns the title of a class: its name and its day, from the name of its folder."""
+    """Returns the title of a class: its name and its day, from the name of its folder. Returns the folder's name
+    unchanged if that has no day."""
     found = re.fullmatch(r"(\d{4}-\d\d-\d\d)T\d{4}-(.+)", folder.absolute().name)
     return f"{found[2]}, {found[1]}" if found else folder.absolute().name
 
@@ -100,22 +101,25 @@ def is_class(folder: Path) -> bool:
 
 
 def name_of(files: Sequence[Path]) -> str:
-    """Returns the name of a class: the common beginning of the names of its labs, without the number of a group."""
+    """Returns the name of a class by the files of its labs: the common beginning of their names, without the number of
+    a group. Returns `class` if they have no common beginning."""
     common = os.path.commonprefix([file.stem for file in files])
     return re.sub(r"[-_. ]\d*$", "", common) or "class"
 
 
 def begun(into: Path, networks: list[Network]) -> Path:
-    """Makes the folder of a class of these networks below `into`, with its `class.json`, and returns it. The folder's
-    name has the minute and the name of the class."""
+    """Makes the folder of a class of these networks below `into`, and returns it. Its `class.json` names this process
+    as the one that holds the desks. The folder's name has the minute and the name of the class. Raises `Fault` if the
+    folder can't be made."""
     folder = new_folder(into, Path(f"{name_of([Path(network.lab) for network in networks])}.toml"))
     Class(networks, Process.of(os.getpid())).write(folder)
     return folder
 
 
 def runs_of(folder: Path) -> list[Path]:
-    """Returns the folders of the runs of a class, in the order of its networks, or the folder itself if it isn't that
-    of a class. Raises `Fault` if no network of the class was started."""
+    """Returns the folders of the runs of a class, in the order of its networks and without those that weren't started.
+    If `folder` isn't that of a class, returns only `folder` itself. Raises `Fault` if no network was started, or the
+    file `class.json` is wrong."""
     found = Class.read(folder)
     if found is None:
         return [folder]
@@ -126,8 +130,9 @@ def runs_of(folder: Path) -> list[Path]:
 
 
 def run_of(folder: Path, name: str) -> Path:
-    """Returns the folder of the only run of a class whose lab has a person of that name, or the folder itself if it
-    isn't that of a class. Raises `Fault` if no run or several have such a person."""
+    """Returns the folder of the only run of a class whose lab has a student or teacher of that name. If `folder` isn't
+    that of a class, returns `folder` itself. Raises `Fault` if no run or several have such a person, or a run can't be
+    read."""
     if not is_class(folder):
         return folder
     runs = [(run, labs.read(of_folder(run)[0])) for run in runs_of(folder)]
@@ -141,7 +146,8 @@ def run_of(folder: Path, name: str) -> Path:
 
 def given(words: list[str]) -> list[tuple[Path, Path]]:
     """Returns the lab and the journal of each run that the arguments name: folders of runs, folders of classes, or a
-    lab and its journals. Raises `Fault` if there is no such run."""
+    lab and its journals. Raises `Fault` if a folder has no run, or a single argument isn't a folder. Doesn't check
+    whether the files of a lab and its journals exist."""
     first = Path(words[0])
     if first.is_dir():
         return [of_folder(run) for word in words for run in runs_of(Path(word))]

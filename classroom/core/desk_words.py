@@ -109,11 +109,12 @@ BY_LINKS = {it.links: word for word, it in WORDS.items() if it.links}  # the com
 
 
 def request(word: str, values: Sequence[str]) -> dict[str, Any]:
-    """Returns the values of the request that a command sends to the server. `values` are the command's arguments, as
-    they are typed or as a line of the journal has them. Raises `ValueError` if an argument can't be read."""
+    """Returns the values of the request that the command `word` sends to the server. It has to be a command whose
+    action is `ASK`. `values` are its arguments, as they are typed or as a line of the journal has them. Raises
+    `ValueError` if an argument can't be read."""
     return {"do": word} | {key: READ[kind](value) for (key, kind), value in zip(KEYS[word].items(), values)}
 
 
 def links_after(word: str) -> int:
-    """Returns by how much an event of that command changes the number of links: 1, 0 or -1."""
+    """Returns by how much an event whose first word is `word` changes the number of links: 1, 0 or -1."""
     return WORDS[word].links if word in WORDS else 0

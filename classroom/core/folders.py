@@ -51,8 +51,8 @@ def of_folder(folder: Path) -> Run:
 
 
 def title(lab: Path, journal: Path, name: str = "") -> str:
-    """Returns the lab's name, or `name` if it is given, and the day of the run. Takes them from the name of the run's
-    folder, or else from the lab's file and the journal's last change."""
+    """Returns a title for a run: the lab's name, or `name` if it is given, and the day of the run. Takes both from the
+    name of the run's folder, or else from the lab's file and the journal's last change."""
     own = lab.resolve().parent
     in_class = (own.parent / CLASS).is_file()
     found = re.fullmatch(r"(\d{4}-\d\d-\d\d)T\d{4}-(.+)", (own.parent if in_class else own).name)
@@ -81,7 +81,7 @@ class Process:
         return Process(number, "" if state == "Z" else rest[18])
 
     def lives(self) -> bool:
-        """Returns whether the process is still running."""
+        """Returns whether the process is still running, rather than a later one with the same number."""
         return self.start != "" and Process.of(self.number) == self
 
 
@@ -90,15 +90,15 @@ class Record:
     """The file `run.json` in the folder of a run, from which other programs know how to reach the run, and how to
     continue it."""
 
-    lab: str
-    port: int
-    desk: int
-    page: int | None
-    close: str
-    until: str | None
-    run: Process
+    lab: str  # The path of the lab's file with which the run was begun.
+    port: int  # The students' port.
+    desk: int  # The teacher's port, or 0.
+    page: int | None  # The port of the page that shows the run.
+    close: str  # How steps are closed, as the command `daemon` takes it.
+    until: str | None  # `stable` if the run ends at a stable configuration.
+    run: Process  # The process that holds the teacher's desk.
     server: Process
-    play: int | None = None
+    play: int | None = None  # The port of the page on which students play.
     left: bool = False  # Whether the terminal of `run` was closed.
     ended: bool = False  # Whether the run ended as it should.
     stand_in: float | None = None  # seconds that the class waits for a node before the house plays it
@@ -110,7 +110,8 @@ class Record:
 
     @staticmethod
     def read(folder: Path) -> Record | None:
-        """Returns the record in a folder, or None if there is none or it isn't valid."""
+        """Returns the record in a folder, or None if the file is missing, can't be read, or isn't valid
+        (`is_valid`)."""
         try:
             it = json.loads(plain.read(folder / RECORD, plain.MOST_KEPT))
             made = Record(**it | {"run": Process(**it["run"]), "server": Process(**it["server"])})
@@ -119,7 +120,9 @@ class Record:
             return None
 
     def is_valid(self) -> bool:
-        """Returns whether each value has the right type. The folder may belong to another user."""
+        """Returns whether a run may have these values. The texts have to be strings without NUL, `looks` ASCII, `until`
+        `stable` or None, `anonymous` a bool, `stand_in` above 0 and below MOST_SECONDS, the ports at most LAST_PORT,
+        and the numbers of processes integers. Another user may have written the file."""
         texts = [self.lab, self.close, self.run.start, self.server.start, *self.played, *filter(None, (self.until, self.looks, self.ends, self.door))]
         numbers = [self.port, self.desk, *(each for each in (self.page, self.play) if each is not None)]
         seconds = 1.0 if self.stand_in is None else self.stand_in
@@ -132,8 +135,8 @@ class Record:
 
     @staticmethod
     def lacking(folder: Path, port: int) -> Record:
-        """Returns a record for the folder of a run that has none, as the first version 0.9.0 left them. Its ports and
-        its daemon are those of a new run."""
+        """Returns a record for the folder of a run that has none, as the first version 0.9.0 left them. Its students'
+        port is `port`, and its other values are those with which a run begins by default."""
         return Record(str(folder / "lab.toml"), port, 0, None, "when-idle:2", None, Process(0, ""), Process(0, ""))
 
     def write(self, folder: Path) -> None:
@@ -151,8 +154,9 @@ class Record:
 
 
 def going(into: Path, lab: Path) -> tuple[Path, Record] | None:
-    """Returns the folder and the record of a run of that lab that is still going on. If there is none, returns those of
-    the lab's last run if it wasn't ended, and otherwise None. `into` is the folder with all runs."""
+    """Returns the folder and the record of a run of the lab in the file `lab` that is still going on. If there is none,
+    returns those of the lab's last run, unless that ended as it should. Otherwise returns None. `into` is the folder
+    with all runs."""
     files = sorted([*into.glob(f"*/{RECORD}"), *into.glob(f"*/*/{RECORD}")], key=lambda file: file.parent.stat().st_mtime)
     records = [(file.parent, Record.read(file.parent)) for file in files]
     same = [(folder, record) for folder, record in records if record is not None and record.lab == str(lab.resolve())]

@@ -39,7 +39,7 @@ class Lab:
     people: dict[str, Person] = field(default_factory=dict)
 
     def owners(self, node: int) -> list[str]:
-        """Returns the owners of the node with that identifier."""
+        """Returns the owners of the node with that identifier, or an empty list if there is no such node."""
         return next((each.owners for each in self.nodes if each.id == node), [])
 
     def nodes_of(self, name: str) -> list[int]:
@@ -47,8 +47,8 @@ class Lab:
         return [node.id for node in self.nodes if name in node.owners]
 
     def held(self) -> list[int]:
-        """Returns the nodes at which the house may play: those that it owns together with a student. Returns none if
-        the house is the only owner of a node, since such a house is an ordinary student."""
+        """Returns the nodes at which the house may play: those that it owns together with one student. Returns none if
+        the house owns a node in another way, since such a house is an ordinary student."""
         nodes = [node for node in self.nodes if HOUSE in node.owners]
         return [node.id for node in nodes] if all(len(node.owners) == 2 for node in nodes) else []
 
@@ -101,8 +101,8 @@ def document(path: Path) -> dict[str, Any]:
 
 
 def unread(path: Path, error: str) -> str:
-    """Returns an error line about a file that the program couldn't read: the system's reason, or else `error`, the
-    program's own."""
+    """Returns an error line about a file that the proved program couldn't read. It has the system's reason if this
+    process can't open the file either, and otherwise `error`, the program's own reason."""
     try:
         with path.open("rb"):
             return f"{path}: {error}"
@@ -111,7 +111,8 @@ def unread(path: Path, error: str) -> str:
 
 
 def read(path: Path) -> Lab:
-    """Returns the lab in a file, after the program has checked the file. Raises `Fault` if the program refuses it."""
+    """Returns the lab in a file, after the proved program has checked the file. Raises `Fault` if the file can't be
+    read or the program refuses it."""
     answer = call("check", path)
     if answer.status == 4:
         raise Fault(unread(path, answer.error), 4)
@@ -129,8 +130,8 @@ def read(path: Path) -> Lab:
 
 
 def with_house_apart(told: str, lab: Lab) -> str:
-    """Returns the program's line about a lab's size, changed so that the house is counted separately. The program
-    counts the house as a student."""
+    """Returns the proved program's line about a lab's size, `told`, changed so that the house is counted separately.
+    The program counts the house as a student."""
     students = len(lab.without_house().students)
     return told.replace(f"{students + 1} students", f"{students} students and the house") if lab.held() else told
 

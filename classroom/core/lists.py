@@ -49,7 +49,7 @@ class People:
 
 
 def add_words(words: argparse.ArgumentParser) -> None:
-    """Adds the options that name columns to a parser."""
+    """Adds the options that name a table's columns to a parser of command lines."""
     words.add_argument("--column", metavar="COL", help="the column of the table with the names")
     words.add_argument("--first-name", metavar="COL", help="the column of first names, if they are in a column of their own")
     words.add_argument("--last-name", metavar="COL", help="the column of last names")
@@ -73,8 +73,8 @@ def decoded(content: bytes) -> str:
 
 
 def read(path: Path, words: argparse.Namespace) -> People:
-    """Returns the people in a file. The options may name its columns. Raises `Fault` if the file can't be read or has
-    no names."""
+    """Returns the people in a file. `words` are the arguments of the command line, whose options may name the file's
+    columns. Raises `Fault` if the file can't be read or has no names."""
     try:
         content = path.read_bytes()
         if path.suffix.lower() in SHEETS or content.startswith(b"PK\x03\x04"):
@@ -98,8 +98,9 @@ def read(path: Path, words: argparse.Namespace) -> People:
 
 
 def table(path: Path, text: str, words: argparse.Namespace) -> People:
-    """Returns the people of a table, whose text is that of the file at `path`. Raises `Fault` if the table has no
-    column with names, or lacks one that the options name."""
+    """Returns the people of the table in a text, which is that of the file at `path`. `words` are the arguments of the
+    command line. Raises `Fault` if the text isn't CSV, has no column with names, or lacks a column that the options
+    name."""
     delimiter = max(",;\t", key=text.partition("\n")[0].count)
     reader = csv.reader(io.StringIO(text, newline=""), delimiter=delimiter)
     try:
@@ -133,7 +134,8 @@ def table(path: Path, text: str, words: argparse.Namespace) -> People:
 
 def column(path: Path, heads: list[str], asked: str | None, known: Iterable[str]) -> int | None:
     """Returns the index of the column whose head is `asked`, or if that is None of the first column with one of the
-    known heads. Returns None if there is no such column. Raises `Fault` if `asked` names a missing column."""
+    `known` heads. Returns None if no head is known. Raises `Fault` if `asked` names a missing column. `path` is the
+    table's file, for the message."""
     lower = [head.lower() for head in heads]
     if asked is not None and asked.lower() not in lower:
         raise Fault(f"{path}: no column {asked}; there are: {', '.join(heads)}. Name one by --column NAME")

@@ -29,7 +29,8 @@ def neighbours(nodes: Iterable[int], links: Iterable[tuple[int, int]]) -> dict[i
 
 
 def steps_from(start: int, near: dict[int, list[int]]) -> dict[int, int]:
-    """Returns the distance from a node to each node that can be reached, in links."""
+    """Returns the distance in links from the node `start` to each node that can be reached, itself included. `near` has
+    the neighbours of each node."""
     steps, queue = {start: 0}, deque([start])
     while queue:
         here = queue.popleft()
@@ -42,7 +43,7 @@ def steps_from(start: int, near: dict[int, list[int]]) -> dict[int, int]:
 
 def random_links(count: int, links: int, chance: random.Random) -> Links:
     """Returns the links of a random connected network with `count` nodes: a tree, and more links until there are
-    `links`. Raises `Fault` if no connected network has so many."""
+    `links`. `chance` makes the random choices. Raises `Fault` if no connected network has this number of links."""
     every = count * (count - 1) // 2
     if not count - 1 <= links <= every:
         raise Fault(f"random:{count}: write a number of links from {count - 1} to {every}")
@@ -52,9 +53,9 @@ def random_links(count: int, links: int, chance: random.Random) -> Links:
 
 
 def family(word: str, count: int | None, students: int, chance: random.Random) -> tuple[int, Links]:
-    """Returns the number of nodes and the links of the network that an argument names. Its nodes are numbered from 1.
-    If the argument has no size, there are `count` nodes, or as many as students if `count` is None. Raises `Fault` if
-    there is no such network."""
+    """Returns the number of nodes and the links of the network that the argument `word` names, such as `cycle` or
+    `grid:3x2`. Its nodes are numbered from 1. If the argument has no size, there are `count` nodes, or as many as
+    `students` if `count` is None. `chance` makes random choices. Raises `Fault` if there is no such network."""
     sized = re.fullmatch(r"grid:(\d{1,3})x(\d{1,3})|random:(\d{1,3}):(\d{1,5})", word)
     if sized and sized[1]:
         width, height = int(sized[1]), int(sized[2])
@@ -106,7 +107,8 @@ def plain(word: str, nodes: int) -> Links:
 
 def from_file(path: Path, count: int | None) -> tuple[list[int], Links]:
     """Returns the identifiers of nodes and the links in a file with one link per line, such as `1 2`. If `count` is
-    given, the identifiers from 1 to it are included. Raises `Fault` if the file can't be read or has a wrong line."""
+    given, the identifiers from 1 to `count` are included. Raises `Fault` if the file can't be read, has a wrong line,
+    or has no or too many nodes."""
     links: Links = []
     seen: dict[frozenset[int], int] = {}
     try:

@@ -58,5 +58,5 @@ def require_plain(path: Path) -> None:
 
 
 def number(text: bytes) -> int | None:
-    """Returns the number that a few decimal digits spell, or None for any other bytes."""
+    """Returns the number that at most DIGITS decimal digits spell, or None for any other bytes."""
     return int(text) if text.isdigit() and len(text) <= DIGITS else None

@@ -11,7 +11,8 @@ class Book:
     """The chosen moves and the counts of a run, updated event by event."""
 
     def __init__(self, students: list[str]) -> None:
-        """Begins at the first configuration, in which no student has a granted move."""
+        """Begins at the first configuration, in which no node has a chosen move. `students` are the names of all
+        students."""
         self.idle = dict.fromkeys(students)  # The names of the students who had no move granted.
         self.chosen: dict[int, tuple[str, str]] = {}
         self.links = 0  # How many more links there are than at the beginning.

@@ -31,8 +31,9 @@ def begin(words: Sequence[str | Path], **how: Any) -> subprocess.Popen[bytes]:
 
 
 def run(words: Sequence[str | Path], given: bytes = b"", seconds: float | None = None, **how: Any) -> subprocess.CompletedProcess[bytes]:
-    """Starts a process as `begin` does, with `given` as its input, waits for its end and returns its status and output.
-    If it takes longer than `seconds`, kills it and raises `TimeoutExpired`."""
+    """Starts a process as `begin` does, with `given` as its input, waits for its end, and returns its status and its
+    output. If it takes longer than `seconds`, kills it and raises `TimeoutExpired`. `how` has more arguments of
+    `Popen`."""
     source = subprocess.PIPE if given else subprocess.DEVNULL
     with begin(words, stdin=source, stdout=subprocess.PIPE, stderr=subprocess.PIPE, **how) as process:
         try:
@@ -86,7 +87,7 @@ def end_below(process: int) -> None:
 
 
 def reap_orphans() -> None:
-    """Makes all later orphans among the descendants of this process its children, whatever session they are in."""
+    """Makes this process the parent of all later orphans among its descendants, whatever session they are in."""
     ctypes.CDLL(None, use_errno=True).prctl(SUBREAPER, 1, 0, 0, 0)
     reaps.set()
 

@@ -86,7 +86,8 @@ def numbers(version: str) -> list[int]:
 
 
 def program() -> Path:
-    """Returns the path of the built program, or of the one that MML_PROGRAM names. Raises `Fault` if it isn't built."""
+    """Returns the path of the built proved program, or of the one that the environment variable MML_PROGRAM names.
+    Raises `Fault` if it isn't built."""
     path = Path(os.environ.get("MML_PROGRAM") or built("mml_server"))
     if not os.access(path, os.X_OK) or path.is_dir():
         raise Fault("mml isn't built: `./mml build` builds it (with the toolchain's rt on the path)")
@@ -94,15 +95,16 @@ def program() -> Path:
 
 
 def host() -> Path | None:
-    """Returns the path of the host's program, or of the one that MML_HOST names. Returns None if it isn't built."""
+    """Returns the path of the host's program, or of the one that the environment variable MML_HOST names. Returns None
+    if it isn't built. Raises `Fault` if a release needs a newer C library."""
     path = Path(os.environ.get("MML_HOST") or built("mml_host"))
     return path if os.access(path, os.X_OK) and not path.is_dir() else None
 
 
 def first_free(port: int, opened: Callable[[int], Opened | None], what: str = "") -> Opened:
-    """Calls `opened` with this port and the following ones until its result isn't None, as it is if a port is taken.
-    Returns that result. Raises `Fault` after PORTS attempts. `what` begins the part of the error after `no port is
-    free`."""
+    """Calls `opened` with this port and the following ones until the result isn't None, which means that the port is
+    taken. Returns that result. Raises `Fault` if the port is taken in each of PORTS attempts. `what` is a part of the
+    error, between `no port is free` and the ports."""
     last = min(port + PORTS - 1, LAST_PORT)
     for number in range(port, last + 1):
         it = opened(number)
@@ -134,5 +136,5 @@ def answer_of(path: Path, *words: str | Path, files: tuple[int, ...] = ()) -> An
 
 
 def plain(word: str | Path) -> str:
-    """Returns a file's name as an argument, with `./` before a name that begins with `-`."""
+    """Returns an argument of a program. `./` is added before the name of a file that begins with `-`."""
     return f"./{word}" if str(word).startswith("-") else str(word)

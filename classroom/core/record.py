@@ -30,11 +30,13 @@ class Entry:
     missed: int = 0  # The number of lines that weren't recorded, at a `+`.
 
     def told(self) -> dict[str, str]:
-        """Returns those values of the reply that are texts, by their keys."""
+        """Returns the values of the reply that are strings, by their keys. Leaves out its numbers, lists and other
+        values."""
         return {key: value for key, value in json_object(self.reply).items() if isinstance(value, str)}
 
     def asked_name(self) -> str | None:
-        """Returns the value of `name` in the line, or None if the line isn't an object or has no such text."""
+        """Returns the value of `name` in the line, or None if the line isn't a JSON object or has no string under
+        `name`."""
         name = json_object(self.line).get("name")
         return name if isinstance(name, str) else None
 
@@ -92,8 +94,8 @@ def seats(folder: Path) -> list[Path]:
 
 
 def begun(folder: Path) -> int:
-    """Returns the number of events that the journal had before the record in a folder began. Raises `Fault` if the
-    folder doesn't have it."""
+    """Returns the number of events that the journal had before the record in a folder began. Raises `Fault` if the file
+    with this number is missing or wrong."""
     number = plain.number(plain.read(folder / "begun", plain.MOST_KEPT).rstrip(b"\n"))
     if number is None:
         raise Fault(f"{folder / 'begun'}: it has no number of events", 4)
@@ -102,7 +104,7 @@ def begun(folder: Path) -> int:
 
 def kept(run: Path) -> list[Path]:
     """Returns the folders of the records in a run's folder, the oldest first. There are several if the lab was changed
-    in between."""
+    while the run was interrupted."""
     older = [(int(named[1]), path) for path in run.glob(f"{FOLDER}.~*~")
              if (named := re.fullmatch(rf"{FOLDER}\.~(\d+)~", path.name)) and os.path.lexists(path / "begun")]
     return [*(path for _, path in sorted(older)), *([run / FOLDER] if os.path.lexists(run / FOLDER / "begun") else [])]

@@ -19,10 +19,10 @@ class Marks:
 
     granted: Counter[str] = field(default_factory=Counter)
     applied: Counter[str] = field(default_factory=Counter)
-    steps: int = 0
-    first: int | None = None
+    steps: int = 0  # the closes that applied a move of the student
+    first: int | None = None  # the places of the first and the last granted move
     last: int | None = None
-    shared: int = 0
+    shared: int = 0  # the applied moves at nodes that others own too
 
 
 @dataclass(frozen=True)
@@ -105,13 +105,14 @@ def in_memory(text: str) -> Iterator[int]:
 
 
 def of_texts(lab: str, journal: str) -> Tally:
-    """Returns the tally of the journal with this text over the lab with that text."""
+    """Returns the tally of the journal with this text over the lab with that text. Raises `Fault` if the journal
+    doesn't pass the audit."""
     with in_memory(lab) as first, in_memory(journal) as second:
         return of(Path(f"/dev/fd/{first}"), Path(f"/dev/fd/{second}"), (first, second))
 
 
 def read(text: str) -> Tally:
-    """Returns the tally in the program's output."""
+    """Returns the tally that the program's output has, line by line. Ignores lines whose first word isn't known."""
     tally, asked = Tally(), RecordCounts()
     for line in text.splitlines():
         word, *rest = line.split(" ")
@@ -159,7 +160,7 @@ def place(word: str) -> int | None:
 
 
 def take_run(tally: Tally, words: list[str]) -> None:
-    """Copies the values in the line `run`, whose words are given, into the tally."""
+    """Copies the values of the line `run` into the tally. `words` are the words of that line after `run`."""
     tally.stable = words.pop(2) == "stable"
     (tally.events, tally.configuration, tally.closes, tally.faults, tally.links, tally.cuts, tally.moves, *since) = map(int, words)
     tally.since = (since[0], since[1])
