@@ -68,14 +68,15 @@ class Counter:
         return [program, *(named.get(word, word) for word in row.words)]
 
     def write(self, row: Row, turns: int) -> int:
-        """Writes the row's lines of so many turns to the file that the programs read. Returns the number of lines."""
+        """Writes the lines that `row.text` returns for so many turns to the file that the programs read. Returns the
+        number of lines."""
         lines = list(row.text(turns))
         self.text.write_text("".join(line + "\n" for line in lines), encoding="ascii")
         return len(lines)
 
     def count(self, row: Row) -> list[float]:
         """Returns the instructions per line of a row, for this program and for the one that is written by hand. Exits
-        if their outputs differ."""
+        with an error line if their outputs differ."""
         self.lab.write_text(row.lab(), encoding="ascii")
         less = self.write(row, row.few)
         before = [instructions(self.call(row, index), self.text) for index in range(2)]

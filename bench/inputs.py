@@ -19,7 +19,8 @@ def largest_built_in() -> str:
 
 
 def lab(owners: dict[int, str], links: Iterable[tuple[int, int]]) -> str:
-    """Returns the text of a lab with these links. `owners` has the owner of each node."""
+    """Returns the text of a lab with these links and the students of the built-in lab. `owners` has the owner of each
+    node."""
     listed = ", ".join(f"[{a}, {b}]" for a, b in links)
     head = largest_built_in().split("[[node]]")[0].replace("[[1, 2], [2, 3]]", f"[{listed}]")
     return head + "\n".join(f'[[node]]\nid = {node}\nowner = "{owner}"\n' for node, owner in owners.items())
@@ -55,8 +56,8 @@ def sees_and_more(turns: int) -> Iterable[str]:
 
 
 def mixed(turns: int) -> Iterable[str]:
-    """Yields the lines of a script: requests to look, a move, a close, and a fault that undoes the close. Three in six
-    lines are granted as events."""
+    """Yields the lines of a script: requests to see and to look, a move, a close, and a fault that undoes the close,
+    over and over. Three in six lines are granted as events."""
     yield from (TESS, ANA)
     for turn in range(turns):
         yield '1 {"do":"see","node":1}'

@@ -33,7 +33,8 @@ def by_function(words: Words, stdin: Path, room: Path) -> dict[str, int]:
 
 
 def parts_of(row: Row, counter: Counter, room: Path) -> dict[str, float]:
-    """Returns the instructions of each function per line of a row."""
+    """Returns the instructions of each function per line of a row, by the function's name. `room` is a folder for
+    callgrind's output."""
     counter.lab.write_text(row.lab(), encoding="ascii")
     less = counter.write(row, row.few)
     before = by_function(counter.call(row, 0), counter.text, room)

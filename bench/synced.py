@@ -24,8 +24,8 @@ ACTS = [b'{"a":1,"b":2,"do":"cut"}\n', b'{"a":1,"b":2,"do":"link"}\n']
 
 
 def see_until(port: int, over: threading.Event, times: list[float]) -> None:
-    """Sends requests to see a node to a port until `over` is set. Appends the seconds that each of them took to
-    `times`."""
+    """Sends requests to see a node, one after another, to the server at a port until `over` is set. Appends the seconds
+    that each of them took to `times`."""
     with socket.create_connection(("127.0.0.1", port)) as it, it.makefile("rb") as replies:
         it.setsockopt(socket.IPPROTO_TCP, socket.TCP_NODELAY, 1)
         it.sendall(ANA)

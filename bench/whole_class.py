@@ -37,8 +37,8 @@ Times = list[tuple[str, float]]
 
 
 def connection_to(slip: Slip, number: int) -> socket.socket:
-    """Returns a connection to the port of a slip. If the slip has a door, connects through it, from an address that
-    depends on `number`."""
+    """Returns a connection to the port of a slip, before the hello. If the slip has a door, connects through it, from
+    an address of this machine that depends on `number`."""
     if not slip.door:
         return connected(slip.port, LIMIT)
     plain = socket.create_connection(door_of(slip.door), LIMIT, (f"127.1.{number // 250}.{number % 250 + 1}", 0))
@@ -57,8 +57,8 @@ def greet(slip: Slip, number: int) -> Client:
 
 
 def play(slip: Slip, number: int, times: Times) -> None:
-    """Plays the nodes of a slip until the class is over. Appends to `times` the seconds that each hello and each move
-    took. `number` determines the address from which the student connects through a door."""
+    """Plays the first node of a slip until the class is over. Appends to `times` the seconds that each hello and each
+    move took. `number` determines the address from which the student connects through a door."""
     begun = time.perf_counter()
     me = greet(slip, number)
     times.append(("hello", time.perf_counter() - begun))
@@ -78,8 +78,8 @@ def play(slip: Slip, number: int, times: Times) -> None:
 
 
 def play_all(slips: list[tuple[int, Slip]], every: "multiprocessing.Queue[int]", results: "multiprocessing.Queue[Times]") -> None:
-    """Plays for the students of these slips, each in a thread. Puts their number into `every` after all hellos, and the
-    times into `results` at the end."""
+    """Plays for the students of these slips, each in a thread. Puts the number of slips into `every` after all hellos,
+    and the times of hellos and moves into `results` at the end."""
     times: Times = []
     threads = [threading.Thread(target=play, args=(slip, number, times)) for number, slip in slips]
     for thread in threads:
@@ -111,8 +111,8 @@ def processes(folder: Path) -> dict[str, list[int]]:
 
 
 def made(room: Path, networks: int, each: int, door: str) -> tuple[list[Path], list[tuple[int, Slip]]]:
-    """Makes the labs of a class with so many networks and students in each, in the folder `room`. Returns their files,
-    and all slips, each with a number. `door` is the address of a door or empty."""
+    """Makes the labs of a class with so many networks, and `each` students in each, in the folder `room`. Returns their
+    files, and all slips, each with a number. `door` is the address of a door, or an empty text if there is none."""
     (room / "names.txt").write_text("".join(f"Student {number}\n" for number in range(networks * each)), encoding="ascii")
     words = ["--groups", str(networks), "--start", "hurt", *(["--door", door] if door else [])]
     subprocess.run([sys.executable, TOP / "class", "new", room / "big.toml", "--students", room / "names.txt", *words], check=True, stdout=subprocess.DEVNULL)
@@ -122,8 +122,8 @@ def made(room: Path, networks: int, each: int, door: str) -> tuple[list[Path], l
 
 
 def measure(desk: "subprocess.Popen[str]", folder: Path, seconds: float) -> None:
-    """Shakes the class in a folder now and then for so many seconds, by typing at its desk. Prints the memory and
-    processor time of its processes."""
+    """Shakes the class in a folder every SHAKES seconds for so many seconds, by typing at its desk, which is the
+    process `desk`. Prints the memory and processor time of the class's processes."""
     assert desk.stdin is not None
     every = processes(folder)
     before = {name: sum(memory_and_time(it)[1] for it in numbers) for name, numbers in every.items()}

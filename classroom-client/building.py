@@ -19,7 +19,8 @@ def metadata() -> dict[str, str]:
 
 
 def build_wheel(wheel_directory: str, config_settings: object = None, metadata_directory: object = None) -> str:
-    """Writes the wheel into a folder, as pip asks of a build backend. Returns its file name."""
+    """Writes the wheel into the folder `wheel_directory`, as pip asks of a build backend. Returns its file name. The
+    other two parameters are pip's, and aren't used."""
     values = metadata()
     name = f"{values['name'].replace('-', '_')}-{values['version']}"
     head = f"Metadata-Version: 2.1\nName: {values['name']}\nVersion: {values['version']}\nSummary: {values['description']}\n"

@@ -156,7 +156,7 @@ class Close:
 
 @dataclass(frozen=True)
 class Edit:
-    """A fault, a link, a cut or a release; a release drops one move."""
+    """What a fault, link, cut or release did. `dropped` is the number of chosen moves that it dropped, which is one for a release."""
     at: int
     place: int
     dropped: int
@@ -164,7 +164,7 @@ class Edit:
 
 @dataclass(frozen=True)
 class Report:
-    """The state of the matching."""
+    """The state of the matching: pairs, free nodes, privileged nodes with their rules, and open links, each with a privileged node and its rule."""
     at: int
     stable: bool
     pairs: tuple[tuple[int, int], ...]
@@ -265,7 +265,7 @@ def tls() -> Any:
 
 
 def connected(port: int, limit: float, slip: Slip | None = None, host: str = "127.0.0.1") -> socket.socket:
-    """Returns a connection to a port, or through a slip's door if it has one. Raises NoServer, NoDoor, or Refused (`busy`) if the door has no room."""
+    """Returns a connection to a port, or through a slip's door if it has one, within `limit` seconds. Raises NoServer, NoDoor, or Refused (no room)."""
     it: Any = None
     try:
         if slip is None or not slip.door:
@@ -287,7 +287,7 @@ class Client:
     """A connection after its hello. Not for several threads at once."""
 
     def __init__(self, port: int, name: str, key: str, host: str = "127.0.0.1", limit: float = 30.0, connection: socket.socket | None = None) -> None:
-        """Connects and says hello. A reply may take `limit` seconds. If `connection` is given, uses this open one. Raises like `ask`, and NoServer."""
+        """Connects and says hello. A reply may take `limit` seconds. If `connection` is given, uses this open one. Raises like `connected` and `ask`."""
         self.name, self.port, self.limit, self._rest, self._ended = name, port, limit, b"", False
         self._socket = connection or connected(port, limit, host=host)
         try:
@@ -298,12 +298,12 @@ class Client:
 
     @staticmethod
     def from_slip(path: str | Path, limit: float = 30.0) -> Client:
-        """Returns a connection to the server that the slip in a file names, after its hello. A reply may take `limit` seconds."""
+        """Connects by the slip in a file and says hello. Returns the connection. A reply may take `limit` seconds. Raises NoSlip, or like `of`."""
         return Client.of(Slip.read(path), limit)
 
     @staticmethod
     def of(slip: Slip, limit: float = 30.0) -> Client:
-        """Returns a connection to the server that a slip names, after its hello. A reply may take `limit` seconds."""
+        """Connects by a slip and says hello. Returns the connection. A reply may take `limit` seconds. Raises like `connected` and `ask`."""
         return Client(slip.port, slip.name, slip.key, limit=limit, connection=connected(slip.port, limit, slip))
 
     def own_port(self) -> int:
@@ -344,7 +344,7 @@ class Client:
         return line
 
     def ask(self, **request: object) -> dict[str, Any]:
-        """Sends a request, and returns its reply if that is `ok`. Raises Malformed before sending, and Denied, Refused or Closed after the reply."""
+        """Sends a request, and returns its reply if that is `ok`. Raises Malformed, and sends nothing, if it is wrong; otherwise Denied, Refused or Closed."""
         if self._ended:
             raise Closed("this connection has ended: make another Client, and say hello again")
         line = line_of(request)
@@ -374,7 +374,7 @@ class Client:
         return Look(it["node"], it["p"], it["m"], it["at"], it["rule"], it["chosen"], near)
 
     def snapshot(self, nodes: Iterable[int], tries: int = 20) -> dict[int, Look]:
-        """Returns looks at several nodes in one configuration. Looks again, up to `tries` times, until all have the same number."""
+        """Returns looks at several nodes in one configuration. Looks at all again if a step was closed in between. Raises Moving after `tries` attempts."""
         wanted = list(nodes)
         for _ in range(tries):
             looks = {node: self.look(node) for node in wanted}
@@ -383,7 +383,7 @@ class Client:
         raise Moving(f"{tries} times a step was closed between two looks")
 
     def move(self, look: Look, rule: Rule | None = None, partner: int | None = None) -> Move:
-        """Asks for a move by the enabled rule of a look, or by `rule`. A marriage is with `partner`, or else the highest node that points here."""
+        """Asks for a move by the look's enabled rule, or by `rule`. A marriage is with `partner`, or the highest suitor. Raises Malformed if there is none."""
         if rule is None and look.rule is None:
             raise Malformed(f"by this look no rule is enabled at node {look.node}: there is nothing to ask for")
         request: dict[str, object] = {"do": "move", "node": look.node, "at": look.at, "rule": rule or look.rule}
@@ -482,7 +482,7 @@ def goes_on(error: Denied | Refused) -> bool:
 
 
 def enter(slip: Slip, patience: float = 60.0) -> Client:
-    """Returns a connection by a slip. If no seat is free or the server is out of memory, tries again each second for `patience` seconds."""
+    """Returns a connection by a slip, as `Client.of` does. If no seat is free or memory is out, tries again each second for `patience` seconds."""
     end = time.monotonic() + patience
     while True:
         try:
@@ -494,7 +494,7 @@ def enter(slip: Slip, patience: float = 60.0) -> Client:
 
 
 def again(slip: Slip, lost: Closed | Refused, patience: float = 60.0) -> Client:
-    """Connects again after a connection was lost. Tries each second while no server, seat or memory is available, and raises `lost` after
+    """Returns a new connection after the error `lost` ended one. Tries each second while no server, seat or memory is available, and raises `lost` after
     `patience` seconds. Raises any other refusal, and the end of the class, at once."""
     end = time.monotonic() + patience
     while not isinstance(lost, Over) and time.monotonic() < end:
@@ -508,7 +508,7 @@ def again(slip: Slip, lost: Closed | Refused, patience: float = 60.0) -> Client:
 
 
 def run(program: Callable[[list[str]], None], usage: str) -> None:
-    """Runs a program with the command line's arguments, or prints its usage. After an error of this module, prints a line and exits with a status."""
+    """Calls `program` with the command line's arguments, or exits with `usage` if there are none. On an error of this module, prints a line and exits."""
     words = sys.argv[1:]
     if not words or words[0] in ("-h", "--help"):
         sys.exit(usage)
@@ -637,7 +637,7 @@ def whole(text: str) -> int | float:
 
 
 def wrong_value(value: object, deep: int = 1) -> str | None:
-    """Returns what is wrong with a value under any key, at most DEEPEST levels deep, or None if nothing is."""
+    """Returns what is wrong with a value under any key, at most DEEPEST levels deep, or None if nothing is. `deep` is the level of the value itself."""
     if isinstance(value, str) and any("\ud800" <= char <= "\udfff" for char in value):
         return "half of a surrogate pair"
     if isinstance(value, float) and abs(value) == float("inf"):
@@ -673,7 +673,7 @@ class ByHand:
     """A conversation with a server in which each line is typed."""
 
     def __init__(self, slip: Slip | None, port: int, log: Path | None, limit: float = 30.0) -> None:
-        """Connects through a slip, or to a port, and says hello if there is a slip. Each line is appended to the file `log`, if there is one."""
+        """Connects by `slip`, or to `port` if it is None, within `limit` seconds, and says hello by the slip. Appends all lines to the file `log`, if any."""
         self.log, self.port, self.since, self.greeted, self.ended = log, port, time.monotonic(), False, False
         self.connection = connected(port, limit, slip)
         self.answers = self.connection.makefile("rb")
@@ -696,7 +696,7 @@ class ByHand:
         print(f"client: {text}", file=sys.stderr, flush=True)
 
     def send(self, line: str, typed: bool = True) -> None:
-        """Sends a line and prints the reply. If a typed line is wrong, prints why before that. No key is written to the log."""
+        """Sends a line and prints the reply. If the line was `typed` by a person and is wrong, prints why before that. No key is written to the log."""
         if typed and (note := wrong(line)):
             self.note(note)
             self.keep(f"! {note}")
@@ -766,7 +766,7 @@ async def tunnel(slip: Slip, port: int) -> None:
 
 
 def by_hand(words: list[str]) -> None:
-    """Sends each line of input to a server and prints its reply, or opens a tunnel. Raises NoSlip for arguments against this file's usage."""
+    """Does what the arguments ask: sends lines of input to a server, or opens a tunnel. Raises NoSlip for arguments that don't fit this file's usage."""
     if strange := [word for word in words if word.startswith("--") and word not in OPTIONS]:
         raise NoSlip(f"{strange[0]}: there is no such option{meant(strange[0], OPTIONS)}{TOLD}")
     if words[0] == "--tunnel":

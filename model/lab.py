@@ -83,7 +83,7 @@ def document(content: bytes) -> dict[str, Any]:
 
 
 def of_kind(value: Any, key: str, kind: type) -> Any:
-    """Returns the value if its type is exactly `kind`, so that a truth value isn't an integer. Raises `Fault`, which names the key, otherwise."""
+    """Returns the value if its type is exactly `kind`; so a truth value isn't an integer. Otherwise raises `Fault`, which calls the value `key`."""
     if value is MISSING:
         raise fault(f"{key} is missing")
     if type(value) is not kind:
@@ -92,7 +92,7 @@ def of_kind(value: Any, key: str, kind: type) -> Any:
 
 
 def account_of(table: dict[str, Any], key: str) -> Account:
-    """Returns the name and the key in the table of a teacher or student. Raises `Fault` if they aren't texts."""
+    """Returns the name and the key in the table of a teacher or student. Raises `Fault` if they aren't texts. `key` is what errors call the table."""
     name, secret = table.get("name", MISSING), table.get("key", MISSING)
     return of_kind(name, f"{key}.name", str), of_kind(secret, f"{key}.key", str)
 

@@ -53,7 +53,7 @@ def integer(text: str) -> float | int:
 
 
 def check_letters(value: Any) -> None:
-    """Raises `Malformed` if a string in a JSON value contains half of a surrogate pair."""
+    """Raises `Malformed` if a string, or one in a list, contains half of a surrogate pair. Objects were checked before, by `members`."""
     if isinstance(value, str) and any("\ud800" <= letter <= "\udfff" for letter in value):
         raise Malformed("a lone surrogate")
     if isinstance(value, list):
@@ -62,7 +62,7 @@ def check_letters(value: Any) -> None:
 
 
 def members(items: Iterable[tuple[str, Any]]) -> dict[str, Any]:
-    """Returns an object's members from its keys and values. If a key occurs twice, the last value counts."""
+    """Returns an object's members from its keys and values. If a key occurs twice, the last value counts. Raises `Malformed` like `check_letters`."""
     found = {}
     for key, value in items:
         check_letters(key)

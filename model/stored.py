@@ -30,7 +30,7 @@ def renew(stored: Path, content: bytes) -> int:
 
 
 def write_all() -> int:
-    """Plays all scripts, and compares their outputs with the stored ones. Returns the exit status."""
+    """Plays all scripts, and compares their outputs with the stored ones (`renew`). Returns the exit status: 1 if one differs."""
     scripts = [script for folder in FOLDERS for script in sorted((TOP / folder).glob("*.script"))]
     others = 0
     for script in scripts:

@@ -17,7 +17,7 @@ CHANGES = ("fault", "link", "cut")
 
 
 def none() -> dict[str, int]:
-    """Returns a new count of moves for each rule, all zero."""
+    """Returns a new count of moves, with zero for each rule."""
     return dict.fromkeys(RULES, 0)
 
 

@@ -130,8 +130,8 @@ def read(path: Path) -> Lab:
 
 
 def with_house_apart(told: str, lab: Lab) -> str:
-    """Returns the proved program's line about a lab's size, `told`, changed so that the house is counted separately.
-    The program counts the house as a student."""
+    """Returns a line about a lab's size, which the proved program has printed, changed so that the house is counted
+    separately. The program counts the house as a student."""
     students = len(lab.without_house().students)
     return told.replace(f"{students + 1} students", f"{students} students and the house") if lab.held() else told
 

@@ -48,7 +48,7 @@ class Place:
 
 
 def own_host_name() -> str:
-    """Returns the name of this machine in its network, or what comes closest to it if that isn't known."""
+    """Returns the full name of this machine in its network, or its short host name if no full name is known."""
     name = socket.getfqdn()
     return socket.gethostname() if name.startswith("localhost") else name
 
@@ -106,7 +106,7 @@ class OpenDoor:
 
 def open_door(place: Place, into: Path, file: Path, tell: Callable[[str], None]) -> OpenDoor:
     """Opens a door at `place` with the certificate in `file`. The door's folder is made in `into`, the folder of the
-    runs. The callback prints a line. Raises `Fault` if that isn't possible."""
+    runs. The callback prints a line. Raises `Fault` if the certificate, the address or the folder can't be used."""
     certificate.context(file)
     listener = listen(place)
     folder = (into / FOLDER.format(listener.getsockname()[1])).resolve()
@@ -121,8 +121,8 @@ def open_door(place: Place, into: Path, file: Path, tell: Callable[[str], None])
 
 
 def reopen(folder: Path, tell: Callable[[str], None]) -> OpenDoor | None:
-    """Opens the door of a folder again, at its earlier address. Returns None if the door is still open. Raises `Fault`
-    if the folder has no door or the address can't be used."""
+    """Opens the door of a folder again, at its earlier address. The callback prints a line. Returns None if the door is
+    still open. Raises `Fault` if the folder has no door, or its certificate or address can't be used."""
     kept = DoorData.read(folder)
     if kept is None:
         raise Fault(f"{folder}: this run had no door: open one by --door [ADDRESS:]PORT", FAILED)
@@ -144,8 +144,8 @@ def slips_of(lab: Path) -> list[Slip]:
 
 
 def route_to(folder: Path, lab: Path, run: Path) -> None:
-    """Makes a door forward connections for a lab's network to a run. The slips beside the lab name the host names by
-    which students come."""
+    """Makes the door in `folder` forward connections for the network of the lab in the file `lab` to the run in the
+    folder `run`. The slips beside the lab have the host names by which students come."""
     hosts = {door_of(slip.door)[0] for slip in slips_of(lab) if slip.door}
     announce(folder, network(lab), run, sorted(hosts))
 

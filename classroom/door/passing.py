@@ -107,8 +107,8 @@ class Passing:
             await self.forward(record.port, first)
 
     async def serve_page(self, first: bytes) -> None:
-        """Reads a request that begins with these bytes, and forwards it to the server of its page. Raises `BadRequest`
-        if there is no such page."""
+        """Reads a request that begins with the bytes `first`, and forwards it to the server of its page. Raises
+        `BadRequest` if there is no such page, and one of the errors in BROKEN if the request doesn't come in time."""
         async with asyncio.timeout(ASKING):
             head, rest = await self.head(first)
             asked = RequestHead.read(head)
@@ -124,7 +124,7 @@ class Passing:
 
     async def head(self, first: bytes) -> tuple[bytes, bytes]:
         """Returns the head of a request that begins with the bytes `first`, and the bytes after the head that have come
-        already. Raises `BadRequest` if the head is too large."""
+        already. Raises `BadRequest` if the head is too large, and `EOFError` if it ends too early."""
         while b"\r\n\r\n" not in first and len(first) < MOST_HEAD:
             first += await self.more()
         head, end, rest = first.partition(b"\r\n\r\n")
@@ -133,7 +133,8 @@ class Passing:
         return head + end, rest
 
     async def body(self, rest: bytes, size: int) -> bytes:
-        """Returns the `size` bytes after the head of a request. `rest` has those that have come already."""
+        """Returns the `size` bytes after the head of a request. `rest` has those that have come already. Raises
+        `EOFError` if it ends too early."""
         while len(rest) < size:
             rest += await self.more()
         return rest[:size]

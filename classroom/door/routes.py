@@ -40,7 +40,7 @@ class Route:
 
     @staticmethod
     def read(file: Path) -> Route | None:
-        """Returns the network in a route's file, or None if the file isn't complete."""
+        """Returns the route in a file, or None if the file can't be read or isn't complete."""
         try:
             it = json.loads(plain.read(file, plain.MOST_KEPT))
             hosts = tuple(map(str, it["hosts"]))
@@ -60,7 +60,7 @@ class DoorData:
 
     @staticmethod
     def read(folder: Path) -> DoorData | None:
-        """Returns the data of the door in a folder, or None if they aren't complete."""
+        """Returns the data of the door in a folder, or None if their file can't be read or isn't complete."""
         try:
             it = json.loads(plain.read(folder / DOOR, plain.MOST_KEPT))
             return DoorData(str(it["address"]), int(it["port"]), str(it["certificate"]), Process(**it["process"]))
@@ -142,9 +142,9 @@ class Routes:
         return record if record is not None and not record.ended and record.goes_on() else None
 
     def named(self, name: str | None) -> str:
-        """Returns the name of the network that a client asks for by `name`. If `name` is None or a host's name, returns
-        the only network, if there is just one. Otherwise returns an empty text. An unknown network gets an empty text
-        too, because it may be about to begin."""
+        """Returns the name of the network that a client asks for by `name`, the host name in its handshake. If `name`
+        is None or the name of a host, returns the only network, if there is just one. Otherwise returns an empty text,
+        also for an unknown network, because it may be about to begin."""
         if name not in self.networks:
             self.reload()
         if name in self.networks:

@@ -94,7 +94,8 @@ def own_names() -> set[str]:
 
 
 def serve(folder: Path, listener: socket.socket) -> None:
-    """Serves the door in a folder to its end. Writes the process into the folder. Exits if the folder has no door."""
+    """Serves the door in a folder to its end, at the listening socket `listener`. Writes the number of this process
+    into the folder. Exits with an error line if the folder has no door."""
     kept = DoorData.read(folder)
     if kept is None:
         raise SystemExit(f"{folder / DOOR}: no door")

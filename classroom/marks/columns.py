@@ -58,8 +58,9 @@ def for_rules(is_total: bool) -> list[str]:
 
 
 def row(marks: Marks, lab: Lab, name: str, network: str, denied: Sequence[int | None], is_whole: bool) -> dict[str, Value]:
-    """Returns the values of a student's columns in one run, by their names. `denied` has the number of lines that each
-    clause denied, and `is_whole` says whether the record has all lines of the student."""
+    """Returns the values of a student's columns in one run, by the columns' names, from the student's marks, the lab,
+    and the network's name. `denied` has the number of the student's lines that each clause denied, in the order of
+    DENIED, or None if it isn't known. `is_whole` says whether the record has all lines of the student."""
     first = {"student": name, "network": network, "first": known(marks.first), "last": known(marks.last), "whole": is_whole}
     counts = {"granted": marks.granted.total(), "applied": marks.applied.total(), **{rule: marks.applied[rule] for rule in RULES},
               "steps": marks.steps, "shared": marks.shared, "nodes": len(lab.nodes_of(name))}
@@ -67,8 +68,8 @@ def row(marks: Marks, lab: Lab, name: str, network: str, denied: Sequence[int | 
 
 
 def with_more(first: dict[str, Value], counts: Mapping[str, int], denied: Mapping[str, int | None]) -> dict[str, Value]:
-    """Returns the values in `first`, these counts, and the values that are computed from them, by their names. A value
-    is None if it isn't known."""
+    """Returns the values in `first`, the counts in `counts` and `denied`, and the values that are computed from these
+    counts, all by their names. A count or value that isn't known is None."""
     each = {name: known(count) for name, count in denied.items()}
     clauses = [denied[clause] for clause in CLAUSES]
     sums = {"denials": None if None in clauses else Fraction(sum(clause or 0 for clause in clauses))}

@@ -38,8 +38,8 @@ class Comeback:
         self.recovery, self.hurt, self.missed = None, True, False
 
     def miss(self) -> None:
-        """Notes that the privileged nodes before or after a close aren't known. The counts of the present recovery
-        aren't printed then."""
+        """Notes that the privileged nodes before or after a close aren't known. The line about the present recovery
+        then has no counts."""
         self.missed = True
 
     def close(self, moved: Collection[int], before: Collection[int], after: Collection[int]) -> str:
@@ -69,8 +69,8 @@ class Recount(Replay):
         self.rests: list[int] = []
 
     def ask(self, script: Script, event: Event | None, named: set[int]) -> None:
-        """Appends the request for the report to the script, at the beginning and after each event that made a
-        configuration. Doesn't use `named`."""
+        """Appends the request for the report to the script if `event` made a configuration, or is None, which stands
+        for the beginning of the run. Doesn't use `named`."""
         if event is None or event.makes_configuration:
             script.ask(REPORT, self.report_taker(event))
 
@@ -93,15 +93,16 @@ class Recount(Replay):
         return takes
 
     def counts(self) -> list[int]:
-        """Plays the whole journal. Returns the places of the closes after which no node was privileged."""
+        """Plays the whole journal, and so counts its recoveries. Returns the places of the closes after which no node
+        was privileged."""
         for _ in self.replies():
             pass
         return self.rests
 
 
 def told(lab: labs.Lab, events: list[Event]) -> str:
-    """Returns the line about the recovery that ends with the last of these events, by the program's tally of them.
-    Raises `Fault` if the program is too old to count rounds."""
+    """Returns the line with the counts of the recovery that ends with the last of these events, by the program's tally
+    of them. `lab` is the lab of the run. Raises `Fault` if the program is too old to count rounds."""
     journal = "".join(f"{event.place} {event.at} {' '.join(event.words)}\n" for event in events)
     found = tallies.of_texts(labs.text(lab), journal)
     if found.rounds is None:

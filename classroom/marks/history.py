@@ -89,8 +89,8 @@ def sessions(part: Vouched) -> Iterator[Session]:
 
 
 def names_of(said: Session) -> set[str]:
-    """Returns the names of the students or teachers whose hello was granted in a session. If there are none, returns
-    the names in its denied hellos."""
+    """Returns the names of the students or teachers whose hello was granted in a session. If no hello was granted,
+    returns the names in its denied hellos."""
     told = [(entry, entry.told()) for entry in said if not entry.mark]
     known = {reply["who"] for _, reply in told if "who" in reply}
     return known or {name for entry, reply in told if reply.get("deny") == "unknown" and (name := entry.asked_name()) is not None}
@@ -103,8 +103,9 @@ def sessions_of(parts: list[Vouched]) -> list[Said]:
 
 
 def rows_of(every: list[Said], name: str, hider: Hider) -> list[Row]:
-    """Returns the rows of all sessions with that name, in the order of their places, and at one place by seat. The part
-    of a session up to its hello is listed before its other rows."""
+    """Returns the rows of all sessions of the student or teacher `name`, in the order of their places. `every` has the
+    sessions of all, and `hider` hides keys. At one place, the part of a session up to its hello is listed before other
+    rows."""
     found: list[Row] = []
     for number, (part, said, _) in enumerate((each for each in every if name in each[2]), 1):
         count, latest = beginning(said)
@@ -114,8 +115,10 @@ def rows_of(every: list[Said], name: str, hider: Hider) -> list[Row]:
 
 
 def beginning(said: Session) -> tuple[int, int]:
-    """Returns the number of a session's entries up to the granted hello, and the number of events up to them at most.
-    The session didn't see the journal before the hello, so these entries have the place of the seat's last session."""
+    """Returns how many entries a session has up to its granted hello, and the most events that can have come before
+    these entries. The second number is that of the entry after the hello, or 0 if there is none. It is needed because
+    the session didn't see the journal before the hello, so its first entries have the place of the seat's last
+    session."""
     count = next((index for index, entry in enumerate(said, 1) if not entry.mark and entry.told().get("ok") == "hello"), len(said))
     return count, said[count].place if count < len(said) else 0
 
@@ -131,7 +134,7 @@ def left_open(part: Vouched, said: Session, session: int) -> list[Row]:
 
 
 def row_of(entry: Entry, session: int, hider: Hider) -> Row:
-    """Returns the row of an entry in the session with this number."""
+    """Returns the row of an entry in the session with this number. `hider` hides keys in the entry's line."""
     if entry.mark:
         return Row(entry.place, entry.seat, session, event=MARKS[entry.mark].format(entry.missed))
     told = entry.told()
@@ -142,7 +145,8 @@ def row_of(entry: Entry, session: int, hider: Hider) -> Row:
 
 def steps(lab: labs.Lab, journal: list[Event], name: str, own: set[int]) -> Iterator[Row]:
     """Yields a row for each closed step, for each other event that made a configuration, and for each other event at
-    the student's nodes. `own` are the places of events that the student's lines show already."""
+    the nodes of the student `name`. Leaves out the events whose places are in `own`, because the student's lines show
+    them already."""
     book, nodes = Book(list(lab.students)), set(lab.nodes_of(name))
     for event in journal:
         moved = book.add(event)
@@ -167,7 +171,7 @@ def merged(lines: list[Row], between: list[Row]) -> list[Row]:
 
 
 def text(told: list[str], rows: list[Row]) -> str:
-    """Returns the history as text for people: first the lines about the records, and then the rows."""
+    """Returns the history as text for people: first the lines about the records, which are given, and then the rows."""
     lines = [*told]
     for row, count in grouped(rows):
         head = f"  {row.after()}, seat {row.seat}{times(count)}"
@@ -198,8 +202,8 @@ def cells(row: Row) -> list[str]:
 
 
 def section(title: str, told: list[str], rows: list[Row], why: dict[tuple[int, str], str] | None = None) -> str:
-    """Returns the rows as a section of the player's page, as HTML, after the lines about the records. Each row links to
-    its place. `why` has the reasons of denied moves, by the number of events before and the line."""
+    """Returns the rows as a section of the player's page, as HTML, after the given lines about the records. Each row
+    links to its place. `why` has the reasons of denied moves, by the number of events before the move and its line."""
     items = [f'<li><a href="#p={row.at}">{row.after()}</a> {item(row, count)}{reason((why or {}).get((row.place, row.asked), ""))}</li>'
              for row, count in grouped(rows)]
     heads = "".join(f"<p>{escape(line)}</p>" for line in told)
@@ -226,8 +230,8 @@ def guarded_rows(rows: list[Row]) -> list[tuple[int, str]]:
 
 
 def own_page(title: str, name: str, lab_file: Path, journal: Path, told: list[str], lines: list[Row]) -> str:
-    """Returns the page of a student's own run as HTML: the player, and beside it the lines about the records and the
-    student's lines. Each denial is at its moment, with the part of the guard that failed."""
+    """Returns the page of a student's own run as HTML: the player, and beside it the given lines about the records, and
+    `lines`, the rows of the student's lines. Each denial is at its moment, with the part of the guard that failed."""
     kept_layout.load(lab_file.parent)
     lab, frames = frames_of(lab_file, journal)
     happened = events(journal.read_text(encoding="ascii"))
@@ -236,7 +240,7 @@ def own_page(title: str, name: str, lab_file: Path, journal: Path, told: list[st
 
 
 def with_steps(lab: labs.Lab, journal: list[Event], name: str, lines: list[Row]) -> list[Row]:
-    """Returns the rows of a student's lines together with rows for the steps between them."""
+    """Returns `lines`, the rows of the lines of the student `name`, together with rows for the steps between them."""
     own = {row.place + 1 for row in lines if '"place":' in row.reply}
     return merged(lines, [*steps(lab, journal, name, own)])
 

@@ -100,7 +100,7 @@ class Run:
         return [None if asked is None else asked.denied.get(name, Counter())[clause] for clause in DENIED]
 
     def table(self, rule: Rule | None = None) -> dict[str, Any]:
-        """Returns the run as an object of `--json`, with the results of a rule for each student if one is given."""
+        """Returns the run as an object of `--json`. If a rule is given, each student also has the rule's results."""
         asked = self.asked
         students = {
             name: {
@@ -166,7 +166,7 @@ def asked_in(part: Vouched) -> RecordCounts | None:
 
 
 def refusal(journal: Path, error: str) -> str:
-    """Returns the audit's error about a journal, with the line of the journal that the error names."""
+    """Returns the audit's `error` about a journal as a text. If it names a line of the journal, that line is added."""
     line = re.match(r"audit: line (\d+)", error)
     if line is None:
         return f"{journal}: {error}"
@@ -198,8 +198,8 @@ def sentence(run: Run) -> str:
 
 
 def of_owner(name: str, granted: Counter[str], asked: Counter[str] | None) -> str:
-    """Returns the text about one owner of a shared node: the granted moves, and the number of requested ones if it is
-    known."""
+    """Returns the text about one owner of a shared node: `granted` has the owner's granted moves there, and `asked` the
+    requested ones, or None if they aren't known."""
     rules = ", ".join(f"{number} {rule}" for rule, number in granted.items() if number)
     of_asked = "" if asked is None else f" of {asked.total()} asked for"
     return f"{name} {granted.total()} granted{of_asked}" + (f" ({rules})" if rules else "")
@@ -217,7 +217,8 @@ def shared(run: Run) -> list[str]:
 
 
 def text(runs: list[Run], rule: Rule | None = None) -> str:
-    """Returns the marks as text for people: for each run a line about it, its table, and its recoveries."""
+    """Returns the marks as text for people: for each run a line about it, its table, and its recoveries. The table has
+    the results of the rule if one is given."""
     lines = []
     for run in runs:
         table = [[*row[1:NETWORK], *row[NETWORK + 1:]] for row in rows([run], rule)]
@@ -229,7 +230,7 @@ def text(runs: list[Run], rule: Rule | None = None) -> str:
 
 
 def as_json(runs: list[Run], rule: Rule | None = None) -> str:
-    """Returns all runs as one JSON document."""
+    """Returns all runs as one JSON document, with the results of the rule if one is given."""
     return json.dumps({"runs": [run.table(rule) for run in runs]}, indent=1) + "\n"
 
 

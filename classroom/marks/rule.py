@@ -55,7 +55,8 @@ class Rule:
         return [line.name for line in self.lines]
 
     def values(self, row: Row) -> list[str]:
-        """Returns the value of each line of the rule for a row of marks, as a text. An unknown value is `-`."""
+        """Returns the value of each line of the rule for a row of marks, as a text. An unknown value is `-`. Raises
+        `Fault` if a line can't be computed for this row, such as a division by 0."""
         known, found = dict(row), []
         for line in self.lines:
             try:
@@ -67,7 +68,7 @@ class Rule:
 
     def cells(self, row: Row) -> list[str]:
         """Returns the values as cells of a table. A value that a spreadsheet would take for a formula is guarded by an
-        apostrophe."""
+        apostrophe. Raises `Fault` like `values`."""
         return [value if value == UNKNOWN else guarded(value) for value in self.values(row)]
 
 
@@ -94,7 +95,7 @@ def read(path: Path, columns: Sequence[str]) -> Rule:
 
 def parsed(path: Path, lines: Sequence[str], columns: Sequence[str]) -> Rule:
     """Returns the rule in these lines of the file at `path`. Its expressions may use the names in `columns`. Raises
-    `Fault` with the first wrong line."""
+    `Fault` with the first wrong line, or if there are no or too many lines."""
     known, found = list(columns), list[Line]()
     for number, text in enumerate(lines, 1):
         try:
@@ -324,10 +325,10 @@ def of_two(left: Expression, right: Expression, made: Callable[[Known, Known], K
 
 
 def comparison(sign: str, left: Expression, right: Expression) -> Expression:
-    """Returns the expression that compares two values by this sign. Texts can only be equal or not, and the other signs
-    compare numbers."""
+    """Returns the expression that compares two values by this sign. `==` and `!=` take two values of one kind, and the
+    other signs two numbers."""
     def holds(one: Known, other: Known) -> bool:
-        """Returns whether the comparison of two values holds."""
+        """Returns whether the comparison of two values holds. Raises `Wrong` if they can't be compared by this sign."""
         if sign in ("==", "!="):
             if isinstance(one, bool) != isinstance(other, bool) or isinstance(one, str) != isinstance(other, str):
                 raise Wrong(f"{shown(one)} and {shown(other)} can't be compared")
@@ -352,10 +353,11 @@ def arithmetic(sign: str, left: Expression, right: Expression) -> Expression:
 
 
 def called(name: str, given: Sequence[Expression]) -> Expression:
-    """Returns the expression that calls the function with that name on these arguments. Raises `Wrong` if it takes
-    another number of arguments."""
+    """Returns the expression that calls the function `name` of FUNCTIONS on these arguments. Its value is unknown if
+    one of theirs is."""
     def value(row: Row) -> Value:
-        """Returns the value of the call for a row of marks."""
+        """Returns the value of the call for a row of marks, or None if an argument is unknown. Raises `Wrong` if an
+        argument isn't a number."""
         values = [each(row) for each in given]
         return None if None in values else FUNCTIONS[name]([number(each) for each in values])
 

@@ -15,15 +15,15 @@ from classroom.marks.vouched import vouched
 
 
 def model_call(word: str, *files: Path) -> Answer:
-    """Runs a command of the plain model with these files. Returns its output and exit status."""
+    """Runs the command `word` of the plain model with these files. Returns its output and exit status."""
     call: list[str | Path] = [sys.executable, "-B", "-m", "model", word, *(file.absolute() for file in files)]
     done = subprocess.run(call, cwd=TOP, stdin=subprocess.DEVNULL, capture_output=True, text=True, check=False)
     return Answer(done.returncode, done.stdout, done.stderr.strip())
 
 
 def difference(word: str, *files: Path) -> str:
-    """Returns a text with the first line in which the proved program and the model differ for a command and its files.
-    Returns an empty text if their output and status are the same."""
+    """Returns a text with the first line in which the proved program and the model differ for the command `word` and
+    its files. Returns an empty text if their output and status are the same."""
     proved, plain = host_call(word, *files), model_call(word, *files)
     if proved == plain:
         return ""

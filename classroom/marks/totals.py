@@ -84,8 +84,8 @@ Runs = list[Marked]
 
 
 def summed(runs: Runs) -> dict[str, tuple[Person, Total]]:
-    """Returns each person with the totals over all runs, by a key. Two students of different labs are the same person
-    if they have the same identifier, or without one the same name in the lab."""
+    """Returns each person with the totals over all runs, by a text that identifies the person. Two students of
+    different labs are the same person if they have the same identifier, or without one the same name in the lab."""
     found: dict[str, tuple[Person, Total]] = {}
     for run in runs:
         lab, asked = run.lab, run.asked
@@ -101,7 +101,8 @@ def summed(runs: Runs) -> dict[str, tuple[Person, Total]]:
 
 
 def ruled(rule: Rule | None, total: Total, name: str) -> list[str]:
-    """Returns the results of a rule for a person as cells. Returns none if there is no rule."""
+    """Returns the results of a rule for a person with this total and name, as cells. Returns an empty list if there is
+    no rule."""
     return rule.cells(total.values(name)) if rule else []
 
 

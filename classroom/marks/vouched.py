@@ -66,8 +66,9 @@ def has_ended(run: Path) -> bool:
 
 
 def entries_up_to(text: bytes, events: int) -> bytes:
-    """Returns the beginning of a seat's text: its complete entries up to the last that needs at most so many events.
-    Later entries belong to a run that continues. Searches from the end, because the numbers of events never fall."""
+    """Returns the beginning of a seat's text: its complete entries up to the last one that needs at most `events`
+    events. Later entries belong to a run that is still going on. Searches from the end, because the numbers of events
+    never fall."""
     end = text.rfind(b"\n") + 1
     while end:
         start = text.rfind(b"\n", 0, end - 1) + 1
@@ -121,8 +122,8 @@ def mark_incomplete(into: Path) -> None:
 
 @contextmanager
 def vouched(run: Path) -> Iterator[list[Vouched]]:
-    """Yields the records of a run's folder with their verdicts, the oldest first. Their copies are removed at the
-    end."""
+    """Yields the records of a run's folder with their verdicts, the oldest first. Their copies are removed at the end
+    of the block. Raises `Fault` if the journal, or the beginning of a record, can't be read."""
     is_whole, lives = has_ended(run), goes_on(run)
     lines = plain.read(run / "journal", limits.allowed().journal).split(b"\n")[:-1]
     records = kept(run)
@@ -134,9 +135,10 @@ def vouched(run: Path) -> Iterator[list[Vouched]]:
 
 
 def vouch(record: Path, into: Path, journal: bytes, is_whole: bool, lives: bool) -> Vouched:
-    """Copies a record with the journal into a folder, and verifies the copy. If `is_whole` isn't set and an entry is
-    missing, verifies it as an incomplete record. `lives` says whether its server is running. Refuses a record with
-    another lab than the run's."""
+    """Copies a record with the text `journal` into the new folder `into`, verifies the copy, and returns it with the
+    verdict. The verdict is a refusal if the record can't be read or has another lab than the run's. `is_whole` says
+    whether the server ended as it should; otherwise the record may lack its last entries. `lives` says whether the
+    server is running."""
     into.mkdir()
     try:
         copy_record(record, into, journal)

@@ -34,8 +34,8 @@ OTHERS = 128  # how many characters a key is taken to be drawn from if one of it
 
 
 def refused(path: Path, error: str) -> Iterator[str]:
-    """Yields the lines about a lab that the program refuses by this error: the error, its line in the file, and
-    suggestions for unknown keys."""
+    """Yields the lines to print about a lab's file that the program refuses with the text `error`: this error, the line
+    in the file at which it is, and suggestions for unknown keys."""
     text = path.read_bytes().decode("utf-8-sig", errors="replace")
     yield f"{path}: {error}"
     line, what = place_of_error(text, error)
@@ -232,7 +232,8 @@ def start_warnings(path: Path, lab: labs.Lab) -> Iterator[str]:
 
 
 def warnings(path: Path) -> Iterator[str]:
-    """Yields all warnings about the lab in a file, which the program accepts."""
+    """Yields all warnings about the lab in a file, which the program accepts. If the lab can't be read here, that is
+    one of them, and its keys, owners and limits aren't checked."""
     text = path.read_text(encoding="utf-8-sig")
     for line, key, meant in unknown_keys(text):
         yield f"line {line}: {key} isn't a key of a lab, so it is ignored" + (f"; did you mean {meant}?" if meant else "")
@@ -246,8 +247,8 @@ def warnings(path: Path) -> Iterator[str]:
 
 
 def size_line(path: Path, told: str) -> str:
-    """Returns the program's line about the size of the lab in a file, changed so that the house is counted separately
-    if the lab can be read. The house is a student without a person."""
+    """Returns the line about the size of the lab in a file, which the program has printed. If the lab can be read, the
+    line is changed so that the house, a student without a person, is counted separately."""
     try:
         return labs.with_house_apart(told, labs.read(path))
     except Fault:

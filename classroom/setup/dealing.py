@@ -26,17 +26,18 @@ class Part:
 
 
 def in_groups(people: list[str], count: int) -> list[list[str]]:
-    """Returns the people in `count` groups, whose sizes differ by at most one. Raises `Fault` if there are fewer
-    people."""
+    """Returns the people in `count` groups, whose sizes differ by at most one. Raises `Fault` if `count` is less than 1
+    or more than the number of people."""
     if not 1 <= count <= len(people):
         raise Fault(f"--groups {count}: write a number from 1 to {len(people)}")
     return [people[index::count] for index in range(count)]
 
 
 def parts(people: People, count: int | None, column: str | None) -> list[Part]:
-    """Returns the students of each network: of `count` networks, or if `column` names a column with rooms, of separate
-    networks for each room. `people` are the students by their names in the lab. Raises `Fault` if they can't be dealt
-    so."""
+    """Returns the students of each network. Without a `column` there are `count` networks, or one if that is None. If
+    `column` names the column with rooms, each room has networks of its own, as `networks_of` says. `people` are the
+    students by their names in the lab. Raises `Fault` if there are too few students or networks, or a student has no
+    room."""
     if column is None:
         return [Part(names) for names in in_groups([*people], count or 1)]
     lost = [person.written for person in people.values() if not person.group]
@@ -50,9 +51,10 @@ def parts(people: People, count: int | None, column: str | None) -> list[Part]:
 
 
 def networks_of(rooms: dict[str, list[str]], count: int | None, column: str) -> dict[str, int]:
-    """Returns the number of networks of each room: as many as give each student a seat, or `count` in total. Beyond one
-    for each room, the next goes to the room with the most students per network. Raises `Fault` if `count` is less than
-    the number of rooms."""
+    """Returns the number of networks of each room. `rooms` has the students of each. If `count` is None, each room has
+    as many networks as give all its students a seat. Otherwise there are `count` in total: one for each room, and each
+    further one goes to the room with the most students per network. Raises `Fault` if `count` is less than the number
+    of rooms. `column` is the name of the rooms' column, for the message."""
     if count is None:
         seats = limits.allowed().seats
         return {room: -(-len(names) // seats) for room, names in rooms.items()}
@@ -65,8 +67,8 @@ def networks_of(rooms: dict[str, list[str]], count: int | None, column: str) -> 
 
 
 def deal(identifiers: list[int], students: list[str], each: int) -> list[labs.Node]:
-    """Returns nodes with these identifiers, each with `each` owners. The numbers of nodes of two students differ by at
-    most one. Raises `Fault` if there are fewer students than owners of a node."""
+    """Returns nodes with these identifiers, each with `each` owners, who are taken from the students in rotation. The
+    numbers of nodes of two students differ by at most one. Raises `Fault` if there are fewer students than `each`."""
     if len(students) < each:
         raise Fault(f"{each} owners for each node need {each} students")
     turns = itertools.cycle(students)

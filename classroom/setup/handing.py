@@ -40,7 +40,7 @@ def door(word: str) -> str:
 
 
 def own_host_name() -> str:
-    """Returns the name of this machine in its network, or what comes closest to it if that isn't known."""
+    """Returns the full name of this machine in its network, or its short host name if no full name is known."""
     name = socket.getfqdn()
     return socket.gethostname() if name.startswith("localhost") else name
 
@@ -64,9 +64,10 @@ def add_words(words: argparse.ArgumentParser) -> None:
 
 
 def ways(words: argparse.Namespace, files: list[Path], rooms: list[str], before: list[Way | None] | None = None) -> list[Way]:
-    """Returns the way into the network of each lab: by the arguments, or else as in `before`, the earlier slips.
-    `rooms` has the room of each network. Makes the door's certificate if it is missing. Raises `Fault` if the arguments
-    don't fit."""
+    """Returns the way into the network of each lab, for the labs in these files. What the arguments don't name is as in
+    `before`, which has the way on each lab's earlier slips, or None. `rooms` has the room of each network. Makes the
+    door's certificate if it is missing. Raises `Fault` if that fails, two networks have the same name, or a port is too
+    high."""
     found, names = [], [network(file) for file in files]
     if len(set(names)) < len(names):
         raise Fault(f"two labs have the same network name: {', '.join(names)}")
@@ -85,7 +86,8 @@ def ways(words: argparse.Namespace, files: list[Path], rooms: list[str], before:
 
 
 def rewrite_slips(made: labs.Lab, way: Way, lab: Path) -> None:
-    """Writes the page with a lab's slips, and the slips of its students and its teacher. Replaces older files."""
+    """Writes the page with the slips of the lab `made`, and the slips of its students and its teacher, beside the lab's
+    file `lab`. Replaces older files."""
     folder = slips.folder_of(lab)
     folder.mkdir(mode=0o700, exist_ok=True)
     for name in made.without_house().students:
@@ -95,7 +97,8 @@ def rewrite_slips(made: labs.Lab, way: Way, lab: Path) -> None:
 
 
 def remake_slips(words: argparse.Namespace) -> int:
-    """Makes the slips of the labs in the arguments again, with another way in. Returns the exit status."""
+    """Makes the slips of the labs in the arguments again, with the way in that the arguments name, or else with that of
+    the earlier slips. Prints the files. Returns the exit status."""
     files = [Path(lab) for lab in words.labs]
     every = [labs.read(file) for file in files]
     before = [Way.read(file) for file in files]
@@ -109,7 +112,8 @@ def remake_slips(words: argparse.Namespace) -> int:
 
 
 def merge(parts: list[tuple[labs.Lab, Way, Path]]) -> str:
-    """Returns the table for a mail merge as CSV: each student of these labs with the file of the slip."""
+    """Returns the table for a mail merge as CSV, with a row for each student that names the file of the student's slip.
+    `parts` has each lab with the way into its network and its file."""
     out = io.StringIO()
     rows = csv.writer(out, lineterminator="\n")
     rows.writerow(HEADS)

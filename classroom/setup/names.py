@@ -51,7 +51,7 @@ def letters(char: str) -> str:
 
 
 def sounds(named: list[str]) -> str | None:
-    """Returns the sound of a letter as letters a to z. `named` are the words of its Unicode name. Returns None if the
+    """Returns the sound of a letter as letters a to z. `named` has the words of its Unicode name. Returns None if the
     sound isn't known."""
     if len(named) < 3:
         return None
@@ -80,9 +80,9 @@ def with_end(short: str, end: str) -> str:
 
 
 def all_of(people: Iterable[Person], taken: Iterable[str] = ()) -> dict[str, Person]:
-    """Returns a different name in the lab for each of these people, other than the names in `taken`. If two persons
-    would have the same name, the person's identifier or a number is added. A person without a known letter is called
-    `s-` with an identifier or a number."""
+    """Returns these people by their names in the lab, which all differ and aren't in `taken`. If two persons would have
+    the same name, the person's identifier or a number is added. A person whose name has no known letter is called `s-`
+    with an identifier or a number."""
     listed = list(people)
     forms = [lab_name(person.written) for person in listed]
     ids = [re.sub("[^a-z0-9]+", "-", person.id.lower()).strip("-") for person in listed]

@@ -26,7 +26,7 @@ from classroom.setup.slips import Way
 
 def start(made: labs.Lab, word: str, chance: random.Random) -> None:
     """Sets the registers of a lab at the beginning, as `word` says: `clean`, all `random`, random at one node in three
-    (`hurt`), or `worst`, the worst known start."""
+    (`hurt`), or `worst`, the worst known start. `chance` makes the random choices."""
     if word == "worst":
         registers = {node: (p, m) for node, p, m in shaking.longest_start([node.id for node in made.nodes], made.links)}
         for node in made.nodes:
@@ -41,7 +41,7 @@ def start(made: labs.Lab, word: str, chance: random.Random) -> None:
 
 def make(words: argparse.Namespace, people: dict[str, Person], chance: random.Random) -> labs.Lab:
     """Returns the lab that the arguments describe, for these students by their names in the lab. `chance` makes the
-    random choices."""
+    random choices. Raises `Fault` if the arguments name no network, or a node can't have so many owners."""
     students = list(people)
     if words.links:
         identifiers, links = networks.from_file(Path(words.links), words.nodes)
@@ -71,8 +71,8 @@ class Made:
 
 
 def files(path: Path, count: int) -> list[Path]:
-    """Returns the files for this number of labs: `path` itself, or several with numbers in their names. Raises `Fault`
-    if `path` can't be a file's name."""
+    """Returns the files for `count` labs: `path` with the ending .toml, or several with numbers in their names. Raises
+    `Fault` if `path` can't be a file's name."""
     name = path.name.removesuffix(".toml")
     if not name.strip("."):
         raise Fault(f"{path} isn't a file name of the form NAME.toml")
@@ -81,13 +81,14 @@ def files(path: Path, count: int) -> list[Path]:
 
 
 def merge_of(path: Path) -> Path:
-    """Returns the file for the table of a mail merge, which all labs share. `path` is the one for a single lab."""
+    """Returns the file for the table of a mail merge, which all labs share. `path` is the lab's file that the command
+    line names."""
     return path.with_name(f"{path.name.removesuffix('.toml')}-slips.csv")
 
 
 def checked_size(made: labs.Lab, wanted: Path) -> str:
-    """Returns the program's line about a lab's size. Raises `Fault`, with the name of the file that is wanted, if the
-    program refuses the lab. Writes only a temporary file."""
+    """Returns the program's line about the size of the lab `made`. Raises `Fault` if the program refuses the lab, or it
+    can't be written. Writes only a temporary file; `wanted` is the lab's own file, which the error names."""
     with tempfile.TemporaryDirectory() as room:
         file = Path(room, "lab.toml")
         try:
@@ -101,8 +102,8 @@ def checked_size(made: labs.Lab, wanted: Path) -> str:
 
 
 def write(made: Made, way: Way, page: str, done: list[Path]) -> None:
-    """Writes the files of a lab: the lab, its slips, and their page. Appends each written file or folder to `done`.
-    Raises `Fault` if one of them can't be written."""
+    """Writes the files of a lab: the lab, its slips, and `page`, the HTML page with its slips. Appends each written
+    file or folder to `done`. Raises `Fault` if one of them can't be written."""
     for file, content in ((made.file, labs.text(made.lab)), (slips.page_of(made.file), page),
                           (slips.teacher_of(made.file), slips.text(made.lab, made.lab.teacher[0], way))):
         labs.write_new(file, content)
@@ -129,7 +130,7 @@ def all_or_none() -> Iterator[list[Path]]:
 
 def new(words: argparse.Namespace) -> int:
     """Makes the labs and their slips, after checking that all of them can be made. Prints a summary and the next
-    commands. Returns the exit status."""
+    commands. Returns the exit status. Raises `Fault`, and leaves no file, if one of them can't be made."""
     program()
     people = lists.read(Path(words.students), words).people
     chance = random.Random(words.seed)
@@ -153,8 +154,8 @@ def new(words: argparse.Namespace) -> int:
 
 
 def write_all(words: argparse.Namespace, made: list[Made], rooms: list[str], merge: Path) -> list[Way]:
-    """Writes all labs and slips and the table for a mail merge, or nothing if one of them can't be written. `rooms` has
-    the room of each lab. Returns the way into each network."""
+    """Writes all labs and slips, and the table for a mail merge into the file `merge`. Writes nothing, and raises
+    `Fault`, if one of them can't be written. `rooms` has the room of each lab. Returns the way into each network."""
     with all_or_none() as done:
         file = words.certificate or certificate.beside(made[0].file)
         is_new = bool(words.door) and not os.path.lexists(file)

@@ -68,12 +68,13 @@ def forwards(way: Way) -> str:
 
 
 def in_parts(digits: str) -> str:
-    """Returns a fingerprint in the form that browsers show."""
+    """Returns a fingerprint, which is given as hexadecimal digits, in the form that browsers show."""
     return ":".join(digits[at:at + 2] for at in range(0, len(digits), 2)).upper()
 
 
 def rows(made: Lab, name: str, way: Way) -> Iterator[tuple[str, str]]:
-    """Yields the rows of the slip of the student `name`: for each value what it is called, and the value as HTML."""
+    """Yields the rows of the slip of the student `name` of the lab `made`: for each value its label, and the value as
+    HTML."""
     yield "name", f"<code>{escape(name)}</code>"
     yield "key", f'<code class="key">{escape(made.students[name])}</code>'
     nodes = made.nodes_of(name)
@@ -84,7 +85,8 @@ def rows(made: Lab, name: str, way: Way) -> Iterator[tuple[str, str]]:
 
 
 def slip(made: Lab, shown: Lab, name: str, way: Way) -> str:
-    """Returns the slip of the student `name` as HTML. `shown` is the lab without the house."""
+    """Returns the slip of the student `name` of the lab `made` as HTML. `shown` is the same lab without the house, a
+    program that may play for absent students."""
     person, link = made.people.get(name, Person(name)), address(way, name, made.students[name])
     room = f" · {escape(way.room)}" if way.room else ""
     listed = "".join(f"<dt>{head}</dt><dd>{value}</dd>" for head, value in rows(shown, name, way))

@@ -47,8 +47,9 @@ def changed(path: Path, name: str, key: str) -> str:
 
 
 def files_of(word: str) -> tuple[list[Path], Path, Record | None]:
-    """Returns the files of a lab with a student's key, the one beside which the slips are, and the record of the run if
-    `word` names a run's folder. `word` names a lab's file or the folder of a run."""
+    """Returns three values about the lab that `word` names, by its file or the folder of a run: all files with a copy
+    of the lab, the file beside which its slips are, and the record of the run. The record is None if `word` names a
+    lab's file or the run has none. Raises `Fault` if the folder isn't that of a run."""
     path = Path(word)
     if not path.is_dir():
         return [path], path, None
@@ -68,8 +69,8 @@ class Changed:
 
 
 def change(word: str, name: str) -> Changed:
-    """Changes the key of the student `name` in the lab, in a run's copy of it, and on the slips. `word` names a lab's
-    file or the folder of a run. Raises `Fault` if the key can't be changed."""
+    """Changes the key of the student `name` in the lab, in a run's copy of it, and on the slips. `word` names the lab's
+    file or the folder of a run. Raises `Fault` if the lab has no such student, or a file can't be read or changed."""
     files, own, record = files_of(word)
     labs.read(files[0])
     key = keys.for_people()
@@ -88,7 +89,7 @@ def change(word: str, name: str) -> Changed:
 
 def rekey(words: argparse.Namespace) -> int:
     """Gives a student another key, and prints the files that have it. Returns the exit status. A run that is going on
-    still accepts the old key."""
+    still accepts the old key. Raises `Fault` like `change`."""
     words.lab = str(classes.run_of(Path(words.lab), words.name))
     it, record = change(words.lab, words.name), files_of(words.lab)[2]
     print(f"{words.name} has another key in {', '.join(map(str, it.files))}; slip: {it.slip}")

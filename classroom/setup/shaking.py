@@ -13,7 +13,7 @@ LEAST = {"crowd": 4, "halves": 2}  # the least number of nodes of each such conf
 
 
 def pairs_of(links: Iterable[Collection[int]]) -> list[tuple[int, int]]:
-    """Returns links in their order, each as a pair with its lower end first."""
+    """Returns the links in rising order, each as a pair with its lower end first."""
     found = []
     for link in links:
         a, b = sorted(link)
@@ -22,8 +22,8 @@ def pairs_of(links: Iterable[Collection[int]]) -> list[tuple[int, int]]:
 
 
 def shaken(nodes: list[int], links: Iterable[Collection[int]], word: str, seed: int | None) -> list[Registers]:
-    """Returns random registers for so many random nodes as `word` says, or for all if it is `all`, drawn with the seed.
-    Raises `Fault` if there aren't so many nodes."""
+    """Returns random registers for random nodes of the network with these nodes and links, drawn with the seed. `word`
+    is the number of nodes to draw, or `all`. Raises `Fault` if there aren't so many nodes."""
     count = len(nodes) if word == "all" else int(word)
     if not 1 <= count <= len(nodes):
         raise Fault(f"shake {word}: write a number of nodes from 1 to {len(nodes)}, or all")
@@ -59,5 +59,5 @@ def of_crowd(count: int) -> list[int | None]:
 
 
 def of_halves(count: int) -> list[int | None]:
-    """Returns the pointers of `count` nodes of halves, all null."""
+    """Returns the pointers of the nodes 1 to `count` of halves, which are all null."""
     return [None] * count

@@ -65,14 +65,15 @@ def teacher_of(lab: Path) -> Path:
 
 
 def slip(made: Lab, name: str, port: int) -> list[str]:
-    """Returns those lines of the slip of the student or teacher `name` that every client reads."""
+    """Returns those lines of a slip that every client reads. It is the slip of the student or teacher `name` of the lab
+    `made`, whose server has this port."""
     key = made.students[name] if name in made.students else made.teacher[1]
     nodes = ",".join(map(str, made.nodes_of(name)))
     return [f"port {port}", f"name {name}", f"key {key}", *([f"nodes {nodes}"] if nodes else [])]
 
 
 def text(made: Lab, name: str, way: Way) -> str:
-    """Returns the text of the slip's file of the student or teacher `name`."""
+    """Returns the text of the file with the slip of the student or teacher `name` of the lab `made`."""
     return "".join(f"{line}\n" for line in (*slip(made, name, way.port), *way.lines()))
 
 

@@ -32,7 +32,7 @@ def say(line: str) -> None:
 
 
 def progress_of(crates: Uses, number: int) -> Progress:
-    """Returns the progress of a build in which no proof has begun, on so many processors."""
+    """Returns the progress of a build of these crates on `number` processors, in which no proof has begun."""
     share = ALONE + (1 - ALONE) / jobs_of(number)
     return Progress(crates, {crate: seconds * share for crate, seconds in expected(crates).items()}, at_once_of(number))
 
@@ -46,7 +46,8 @@ def tell_beginning(programs: list[str], progress: Progress) -> None:
 
 
 def tell_failure(log: Path, programs: list[str]) -> None:
-    """Prints why the build failed, by its log, and keeps the log beside the last program."""
+    """Prints why the build failed, by the `rt ci` output in the file `log`, and keeps a copy of it beside the last of
+    these programs."""
     lines = log.read_text(encoding="utf-8", errors="replace").splitlines()
     for line in [it for it in lines if WRONG.search(it)][:MOST_SHOWN] or lines[-MOST_SHOWN:]:
         print(line, file=sys.stderr)
@@ -56,7 +57,8 @@ def tell_failure(log: Path, programs: list[str]) -> None:
 
 
 def build(programs: list[str]) -> int:
-    """Builds programs, and returns the status: 0 if all are built, and 1 if not. Prints the progress."""
+    """Proves and builds programs, and prints the progress. Returns the exit status: 0 if all are built, and 1 if
+    not."""
     crates = needed(programs)
     progress, screen = progress_of(crates, processors()), Screen()
     tell_beginning(programs, progress)
@@ -79,7 +81,7 @@ def build(programs: list[str]) -> int:
 
 
 def main(programs: list[str]) -> int:
-    """Builds programs, and returns the status. A signal stops the build and then ends this process."""
+    """Builds programs, and returns the exit status. A signal stops the build and then ends this process."""
     end_with_parent()
     raise_on_signals()
     try:

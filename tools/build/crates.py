@@ -13,15 +13,15 @@ Uses = dict[str, list[str]]
 
 
 def lines(top: Path = TOP) -> dict[str, str]:
-    """Returns the line of each crate in `crates.txt`, in the file's order: each crate comes after those that it
-    uses."""
+    """Returns the line of each crate in the file `crates.txt` in the folder `top`, in the file's order: each crate
+    comes after those that it uses."""
     text = (top / "crates.txt").read_text(encoding="utf-8")
     return {found[2]: found[1] for found in re.finditer(r"(?m)^((\w+)[^:\n#]*:.*)$", text)}
 
 
 def needed(programs: list[str]) -> Uses:
-    """Returns the crates of these programs and all crates below them, each with the crates that it uses, in the file's
-    order."""
+    """Returns the crates of these programs and all crates below them, each with the crates that it uses, in the order
+    of `crates.txt`."""
     every = lines()
     return with_those_below(programs, {crate: [it for it in line.partition(":")[2].split() if it in every] for crate, line in every.items()})
 

@@ -53,9 +53,9 @@ class Room:
 
 
 def homes() -> list[Path]:
-    """Returns the folder in which repositories are made, and the one for temporary files. Repositories are in Git's own
-    folder if there is one: it is on the clone's disk, and no check looks into it. Libraries take gigabytes, which may
-    be too much for temporary files."""
+    """Returns two folders: the one in which repositories are made, and the one for temporary files. Repositories are in
+    Git's own folder if this clone has one: it is on the clone's disk, and no check looks into it. Libraries take
+    gigabytes, which may be too much for temporary files."""
     git, temporary = TOP / ".git", Path(tempfile.gettempdir())
     return [git if git.is_dir() and os.access(git, os.W_OK) else temporary, temporary]
 

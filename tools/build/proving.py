@@ -42,8 +42,9 @@ def jobs_of(number: int) -> int:
 
 
 def at_once_of(number: int) -> int:
-    """Returns the number of crates that are proved side by side on so many processors: one more than their processes
-    would fill, since a proof begins and ends as a single process."""
+    """Returns the number of crates that are proved side by side on so many processors. It is the number of proofs whose
+    processes (`jobs_of`) fill the processors, and one more if a proof has several, since it begins and ends as a single
+    process."""
     each = jobs_of(number)
     return -(-number // each) + (each > 1)
 
@@ -63,7 +64,8 @@ class Proving:
         self.runs: dict[str, Run] = {}
 
     def all(self) -> Path | None:
-        """Proves all crates. Returns the log of the run that failed, or None."""
+        """Proves all crates, and puts their libraries and programs into the clone. Returns the log of the run that
+        failed, or None if none did."""
         try:
             whole = Run(self.room.place(self.crates), is_whole=True)
             self.runs[""] = whole
@@ -77,8 +79,8 @@ class Proving:
                 run.end()
 
     def is_over(self, run: Run, is_look: bool) -> bool:
-        """Waits for the end of a run over all crates, or with `is_look` until it proves something. Notes the progress
-        meanwhile. Returns whether the run has ended."""
+        """Waits for the end of a run over all crates, and notes the progress meanwhile. If `is_look` is set, stops
+        waiting when the run begins to prove something. Returns whether the run has ended."""
         while not run.has_ended():
             if is_look and run.is_proving():
                 run.follow(self.progress, self.screen)
@@ -90,7 +92,8 @@ class Proving:
         return True
 
     def each(self) -> Path | None:
-        """Proves the remaining crates by one run each. Returns the log of a run that failed, or None."""
+        """Proves the remaining crates by one run each, or all by one run if this machine keeps no proofs. Returns the
+        log of a run that failed, or None if none did."""
         self.runs.clear()
         while len(self.progress.proved) < len(self.crates):
             self.begin()
@@ -107,8 +110,8 @@ class Proving:
         return None
 
     def by_one_run(self) -> Path | None:
-        """Proves all crates by one run, because this machine keeps no proofs for other runs. Returns the log if it
-        failed, or None."""
+        """Proves all crates by one run, because this machine keeps no proofs for other runs. Returns the log of the run
+        if it failed, or None."""
         for run in self.runs.values():
             run.end()
         whole = Run(self.room.place(self.crates), is_whole=True)
@@ -119,7 +122,8 @@ class Proving:
         return self.outcome(whole, self.crates)
 
     def begin(self) -> None:
-        """Begins the proofs that are next in the order, while there is memory."""
+        """Begins the proofs that are next in the order, as long as there is memory. One is begun in any case if no
+        other is running."""
         for crate in self.progress.next():
             if not self.runs or has_memory():
                 place = self.room.place(with_those_below([crate], self.crates))

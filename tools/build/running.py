@@ -54,8 +54,8 @@ def end_with_parent() -> None:
 
 
 def begin_later() -> None:
-    """Calls `end_with_parent`, and lowers the priority of this process, which isn't urgent. If the system shares
-    processors among sessions, only the session's priority has an effect, so that is lowered too."""
+    """Calls `end_with_parent`, and lowers the priority of this process, because others are more urgent. If the system
+    shares processors among sessions, only the session's priority has an effect, so that is lowered too."""
     end_with_parent()
     os.nice(LATER)
     with contextlib.suppress(OSError):
@@ -107,8 +107,8 @@ class Run:
             )
 
     def follow(self, progress: Progress, screen: Screen) -> None:
-        """Notes in the progress each crate that new lines of the output report as proved. Tells the screen if there is
-        one."""
+        """Reads the new lines of the output, and notes in the progress each crate that they report as proved. If there
+        is such a crate, makes the screen show the progress."""
         with self.place.log.open("rb") as it:
             it.seek(self.read)
             whole, newline, _ = it.read().rpartition(b"\n")

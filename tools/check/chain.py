@@ -32,8 +32,8 @@ Spans = dict[str, Span]
 
 
 def spans_of(checks: Checks) -> Spans:
-    """Returns the proof of each crate in a run, in the order in which the proofs ended. Leaves out crates that weren't
-    proved again."""
+    """Returns the beginning, end and processor time of each crate's proof in a run of a check, in the order in which
+    the proofs ended. Leaves out crates that weren't proved again."""
     found: Spans = {}
     for check, (crate, kind) in checks.works.items():
         if kind == "proof":
@@ -97,5 +97,5 @@ def short(spans: Spans) -> str:
 
 
 def table(spans: Spans) -> str:
-    """Returns the text of `tools/build/seconds.txt`: the time of each proof."""
+    """Returns the text of `tools/build/seconds.txt`, which has the processor seconds of each proof."""
     return TABLE + "\n".join(f"{crate} {max(1, round(spans[crate].used))}" for crate in uses() if crate in spans)

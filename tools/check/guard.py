@@ -17,8 +17,9 @@ PATIENCE = 8.0  # seconds that the processes of a killed check have to clear up
 
 
 def guarded(work: Callable[[Path], int]) -> int:
-    """Calls `work` in a child with a new folder for temporary files, and returns its status. Passes signals to the
-    child. If the child is killed, ends all processes below it. If the guard is killed, the child gets a signal."""
+    """Calls `work` in a child process with a new folder for temporary files, and returns its status. Passes signals to
+    the child. If the child is killed, ends all processes below it, and returns 128 plus the signal's number. If the
+    guard is killed, the child gets SIGTERM."""
     adopt_orphans()
     room = Path(tempfile.mkdtemp(prefix="check-"))
     signal.pthread_sigmask(signal.SIG_BLOCK, ALL)
@@ -38,8 +39,8 @@ def guarded(work: Callable[[Path], int]) -> int:
 
 
 def work_below(guard: int, room: Path, work: Callable[[Path], int]) -> None:
-    """Calls `work` in this process, the child, in a session of its own, and exits with its status. `guard` is the
-    number of the parent, and `room` the folder."""
+    """Calls `work` with the folder `room` in this process, the child, in a session of its own, and exits with the
+    status that it returns. `guard` is the number of the parent process."""
     status = 1
     try:
         os.setsid()

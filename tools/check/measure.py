@@ -22,7 +22,8 @@ Work = tuple[str, str]
 
 
 def work_of(pid: int, part: str) -> Work | None:
-    """Returns the crate and the kind of the check that a process does in a part, or None if they aren't known yet."""
+    """Returns the crate and the kind of the check that a process does in the part with this name. Returns None if its
+    command line names no crate yet. Raises `OSError` or `ValueError` if the process has ended."""
     with open(f"/proc/{pid}/cmdline", encoding="utf-8", errors="replace") as it:
         words = it.read().split("\0")
     if "--crate-name" not in words:
@@ -44,8 +45,8 @@ class Checks:
         self.looked = 0.0
 
     def look(self, parts: dict[int, str]) -> None:
-        """Reads the processor times of all checks, at most twice a second. `parts` has the name of each running part,
-        by its process."""
+        """Reads the processor times of all checks. Does nothing if less than PAUSE seconds have passed since the last
+        call that did. `parts` has the name of each running part, by its process."""
         if time.monotonic() < self.looked + PAUSE:
             return
         self.looked = time.monotonic()
@@ -90,8 +91,9 @@ class Checks:
 
 
 def check_above(pid: int, found: dict[int, Process], parts: dict[int, str]) -> tuple[Check | None, str]:
-    """Returns the check to which a process belongs, and the name of its part. Returns None and an empty text if the
-    process belongs to no part. `found` has the data of all processes."""
+    """Returns the check to which a process belongs, and the name of its part. The check is None if the process is in a
+    part but in no check. Returns None and an empty text if it belongs to no part. `found` has the data of all
+    processes, and `parts` the name of each part, by its process."""
     check = None
     while pid in found and pid not in parts:
         if found[pid].name == "rattle":

@@ -42,7 +42,8 @@ def module(name: str, *words: str, of: str = "tests") -> tuple[str, ...]:
 
 
 def cases(*names: str, python: str = "python3") -> tuple[str, ...]:
-    """Returns the command line that runs modules of test cases."""
+    """Returns the command line that runs these modules of test cases, which are below `tests`. `python` is the
+    interpreter."""
     return (python, "-B", "-m", "unittest", "-v", *(f"tests.{name}" for name in names))
 
 
@@ -123,7 +124,8 @@ def with_those_below(crates: list[str]) -> set[str]:
 
 
 def share(crates: set[str], pattern: str) -> float:
-    """Returns the share that some crates have in the size of all crates' files that match a pattern."""
+    """Returns the share that the files of these crates which match a pattern have in those of all crates, by size.
+    Returns 1 if there are no crates or no such files."""
     sizes = {it: sum(file.stat().st_size for file in (TOP / "crates" / it).glob(pattern)) for it in uses()}
     whole = sum(sizes.values())
     return sum(sizes[it] for it in crates) / whole if crates and whole else 1.0
@@ -140,13 +142,14 @@ def wrong_of(crates: list[str]) -> Part:
 
 
 def wrong_beside() -> Part:
-    """Returns the part that tries the wrong bodies of all crates beside their proofs."""
+    """Returns the part that tries the wrong bodies of all crates as they are proved, on the processors that the proofs
+    leave idle."""
     return replace(WRONG, command=(*WRONG.command, "--as-proved"), least=min(WRONG.least, LAST_CRATES), is_beside=True)
 
 
 def minutes_of(stages: list[list[Part]], processors: int) -> list[float]:
     """Returns the expected minutes of each stage of parts, on so many processors. A part that runs beside counts only
-    for the time that other parts don't leave idle."""
+    for the time that the other parts of all stages don't leave idle."""
     takes = [minutes([part for part in stage if not part.is_beside], processors) for stage in stages]
     idle = sum(takes) * processors - sum(part.work for stage in stages for part in stage if not part.is_beside)
     for number, stage in enumerate(stages):

@@ -29,7 +29,8 @@ class Process:
 
 
 def process(pid: int) -> Process:
-    """Returns the system's data about the process with that number."""
+    """Returns the system's data about the process with that number. Raises `OSError` or `ValueError` if there is
+    none."""
     with open(f"/proc/{pid}/stat", encoding="utf-8", errors="replace") as it:
         text = it.read()
     name = text[text.index("(") + 1 : text.rindex(")")]
@@ -99,7 +100,8 @@ def reap() -> None:
 
 
 def wait_until_gone(pids: Callable[[], Iterable[int]], seconds: float) -> bool:
-    """Waits until `pids` returns no process, at most so many seconds. Returns whether there is none."""
+    """Waits until no process that `pids` returns is left below this one, at most so many seconds. Returns whether none
+    is left."""
     until = time.monotonic() + seconds
     while set(pids()) & set(below(os.getpid())):
         if time.monotonic() > until:
@@ -110,8 +112,8 @@ def wait_until_gone(pids: Callable[[], Iterable[int]], seconds: float) -> bool:
 
 
 def end_all(groups: list[int], patience: float) -> None:
-    """Ends all processes below this one. First asks the leaders of these groups, which clean up, then all others, and
-    kills those that stay for `patience` seconds."""
+    """Ends all processes below this one. First sends SIGTERM to these groups of processes, so that they can clean up,
+    then to all others. Kills those that stay for `patience` seconds."""
     def rest() -> list[int]:
         """Returns the numbers of the processes below this one that haven't ended."""
         return below(os.getpid())

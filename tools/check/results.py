@@ -48,5 +48,6 @@ def result(done: Done) -> Result:
 
 
 def not_tried(output: str) -> list[str]:
-    """Returns the reasons why test cases were skipped, from the output of a part."""
+    """Returns the reasons why test cases were skipped, from the output of a part. The list is sorted, and has each
+    reason once."""
     return sorted(set(re.findall(r"^.* skipped [\"'](.*)[\"']$", output, re.MULTILINE)))

@@ -57,8 +57,8 @@ class Running:
         return [it[1] for line in lines if wanted and (it := re.search(wanted, line))]
 
     def send_words(self, words: list[str], is_all: bool = False) -> None:
-        """Writes words to the standard input of a part that runs beside, if it still reads. With `is_all` these are the
-        last ones."""
+        """Writes words to the standard input of a part that runs beside, if it still reads. If `is_all` is set, closes
+        that input after them. Does nothing for any other part."""
         if self.process.stdin:
             with contextlib.suppress(BrokenPipeError):
                 self.process.stdin.write("".join(f"{it}\n" for it in words).encode())
@@ -116,8 +116,8 @@ class Crew:
                 yield Done(it.part, it.process.returncode, time.monotonic() - it.begun, minutes, text)
 
     def show(self, of: Running, is_all: bool = False) -> None:
-        """Prints the lines of a running part that are to be shown, and sends its words to the parts that run beside.
-        With `is_all` these are the last words."""
+        """Prints the new lines of the running part `of` that are to be shown, and sends the words in them to the parts
+        that run beside. If `is_all` is set, these are the last words that these parts get."""
         words = of.show()
         for it in self.running.values():
             if words or is_all:
@@ -125,7 +125,7 @@ class Crew:
 
     def run(self, parts: list[Part]) -> Iterator[Done]:
         """Runs parts to their ends, and yields each as it ends. Whenever processors are free, the first part that fits
-        begins. Ends when only parts that run beside are left, or if `parts` is empty when these have ended too."""
+        begins. Doesn't wait for parts that run beside, unless `parts` is empty."""
         waiting = list(parts)
         is_last = not parts
         while waiting or any(is_last or not it.part.is_beside for it in self.running.values()):

@@ -20,7 +20,7 @@ LEFT_OUT = {
 
 
 def taking(least: float) -> str:
-    """Returns a text about how long a subcommand takes that needs so many minutes."""
+    """Returns a text with the time, `least` minutes on four processors, that a subcommand takes."""
     return f"some {least + 0.5:.0f} minutes on four processors"
 
 

@@ -62,7 +62,8 @@ def chosen(every: list[Plant], names: list[str]) -> list[Plant]:
 
 
 def sees(plant: Plant, program: Path) -> tuple[bool, str]:
-    """Runs the test of a plant over the program with the plant. Returns whether the test fails, and its last line."""
+    """Runs the test of a plant over the program with the plant. Returns whether the test fails, and the last line that
+    it prints about a failure."""
     given = {**os.environ, "MML_HOST": str(program)}
     done = subprocess.run([sys.executable, "-B", "-m", plant.module, plant.test], cwd=TOP, env=given, stdin=subprocess.DEVNULL,
                           stdout=subprocess.PIPE, stderr=subprocess.STDOUT, text=True, errors="replace", timeout=LIMIT, check=False)
@@ -71,8 +72,8 @@ def sees(plant: Plant, program: Path) -> tuple[bool, str]:
 
 
 def try_each(tree: Tree, plants: list[Plant]) -> int:
-    """Builds the program with each plant that has a test in turn, runs the test, and prints the result. Returns the
-    status: 1 if a test doesn't fail."""
+    """Builds the program with each plant in turn that names a test, runs the test, and prints the result. Returns the
+    exit status: 1 if a test doesn't fail."""
     missed, tested = 0, [plant for plant in plants if plant.test]
     with tempfile.TemporaryDirectory(prefix="mml-plant-") as room:
         for plant in tested:
@@ -86,8 +87,8 @@ def try_each(tree: Tree, plants: list[Plant]) -> int:
 
 
 def try_proofs(tree: Tree, plants: list[Plant]) -> int:
-    """Asks the prover about each plant that names its function, and prints its verdict. Returns the status: 1 if the
-    prover accepts one or doesn't decide."""
+    """Asks the prover about each plant that names its function, and prints its verdict. Returns the exit status: 1 if
+    the prover accepts one or doesn't decide."""
     counts = Counter[str]()
     for plant, verdict in prove_all(tree, plants):
         counts[verdict] += 1
@@ -97,8 +98,9 @@ def try_proofs(tree: Tree, plants: list[Plant]) -> int:
 
 
 def try_drawn(tree: Tree, crates: list[str], number: int, seed: int) -> int:
-    """Draws plants in `number` functions of these crates, and prints the prover's verdict on each. Returns the status:
-    1 if the prover accepts one or doesn't decide. Raises `PlantFault` if there is no such crate."""
+    """Draws plants in `number` functions of these crates, or of all that are no tests if none is named, by the seed.
+    Prints the prover's verdict on each. Returns the exit status: 1 if the prover accepts one or doesn't decide. Raises
+    `PlantFault` if there is no such crate."""
     if unknown := [crate for crate in crates if crate not in tree.uses]:
         raise PlantFault(f"{unknown[0]}: there is no such crate")
     counts = Counter[str]()

@@ -36,7 +36,7 @@ def candidates(body: Body, lines: list[str], variants: dict[str, list[str]]) -> 
 
 
 def drawn_in(crate: str, folder: Path, chance: random.Random) -> list[list[Plant]]:
-    """Returns some plants for each function of a crate that can be changed, a list for each function, in random
+    """Returns up to TRIES plants for each function of a crate that can be changed, a list for each function, in random
     order."""
     texts = {body.file: (folder / body.file).read_text(encoding="utf-8") for body in bodies_of(folder)}
     variants = {name: kinds for text in texts.values() for name, kinds in variants_of(text).items()}
@@ -51,8 +51,8 @@ def drawn_in(crate: str, folder: Path, chance: random.Random) -> list[list[Plant
 
 
 def draw(tree: Tree, crates: list[str], number: int, seed: int) -> list[list[Plant]]:
-    """Returns plants for at most `number` functions, a list for each. The functions are spread as evenly as possible
-    over those of these crates."""
+    """Returns plants for at most `number` functions, a list for each function. The functions are chosen at random, by
+    the seed, from all functions of these crates that can be changed."""
     chance = random.Random(seed)
     every = [plants for crate in crates for plants in drawn_in(crate, tree.folder(crate), chance)]
     chosen = set(chance.sample(range(len(every)), min(number, len(every))))
@@ -102,7 +102,8 @@ def programs(tree: Tree, crate: str, drawn: list[list[Plant]], running: Running)
 
 
 def look(tree: Tree, crate: str, texts: dict[str, str], running: Running) -> str:
-    """Returns the output of a check of names and types, over a copy of a crate in which files have these texts."""
+    """Returns the output of a check of names and types, over a copy of a crate. `texts` has the new texts of changed
+    files, by their paths in the crate."""
     with tempfile.TemporaryDirectory(prefix="mml-plant-") as room:
         copy, kept = Path(room) / "copy", Path(room) / "kept"
         kept.mkdir()
@@ -115,8 +116,8 @@ def look(tree: Tree, crate: str, texts: dict[str, str], running: Running) -> str
 
 def asked(tree: Tree, crate: str, drawn: list[list[Plant]], kept: str, running: Running) -> Iterator[tuple[Plant, str]]:
     """Yields for each function of a crate its first plant about which the prover decides, and the verdict on it. If the
-    prover decides about none of them, yields the first one that compiles, or the last one if none does. `kept` is the
-    name under which the prover keeps a library's contents."""
+    prover decides about none of them, yields the first one that compiles, or the last one if none does. `drawn` has the
+    plants of each function, and `kept` the name of the folder in which the prover saves checked modules."""
     todo, undecided = drawn, dict[str, Plant]()
     while todo:
         left = {plants[0].function: plants for plants in todo}
@@ -135,8 +136,9 @@ def asked(tree: Tree, crate: str, drawn: list[list[Plant]], kept: str, running: 
 
 
 def asked_once(tree: Tree, crate: str, drawn: list[list[Plant]], kept: str, running: Running) -> Iterator[tuple[Plant, str]]:
-    """Yields for each function its first plant that compiles, or its last one, and the prover's verdict on it. One check
-    of names and types and one proof are enough if each plant compiles, and none hinders another."""
+    """Yields for each function its first plant that compiles, or its last one, and the prover's verdict on it. `drawn`
+    and `kept` are those of `asked`. One check of names and types and one proof are enough if each plant compiles, and
+    none hinders another."""
     sifted = [*programs(tree, crate, drawn, running)]
     yield from ((plant, NO_PROGRAM) for plant, is_program in sifted if not is_program)
     todo = [[plant for plant, is_program in sifted if is_program]]
@@ -156,7 +158,7 @@ def asked_once(tree: Tree, crate: str, drawn: list[list[Plant]], kept: str, runn
 
 def proved(tree: Tree, crate: str, plants: list[Plant], kept: str, running: Running) -> Told:
     """Returns the prover's output about the functions with these plants, which are all in one copy of the crate. `kept`
-    is the name under which the prover keeps a library's contents."""
+    is the name of the folder in which the prover saves checked modules."""
     edits = [replace(plant.edit, wanted=(Refusal(plant.function, ANY),)) for plant in plants]
     texts: dict[str, str] = {}
     for edit in edits:

@@ -55,7 +55,7 @@ def marked(name: str, text: str, mark: str) -> list[str]:
 
 
 def parse_plant(crate: str, name: str, text: str) -> Plant:
-    """Returns the plant in the text of a file. Raises `PlantFault` if the text isn't a plant."""
+    """Returns the plant of a crate in the text of the file `name`. Raises `PlantFault` if the text isn't a plant."""
     (function,), (module, test) = (marked(f"{crate}/{name}", text, mark) for mark in WORDS)
     if not function and not test:
         raise PlantFault(f"{crate}/{name}: neither a line '{IN} FUNCTION' nor a line '{SEEN} MODULE TEST'")

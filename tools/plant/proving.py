@@ -18,16 +18,16 @@ ANY = "any"
 
 
 def verdict(function: str, told: Told) -> str:
-    """Returns the verdict of a check, whose output is given, on the plant in a function: REFUSED, LET_THROUGH or
-    UNDECIDED."""
+    """Returns the verdict on the plant in a function, from the output of a check: REFUSED if a goal of the function is
+    open, LET_THROUGH if the function is proved, and otherwise UNDECIDED."""
     if function in told.open_goals:
         return REFUSED
     return LET_THROUGH if function in told.proved else UNDECIDED
 
 
 def prove_crate(tree: Tree, crate: str, plants: list[Plant], kept: str, running: Running) -> Iterator[tuple[Plant, str]]:
-    """Yields each of these plants of a crate, which name their functions, and the prover's verdict on it. `kept` is the
-    name under which the prover keeps the contents of a library. Raises `PlantFault` if a library below the crate isn't
+    """Yields each of these plants of a crate that names its function, and the prover's verdict on it. `kept` is the
+    name of the folder in which the prover saves checked modules. Raises `PlantFault` if a library below the crate isn't
     built, or if a check doesn't finish."""
     if missing := tree.missing(crate):
         raise PlantFault(f"{crate}: not built, which `rt ci` or `rt check` does: {', '.join(dict.fromkeys(missing))}")
@@ -45,7 +45,8 @@ def prove_crate(tree: Tree, crate: str, plants: list[Plant], kept: str, running:
 
 
 def prove_all(tree: Tree, plants: list[Plant]) -> Iterator[tuple[Plant, str]]:
-    """Yields each plant that names its function, and the prover's verdict on it, crate by crate."""
+    """Yields each plant that names its function, and the prover's verdict on it, crate by crate. Raises `PlantFault`
+    like `prove_crate`."""
     running, kept = Running(), find_name(tree)
     for crate in dict.fromkeys(plant.crate for plant in plants if plant.function):
         yield from prove_crate(tree, crate, [plant for plant in plants if plant.crate == crate], kept, running)

@@ -48,8 +48,8 @@ def words() -> argparse.Namespace:
 
 
 def crates_of(tree: Tree, names: list[str]) -> list[str]:
-    """Returns the crates with these names, or all that have wrong bodies if there are no names. The one that takes
-    longest is first."""
+    """Returns the crates with these names, or all that have wrong bodies if there are no names. The one that is
+    expected to take longest is first. Exits with an error line if a name isn't that of a crate with wrong bodies."""
     for name in names:
         if name not in tree.uses or not tree.has_edits(name):
             sys.exit(f"tools.wrong: {name} is no crate with wrong bodies")
@@ -69,7 +69,8 @@ def say_rounds(tree: Tree, crates: list[str]) -> None:
 
 
 def tried_of(tree: Tree, crates: list[str], asked: argparse.Namespace) -> Iterator[Tried]:
-    """Yields the result of each crate: of all at once, or as the crates are proved if `asked` says so."""
+    """Yields the result of each crate. If `asked`, the arguments of the command line, has `--as-proved`, a crate is
+    tried once it is proved, and otherwise at once."""
     lanes = lane_count(asked.jobs)
     if not asked.as_proved:
         yield from try_crates(tree, crates, lanes, asked.logs, Running())
@@ -82,8 +83,8 @@ def tried_of(tree: Tree, crates: list[str], asked: argparse.Namespace) -> Iterat
 
 
 def try_all(tree: Tree, crates: list[str], asked: argparse.Namespace) -> int:
-    """Tries the edits of crates, and prints a line for each crate and how many passed. Returns the status: 1 if one
-    failed."""
+    """Tries the edits of crates, and prints a line for each crate, its faults, and how many edits passed. `asked` are
+    the arguments of the command line. Returns the exit status: 1 if an edit failed."""
     done = []
     if asked.logs:
         asked.logs.mkdir(parents=True, exist_ok=True)

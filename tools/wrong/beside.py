@@ -28,7 +28,8 @@ def give_way() -> None:
 
 
 def keep_library(tree: Tree, crate: str) -> None:
-    """Keeps a copy of a crate's library, because `rt ci` puts the older one back at its end."""
+    """Keeps a copy of a crate's library in the tree's folder of libraries, because `rt ci` puts the older library back
+    at its end. Does nothing if the crate has no library."""
     if not (tree.left(crate) / "format").is_file():
         return
     try:
@@ -39,8 +40,8 @@ def keep_library(tree: Tree, crate: str) -> None:
 
 
 def as_proved(tree: Tree, crates: list[str], names: Iterable[str], running: Running) -> Iterator[str]:
-    """Yields each of these crates once the crate and all below it have been named, and the others when the names end.
-    `names` are the crates that are proved, as they come."""
+    """Yields each of these crates once the crate and all below it are proved, and the others at the end. `names` are
+    the names of proved crates, as they come, until all proofs have ended. Then lets `running` use all processors."""
     left, proved = [*crates], set[str]()
     for name in map(str.strip, names):
         if name in tree.uses and name not in proved:

@@ -56,8 +56,8 @@ class Running:
             self.lock.notify_all()
 
     def run(self, words: list[str], folder: Path, is_alone: bool = False) -> Ended:
-        """Runs the command line of a check in a folder, and returns its result. Waits until the check may begin, and
-        with `is_alone` until no proofs are running. Raises `Stopped` if no check may begin any longer."""
+        """Runs the command line of a check in a folder, and returns its result. Waits until the check may begin. If
+        `is_alone` is set, also waits until no proofs are running. Raises `Stopped` if `stop` was called before that."""
         with tempfile.TemporaryFile() as output:
             with self.lock:
                 while not self.is_over and (is_alone and self.beside is not None or not self.may_begin()):
@@ -84,8 +84,8 @@ class Running:
 
 
 def copy_crate(folder: Path, to: Path, texts: dict[str, str]) -> None:
-    """Copies the files of a crate that a check reads from `folder` to `to`. `texts` has other texts for some of
-    them."""
+    """Copies the files of a crate that a check reads from the folder `folder` to the folder `to`. `texts` has the new
+    texts of changed files, by their paths in the crate."""
     for part in ("src", "specs", "proofs"):
         if (folder / part).is_dir():
             shutil.copytree(folder / part, to / part)
@@ -94,8 +94,9 @@ def copy_crate(folder: Path, to: Path, texts: dict[str, str]) -> None:
 
 
 def try_round(tree: Tree, crate: str, tried: Round, room: Path, running: Running) -> Ended:
-    """Checks a copy of a crate with the edits of a round, and returns the result. The folder `room` has what earlier
-    rounds proved."""
+    """Checks a copy of a crate with the edits of a round, and returns the result. If the check is killed, most likely
+    because memory ran out, it is run once more without proofs beside it. The folder `room` has what earlier rounds
+    proved."""
     copy, kept = room / "copy", room / "kept"
     kept.mkdir(exist_ok=True)
     copy_crate(tree.folder(crate), copy, tried.texts)
@@ -115,7 +116,7 @@ def free_memory() -> int:
 
 
 def lane_count(wanted: int | None) -> int:
-    """Returns the number of checks to run side by side: `wanted`, or that of processors if it is None, but no more than
-    memory allows."""
+    """Returns the number of checks to run side by side: `wanted`, or the number in the environment's RT_JOBS, or that
+    of processors. It is no more than memory allows, and at least 1."""
     jobs = wanted or int(os.environ.get("RT_JOBS") or 0) or len(os.sched_getaffinity(0))
     return max(1, min(jobs, free_memory() // MOST_HELD))

@@ -148,8 +148,8 @@ def apply_edit(edit: Edit, texts: Mapping[str, str], folder: Path) -> dict[str, 
 
 
 def read_edits(folder: Path) -> tuple[list[Edit], list[str]]:
-    """Returns the edits in a crate's folder, in the order of their names, and error texts about those that can't be
-    tried."""
+    """Returns the edits in a crate's folder, in the order of their names. Also returns error texts about the files that
+    are no edits or don't fit the sources, which are left out."""
     edits, faults = [], []
     for path in sorted((folder / "wrong").iterdir()):
         try:
@@ -164,8 +164,8 @@ def read_edits(folder: Path) -> tuple[list[Edit], list[str]]:
 
 
 def joined(into: Round, edit: Edit, folder: Path) -> bool:
-    """Adds an edit to a round. Does nothing if another edit of the round changes the same text or must be refused in
-    the same function. Returns whether the edit was added."""
+    """Adds an edit to a round, and returns True. If another edit of the round changes the same text or must be refused
+    in the same function, changes nothing and returns False. `folder` is the crate's folder."""
     if into.functions() & edit.functions():
         return False
     try:
@@ -177,8 +177,8 @@ def joined(into: Round, edit: Edit, folder: Path) -> bool:
 
 
 def rounds_of(edits: Iterable[Edit], folder: Path) -> list[Round]:
-    """Returns the rounds for these edits of a crate. Each edit is in the first round that is allowed for it and has
-    room for it."""
+    """Returns the rounds for these edits of the crate in a folder. Each edit is in the first round that is allowed for
+    it and has room for it. Raises `EditFault` if an edit doesn't fit the sources."""
     rounds: list[Round] = []
     for edit in sorted(edits, key=lambda it: it.first):
         if not any(joined(it, edit, folder) for it in rounds[edit.first - 1 :]):

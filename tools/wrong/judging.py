@@ -24,8 +24,8 @@ class Judged:
 
 
 def right_lines(function: str, told: Told) -> str:
-    """Returns the lines that an edit's file could have for a function, by the goals that a check left open there. Those
-    of its contract are first."""
+    """Returns, as a text, the lines that an edit's file could have for a function, by the goals that a check left open
+    there. Goals of the function's contract are first. Returns an empty text if no goal is open."""
     goals = sorted(told.open_goals.get(function, ()), key=lambda goal: (not goal.startswith("returns"), "clause" not in goal))
     return " or ".join(f"'{Refusal(function, goal).line()}'" for goal in goals[:3])
 
@@ -51,7 +51,8 @@ def judge_edits(edits: Iterable[Edit], told: Told) -> dict[str, list[str]]:
 
 
 def judge_others(named: set[str], told: Told) -> list[str]:
-    """Returns error texts about functions that are refused although they aren't among `named`, which edits name."""
+    """Returns error texts about the functions that a check didn't prove although they aren't in `named`, the functions
+    that edits name. A function that only depends on such a one isn't reported."""
     faults = []
     for function in sorted(told.functions - told.proved - named):
         if function in told.open_goals:

@@ -30,7 +30,8 @@ class Tree:
         return (self.folder(crate) / "wrong").is_dir()
 
     def library(self, crate: str) -> Path:
-        """Returns the path of the library of a crate, or of a library of the kit."""
+        """Returns the path of the library of a crate, in the folder `libraries` if the tree has one, or that of a
+        library of the kit."""
         if crate in self.uses:
             return self.libraries / f"{crate}.rlib" if self.libraries else self.left(crate)
         return self.kit / "rlibs" / f"{crate}.rlib"
@@ -48,7 +49,7 @@ class Tree:
         return found
 
     def missing(self, crate: str) -> list[str]:
-        """Returns the names of the libraries below a crate that aren't built."""
+        """Returns the names of the libraries below a crate, of this repository or of the kit, that aren't built."""
         return [it for it in (*self.below(crate), *self.uses[crate]) if not (self.library(it) / "format").is_file()]
 
     def size(self, crate: str) -> int:
@@ -82,8 +83,9 @@ def tree_at(top: Path) -> Tree:
 
 
 def check_words(tree: Tree, crate: str, functions: set[str], kept: Path) -> list[str]:
-    """Returns the command line by which the prover checks these functions of a crate, in a copy of the crate's folder.
-    The check continues from the proofs that an earlier one saved in the folder `kept`."""
+    """Returns the command line by which the prover checks these functions of a crate, or all if there are none. It is
+    to be run in a copy of the crate's folder. The check continues from the proofs that an earlier one saved in the
+    folder `kept`."""
     root = "main" if (tree.folder(crate) / "src/main.rt").is_file() else "lib"
     words = [str(tree.kit / "bin/rattle"), "check", "--crate-name", crate, f"src/{root}.rt"]
     for name in ("std", *tree.uses[crate]):

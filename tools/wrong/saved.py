@@ -20,7 +20,7 @@ TEXT = "#![tactic(auto)]\n\n/// Does nothing.\npub fn nothing() {}\n"
 
 def find_name(tree: Tree) -> str:
     """Returns the name of the folder in which this prover saves checked modules, or an empty text if it can't be found
-    out. Doesn't wait for other checks."""
+    out. Runs a check of a small crate at once, without waiting for other checks."""
     with tempfile.TemporaryDirectory(prefix="mml-wrong-") as room:
         alone, kept = Tree(Path(room), tree.kit, {NOTHING: []}), Path(room) / "kept"
         (alone.folder(NOTHING) / "src").mkdir(parents=True)
@@ -32,7 +32,8 @@ def find_name(tree: Tree) -> str:
 
 
 def hand_on(library: Path, to: Path) -> None:
-    """Writes the checked modules that a library contains into the folder `to`, one file each."""
+    """Writes the checked modules that a library contains into the folder `to`, one file each. Leaves no folder if the
+    library has none, or has them in a form that isn't known."""
     listed, modules = (library / "toolchain" / it for it in ("checked.json", "checked.a"))
     if not (listed.is_file() and modules.is_file()):
         return

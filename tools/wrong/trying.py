@@ -45,7 +45,8 @@ class Tried:
 
 def try_crate(tree: Tree, crate: str, running: Running, logs: Path | None = None, saved: Future[str] | None = None) -> Tried:
     """Tries the edits of a crate, and returns the result. If `saved` has the name of the folder for saved modules,
-    copies the library's modules there before each round. `logs` is a folder for the outputs."""
+    copies the library's modules there before each round. `logs` is a folder for the outputs of the checks, or None if
+    they aren't kept."""
     folder, tried = tree.folder(crate), Tried(crate)
     edits, tried.faults = read_edits(folder)
     tried.failed = len(tried.faults)
@@ -71,7 +72,7 @@ def try_crate(tree: Tree, crate: str, running: Running, logs: Path | None = None
 
 def try_crates(tree: Tree, crates: Iterable[str], lanes: int, logs: Path | None, running: Running) -> Iterator[Tried]:
     """Tries the edits of crates, at most `lanes` crates side by side, and yields the result of each as it is done.
-    `logs` is a folder for the outputs."""
+    `logs` is a folder for the outputs of the checks, or None if they aren't kept."""
     with ThreadPoolExecutor(lanes) as pool:
         try:
             saved = pool.submit(find_name, tree)
