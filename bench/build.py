@@ -27,8 +27,8 @@ def variables() -> dict[str, str]:
 
 
 def main() -> None:
-    """Copies the sources, since cargo writes beside them, and builds the copy. Exits with an error line if that
-    fails."""
+    """Copies the sources, since cargo writes beside them, and builds the copy. Exits with an error line if Debian's
+    wrapper of cargo isn't installed. Raises `CalledProcessError` if the build fails."""
     if not WRAPPER.exists():
         refuse("no cargo of Debian's: bench/README.md says what has to be installed")
     environment = variables()

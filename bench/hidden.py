@@ -41,7 +41,8 @@ def count(program: Path, before: str, line: str, script: Path) -> tuple[float, b
 
 
 def main() -> None:
-    """Prints the instructions of both lines of each pair, and their difference."""
+    """Prints the instructions of both lines of each pair, and their difference. Exits with an error line if their
+    replies differ."""
     require_valgrind()
     with tempfile.TemporaryDirectory() as folder:
         program, script = stripped(PROGRAM, Path(folder, "program")), Path(folder, "script")

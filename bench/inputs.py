@@ -27,8 +27,8 @@ def lab(owners: dict[int, str], links: Iterable[tuple[int, int]]) -> str:
 
 
 def ring(nodes: int, reach: int = 1) -> str:
-    """Returns the text of a lab whose nodes form a ring. Each node is linked to the next `reach` nodes on both sides,
-    and three students own the nodes in turn."""
+    """Returns the text of a lab whose nodes form a ring. Each node is linked to the next `reach` nodes on both sides.
+    The nodes are owned by the students of PEOPLE in rotation."""
     ids = range(1, nodes + 1)
     links = ((node, (node + step - 1) % nodes + 1) for node in ids for step in range(1, reach + 1))
     return lab({node: PEOPLE[node % 3] for node in ids}, links)
@@ -49,7 +49,7 @@ def sees(turns: int) -> Iterable[str]:
 
 
 def sees_and_more(turns: int) -> Iterable[str]:
-    """Yields the lines of `sees`, each with a further key that no request has."""
+    """Yields the lines of `sees`. Each request to see has a further key, which no request needs."""
     yield TESS
     for turn in range(turns):
         yield f'1 {{"do":"see","node":{turn % 3 + 1},"x":[]}}'
@@ -69,7 +69,7 @@ def mixed(turns: int) -> Iterable[str]:
 
 
 def granted(turns: int) -> Iterable[str]:
-    """Yields the lines of a script: a move and its release, over and over."""
+    """Yields the lines of a script: a move and its release, both of which are granted, over and over."""
     yield from (TESS, ANA)
     for _ in range(turns):
         yield '2 {"at":0,"do":"move","node":1,"rule":"seduction"}'
@@ -84,7 +84,8 @@ def greetings(turns: int) -> Iterable[str]:
 
 
 def looks(turns: int) -> Iterable[str]:
-    """Yields the lines of a script: looks at each of 64 nodes in turn."""
+    """Yields the lines of a script: the teacher's hello, and `turns` requests, each to look at one of the nodes 1 to 64
+    in rotation."""
     yield TESS
     for turn in range(turns):
         yield f'1 {{"do":"look","node":{turn % 64 + 1}}}'
@@ -98,7 +99,8 @@ def reports(turns: int) -> Iterable[str]:
 
 
 def sees_of_all(turns: int) -> Iterable[str]:
-    """Yields the lines of a script: requests of the student ben to see each node of the greatest lab in turn."""
+    """Yields the lines of a script: the hello of the student ben, and `turns` requests, each to see one node of the
+    greatest lab in rotation."""
     yield BEN
     for turn in range(turns):
         yield f'1 {{"do":"see","node":{FIRST + turn % 256}}}'

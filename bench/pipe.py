@@ -19,7 +19,8 @@ ROUNDS = 41
 
 
 def time_file(lab: Path, script: Path, replies: Path) -> float:
-    """Returns how many seconds the program takes for the script as a file. Writes the replies into another file."""
+    """Returns how many seconds the program takes for a script that it reads from a file, over the lab in a file. Writes
+    the replies into the file `replies`."""
     with replies.open("wb") as out:
         start = time.perf_counter()
         subprocess.run([PROGRAM, "script", lab, script], stdout=out, check=True)
@@ -27,8 +28,8 @@ def time_file(lab: Path, script: Path, replies: Path) -> float:
 
 
 def time_pipe(script: Path, replies: Path) -> float:
-    """Returns how many seconds the program takes for the script through a pipe. Writes the replies into another
-    file."""
+    """Returns how many seconds the program takes for a script that it gets through a pipe, over its built-in lab.
+    Writes the replies into the file `replies`."""
     with replies.open("wb") as out:
         start = time.perf_counter()
         with subprocess.Popen(["cat", script], stdout=subprocess.PIPE) as feeder:

@@ -38,7 +38,8 @@ def see_until(port: int, over: threading.Event, times: list[float]) -> None:
 
 
 def grant_all(desk: int) -> list[float]:
-    """Sends all acts of the teacher and a bye to the desk's port. Returns the seconds that each act took."""
+    """Sends the teacher's hello, EVENTS requests to cut or link two nodes, and a bye to the desk's port. Returns the
+    seconds that each of these requests took."""
     times = []
     with socket.create_connection(("127.0.0.1", desk)) as it, it.makefile("rb") as replies:
         it.setsockopt(socket.IPPROTO_TCP, socket.TCP_NODELAY, 1)

@@ -56,7 +56,7 @@ INSTEAD = {"none": "null", "nil": "null", "null": "null", "undefined": "null", "
 
 
 class Denied(Exception):
-    """A denied line: its clause's number, name for programs (also as `word`) and text for people; for `stale` also the present number."""
+    """A denied line: its clause's number, name for programs (also as `word`) and text for people; for `stale` also the present configuration's number."""
 
     def __init__(self, clause: int, name: str, text: str, at: int | None = None) -> None:
         super().__init__(f"{name}: {text}")
@@ -673,7 +673,7 @@ class ByHand:
     """A conversation with a server in which each line is typed."""
 
     def __init__(self, slip: Slip | None, port: int, log: Path | None, limit: float = 30.0) -> None:
-        """Connects by `slip`, or to `port` if it is None, within `limit` seconds, and says hello by the slip. Appends all lines to the file `log`, if any."""
+        """Connects by `slip`, or if that is None to `port`, within `limit` seconds. Says hello by the slip. Appends all lines to the file `log`, if any."""
         self.log, self.port, self.since, self.greeted, self.ended = log, port, time.monotonic(), False, False
         self.connection = connected(port, limit, slip)
         self.answers = self.connection.makefile("rb")

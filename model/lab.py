@@ -64,7 +64,7 @@ def fault(text: str) -> Fault:
 
 
 def is_within(value: Any, depth: int = 0) -> bool:
-    """Returns whether all integers in a value of a document have at most 64 bits, and its values aren't nested too deep. `depth` is that of the value."""
+    """Returns whether all integers in a value have at most 64 bits, and its values aren't nested deeper than DEEPEST. `depth` is the value's own depth."""
     if isinstance(value, (dict, list)):
         inner = value.values() if isinstance(value, dict) else value
         return depth <= DEEPEST and all(is_within(item, depth + 1) for item in inner)

@@ -41,8 +41,8 @@ def new_folder(into: Path, lab: Path) -> Path:
 
 
 def of_folder(folder: Path) -> Run:
-    """Returns the lab and the journal in the folder of a run. Raises `Fault` if one of them is missing, or if a file
-    that a run reads or writes isn't a plain file."""
+    """Returns the paths of the lab and the journal in the folder of a run. Raises `Fault` if one of them is missing, or
+    if a file that a run reads or writes isn't a plain file."""
     for name in FILES:
         plain.require_plain(folder / name)
     if not (folder / "lab.toml").is_file() or not (folder / "journal").is_file():

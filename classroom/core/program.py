@@ -102,9 +102,9 @@ def host() -> Path | None:
 
 
 def first_free(port: int, opened: Callable[[int], Opened | None], what: str = "") -> Opened:
-    """Calls `opened` with this port and the following ones until the result isn't None, which means that the port is
-    taken. Returns that result. Raises `Fault` if the port is taken in each of PORTS attempts. `what` is a part of the
-    error, between `no port is free` and the ports."""
+    """Returns the result of `opened` for the first free port, from `port` on. `opened` is called with one port after
+    another, and returns None if that port is taken. Raises `Fault` if PORTS ports are taken, with `what` in its text
+    between `no port is free` and the ports."""
     last = min(port + PORTS - 1, LAST_PORT)
     for number in range(port, last + 1):
         it = opened(number)

@@ -1,9 +1,9 @@
-"""Rules that turn marks into grades: lines `name = expression` over the columns of the marks, written by a
-teacher.
+"""Rules that turn marks into grades: lines `name = expression` over the columns of the marks, written by a teacher.
 
-An expression consists of numbers, quoted texts, the names of columns and of earlier lines, `+ - * /`, `< <= > >=
-== !=`, `and`, `or`, `not`, parentheses, `min(..)`, `max(..)`, `round(..)`, and `A if CONDITION else B`. Numbers
-are exact fractions. A value without a record is unknown, and so is each result that depends on it.
+An expression consists of numbers, quoted texts, the names of columns and of earlier lines, `+ - * /`, `< <= > >= ==
+!=`, `and`, `or`, `not`, parentheses, `min(..)`, `max(..)`, `round(..)`, and `A if CONDITION else B`. Numbers are exact
+fractions. A value without a record is unknown, and so is each result that depends on it. Here an expression is a
+function that returns its value for a row of marks, and raises `Wrong` if it can't be computed.
 """
 from __future__ import annotations
 
@@ -35,7 +35,7 @@ class Wrong(Exception):
 
 @dataclass(frozen=True)
 class Line:
-    """A line of a rule: its name and its expression."""
+    """A line of a rule: its name, its number in the file, and its expression."""
 
     name: str
     number: int
@@ -145,8 +145,8 @@ def tokens_of(text: str) -> list[tuple[str, str]]:
 
 class Parser:
     """A recursive-descent parser of expressions, one function for each level of precedence. From the lowest up, it
-    reads choices, `or`, `and`, `not`, comparisons, sums, products and signs. All functions raise `Wrong` if the next
-    tokens don't fit."""
+    reads choices, `or`, `and`, `not`, comparisons, sums, products and signs. A function that reads something removes
+    its tokens and returns its expression. All functions raise `Wrong` if the next tokens don't fit."""
 
     def __init__(self, tokens: list[tuple[str, str]], names: Sequence[str]) -> None:
         """`tokens` are those of one line, and `names` those that its expression may use."""
@@ -294,7 +294,8 @@ def conditional(condition: Expression, first: Expression, other: Expression) -> 
 
 
 def logical(left: Expression, right: Expression, is_or: bool) -> Expression:
-    """Returns the expression `left or right` or `left and right`. Its value is known if one side decides it."""
+    """Returns the expression `left or right` if `is_or` is set, and otherwise `left and right`. Its value is known if
+    one side decides it."""
     def value(row: Row) -> Value:
         """Returns the value of the expression with `or` or `and` for a row of marks."""
         sides = truth(left(row)), truth(right(row))
@@ -304,8 +305,8 @@ def logical(left: Expression, right: Expression, is_or: bool) -> Expression:
 
 
 def negation(inner: Expression, is_negated: bool) -> Expression:
-    """Returns the negation of an expression. If `is_negated` isn't set, returns the expression, whose value must then
-    be a truth value."""
+    """Returns the expression `not inner`, or if `is_negated` isn't set, an expression with the value of `inner`. Its
+    evaluation raises `Wrong` if the value of `inner` is a number or a text."""
     def value(row: Row) -> Value:
         """Returns the value of the expression or of its negation for a row of marks."""
         holds = truth(inner(row))

@@ -66,9 +66,9 @@ def has_ended(run: Path) -> bool:
 
 
 def entries_up_to(text: bytes, events: int) -> bytes:
-    """Returns the beginning of a seat's text: its complete entries up to the last one that needs at most `events`
-    events. Later entries belong to a run that is still going on. Searches from the end, because the numbers of events
-    never fall."""
+    """Returns the beginning of a seat's text: its complete entries up to the last one that belongs to the first
+    `events` events of the journal, by the number of events before it and the event that it granted. Later entries
+    belong to a run that is still going on. Searches from the end, because the numbers of events never fall."""
     end = text.rfind(b"\n") + 1
     while end:
         start = text.rfind(b"\n", 0, end - 1) + 1

@@ -41,7 +41,8 @@ def start(made: labs.Lab, word: str, chance: random.Random) -> None:
 
 def make(words: argparse.Namespace, people: dict[str, Person], chance: random.Random) -> labs.Lab:
     """Returns the lab that the arguments describe, for these students by their names in the lab. `chance` makes the
-    random choices. Raises `Fault` if the arguments name no network, or a node can't have so many owners."""
+    random choices. Raises `Fault` if the arguments name no network, or there are fewer students than owners of a
+    node."""
     students = list(people)
     if words.links:
         identifiers, links = networks.from_file(Path(words.links), words.nodes)

@@ -35,8 +35,8 @@ class Progress:
         self.took, self.planned = TRUST, TRUST
 
     def can_begin(self, proved: set[str], begun: set[str]) -> list[str]:
-        """Returns the crates whose proofs can begin if these crates are proved and these have begun. The crate with the
-        longest chain is first."""
+        """Returns the crates whose proofs can begin if the crates in `proved` are proved, and the proofs of those in
+        `begun` have begun. The crate with the longest chain is first."""
         left = [crate for crate in self.crates if crate not in proved and crate not in begun]
         return sorted([crate for crate in left if proved.issuperset(self.crates[crate])], key=lambda crate: -self.longest[crate])
 

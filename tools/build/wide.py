@@ -12,12 +12,13 @@ import sys
 
 
 def doubled(number: int) -> set[int]:
-    """Returns the numbers of twice as many processors, as a set."""
+    """Returns the numbers of twice as many processors as `number`, as the system gives them: a set from 0 on."""
     return {*range(2 * number)}
 
 
 def main() -> None:
-    """Runs the `rt` on the path with the arguments of this process."""
+    """Runs the `rt` on the path with the arguments of this process, and makes it see twice as many processors as there
+    are. Exits with an error line if `rt` isn't on the path."""
     rt = shutil.which("rt")
     if rt is None:
         sys.exit("rt is not on the path")

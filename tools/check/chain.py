@@ -46,14 +46,15 @@ def spans_of(checks: Checks) -> Spans:
 
 
 def save_spans(spans: Spans, file: Path = KEPT) -> None:
-    """Saves the times of a run's proofs in a file for `./check chain`."""
+    """Saves the times of a run's proofs in a file, from which `./check chain` reads them."""
     file.parent.mkdir(exist_ok=True)
     lines = [f"{crate} {it.begin:.0f} {it.end:.0f} {it.used:.0f}\n" for crate, it in spans.items()]
     file.write_text(HEAD.format(time.strftime("%Y-%m-%d")) + "".join(lines), encoding="utf-8")
 
 
 def saved_spans(file: Path = KEPT) -> Spans:
-    """Returns the times of the last run that proved something, or none if there is no such file."""
+    """Returns the times of the proofs of the last run that proved something, by crate. Returns none if there is no such
+    file."""
     text = file.read_text(encoding="utf-8") if file.exists() else ""
     rows = [line.split() for line in text.splitlines() if not line.startswith("#")]
     return {crate: Span(float(begin), float(end), float(used)) for crate, begin, end, used in rows}

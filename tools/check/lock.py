@@ -15,8 +15,8 @@ class Taken(Exception):
 
 @contextmanager
 def alone() -> Iterator[None]:
-    """Holds a lock on the tree's file `check`. Raises `Taken` if another process holds it. The system releases the lock
-    if this process ends."""
+    """Holds a lock on the tree's file `check` during a block. Raises `Taken` if another process holds it. The system
+    releases the lock if this process ends."""
     file = os.open(TOP / "check", os.O_RDONLY | os.O_CLOEXEC)
     try:
         fcntl.flock(file, fcntl.LOCK_EX | fcntl.LOCK_NB)

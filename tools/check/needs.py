@@ -113,13 +113,14 @@ def missing(parts: list[Part]) -> dict[str, Need]:
 
 
 def instruction(need: Need) -> str:
-    """Returns a need with the packages that are missing, as an instruction for the reader."""
+    """Returns a text for the reader about what a need wants, with the missing Debian packages that meet it."""
     lacking = [it for it in need.packages if not is_installed(it)] or [*need.packages]
     return f"{need.what} (Debian's {' '.join(lacking)})" if lacking else need.what
 
 
 def install(parts: list[Part]) -> None:
-    """Tries to install the packages that these parts or a few of their tests need."""
+    """Tries to install the packages that these parts or a few of their tests need. Does nothing if this process isn't
+    that of root."""
     needs = [NEEDS[name] for part in parts for name in (*part.needs, *part.likes) if NEEDS[name].packages]
     packages = {it for need in needs if not need.is_there() for it in need.packages if not is_installed(it)}
     if packages and os.geteuid() == 0 and apt("update"):

@@ -37,7 +37,8 @@ class Part:
 
 
 def module(name: str, *words: str, of: str = "tests") -> tuple[str, ...]:
-    """Returns the command line that runs the module `name` of tests or of tools, with these arguments."""
+    """Returns the command line that runs the module `name` of the package `of`, `tests` or `tools`, with these
+    arguments."""
     return ("python3", "-B", "-m", f"{of}.{name}", *words)
 
 

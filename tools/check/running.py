@@ -71,7 +71,8 @@ class Crew:
     """The parts that are running side by side."""
 
     def __init__(self, room: Path, processors: int) -> None:
-        """`room` is the folder for temporary files, and `processors` their number."""
+        """`room` is the folder for temporary files, and `processors` the number of processors that the parts may
+        use."""
         self.room, self.processors = room, processors
         self.running: dict[int, Running] = {}
         self.begun = 0

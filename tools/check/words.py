@@ -58,15 +58,16 @@ def tell_chain(names: list[str], is_table: bool) -> int:
 
 
 def unknown(word: str | None, names: list[str]) -> str:
-    """Returns an error text about the first of these names that is no part or crate, whichever the subcommand `word`
-    takes. Returns an empty text if there is none."""
+    """Returns an error text about the first of these names that isn't known: that of a part if the subcommand `word` is
+    `quick`, and otherwise that of a crate. Returns an empty text if all are known."""
     known = [it.name for it in QUICK] if word == "quick" else [*uses()] if names else []
     wrong = [it for it in names if it not in known]
     return f"there is no {'part' if word == 'quick' else 'crate'} {wrong[0]}; there are: {', '.join(known)}" if wrong else ""
 
 
 def stages_of(word: str | None, names: list[str]) -> tuple[Stages, list[str]]:
-    """Returns the stages for the subcommand `word` and its arguments, and texts about the parts that it leaves out."""
+    """Returns the stages for the subcommand `word` with the names after it, and texts about the parts that they leave
+    out. If `word` is None, the stages are those of a whole check."""
     if word == "quick":
         return [[it for it in QUICK if not names or it.name in names]], [] if names else [*LEFT_OUT.values()]
     if word == "proofs":

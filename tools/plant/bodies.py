@@ -30,8 +30,8 @@ def module_of(file: str) -> str:
 
 
 def type_of(what: str) -> str:
-    """Returns the prover's name of an `impl`, whose header has `what` after this word: the type, and the trait after it
-    if there is one."""
+    """Returns the prover's name of the `impl` whose header is `what`, without the word `impl`: the name of the type,
+    followed by that of the trait if there is one."""
     while GENERICS.search(what):
         what = GENERICS.sub("", what)
     first, _, second = what.partition(" for ")
@@ -40,8 +40,8 @@ def type_of(what: str) -> str:
 
 
 def header_end(lines: list[str], start: int, indent: str) -> int | None:
-    """Returns the number of the line with the brace that opens the body of the function whose header begins at the line
-    `start`. Returns None if the function has no body."""
+    """Returns the number of the line with the brace that opens the body of a function. The function's header begins at
+    the line `start`, after the spaces in `indent`. Returns None if the function has no body."""
     if lines[start].endswith("{"):
         return start
     for number in range(start + 1, len(lines)):

@@ -52,7 +52,7 @@ def judge_edits(edits: Iterable[Edit], told: Told) -> dict[str, list[str]]:
 
 def judge_others(named: set[str], told: Told) -> list[str]:
     """Returns error texts about the functions that a check didn't prove although they aren't in `named`, the functions
-    that edits name. A function that only depends on such a one isn't reported."""
+    that edits name. A function that isn't proved only because it depends on an unproved one isn't reported."""
     faults = []
     for function in sorted(told.functions - told.proved - named):
         if function in told.open_goals:
