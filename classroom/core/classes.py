@@ -78,8 +78,8 @@ class Class:
         )
 
     def write(self, folder: Path) -> None:
-        """Writes the file into the folder of the class. If the disk is full, the old file stays, and no error is
-        raised."""
+        """Writes the file into the folder of the class. If it can't be written, as on a full disk, the old file stays,
+        and no error is raised."""
         new = folder / f"{FILE}.new"
         try:
             new.write_text(json.dumps(asdict(self)) + "\n", encoding="utf-8")

@@ -140,7 +140,8 @@ class Record:
         return Record(str(folder / "lab.toml"), port, 0, None, "when-idle:2", None, Process(0, ""), Process(0, ""))
 
     def write(self, folder: Path) -> None:
-        """Writes the record into the folder. If the disk is full, the old file stays, and no error is raised."""
+        """Writes the record into the folder. If it can't be written, as on a full disk, the old file stays, and no
+        error is raised."""
         new = folder / f"{RECORD}.new"
         try:
             new.write_text(json.dumps(asdict(self)) + "\n", encoding="utf-8")

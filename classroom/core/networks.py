@@ -75,7 +75,7 @@ def family(word: str, count: int | None, students: int, chance: random.Random) -
 
 
 def within(nodes: int) -> int:
-    """Returns the same number of nodes. Raises `Fault` if a lab may not have so many."""
+    """Returns the same number of nodes. Raises `Fault` if a lab can't have this number of nodes."""
     most = limits.allowed().nodes
     if not 1 <= nodes <= most:
         raise Fault(f"a lab has 1 to {most} nodes, not {nodes}")

@@ -34,8 +34,8 @@ class Book:
         return self.step(word)
 
     def step(self, word: str) -> list[tuple[int, str, str]]:
-        """Updates the book by an event of this kind, which makes a configuration. Returns the moves that a close
-        applied, and no moves for any other event."""
+        """Updates the book by an event that makes a configuration: a close, a fault, a link or a cut, as `word` says.
+        Returns the moves that a close applied, in the form of `add`, and no moves for any other event."""
         moved = [(node, name, rule) for node, (name, rule) in sorted(self.chosen.items())] if word == "close" else []
         self.links += links_after(word)
         self.moves += len(moved)

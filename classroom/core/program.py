@@ -103,8 +103,8 @@ def host() -> Path | None:
 
 def first_free(port: int, opened: Callable[[int], Opened | None], what: str = "") -> Opened:
     """Returns the result of `opened` for the first free port, from `port` on. `opened` is called with one port after
-    another, and returns None if that port is taken. Raises `Fault` if PORTS ports are taken, with `what` in its text
-    between `no port is free` and the ports."""
+    another, and returns None if that port is taken. Raises `Fault` if none of the first PORTS ports is free, with
+    `what` in its text between `no port is free` and the ports."""
     last = min(port + PORTS - 1, LAST_PORT)
     for number in range(port, last + 1):
         it = opened(number)

@@ -75,7 +75,7 @@ class Recount(Replay):
             script.ask(REPORT, self.report_taker(event))
 
     def note_reply(self, event: Event, reply: dict[str, Any]) -> None:
-        """Notes the nodes that moved, which the reply to a close names."""
+        """Notes the nodes that moved, which the reply to a close names. Notes none for the reply to any other event."""
         self.moved = reply.get("moved", [])
 
     def report_taker(self, event: Event | None) -> Callable[[dict[str, Any]], None]:
@@ -102,7 +102,8 @@ class Recount(Replay):
 
 def told(lab: labs.Lab, events: list[Event]) -> str:
     """Returns the line with the counts of the recovery that ends with the last of these events, by the program's tally
-    of them. `lab` is the lab of the run. Raises `Fault` if the program is too old to count rounds."""
+    of them. They are the first events of a run over the lab. Raises `Fault` if the program is too old to count
+    rounds."""
     journal = "".join(f"{event.place} {event.at} {' '.join(event.words)}\n" for event in events)
     found = tallies.of_texts(labs.text(lab), journal)
     if found.rounds is None:
@@ -112,8 +113,8 @@ def told(lab: labs.Lab, events: list[Event]) -> str:
 
 
 def recoveries(lab: labs.Lab, events: list[Event]) -> list[str]:
-    """Returns a line for each recovery of a run, with its place in the journal. If the run has more than MOST_COUNTED
-    edits, returns a single line that says so."""
+    """Returns a line for each recovery of a run over the lab, which has these events. The line begins with the place at
+    which the recovery ended. If the run has more than MOST_COUNTED edits, returns a single line that says so."""
     edits = sum(event.is_edit for event in events)
     if edits > MOST_COUNTED:
         return [f"{edits} faults, links and cuts: how the class came back is printed only for at most {MOST_COUNTED}"]

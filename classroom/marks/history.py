@@ -60,7 +60,8 @@ class Row:
         return max(self.place, self.latest)
 
     def after(self) -> str:
-        """Returns, as a text, the number of events before the row."""
+        """Returns a text with the number of events before the row, or with the least and the greatest number if the
+        record doesn't have the exact one."""
         return f"after {self.place}" + f" to {self.latest}" * (self.latest > self.place)
 
 

@@ -75,7 +75,8 @@ def lab_name(name: str) -> str:
 
 
 def with_end(short: str, end: str) -> str:
-    """Returns the name `short` with a suffix `end`, cut to the greatest length of a name."""
+    """Returns the name `short`, a hyphen and the suffix `end`. The name is cut if the whole would be longer than a name
+    may be."""
     return f"{short[: limits.allowed().name - len(end) - 1].rstrip('-')}-{end}"
 
 

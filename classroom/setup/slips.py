@@ -73,7 +73,8 @@ def slip(made: Lab, name: str, port: int) -> list[str]:
 
 
 def text(made: Lab, name: str, way: Way) -> str:
-    """Returns the text of the file with the slip of the student or teacher `name` of the lab `made`."""
+    """Returns the text of the file with the slip of the student or teacher `name` of the lab `made`. `way` is the way
+    into the lab's network."""
     return "".join(f"{line}\n" for line in (*slip(made, name, way.port), *way.lines()))
 
 

@@ -18,8 +18,8 @@ KIT = re.compile(r"`([^`]+ logic ([0-9a-f]+))`")
 
 
 def fault(readme: str, version: str) -> str:
-    """Returns what is wrong with the versions of the toolchain that README.md, whose text is given, names, or an empty
-    text. All must be of one logic, and one of them must be `version`."""
+    """Returns what is wrong with the versions of the toolchain in `readme`, the text of README.md, or an empty text if
+    nothing is. All must be of one logic, and one of them must be `version`, that of the toolchain here."""
     lines = NAMED.findall(readme)
     named = KIT.findall(lines[0]) if len(lines) == 1 else []
     if not named:

@@ -76,8 +76,8 @@ def planted(plant: Plant, folder: Path) -> dict[str, str]:
 
 
 def plants_of(crate: str, folder: Path) -> list[Plant]:
-    """Returns the plants in a crate's folder, in the order of their names. Raises `PlantFault` if one doesn't fit the
-    sources."""
+    """Returns the plants in a crate's folder, in the order of their names. Raises `PlantFault` if a file there isn't a
+    plant or doesn't fit the sources."""
     found = [parse_plant(crate, path.name, path.read_text(encoding="utf-8")) for path in sorted((folder / "plants").glob("*"))]
     for plant in found:
         planted(plant, folder)

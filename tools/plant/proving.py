@@ -28,7 +28,7 @@ def verdict(function: str, told: Told) -> str:
 def prove_crate(tree: Tree, crate: str, plants: list[Plant], kept: str, running: Running) -> Iterator[tuple[Plant, str]]:
     """Yields each of these plants of a crate that names its function, and the prover's verdict on it. `kept` is the
     name of the folder in which the prover saves checked modules. Raises `PlantFault` if a library below the crate isn't
-    built, or if a check doesn't finish."""
+    built, or if a check doesn't finish or has an error that belongs to no goal."""
     if missing := tree.missing(crate):
         raise PlantFault(f"{crate}: not built, which `rt ci` or `rt check` does: {', '.join(dict.fromkeys(missing))}")
     named = {plant.edit.name: plant for plant in plants if plant.function}
