@@ -739,7 +739,7 @@ async def carry(reader: Any, writer: Any) -> None:
 
 
 async def tunnel(slip: Slip, port: int) -> None:
-    """Listens on a local port, and forwards each connection through the slip's door. Runs until it is interrupted."""
+    """Listens on a local port, and forwards each connection through the slip's door, until interrupted. Raises NoServer, or what `connected` raises."""
     import asyncio
 
     async def lead(reader: Any, writer: Any) -> None:

@@ -84,7 +84,7 @@ def within(nodes: int) -> int:
 
 def plain(word: str, nodes: int) -> Links:
     """Returns the links of the network of a family without a size in its name, such as `path`, with this number of
-    nodes. Raises `Fault` for any other family."""
+    nodes. Raises `Fault` for any other family, or if a cycle would have fewer than three nodes."""
     row = [(node, node + 1) for node in range(1, nodes)]
     if word == "path":
         return row

@@ -129,8 +129,8 @@ def by_node(shared: dict[int, dict[str, Counter[str]]]) -> dict[str, dict[str, d
 
 
 def marked(lab_file: Path, journal: Path) -> Run:
-    """Returns the run of a journal over a lab, with its tally and verdicts. Raises `Fault` if the audit refuses the
-    journal, or if the run is still going on."""
+    """Returns the run of a journal over a lab, with its tally and the verdicts on its records. Raises `Fault` if the
+    lab or the journal is refused, if the run is still going on, or if the program contradicts itself."""
     try:
         told = tally.of(lab_file, journal)
     except Fault as fault:

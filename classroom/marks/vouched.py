@@ -57,7 +57,8 @@ class Vouched:
 
 
 def has_ended(run: Path) -> bool:
-    """Returns whether the server of a run has printed that it is done, or the folder has no output of a server."""
+    """Returns whether the server of the run in a folder ended as it should, which it prints at its end. Also returns
+    True if the folder has no output of a server."""
     output = run / "server.txt"
     if not output.is_file():
         return True
