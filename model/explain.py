@@ -96,7 +96,7 @@ def explained(world: World, asked: Request) -> str:
 
 
 def explanations(lab: Lab, script: bytes) -> list[str]:
-    """Returns the lines that this module prints: one for each denied move of a script over a lab, and one for each node that could move at its end."""
+    """Returns the lines to print: one for each denied move of a script over a lab, and one for each node that could move at its end."""
     run, found = Run(lab), []
     for number, line in enumerate(script.splitlines(), 1):
         read = script_line(lab, line)

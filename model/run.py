@@ -96,8 +96,7 @@ class Run:
 
 
 def script_line(lab: Lab, line: bytes) -> tuple[int, bytes] | None:
-    """Returns the connection's number and the request line in a line of a script, or None if it has another form, or exceeds the lab's sessions or the
-    length."""
+    """Returns the connection's number and the request line in a line of a script, or None if it has another form or exceeds a limit."""
     found = SCRIPT_LINE.fullmatch(line)
     if found is None or int(found[1]) > lab.sessions or len(found[2]) > LONGEST_REQUEST:
         return None

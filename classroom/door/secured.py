@@ -105,5 +105,6 @@ class Secured:
         self.writer.transport.abort()
 
     def drop(self) -> None:
-        """Closes the connection if its handshake has failed."""
+        """Closes the connection at once, without the end of TLS. This is for a connection whose handshake has
+        failed."""
         self.writer.close()

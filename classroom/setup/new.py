@@ -1,6 +1,6 @@
 """`./class new`: makes labs from a class list, with slips for each. A *lab* is the file that defines a network with its
 students, and a *slip* has the data that a student needs to connect. The *way* into a network is what all its slips have
-in common."""
+in common. In all functions here, `words` are the arguments of the command line."""
 from __future__ import annotations
 
 import argparse
@@ -218,8 +218,8 @@ def tell_few(made: labs.Lab) -> None:
 
 
 def without_node(made: labs.Lab, words: argparse.Namespace) -> str:
-    """Returns a text that names the students of a lab who have no node, and a network that has enough nodes. Returns an
-    empty text if each student has a node."""
+    """Returns a text that names the students of a lab who have no node, and the option for a network that has enough
+    nodes. Returns an empty text if each student has a node."""
     shown = made.without_house()
     idle = [name for name in shown.students if not shown.nodes_of(name)]
     if not idle:

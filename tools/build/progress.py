@@ -41,7 +41,7 @@ class Progress:
         return sorted([crate for crate in left if proved.issuperset(self.crates[crate])], key=lambda crate: -self.longest[crate])
 
     def next(self) -> list[str]:
-        """Returns the crates whose proofs are to begin now."""
+        """Returns the crates whose proofs are to begin now, as many as may still run side by side."""
         return self.can_begin(self.proved, {*self.begun})[:max(self.at_once - len(self.begun), 0)]
 
     def is_first(self, crate: str) -> bool:
