@@ -154,7 +154,7 @@ class Watch:
     """Measures the memory and the files of a program, against the limits of its plan."""
 
     def __init__(self, plan: Plan) -> None:
-        """Notes which file has the program's output, since that file doesn't count."""
+        """Notes which file has the program's output, the keeper's standard error, since it doesn't count as memory."""
         self.plan = plan
         self.output = identity(os.fstat(2))  # the file of the output, which doesn't count as memory
         self.seldom = 0.0

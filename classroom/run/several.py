@@ -337,7 +337,7 @@ def networks_of(words: argparse.Namespace) -> list[Network]:
 
 
 def room_of(lab: str) -> str:
-    """Returns the room in the slips beside a lab, or an empty text if they name none."""
+    """Returns the room in the slips of a lab's students, or an empty text if they name none."""
     way = Way.read(Path(lab))
     return way.room if way is not None else ""
 

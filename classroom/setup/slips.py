@@ -37,7 +37,7 @@ class Way:
 
     @staticmethod
     def read(lab: Path) -> Way | None:
-        """Returns the way that a slip beside a lab has, or None if there is no readable slip."""
+        """Returns the way that the slips of a lab's students have, or None if there is no readable slip."""
         for file in sorted(folder_of(lab).glob("*.slip")):
             try:
                 pairs = [line.partition(" ") for line in plain.read(file, plain.MOST_KEPT).decode().splitlines()]

@@ -185,8 +185,9 @@ fn first_other_reads(alloc: Global) -> Result<Option<usize>, Fail> {
     Ok(None)
 }
 
-/// Returns three results, each `None` if all is right: the first cut of `TEXT` that changes the answers in reads of one
-/// byte, the first one in reads of up to 100 bytes, and the first row of `READS` that is wrong.
+/// Returns three results, each `None` if all is right: the first offset at which cutting `TEXT` in two changes the
+/// answers if the second part comes in reads of one byte, the first one if it comes in reads of up to 100 bytes, and
+/// the index of the first row of `READS` that is wrong.
 fn first_others(alloc: Global) -> Result<[Option<usize>; 3], Fail> {
     let by_bytes = first_cut_that_changes(alloc, 1)?;
     let at_once = first_cut_that_changes(alloc, 100)?;
