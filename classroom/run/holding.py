@@ -245,8 +245,8 @@ def give_up(it: server.Server, run: Running, seconds: float) -> int | None:
 
 def leave(it: server.Server, run: Running) -> None:
     """Prints that the server `it` continues without a desk."""
-    run.tell(f"the server keeps running without a desk, process {it.process.number}: while it runs, {CLASS} attach {run.folder} "
-             f"connects to its desk; after that, {CLASS} mark prints the marks")
+    run.tell(f"the server, process {it.process.number}, keeps running, and nobody controls it: while it runs, {CLASS} attach "
+             f"{run.folder} connects to its desk; after that, {CLASS} mark prints the marks")
 
 
 def take_leave(it: server.Server, desk: Desk, why: str, run: Running) -> int | None:

@@ -44,10 +44,11 @@ def seconds_with_unit(word: str) -> float:
 
 def add_desk_words(words: argparse.ArgumentParser) -> None:
     """Adds the options that all commands with a desk have to a parser."""
-    words.add_argument("--daemon", "--close", dest="close", type=closing.mode, metavar="D", help=f"{FORMS} (when-idle:2)")
+    words.add_argument("--daemon", "--close", dest="close", type=closing.mode, metavar="D",
+                       help=f"how steps are closed (docs/COURSE.md): {FORMS} (when-idle:2)")
     words.add_argument("--stand-in", type=seconds_with_unit, metavar="20s",
-                       help="let the house ask for a move if a node has been privileged for this time without a move of its student; it begins when a first "
-                            "student has greeted")
+                       help="let the house ask for a move if a rule could be applied at a node for this time and nobody asked for it; the house begins "
+                            "when a first student has said hello")
     words.add_argument("--ends", type=time_of_day, metavar="HH:MM", help="end the run at this time of the day, and warn before it")
     words.add_argument("--anonymous", action="store_true", help="show numbers in place of names on the pages for the projector")
     words.add_argument("--until", choices=["stable"], help="end the run when no rule can be applied at any node")
