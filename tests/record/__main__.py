@@ -22,6 +22,7 @@ from time import sleep
 from model import Lab, read_lab
 from model.run import answer
 from tests.common.hosting import HOST, lab_of
+from tests.common.limits import MOST
 from tests.common.preload import Ended, fail, in_room
 from tests.common.second import agreed, said
 from tests.random.labs import drawn_lab
@@ -269,6 +270,13 @@ def other_files(files: Files, lab: Lab) -> None:
     begun.write_bytes(b"0")
     if files.ended("begun without a newline") != said(run.told()):
         fail("a record isn't read whose beginning has no newline")
+    # (The model has no such limit. The program may read a piece of 64 kB more before it notices.)
+    content = seat.read_bytes()
+    seat.write_bytes(content + b"3 2 > " + b"x" * (MOST["entry"] + (1 << 17)) + b"\n")
+    done = subprocess.run([HOST, "verify", files.lab, files.journal, files.folder], stdin=subprocess.DEVNULL, capture_output=True, check=False)
+    if Ended(done.returncode, done.stdout, done.stderr) != fault:
+        fail("a record is read that has an entry of more than 8 MB")
+    seat.write_bytes(content)
     for file in (begun, seat):
         content = file.read_bytes()
         file.unlink()
