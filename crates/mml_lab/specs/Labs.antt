@@ -25,7 +25,8 @@ links_below c (suc n) = links_below c n + count_below n (c.linked n)
 unfoldable pub link_count : Network → ℕ
 link_count network = links_below (configuration_of network) (length network.registers)
 
--- the identifiers are a table, the roster and the network are lawful and of as many nodes, and the limits are kept
+-- the identifiers are a table, the roster and the network are lawful and have as many nodes as there are identifiers,
+-- and the limits are kept
 pub record IsLab (lab : LabValue) : Type 0 where
   pub ids : IsTable lab.ids
   pub roster : IsRoster lab.roster

@@ -71,7 +71,7 @@ student_named r name = position (has_name name) r.students
 abbrev pub owners_of : RosterValue → ℕ → List ℕ
 owners_of r i = slice_index_or r.owners i []
 
--- a student owns the nodes whose owners the student is among, the teacher owns none
+-- a student owns each node whose owners include the student; the teacher owns none
 abbrev pub owns : RosterValue → Who → ℕ → Bool
 owns r who.Teacher i = false
 owns r (who.Student s) i = list_any (λ o. o == s) (owners_of r i)
@@ -81,7 +81,7 @@ abbrev pub IsPrincipal : RosterValue → Who → Type 0
 IsPrincipal r who.Teacher = Unit {0}
 IsPrincipal r (who.Student s) = s < length r.students
 
--- at most 256 students; names and keys are well-formed, no two have one name, and nodes are owned by students
+-- at most 256 students; names and keys are well-formed, no two participants have the same name, and owners are students
 pub record IsRoster (r : RosterValue) : Type 0 where
   pub few : length r.students ≤ MAX_STUDENTS
   pub formed : (w : Who) → IsPrincipal r w → IsTrue (is_account (account_of r w))

@@ -1,4 +1,4 @@
--- What stands apart from the model: how a roster and a lab are kept. No public clause cites it.
+-- How a roster and a lab are stored. No contract of a public function cites this.
 pub mod Owned
 pub mod RosterView
 pub mod LabView

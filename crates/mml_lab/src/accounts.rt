@@ -19,8 +19,8 @@ fn is_name_byte(byte: u8) -> bool
     byte.is_ascii_lowercase() || byte.is_ascii_digit() || byte == b'-'
 }
 
-/// Returns whether the bytes have the form of a name: 1 to 32 of a to z, 0 to 9 and '-', of which the first is a
-/// letter.
+/// Returns whether the bytes have the form of a name: 1 to 32 characters, each a to z, 0 to 9 or '-'. The first must be
+/// a letter.
 pub fn is_name(name: &[u8]) -> bool
     ensures { result ≡ is_name name.now }
 {

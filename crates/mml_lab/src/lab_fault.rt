@@ -32,11 +32,11 @@ pub enum Key {
     Link,
 }
 
-/// Why bytes are no lab: the first error. Indices of nodes and links count from 0 in the file's order. Of the
-/// participants the teacher has the index 0, and the students count from 1.
+/// The first error of a lab file. Indices of nodes and links count from 0 in the file's order. Among the participants,
+/// the teacher has the index 0, and the students count from 1.
 #[derive(Clone, Copy, Debug)]
 pub enum LabFault {
-    /// The bytes are no TOML document.
+    /// The bytes aren't a TOML document.
     NotToml,
     /// The key is missing.
     Missing(Key),
@@ -50,11 +50,11 @@ pub enum LabFault {
     Name(usize),
     /// Another participant before this one has the same name.
     NameTwice(usize),
-    /// A name among a node's owners is no student's.
+    /// A node's owners include a name that no student has.
     NoOwner(usize),
     /// Both owners of a node are one student.
     OwnerTwice(usize),
-    /// An end of a link is no node.
+    /// An end of a link isn't a node of the file.
     LinkEnd(usize),
     /// Both ends of a link are one node.
     Loop(usize),

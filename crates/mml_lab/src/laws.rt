@@ -8,7 +8,7 @@ ghost use Rattle.mml_lab.specs.declared.who.Who.{Who};
 ghost use Rattle.mml_lab.specs.Rosters.{RosterValue, IsRoster, principal, owns, owners_of, name_of, student_named, is_name, is_key};
 ghost use Rattle.mml_lab.specs.RosterMeaning.{IsKnownAs, IsName, IsKey};
 
-/// A name and a key are those of at most one participant, and `principal` finds that participant.
+/// At most one participant has a given name and key, and `principal` finds that participant.
 pub fn principal_is_the_one_known()
     ensures one { (r : RosterValue) (name key : List ℕ) (w : Who) → IsRoster r →
         (principal r name key ≡ Some w) ↔ IsKnownAs r w name key }
@@ -23,8 +23,7 @@ pub fn owns_means_owner()
     ensures teacher { (r : RosterValue) (i : ℕ) → owns r Who.Teacher i ≡ false }
 {}
 
-/// The student who is found by a student's name is that student, and the name of the student who is found by a name is
-/// that name.
+/// Looking up a student's name finds that student, and a student who is found by a name has that name.
 pub fn names_and_students_are_inverse()
     ensures student_of_name { (r : RosterValue) (s : ℕ) → IsRoster r → s < length r.students →
         student_named r (name_of r (Who.Student s)) ≡ Some s }
@@ -38,8 +37,8 @@ pub fn forms_mean_facts()
     ensures key { (key : List ℕ) → (is_key key ≡ true) ↔ IsKey key }
 {}
 
-/// The constants of the limits: a name has at most 32 bytes, a key 64; a lab has at most 100000 events, 16 sessions and
-/// 256 students, and a node two owners.
+/// The values of the limits. A name has at most 32 bytes, and a key at most 64. A lab has at most 100000 events, 16
+/// sessions and 256 students. A node has at most two owners.
 pub fn labs_have_limits()
     ensures name { MAX_NAME ≡ 32 }
     ensures key { MAX_KEY ≡ 64 }

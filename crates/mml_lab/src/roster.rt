@@ -27,7 +27,7 @@ pub struct Roster {
     students: IndexMap<String, String>,
     // by rank
     owners: Vec<Vec<Student>>,
-    // by student: the ranks of the nodes that the student owns; past the last student an empty row
+    // by student: the ranks of the nodes that the student owns; after the last student comes an empty set
     owned: Vec<NodeSet>,
 }
 
@@ -137,7 +137,8 @@ impl Roster {
     }
 }
 
-/// Returns whether `name` is `known` and `key` is `secret`. Both are compared, even if the names differ.
+/// Returns whether `name` is `known` and `key` is `secret`. Compares both, even if the names differ, so that the time
+/// doesn't reveal whether the name exists.
 fn are_name_and_key(name: &str, key: &str, known: &str, secret: &str) -> bool
     ensures { result ≡
         has_name_and_key name.now key.now (record { name = known.now; key = secret.now }) }

@@ -1,4 +1,4 @@
--- The rows of bits that stand beside the owners of a roster.
+-- The sets of nodes, one for each student, that a roster has in addition to the owners of each node.
 use Rattle.std.specs.{Prelude.◌≡◌, Prelude.ℕ, Prelude.◌+◌, Prelude.◌==◌, Prelude.Bool, Prelude.List, Prelude.[], Prelude.length, Prelude.slice_index_or, List.list_any, FinSet.FinSet, Ordering.nat_cmp}
 use Rattle.std.specs.FinSet as set
 
