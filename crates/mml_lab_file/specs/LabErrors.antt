@@ -8,10 +8,10 @@ use Rattle.mml_lab_file.specs.Reading.{name_twice, is_within, both_fault, ids_fa
 use Rattle.mml_lab.specs.declared.lab_fault.LabFault.TheVariants as fault
 use Rattle.mml_lab.specs.declared.lab_fault.Key.TheVariants as key
 
--- the index of an error, from 0, in the order in which errors of a file that has all keys, each of its kind, are
--- reported: both keys for owners, identifiers, names and keys, names that occur twice, owners that are no students, two
--- owners that are one, ends that are no nodes, loops, links that occur twice, pointers, and the numbers of events, of
--- sessions and of students; 13 for any other error
+-- the index of an error, from 0, in the order in which the errors of a file are reported if it has all keys, each of
+-- its kind. First come both keys for owners, identifiers, names and keys, and names that occur twice. Then come owners
+-- that aren't students, and two owners that are one. Then come ends that aren't nodes, loops, links that occur twice,
+-- and pointers. At last come the numbers of events, of sessions and of students. Any other error has the index 13
 abbrev pub order_of : LabFault → ℕ
 order_of (fault.BothOwners i) = 0
 order_of (fault.Id f) = 1

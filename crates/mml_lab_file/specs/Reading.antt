@@ -1,4 +1,4 @@
--- The lab that a file spells, and the first error of one that spells none.
+-- The lab that a file describes, or the file's first error.
 use Rattle.std.specs.Prelude.{ℕ, zero, ℤ, pos, negsuc, Bool, false, not, ◌&&◌, ◌||◌, nat_lt, nat_le, List, [], ◌∷◌, length, map, take, slice_index, slice_index_or, position, bytes_eq, Option, Some}
 use Rattle.std.specs.Prelude.{None, option_map, unwrap_or, ◌==◌, Result, Ok, Err}
 use Rattle.std.specs.{List.list_any, List.find, List.slice_get, Option.option_map_or, Option.option_and_then, Ordering.nat_cmp, Ordering.int_eq, FinSet.FinSet}

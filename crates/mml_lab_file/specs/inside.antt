@@ -1,4 +1,4 @@
--- What stands apart from the model: how a file is checked and its lab made. No public clause cites it.
+-- How a file is checked, and how its lab is made. No contract of a public function cites this.
 pub mod Raw
 pub mod Checks
 pub mod ChecksView

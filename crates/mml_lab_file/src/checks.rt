@@ -1,4 +1,4 @@
-//! The checks between what a file spells and a lab.
+//! The checks that the contents of a lab file must pass.
 //!
 //! The rank of a node is its index in the rising order of identifiers.
 ghost use Rattle.std.specs.Prelude.{◌≡◌, ◌≤◌, ◌&&◌, ◌∷◌, not, position, map, length, string_bytes, IfOk};
@@ -33,8 +33,8 @@ pub(crate) fn number_of(number: i64) -> u64
     u64::try_from(number).unwrap_or(0)
 }
 
-/// The contents of a file without an error: its nodes and their identifiers, who takes part, by rank the neighbours of
-/// each node, and the limits of a run.
+/// The contents of a file without an error: its nodes and their identifiers, the participants, the neighbours of each
+/// node by rank, and the limits of a run.
 #[derive(Drop)]
 pub struct Checked {
     pub ids: IdTable,
@@ -46,8 +46,8 @@ pub struct Checked {
     pub sessions: u8,
 }
 
-/// Checks the contents of a file. Returns them with what the checks found, or the first error in the order of
-/// `LabFault`.
+/// Checks the contents of a file. Returns the contents together with the results of the checks, or the first error in
+/// the order of `LabFault`.
 pub(crate) fn check(alloc: Global, raw: RawLab) -> Result<Checked, LabFault>
     ensures { Gives is_lab_memory checked_view result (lab_from (raw_view raw)) }
 {

@@ -24,7 +24,7 @@ pub fn name_twice_is_the_first()
         (name_twice accounts ≡ None) ↔ AreDistinctBelow accounts (length accounts) }
 {}
 
-/// Each link of a file without an error joins two nodes that differ, and no two links join the same.
+/// Each link of a file without an error joins two different nodes, and no two links join the same two nodes.
 pub fn links_join_two_nodes()
     ensures nodes { (raw : RawSpec) → lab_fault raw ≡ None →
         All (λ link. HasNode raw link.0 × HasNode raw link.1) raw.links }
@@ -113,8 +113,8 @@ pub fn labs_are_those_of_files()
         (lab_of bytes ≡ Ok lab) ↔ ((raw : RawSpec) × IsLabOfFile bytes raw lab) }
 {}
 
-/// By the definitions, no file and no bytes have the error `Memory`, neither of a lab nor of its identifiers: running
-/// out of memory says nothing about a file.
+/// By the definitions, no file has the error `Memory`, neither as an error of a lab nor as one of its identifiers.
+/// Whether memory runs out doesn't depend on the file alone.
 pub fn want_of_memory_is_no_fault()
     ensures identifiers { (raw : RawSpec) → lab_fault raw ≢ Some (fault.Id id.Memory) }
     ensures file { (raw : RawSpec) → lab_fault raw ≢ Some fault.Memory }

@@ -1,4 +1,5 @@
-//! The lab file: its bytes as a lab, or its first error; and a comparison of two labs in all that a journal names.
+//! Reading a lab file, which results in a lab or in the file's first error, and comparing two labs in all that a
+//! journal names.
 #![tactic(auto)]
 
 mod build;

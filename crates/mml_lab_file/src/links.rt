@@ -22,7 +22,8 @@ use mml_lab::LabFault;
 use std::alloc::Global;
 
 /// Returns the set of neighbours of each node, by rank. Returns the first error of the links: that of the first end
-/// that is no node, else of the first loop, else of the first link that occurs twice.
+/// that isn't a node; if all ends are nodes, that of the first loop; and otherwise that of the first link that occurs
+/// twice.
 #[tactic(auto, unfolding(crate::specs::Reading::linked))]
 pub(crate) fn neighbours(
     alloc: Global,
@@ -115,7 +116,8 @@ fn neighbour_rows(
 {
     let mut rows = vec![in alloc; NodeSet::empty(); ids.len() as usize]?;
     for index in 0..links.len() {
-        // By reference: a value with a rank inside isn't copied by the toolchain if it is used again.
+        // This is a reference, since the toolchain doesn't copy a value that contains a rank, even if its type is
+        // `Copy`.
         let a = &rank_at(ids, links[index].0);
         let b = &rank_at(ids, links[index].1);
         if are_near(&rows, *a, *b) {
