@@ -49,8 +49,8 @@ pointer (Some found) d = do
 
 -- ---- the clauses
 
--- the event that the clauses of an act let happen if x asks for it, or the denial of the first that doesn't hold; `owned`
--- says who owns which node
+-- the event that happens if x asks for the act and all clauses hold, or else the denial of the first that doesn't;
+-- `owned` says who owns which node
 abbrev pub check : (Who → ℕ → Bool) → World → Who → Act → Result Event Denial
 check owned w x (act.Move node rule at) = do
   s ← student x NotOwner

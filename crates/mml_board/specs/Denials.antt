@@ -1,10 +1,10 @@
--- The denials, a row each.
+-- The words of each denial.
 use Rattle.std.specs.Prelude.{ℕ, List, codes}
 use Rattle.mml_board.specs.declared.denial.Denial.{Denial}
 use Rattle.mml_board.specs.declared.denial.Denial.TheVariants as denial
 
--- the number of the clause, by the order in which the clauses of a request are tried, the word that a program reads,
--- and the sentence that a person reads
+-- the number of the clause, in the order in which the clauses of a request are tried; the word that programs read; and
+-- the sentence that people read
 pub record DenialWords : Type 0 where
   pub clause : ℕ
   pub name : List ℕ

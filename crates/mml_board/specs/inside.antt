@@ -1,4 +1,4 @@
--- What is kept apart from the model: how a board stores its world. No public clause cites it.
+-- How a board stores its world. No contract of a public function cites this.
 pub mod Rows
 pub mod Kept
 pub mod Monitor

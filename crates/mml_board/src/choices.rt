@@ -1,4 +1,4 @@
-//! The chosen moves, and beside them the set of the nodes that have one.
+//! The list of the chosen moves, and the set of the nodes that have one.
 //!
 //! A chosen move is a rule that is to be applied at a node. A grant chooses it, and it stays chosen until it is
 //! released, or until a close, a fault, a link or a cut. The rank of a node is its index in the rising order of
@@ -88,7 +88,8 @@ impl Choices {
         requires { node < length self.old }
         ensures { self.new ≡ slice_set self.old node rule }
     {
-        // By reference: a value with a rank inside isn't copied by the toolchain if it is used again.
+        // This is a reference, since the toolchain doesn't copy a value that contains a rank, even if its type is
+        // `Copy`.
         let rule = &rule;
         self.rules[node.index() as usize] = *rule;
         self.nodes = with_or_without(self.nodes, node, rule.is_some());

@@ -32,9 +32,9 @@ pub fn check<O: Owners>(owners: &O, board: &Board, who: Who, act: &Act) -> Resul
     }
 }
 
-/// Returns the grant of a move if all four clauses hold: `who` is a student who owns the node, `at` is the number of
-/// the current configuration, no move is chosen for the node, and the rule may be applied there. Otherwise returns the
-/// denial of the first that doesn't hold.
+/// Returns the grant of a move if all four clauses hold. `who` must be a student who owns the node, and `at` the number
+/// of the current configuration. No move may be chosen for the node, and the rule must be applicable there. Otherwise
+/// returns the denial of the first clause that doesn't hold.
 fn check_move<O: Owners>(
     owners: &O,
     board: &Board,
@@ -50,7 +50,8 @@ fn check_move<O: Owners>(
         Who::Teacher => return Err(Denial::NotOwner),
         Who::Student(student) => student,
     };
-    // Missing nodes and nodes of others take the same steps: another node and a student who owns nothing stand in.
+    // A missing node takes the same steps as a node of somebody else: some node and a student who owns nothing are
+    // tested in its place.
     let asking = &asking(who, node);
     let is_owner = owners.is_owned(asking.0, asking.1);
     need(is_owner, Denial::NotOwner)?;
@@ -88,8 +89,9 @@ fn check_close<O: Owners>(owners: &O, board: &Board, who: Who) -> Result<Event, 
     Ok(Event::Close)
 }
 
-/// Returns the fault, which sets the node's registers to `p` and `m`, if the teacher asks, the node exists, and `p` is
-/// null or a neighbour of the node. Otherwise returns the denial of the first of these clauses that doesn't hold.
+/// Returns the fault, which sets the node's registers to `p` and `m`, if three clauses hold: the teacher asks, the node
+/// exists, and `p` is null or a neighbour of the node. Otherwise returns the denial of the first clause that doesn't
+/// hold.
 fn check_fault<O: Owners>(
     owners: &O,
     board: &Board,
@@ -170,7 +172,8 @@ pub fn is_teacher(who: Who) -> bool
     matches!(who, Who::Teacher)
 }
 
-/// Returns the rule. Returns `denial` if there is none, because no node has the identifier of the marriage's partner.
+/// Returns the rule. Returns `denial` if `rule` is `None`, because no node has the identifier of the marriage's
+/// partner.
 fn named(rule: Option<Rule>, denial: Denial) -> Result<Rule, Denial>
     ensures { result ≡ ok_or rule denial }
 {

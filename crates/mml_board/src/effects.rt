@@ -15,8 +15,8 @@ use crate::indexed_network::IndexedNetwork;
 use mml_ids::{NodeSet, Rank};
 use mml_rules::{Regs, Rule, Scene, effect};
 
-/// Applies all chosen moves to the network at once. `effects` is working memory for the new registers, and what it
-/// holds before doesn't matter.
+/// Applies all chosen moves to the network at once. `effects` is working memory for the new registers; its former
+/// contents don't matter.
 pub fn move_chosen(network: &mut IndexedNetwork, effects: &mut [Regs], chosen: &Choices)
     requires choices { length chosen.now ≡ length network.old.registers }
     requires room { length effects.old ≡ length network.old.registers }

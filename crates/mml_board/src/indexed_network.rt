@@ -1,4 +1,4 @@
-//! A network with rows of bits beside it, so that a question about a node takes a few operations on words.
+//! A network with an index: sets of nodes, by which a question about a node is answered in a few machine instructions.
 //!
 //! The rank of a node is its index in the rising order of identifiers. The registers of a node are its pointer p and m,
 //! which is true or false.
@@ -78,7 +78,8 @@ impl IndexedNetwork {
         let mut believing = NodeSet::empty();
         for index in 0..network.size() {
             let node = Rank::at(index);
-            // By reference: a value with a rank inside isn't copied by the toolchain if it is used again.
+            // This is a reference, since the toolchain doesn't copy a value that contains a rank, even if its type is
+            // `Copy`.
             let registers = &network.registers(node);
             put_suitor(&mut suitors, registers.p, node, true);
             free = with_or_without(free, node, registers.p.is_none());
@@ -129,7 +130,8 @@ impl IndexedNetwork {
     {
         // Called only for its contract, which the proof needs: the network is lawful.
         let _size = self.network.size();
-        // By reference: a value with a rank inside isn't copied by the toolchain if it is used again.
+        // This is a reference, since the toolchain doesn't copy a value that contains a rank, even if its type is
+        // `Copy`.
         let registers = &registers;
         let from = self.network.registers(node).p;
         move_suitor(&mut self.suitors, node, from, registers.p);

@@ -44,8 +44,8 @@ pub fn refresh(network: &IndexedNetwork, privileged: NodeSet, changed: NodeSet) 
     privileged
 }
 
-/// Returns the set `privileged`, in which each of `nodes` was tested anew: a node that is privileged now is added to
-/// the set, and one that isn't is removed from it.
+/// Returns the set `privileged` after testing each of `nodes` again. A node that is privileged now is added to the set,
+/// and one that isn't is removed from it.
 fn refresh_each(network: &IndexedNetwork, privileged: NodeSet, nodes: NodeSet) -> NodeSet
     ensures { (j : ℕ) → set.contains result j ≡
         (if set.contains nodes j then is_privileged_node (configuration_of network.now) j

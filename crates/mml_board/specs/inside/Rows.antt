@@ -1,4 +1,4 @@
--- The rows of bits that stand beside a network.
+-- The index of a network: sets of nodes that answer questions about it.
 use Rattle.std.specs.Prelude.{◌≡◌, ℕ, ◌<◌, ◌&&◌, nat_lt, is_none, Option, None, Some, List, length}
 use Rattle.std.specs.{FinSet.FinSet, Ordering.nat_cmp}
 use Rattle.mml_rules.specs.{declared.regs.Regs.Regs, Configuration.holds, Network.neighbours_at, Network.registers_at, Network.with_neighbour, Network.without_neighbour}
