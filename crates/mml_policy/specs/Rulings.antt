@@ -7,8 +7,8 @@ use Rattle.mml_policy.specs.{declared.command.Command.Command, Verdicts.clauses,
 use Rattle.mml_policy.specs.declared.ruling.Ruling.{Ruling, TheVariants.Denied, TheVariants.Seen, TheVariants.Looked, TheVariants.Reported, TheVariants.Full, TheVariants.Journal, TheVariants.Granted}
 use Rattle.mml_policy.specs.declared.verdict.Leave.{Leave, TheVariants.See, TheVariants.Look, TheVariants.Report, TheVariants.Grant}
 
--- the ruling if the clauses allow something: what is shown; or the event with its effect, but no event if the limit is
--- reached, nor else if the journal is halted
+-- the ruling if all clauses hold: what is shown, or the event with its effect. No event happens if the limit is
+-- reached, nor if the journal is halted
 abbrev pub ruling_on_leave : ℕ → Bool → World → Leave → Ruling
 ruling_on_leave limit is_halted w (See i) = Seen (see_of w i)
 ruling_on_leave limit is_halted w (Look i) = Looked (look_of w i)
@@ -20,8 +20,8 @@ abbrev pub ruled : ℕ → Bool → World → Result Leave Denial → Ruling
 ruled limit is_halted w (Ok l) = ruling_on_leave limit is_halted w l
 ruled limit is_halted w (Err d) = Denied d
 
--- the denial of the first clause that doesn't hold, or what is shown, or the event that happens with its effect, or why
--- none does: the limit is reached, or else the journal is halted
+-- the ruling on a command: the denial of the first clause that doesn't hold, what is shown, or the event that happens
+-- with its effect. No event happens if the limit is reached, nor if the journal is halted
 abbrev pub ruling : List ℕ → RosterValue → ℕ → Bool → World → Who → Command → Ruling
 ruling ids r limit is_halted w x c = ruled limit is_halted w (clauses ids r w x c)
 

@@ -1,4 +1,4 @@
--- What is decided of a command: its clauses in the order in which they are tried, and then what it is granted.
+-- The decision on a command: its clauses in the order in which they are tried, and what is granted if all hold.
 use Rattle.std.specs.Prelude.{ℕ, ◌||◌, List, option_map, Result, Ok, Err}
 use Rattle.mml_ids.specs.{Gives.◌>>=◌, Gives.◌>>◌, Gives.need, Ids.rank_in}
 use Rattle.mml_lab.specs.{declared.who.Who.Who, Rosters.RosterValue, Rosters.owns}
@@ -44,7 +44,7 @@ settled (Ok Report) = verdicts.Show
 settled (Ok (Grant e)) = verdicts.Grant e
 settled (Err d) = verdicts.Deny d
 
--- the denial of the first clause that doesn't hold, or that what the command asks for is shown, or the event that the
--- command asks for
+-- the denial of the first clause that doesn't hold; if all hold, the event that the command asks for, or that it is
+-- shown what it asks for
 abbrev pub verdict : List ℕ → RosterValue → World → Who → Command → Verdict
 verdict ids r w x c = settled (clauses ids r w x c)

@@ -21,9 +21,9 @@ pub(crate) struct AskedNode {
     pub(crate) node: Rank,
 }
 
-/// Looks up the node with the identifier `id`, for which `who` asks. If there is none, another node and a student who
-/// owns nothing stand in, so that the same tests are made as for a node that `who` may not see. The caller then denies,
-/// since `found` is `None`.
+/// Looks up the node with the identifier `id`, for which `who` asks. If there is none, returns another node and a
+/// student who owns nothing. The same tests are then made as for a node that `who` may not see. The caller denies the
+/// command, since `found` is `None`.
 pub(crate) fn asked_for(ids: &IdTable, who: Who, id: u64) -> AskedNode
     ensures found { result.found ≡ rank_in ids.now id }
     ensures asked { IfSome result.found (λ i. (result.who ≡ who) × (result.node ≡ i)) }

@@ -5,7 +5,7 @@
 ghost use Rattle.std.specs.Prelude.{◌≡◌};
 ghost use Rattle.mml_policy.specs.Acts.{is_act};
 
-/// What a participant may ask on a connection, after hello. Nodes are named by their identifiers.
+/// A command: what a participant may ask for on a connection after the hello. Nodes are named by their identifiers.
 #[derive(Clone, Copy, Debug, PartialEq, Eq)]
 pub enum Command {
     /// Shows the registers of a node.

@@ -49,8 +49,9 @@ pub fn visible_means_facts()
         (is_visible r c x i ≡ true) ↔ IsVisible r c x i }
 {}
 
-/// A move is granted exactly if the asker owns the node, the number is the current one, no move is chosen for the node,
-/// and the rule may be applied there. It is denied by the first of these that doesn't hold.
+/// A move is granted exactly if four facts hold. The asker owns the node, the number in the request is that of the
+/// current configuration, no move is chosen for the node, and the rule may be applied there. Otherwise it is denied by
+/// the first of these that doesn't hold.
 pub fn a_move_takes_four_facts()
     ensures granted { (ids : List ℕ) (r : RosterValue) (w : World) (x : Who) (id : ℕ)
         (asked : Asked) (at : ℕ) (e : Event) → IsLawful (configuration w) →
@@ -105,8 +106,9 @@ pub fn a_close_takes_a_chosen_node()
         IsDecided ids r w x command.Close (MayClose w) (DeniesClose w x) }
 {}
 
-/// A fault is granted exactly if the teacher asks, some node has the identifier that it names, and the node's pointer
-/// is to be null or a neighbour. Otherwise it is denied by the first of the three that doesn't hold.
+/// A fault is granted exactly if three facts hold. The teacher asks, some node has the identifier that the fault names,
+/// and the node's new pointer is null or a neighbour. Otherwise it is denied by the first of the three that doesn't
+/// hold.
 pub fn a_fault_takes_a_neighbour()
     ensures { (ids : List ℕ) (r : RosterValue) (w : World) (x : Who) (id : ℕ) (p : Option ℕ) (m : Bool) →
         IsDecided ids r w x (command.Fault id p m) (MayFault ids w id p m) (DeniesFault ids w x id p) }
@@ -148,16 +150,17 @@ pub fn granted_events_are_legal()
         length ids ≡ size w → verdict ids r w x c ≡ verdicts.Grant e → is_legal r w e ≡ true }
 {}
 
-/// An event is legal exactly if its asker is granted it. The asker is the student of a move, or the teacher, and asks
-/// with the number of the current configuration. So a list of events can be checked by asking for verdicts.
+/// An event is legal exactly if the verdict grants it to its asker. The asker of a move is its student, who asks with
+/// the number of the current configuration. The asker of any other event is the teacher. So a list of events can be
+/// checked by asking for verdicts.
 pub fn legal_events_are_granted()
     ensures { (ids : List ℕ) (r : RosterValue) (w : World) (e : Event) →
         IsTable ids → IsWorldOf ids w → (is_legal r w e ≡ true) ↔
         (verdict ids r w (asker e) (command_of ids w e) ≡ verdicts.Grant e) }
 {}
 
-/// For a privileged node without a chosen move, some rule of the kind that a look shows is granted to each owner who
-/// asks for it with the number of the current configuration.
+/// Take a privileged node without a chosen move. Some rule of the kind that a look shows there is granted to each owner
+/// who asks for it with the number of the current configuration.
 pub fn privileged_nodes_are_granted()
     ensures { (ids : List ℕ) (r : RosterValue) (w : World) (i : ℕ) → IsTable ids →
         IsWorldOf ids w → i < size w → is_privileged (configuration w) i ≡ true →
@@ -169,8 +172,8 @@ pub fn privileged_nodes_are_granted()
         ≡ verdicts.Grant (event.Grant s i rule)) }
 {}
 
-/// The reply to a student depends on nothing that is hidden from the student. In two worlds that look the same to a
-/// student, each command of the student has the same ruling, and the worlds after it look the same to the student
+/// The reply to a student depends on nothing that is hidden from the student. If two worlds look the same to a student,
+/// each command of the student has the same ruling in both. The worlds after the command look the same to the student
 /// again.
 pub fn hidden_values_change_no_ruling()
     ensures ruling { (ids : List ℕ) (r : RosterValue) (limit : ℕ) (is_halted : Bool)

@@ -1,4 +1,4 @@
-//! Why an act is refused, which is not the same as a denial.
+//! Refusals: the reasons why an act doesn't happen although all its clauses hold.
 //!
 //! A clause is a condition under which a request is granted; a denial names the first that doesn't hold. An act is a
 //! request for an event. The journal is halted once a line couldn't be written to it.
@@ -7,7 +7,7 @@ use mml_ids::Memory;
 /// Why an act that all clauses allow doesn't happen, or the reply to a ruling can't be made.
 #[derive(Clone, Copy, Debug, PartialEq, Eq)]
 pub enum Refusal {
-    /// As many events as the lab allows were granted.
+    /// The run already has as many events as the lab allows.
     Full,
     /// The journal is halted, or its sink failed just now.
     Journal,

@@ -30,7 +30,7 @@ pub enum Ruling {
     Reported,
     /// All clauses hold, but the lab allows no more events.
     Full,
-    /// All clauses hold and an event may follow, but the journal takes no more lines.
+    /// All clauses hold and the lab allows one more event, but the journal is halted.
     Journal,
     /// The event happens, with this effect.
     Granted { event: Event, done: Done },
@@ -54,11 +54,11 @@ impl Ruling {
 }
 
 /// Returns the ruling on a command of `who`. If a clause doesn't hold, the ruling is the denial of the first that
-/// doesn't. If all hold, the ruling on a see or a look has what it shows. That on a report is `Reported`, and the
-/// caller makes the report. That on an act is `Full` if there are `limit` events already, or else `Journal` if the
-/// journal is halted (`is_halted`). Otherwise it is the granted event with its effect. Only a look allocates. Returns
-/// `Memory` if memory runs out.
-// It isn't inlined: inlined, it took other steps for a hidden node than for one that doesn't exist.
+/// doesn't. If all hold, the ruling on a see or a look contains what is shown, and the ruling on a report is
+/// `Reported`; the caller makes the report. The ruling on an act is then `Full` if there are `limit` events already,
+/// and otherwise `Journal` if `is_halted` is set. In any other case it is the granted event with its effect. Only a
+/// look allocates. Returns `Memory` if memory runs out.
+// It isn't inlined: when it was, a hidden node took other steps than one that doesn't exist.
 #[inline(never)]
 pub fn rule_on(
     alloc: Global,
