@@ -14,8 +14,9 @@ use mml_board::Board;
 use mml_ids::Rank;
 use mml_rules::{Kind, Scene};
 
-/// Returns the witness of a link between two free nodes (in no pair), `a` and a greater `b`: a privileged node, and the
-/// rule that is enabled there. So as long as there is such a link, the configuration isn't stable.
+/// Returns the witness of a link between two free nodes (in no pair), `a` and the greater `b`. The witness is a
+/// privileged node, with the rule that is enabled there. So as long as there is such a link, the configuration isn't
+/// stable.
 pub fn certify(board: &Board, a: Rank, b: Rank) -> (Rank, Kind)
     requires lower { a < b }
     requires linked { (configuration board.now).linked a b ≡ true }
@@ -34,10 +35,9 @@ pub fn certify(board: &Board, a: Rank, b: Rank) -> (Rank, Kind)
     witness(board, &kinds, a, b)
 }
 
-/// Returns the witness of a link between two free nodes (in no pair), `a` and a greater `b`: a privileged node, and the
-/// rule that is enabled there. It is the node that `witness_from` finds from `a`, or, if it finds none, the one that it
-/// finds from `b`. If it finds none there either, it is `a` with a seduction. `kinds` has the rule that is enabled at
-/// each node, by rank.
+/// Returns the witness of a link between two free nodes (in no pair), `a` and the greater `b`: a privileged node, and
+/// the rule that is enabled there. This is what `witness_from` returns for `a`, or else what it returns for `b`. If
+/// both calls return `None`, it is `a` with a seduction. `kinds` has the rule that is enabled at each node, by rank.
 #[tactic(auto, unfolding(crate::specs::Walk::certificate))]
 pub(crate) fn witness(board: &Board, kinds: &[Option<Kind>], a: Rank, b: Rank) -> (Rank, Kind)
     requires kinds { AreKinds (configuration board.now) kinds.now }

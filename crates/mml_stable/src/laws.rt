@@ -57,8 +57,9 @@ pub fn lists_are_exact()
         Contains (open_links c) l ↔ IsOpenLink c l }
 {}
 
-/// Each list of a report rises: free and privileged nodes by their ranks, pairs by their first nodes, open links by
-/// their first ends and then by their second. So nothing is listed twice.
+/// Each list of a report is in strictly rising order, so that nothing is listed twice. Free and privileged nodes are
+/// ordered by their ranks, and pairs by their first nodes. Open links are ordered by their first ends, and those with
+/// the same first end by their second ends.
 #[tactic(auto, using(crate::proofs::ListedLemmas::pairs_rise, crate::proofs::ListedLemmas::free_rise, crate::proofs::ListedLemmas::privileged_rise, crate::proofs::ListedLemmas::open_rise))]
 pub fn lists_rise()
     ensures pairs { (c : Configuration) → Rises (λ p q. p.0 < q.0) (pairs c) }
@@ -73,8 +74,8 @@ pub fn stable_reports_list_a_maximal_matching()
         IsMaximalMatching (configuration w) (report_of w).pairs }
 {}
 
-/// The witness of an open link, one between two free nodes, is the same node with the same rule if the nodes get other
-/// names in the same order.
+/// If the nodes get other names in the same order, each open link (between two free nodes) keeps its witness: the same
+/// node with the same rule.
 #[tactic(auto, using(crate::proofs::WitnessNamesLemmas::witness_named))]
 pub fn witnesses_keep_under_names()
     ensures { (f : ℕ → ℕ) (c d : Configuration) (a b : ℕ) → IsLawful c → IsRenamed f c d →

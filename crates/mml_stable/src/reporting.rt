@@ -33,8 +33,8 @@ pub fn report(alloc: Global, board: &Board) -> Result<Report, Memory>
     report_lists(alloc, board)
 }
 
-/// Returns the report on the board's configuration. Its contract doesn't say that the report names only nodes of the
-/// board, which that of `report` does. Returns `Memory` if memory runs out.
+/// Returns the report on the board's configuration. The contract of `report` says that the report names only nodes of
+/// the board; the contract of this function doesn't. Returns `Memory` if memory runs out.
 fn report_lists(alloc: Global, board: &Board) -> Result<Report, Memory>
     ensures { IfOk result (λ report. report ≡ report_of board.now) }
 {
@@ -93,8 +93,8 @@ fn free_nodes(alloc: Global, board: &Board) -> Result<(Vec<Rank>, NodeSet), Memo
     Ok((all, set))
 }
 
-/// Returns the privileged nodes in rising order, each with the rule that is enabled there, and whether there are none.
-/// `kinds` has the rule that is enabled at each node, by rank. Returns `Memory` if memory runs out.
+/// Returns the privileged nodes in rising order, each with the rule that is enabled there. Also returns whether the
+/// list is empty. `kinds` has the rule that is enabled at each node, by rank. Returns `Memory` if memory runs out.
 fn privileged_nodes(
     alloc: Global,
     board: &Board,
@@ -115,8 +115,8 @@ fn privileged_nodes(
     Ok((all, stable))
 }
 
-/// Returns the greater ends of the open links, which join two free nodes, whose lower end is `a`. If `a` isn't free,
-/// there are none. `rest` has the free nodes from `a` on.
+/// Returns the greater ends of the open links (between two free nodes) whose lower end is `a`. Returns no nodes if `a`
+/// isn't free. `rest` has the free nodes whose ranks are at least that of `a`.
 fn open_ends(board: &Board, rest: NodeSet, a: Rank) -> NodeSet
     requires a { a < length board.now.network.registers }
     requires rest { IsFreeFrom (configuration board.now) a rest }
