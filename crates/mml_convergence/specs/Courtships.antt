@@ -20,8 +20,8 @@ node_part c i =
     if is_married c i then (if c.m i then 0 else 1)
     else (if c.m i then 1 else 0) + pointer_part c i
 
--- the most courtships among n nodes that aren't married, n²/4 rounded down: two of n + 2 nodes that marry end at most
--- n + 1, one by each other node and one between the two
+-- the most courtships among n nodes that aren't married: n²/4, rounded down. If two of n + 2 nodes marry, at most n + 1
+-- courtships end: one by each other node, and one between the two
 abbrev pub most_courtships : ℕ → ℕ
 most_courtships zero = 0
 most_courtships (suc zero) = 0

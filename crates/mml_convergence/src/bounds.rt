@@ -33,8 +33,8 @@ ghost use Rattle.mml_convergence.specs.Halves.{halves_world};
 ghost use Rattle.mml_convergence.specs.Crowd.{crowd_world};
 ghost use Rattle.mml_convergence.specs.Comb.{comb_world};
 
-/// On n nodes with L links, the closes of a legal list of grants, releases and closes apply at most 3n + 2 min(L, n²/4)
-/// moves, n²/4 rounded down. This holds from any world, and however the moves are chosen.
+/// On n nodes with L links, a legal list of grants, releases and closes applies at most 3n + 2 min(L, n²/4) moves, with
+/// n²/4 rounded down. This holds from any world, and however the moves are chosen.
 pub fn moves_are_few()
     ensures { (r : RosterValue) (w : World) (es : List Event) → IsWorld w →
         is_legal_list r w es ≡ true → list_all is_of_step es ≡ true →
@@ -48,9 +48,9 @@ pub fn courtships_in_numbers()
     ensures odd { (k : ℕ) → most_courtships (2 * k + 1) ≡ k * k + k }
 {}
 
-/// A courting pointer is one of an unmarried node at a higher node that may still marry it. The potential that counts
-/// these pointers falls in a step of moves whose guards hold, by at least the number of nodes that move. For n nodes it
-/// is at most 3n + 2k, if k is n²/4, rounded down.
+/// A courting pointer leads from an unmarried node to a higher node that may still marry it. The potential that counts
+/// these pointers is a number that depends on the configuration. A step of moves whose guards hold lowers it by at
+/// least the number of nodes that move. For n nodes it is at most 3n + 2k, where k is n²/4, rounded down.
 pub fn step_lowers_courting_potential()
     ensures lower { (c : Configuration) (chosen : ℕ → Option Rule) → IsLawful c → AllHold c chosen →
         courting_potential (step c chosen) + count_below c.size (moves chosen) ≤ courting_potential c }
@@ -58,10 +58,10 @@ pub fn step_lowers_courting_potential()
         courting_potential c ≤ 3 * c.size + 2 * most_courtships c.size }
 {}
 
-/// The bound on rounds, 2n or, if n is odd, 2n - 1, can't be lowered for any number n of nodes from 2 on that a lab may
-/// have. Take the world `halves_world`, a network with n nodes and registers, and a student who owns each node. Some
-/// legal list of grants and closes has one round less than the bound, and some node is still privileged after it. There
-/// is also such a list in which each close applies one move.
+/// The bound on rounds is 2n for n nodes, or 2n - 1 if n is odd. It can't be lowered for any number of nodes from 2 on
+/// that a lab may have. Take the network of `halves_world`, with one student who owns each node. Some legal list of
+/// grants and closes has one round less than the bound, and some node is still privileged after it. There is also such
+/// a list in which each close applies only one move.
 pub fn rounds_are_reached()
     ensures world { (n : ℕ) → n ≤ MAX_NODES →
         IsWorld (halves_world n) × (size (halves_world n) ≡ n) }
@@ -79,9 +79,9 @@ pub fn rounds_are_reached()
         (¬ IsStable (configuration (world_of (halves_world n) es))) }
 {}
 
-/// The bound on moves is 3n + 2k for n nodes, if k is n²/4, rounded down. It is reached for each even n from 4 on that
-/// a lab may have, and missed by one for each odd n from 5 on. In the dense network (`crowd_world`), a student who owns
-/// each node has a legal list of grants and closes that applies that many moves.
+/// The bound on moves is 3n + 2k for n nodes, if k is n²/4, rounded down. A run reaches it for each even n from 4 on
+/// that a lab may have, and applies one move less for each odd n from 5 on. The run is a legal list of grants and
+/// closes in the dense network (`crowd_world`), in which one student owns each node.
 pub fn moves_are_reached()
     ensures world { (n : ℕ) → 4 ≤ n → n ≤ MAX_NODES →
         IsWorld (crowd_world n) × (size (crowd_world n) ≡ n) }
@@ -99,8 +99,8 @@ pub fn moves_are_reached()
 
 /// The comb (`comb_world`) of 4 nodes or more is a tree. It has one link less than nodes, and each node but the last is
 /// linked to a higher one. No legal list of grants, releases and closes applies more than 3 moves for each node and 2
-/// for each link. A student who owns each node has a legal list of grants and closes that applies one move less than
-/// that, or two less if the number of nodes is odd. The law doesn't say that no tree takes more.
+/// for each link. If one student owns each node, some legal list of grants and closes applies one move less than that,
+/// or two less if the number of nodes is odd. The law doesn't say that no other tree takes more moves.
 pub fn a_comb_takes_nearly_the_most_moves()
     ensures world { (n : ℕ) → 4 ≤ n → n ≤ MAX_NODES →
         IsWorld (comb_world n) × (size (comb_world n) ≡ n) }

@@ -43,8 +43,8 @@ pub fn m_changes_at_most_twice()
         is_legal_list r w es ≡ true → list_all is_of_step es ≡ true → changes_of_m i w es ≤ 2 }
 {}
 
-/// The sum of all nodes' potentials (numbers that `potential` defines) falls in a step of moves whose guards hold, by
-/// at least the number of nodes that move. The sum is at most 2 for each link and 3 for each node.
+/// A step of moves whose guards hold lowers the sum of all nodes' potentials (numbers that `potential` defines) by at
+/// least the number of nodes that move. The sum is at most 2 for each link and 3 for each node.
 pub fn step_lowers_potential()
     ensures lower { (c : Configuration) (chosen : ℕ → Option Rule) → IsLawful c →
         AllHold c chosen →
@@ -62,16 +62,17 @@ pub fn moves_are_bounded()
         applied_over w es ≤ 2 * link_count w.network + 3 * size w }
 {}
 
-/// From any world, a legal list of grants, releases and closes has at most 2 closes for each link and 3 for
-/// each node, since each close applies a move.
+/// From any world, a legal list of grants, releases and closes has at most 2 closes for each link and 3 for each node.
+/// The reason is that each close applies a move.
 pub fn closes_are_bounded()
     ensures { (r : RosterValue) (w : World) (es : List Event) → IsWorld w →
         is_legal_list r w es ≡ true → list_all is_of_step es ≡ true →
         count_closes es ≤ 2 * link_count w.network + 3 * size w }
 {}
 
-/// The bound on all moves, 2 for each link and 3 for each node, is reached on one network: a triangle with a tail,
-/// which has 4 links and 4 nodes. If one student owns all nodes, some legal list of grants and closes applies 20 moves.
+/// The bound on all moves is 2 for each link and 3 for each node. It is reached on a triangle with a tail, a network
+/// with 4 links and 4 nodes. If one student owns all nodes, some legal list of grants and closes applies 20 moves
+/// there.
 pub fn bound_is_reached()
     ensures roster { IsRoster sole_owner }
     ensures world { IsWorld triangle_world }
@@ -131,9 +132,9 @@ pub fn stable_is_final()
         is_of_step e ≡ true → is_legal r w e ≡ false }
 {}
 
-/// Two facts if each node has an owner. A legal list after which no grant and no close is legal ends with no node
-/// privileged, and the pairs are a maximal matching. From every world some legal list of grants and closes ends with no
-/// node privileged, with at most 4 events for each link and 6 for each node.
+/// Two facts hold if each node has an owner. If no grant and no close is legal after a legal list, no node is
+/// privileged, and the pairs are a maximal matching. From every world, some legal list of grants and closes ends with
+/// no node privileged. It has at most 4 events for each link and 6 for each node.
 pub fn runs_end_stable()
     ensures ended { (r : RosterValue) (w : World) (es : List Event) → IsWorld w →
         EachHasOwner r (size w) → is_legal_list r w es ≡ true → IsOver r (world_of w es) →
