@@ -52,7 +52,7 @@ recorded_run_text lab w es f asks =
 abbrev pub turned_down_text : LabValue → List Ask → List ℕ
 turned_down_text lab asks = refused_text lab asks (length lab.roster.students) ++ denials_text lab asks (length lab.roster.students)
 
--- the tally of a run with a record: these lines, that of those whose lines are all recorded, and those of what was refused
--- and denied by name
+-- the tally of a run with a record: these lines, the line of the participants whose lines are all recorded, and the
+-- lines of refusals and of denials by name
 abbrev pub recorded_text : LabValue → World → List Event → Findings → List Ask → List ℕ
 recorded_text lab w es f asks = recorded_run_text lab w es f asks ++ (recorded_line lab f ++ turned_down_text lab asks)

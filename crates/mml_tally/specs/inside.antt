@@ -1,3 +1,3 @@
--- What is kept apart from the model: how closes and rounds are counted in one pass. No public clause cites it.
+-- How closes and rounds are counted in one pass. No contract of a public function cites this.
 pub mod Closes
 pub mod Waiting

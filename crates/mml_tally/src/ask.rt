@@ -1,7 +1,7 @@
 //! What the tally counts of a record's lines.
 //!
-//! A clause is a condition under which a request is granted; a denial names the first that doesn't hold. An account is
-//! known on a connection from its granted hello to its bye.
+//! A clause is a condition under which a request is granted; a denial names the first that doesn't hold. A participant
+//! is known on a connection from a granted hello to the bye.
 ghost use Rattle.std.specs.Prelude.{◌≡◌, ◌++◌, [], ◌∷◌, OnOk, IfOk, count_by};
 ghost use Rattle.mml_tally.specs.Marks.{is_kind};
 ghost use Rattle.mml_tally.specs.Asks.{is_student, asks_by, is_clause, is_malformed, is_move, denials_in, moves_asked, denials_of, moves_asked_by};
@@ -26,22 +26,22 @@ pub struct Ask {
     pub denied: Option<u8>,
     /// The denial of the line, if it was denied by one that a known student can get.
     pub named: Option<StudentDenial>,
-    /// Why the line was refused, if it was. A line that is no request is refused for no such reason.
+    /// Why the line was refused, if it was. It is `None` for a line that isn't a request.
     pub refused: Option<Refusal>,
 }
 
 /// What a line asks, as far as the tally distinguishes lines.
 #[derive(Clone, Copy, Debug, PartialEq, Eq)]
 pub enum Line {
-    /// No request.
+    /// A line that isn't a request.
     Malformed,
-    /// A request for a move of this rule at the node with this identifier, which needn't be that of any node.
+    /// A request for a move of this rule at the node with this identifier, whether or not there is such a node.
     Move { node: u64, kind: Kind },
     /// Any other request.
     Other,
 }
 
-/// How many lines each clause denied, and how many were no request. A clause is a condition for a request; a denial
+/// How many lines each clause denied, and how many weren't requests. A clause is a condition for a request; a denial
 /// names the first that doesn't hold.
 #[derive(Clone, Copy, Debug, PartialEq, Eq)]
 pub struct Denials {
@@ -80,7 +80,7 @@ fn is_student(student: Student, who: Option<Student>) -> bool
     who == Some(student)
 }
 
-/// Returns how many of a student's lines each clause denied, and how many were no request. `asks` has the lines of
+/// Returns how many of a student's lines each clause denied, and how many weren't requests. `asks` has the lines of
 /// everybody. Returns `Memory` if memory runs out.
 pub fn denials_of(alloc: Global, asks: &[Ask], student: Student) -> Result<Denials, Memory>
     ensures { IfOk result (λ denied. denied ≡ denials_of asks.now student) }
@@ -103,7 +103,7 @@ pub fn moves_asked_by(
     Ok(moves_asked(node, &own))
 }
 
-/// Returns how many of a student's lines, `own`, each clause denied, and how many were no request.
+/// Returns how many of a student's lines, `own`, each clause denied, and how many weren't requests.
 fn denials_in(own: &[Ask]) -> Denials
     ensures { result ≡ denials_in own.now }
 {
@@ -133,14 +133,14 @@ fn is_clause(clause: u8, denied: Option<u8>) -> bool
     denied == Some(clause)
 }
 
-/// Returns how many of the lines were no request.
+/// Returns how many of the lines weren't requests.
 fn count_malformed(own: &[Ask]) -> u64
     ensures { result ≡ count_by (λ a. is_malformed a.line) own.now }
 {
     own.iter().filter(|ask| is_malformed(ask.line)).count() as u64
 }
 
-/// Returns whether a line was no request.
+/// Returns whether a line wasn't a request.
 fn is_malformed(line: Line) -> bool
     ensures { result ≡ is_malformed line }
 {

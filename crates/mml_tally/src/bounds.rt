@@ -1,4 +1,4 @@
-//! How much may follow in a run.
+//! The most moves, rounds and events that may still come in a run.
 //!
 //! A node is privileged if some rule is enabled there. A grant chooses a move for a node, a release drops it, and a
 //! close applies all chosen moves at once. A fault sets a node's registers, a link joins two nodes, and a cut removes a
@@ -25,16 +25,16 @@ pub struct Bounds {
     pub events: u64,
 }
 
-/// Returns the most moves, rounds and events that may come from the world of a board on, until no node is privileged,
-/// if no fault, link or cut comes.
+/// Returns the most moves, rounds and events that may still come until no node is privileged, from the world of a board
+/// on. Assumes that no fault, link or cut comes.
 pub fn bounds_of(board: &Board) -> Bounds
     ensures { result ≡ bounds_of board.now }
 {
     bounds_for(board.size(), link_count(board.network()))
 }
 
-/// Returns the most moves, rounds and events that may come on `nodes` nodes with `links` links, until no node is
-/// privileged, if no fault, link or cut comes.
+/// Returns the most moves, rounds and events that may come until no node is privileged, on `nodes` nodes with `links`
+/// links. Assumes that no fault, link or cut comes.
 fn bounds_for(nodes: u64, links: u64) -> Bounds
     requires { nodes ≤ MAX_NODES }
     ensures { result ≡ bounds_for nodes links }

@@ -1,4 +1,4 @@
-//! What becomes of granted moves.
+//! What happens to granted moves.
 //!
 //! A grant chooses a move for a node, a release drops it, and a close applies all chosen moves at once. A fault sets a
 //! node's registers, a link joins two nodes, and a cut removes a link.
@@ -18,7 +18,7 @@ pub enum Fate {
     Released,
     /// A fault, a link or a cut drops it.
     Dropped,
-    /// It is chosen still.
+    /// It is still chosen.
     Chosen,
 }
 

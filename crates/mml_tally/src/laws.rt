@@ -30,15 +30,16 @@ ghost use Rattle.mml_tally.specs.StudentDenials.{named_of, AreNamed, AreSums};
 ghost use Rattle.mml_tally.specs.AskMeaning.{asks_of_others, is_denied, total_denied, AreAsksOf, asked_under};
 ghost use Rattle.mml_tally.specs.Meaning.{IsNextClose, total, is_released, is_dropped, is_left, asked_as};
 
-/// A move that is granted at node i is applied by the close at place p exactly if no release of i, no close, fault,
-/// link or cut comes between. The law is about the events after the grant, of which the first has place q.
+/// A move that is granted at node i is applied by the close at place p exactly if no other event between them ends it:
+/// no release of i, and no close, fault, link or cut. The law is about the events after the grant, of which the first
+/// has place q.
 pub fn moves_are_applied_by_the_next_close()
     ensures { (i q p : ℕ) (es : List Event) →
         (fate_of i q es ≡ Fate.Applied p) ↔ IsNextClose i q p es }
 {}
 
-/// The applied moves of all students together are as many as the closes of the lab's events apply, if the list of
-/// events is legal. The tally's line of the run has the same number.
+/// If the list of events is legal, all students together have as many applied moves as its closes apply. The tally's
+/// line of the run has the same number.
 pub fn students_apply_all_moves()
     ensures students { (lab : LabValue) (es : List Event) → IsLab lab →
         is_legal_list lab.roster (opening_of lab.network) es ≡ true →
@@ -76,7 +77,7 @@ pub fn rounds_since_are_within_the_most()
 {}
 
 /// Any list of events begins with as many rounds, one after another, as `rounds_in` counts in it. A legal list of
-/// grants, releases and closes that ends with a privileged node has no more.
+/// grants, releases and closes has no more rounds than that if it ends with a privileged node.
 pub fn as_many_rounds_are_counted_as_there_are()
     ensures there { (w : World) (es : List Event) → Rounds (rounds_in w es) w es }
     ensures most { (r : RosterValue) (w : World) (es : List Event) (k : ℕ) → IsWorld w →
@@ -84,7 +85,7 @@ pub fn as_many_rounds_are_counted_as_there_are()
         ¬ IsStable (configuration (world_of w es)) → k ≤ rounds_in w es }
 {}
 
-/// Over a run, the number of the configuration grows by as many as the tally counts closes, faults, links and cuts.
+/// Over a run, the number of the configuration grows by one for each close, fault, link and cut that the tally counts.
 pub fn changes_of_a_run_are_its_configurations()
     ensures { (w : World) (es : List Event) → (world_of w es).number ≡ w.number
         + ((run_of es).closes + (run_of es).faults + (run_of es).links + (run_of es).cuts) }
@@ -99,8 +100,8 @@ pub fn granted_moves_have_one_fate()
         + count_by is_left (moves_by s (moves es)) }
 {}
 
-/// A student for whom the tally counts no close has no applied move. So no close that applied a move of the student's
-/// is missed, not even if it is the last event.
+/// A student for whom the tally counts no close has no applied move. So the tally misses no close that applied a move
+/// of the student, not even if it is the last event.
 pub fn who_has_no_close_has_no_applied_move()
     ensures { (r : RosterValue) (es : List Event) (s : ℕ) →
         (marks_of r es s).closes ≡ 0 → total (marks_of r es s).applied ≡ 0 }
@@ -112,8 +113,8 @@ pub fn marks_depend_on_no_other_name()
         ((t : ℕ) → (f t ≡ s) ↔ (t ≡ s)) → marks_of r (map (asked_as f) es) s ≡ marks_of r es s }
 {}
 
-/// Each line that was denied, and each that was no request, is counted for exactly one student, unless it came while
-/// the teacher was known, or nobody.
+/// A participant is known on a connection from a granted hello to the bye. Each line that was denied or wasn't a
+/// request is counted for exactly one student, unless it came while the teacher or nobody was known.
 pub fn denials_are_of_one_student()
     ensures denied { (n : ℕ) (asks : List Ask) → AreAsksOf n asks →
         sum_below n (λ s. total_denied (denials_of asks s)) + count_by is_denied (asks_of_others asks)
@@ -124,8 +125,8 @@ pub fn denials_are_of_one_student()
         ≡ count_by (λ a. is_malformed a.line) asks }
 {}
 
-/// Each line that was refused is counted under its reason for exactly one student, unless it came while the teacher was
-/// known, or nobody.
+/// Each line that was refused is counted under its reason for exactly one student, unless it came while the teacher or
+/// nobody was known on its connection.
 pub fn refusals_are_of_one_student()
     ensures journal { (n : ℕ) (asks : List Ask) → AreAsksOf n asks →
         sum_below n (λ s. (refusals_of asks s).journal)
@@ -147,8 +148,8 @@ pub fn columns_are_sums_of_denials()
     ensures { (asks : List Ask) (s : ℕ) → AreNamed asks → AreSums (denials_of asks s) (named_of asks s) }
 {}
 
-/// What was denied and refused to a student, and what the student asked for at a node, doesn't change if the lines of
-/// others get other names.
+/// If the lines of others get other names, the counts for a student don't change: the denials, the refusals, and the
+/// moves that the student asked for at a node.
 pub fn asks_depend_on_no_other_name()
     ensures denied { (asks : List Ask) (s : ℕ) (f : ℕ → ℕ) → ((t : ℕ) → (f t ≡ s) ↔ (t ≡ s)) →
         denials_of (map (asked_under f) asks) s ≡ denials_of asks s }

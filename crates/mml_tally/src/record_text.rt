@@ -17,7 +17,7 @@ use mml_ids::{Memory, NodeSet, Piece, Rank, put};
 use mml_lab::{Lab, Roster, Student, Who};
 use std::alloc::Global;
 
-/// What a record says as a whole, beside its lines.
+/// The summary of a record, without its single lines.
 #[derive(Clone, Copy, Debug, Drop)]
 pub struct Findings {
     /// The number of sessions that ended.
@@ -35,10 +35,10 @@ pub struct Findings {
     pub lacking: NodeSet,
 }
 
-/// Appends the tally of a run of which there is a record. First come the lines of any run's tally, with the lines of
-/// the record before their last two. Then come those whose lines are all recorded, and at the end each student's
-/// refusals and denials. `board` is the world after `events`, and `asks` has the lines of the record. Returns `Memory`
-/// if memory runs out.
+/// Appends the tally of a run of which there is a record. First come the lines that the tally of any run has, with the
+/// lines about the record before the last two of them. Then come the participants whose lines are all recorded, and at
+/// the end each student's refusals and denials. `board` is the world after `events`, and `asks` has the lines of the
+/// record. Returns `Memory` if memory runs out.
 pub fn put_recorded_tally(
     out: &mut Vec<u8>,
     alloc: Global,
@@ -56,8 +56,8 @@ pub fn put_recorded_tally(
     put_turned_down(out, alloc, lab, asks)
 }
 
-/// Appends two groups of lines, each with a line for each student: how many of the student's lines were refused for
-/// each reason, and how many got each denial. Returns `Memory` if memory runs out.
+/// Appends two lines for each student. The lines of the first group have how many of the student's lines were refused
+/// for each reason, and those of the second how many got each denial. Returns `Memory` if memory runs out.
 fn put_turned_down(out: &mut Vec<u8>, alloc: Global, lab: &Lab, asks: &[Ask]) -> Result<(), Memory>
     ensures { OnOk result (out.new.items ≡ out.old.items ++ turned_down_text lab.now asks.now) }
 {
@@ -65,8 +65,8 @@ fn put_turned_down(out: &mut Vec<u8>, alloc: Global, lab: &Lab, asks: &[Ask]) ->
     put_named(out, alloc, lab, asks)
 }
 
-/// Appends the lines of any run's tally, with the lines of the record before their last two. Returns `Memory` if memory
-/// runs out.
+/// Appends the lines that the tally of any run has, with the lines about the record before the last two of them.
+/// Returns `Memory` if memory runs out.
 fn put_recorded_run(
     out: &mut Vec<u8>,
     alloc: Global,
@@ -103,7 +103,7 @@ fn put_record(
 }
 
 /// Appends a line for each student, in the lab's order: how many of the student's lines each clause denied, and how
-/// many were no request. Returns `Memory` if memory runs out.
+/// many weren't requests. Returns `Memory` if memory runs out.
 fn put_denied(out: &mut Vec<u8>, alloc: Global, lab: &Lab, asks: &[Ask]) -> Result<(), Memory>
     ensures { OnOk result (out.new.items
         ≡ out.old.items ++ denied_text lab.now asks.now (length lab.now.roster.students)) }
@@ -117,7 +117,7 @@ fn put_denied(out: &mut Vec<u8>, alloc: Global, lab: &Lab, asks: &[Ask]) -> Resu
     Ok(())
 }
 
-/// Appends the line `denied` of one student: how many lines each clause denied, and how many were no request. Returns
+/// Appends the line `denied` of one student: how many lines each clause denied, and how many weren't requests. Returns
 /// `Memory` if memory runs out.
 fn put_denials(out: &mut Vec<u8>, name: &str, denied: &Denials) -> Result<(), Memory>
     ensures { OnOk result (out.new.items ≡ out.old.items ++ denied_line name.now denied.now) }

@@ -1,7 +1,7 @@
 //! The rounds of a run since its last fault, link or cut.
 //!
-//! A round is a list of events in which each node has its turn: at some point it isn't privileged (no rule is enabled
-//! there), or a close applies its move.
+//! A node is privileged if some rule is enabled there. A round is a list of events in which each node has its turn: at
+//! some point it isn't privileged, or a close applies its move.
 ghost use Rattle.std.specs.Prelude.{◌≡◌, ◌≤◌, ◌++◌, true, length, take, IfOk, OnOk};
 ghost use Rattle.mml_board.specs.World.{opening_of};
 ghost use Rattle.mml_board.specs.Events.{can_absorb, after};
@@ -84,8 +84,8 @@ fn count_rounds(lab: &Lab, events: &[Event], board: &mut Board, since: usize) ->
     rounds
 }
 
-/// Applies an event to the board. Returns those of the nodes `waiting` that still wait for their turn in the round: the
-/// event has applied no move of theirs, and they are privileged after it.
+/// Applies an event to the board. `waiting` has the nodes that wait for their turn in the round. Returns those that
+/// still wait: the event has applied no move of theirs, and they are privileged after it.
 fn take_event(board: &mut Board, waiting: NodeSet, event: &Event) -> NodeSet
     requires { can_absorb board.old event.now ≡ true }
     ensures board { board.new ≡ after board.old event.now }

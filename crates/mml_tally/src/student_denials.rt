@@ -10,7 +10,7 @@ use mml_ids::{Memory, Piece, put};
 use mml_lab::{Lab, Student, Who};
 use std::alloc::Global;
 
-/// A denial that a student who is known can get, by the name in its reply.
+/// A denial that a student can get after a granted hello, by the name in its reply.
 #[derive(Clone, Copy, Debug, PartialEq, Eq)]
 pub enum StudentDenial {
     /// The connection has a name already.
