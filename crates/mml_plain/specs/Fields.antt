@@ -27,7 +27,7 @@ truth_in (Number n) = None
 truth_in (Text s) = None
 truth_in Other = None
 
--- what a register shall point at by a value: Some None for null, and None if it is neither null nor such a number
+-- what a value sets a register to: Some None for null, and None if the value is neither null nor a number of 64 bits
 abbrev pub register_in : MemberValue → Option (Option ℕ)
 register_in Null = Some None
 register_in (Truth b) = None

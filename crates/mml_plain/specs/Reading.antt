@@ -1,4 +1,4 @@
--- What is read of tokens, and the object that a line is.
+-- The values that tokens stand for, and the object that is read from a line.
 use Rattle.std.specs.{Prelude.ℕ, Prelude.List, Prelude.[], Prelude.◌∷◌, Prelude.length, Prelude.Option, Prelude.Some, Prelude.None, Prelude.option_and_then, Prelude.if◌then◌else◌, Str.is_utf8}
 use Rattle.json.specs.{Token.Token, Json.value, Json.items, Json.members}
 use Rattle.serde_json.specs.{Data.Data, Data.Items, Data.Members, Data.no_members, Find.as_object, Read.of_json, Read.of_items, Read.of_members, Read.converted, Read.read}

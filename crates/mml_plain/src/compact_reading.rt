@@ -1,6 +1,6 @@
 //! Reads JSON objects in the layout that requests usually have. Their strings have no escapes, and spaces come only
-//! after the opening brace, commas and colons, as in a line that somebody typed. Objects are read from front to back,
-//! and the beginning of a known key four bytes at once.
+//! after the opening brace, commas and colons, as in a line that somebody typed. Objects are read from front to back.
+//! Keys are recognized by their first four bytes, which are compared at once.
 ghost use Rattle.std.specs.Prelude.{◌≡◌, ◌<◌, ◌^◌, ◌++◌, ◌∷◌, ◌+◌, ℕ, List, [], Some, IfSome, None, true, length, decimal, slice_index, IsUtf8};
 ghost use Rattle.std.specs.Int.{w32, to_be_bytes};
 ghost use Rattle.json.specs.Lex.{tokens};
@@ -29,9 +29,10 @@ const KEY: u32 = 0x6b65_7922;
 
 const NAME: u32 = 0x6e61_6d65;
 
-/// Reads a line into `fields`, which must be empty, if the line is an object in the usual layout: strings without
-/// escapes, and spaces only after the opening brace, commas and colons. Returns true if it is; then `fields` has the
-/// values of its keys. After false, `fields` may hold anything, and the line may be an object in another layout.
+/// Reads a line into `fields`, which must be empty, if the line is an object in the usual layout. In this layout,
+/// strings have no escapes, and spaces come only after the opening brace, commas and colons. Returns true if it is;
+/// then `fields` has the values of its keys. After false, `fields` may hold anything, and the line may be an object in
+/// another layout.
 #[inline(always)]
 pub(crate) fn read_compact<'a>(line: &'a [u8], fields: &mut Fields<'a>) -> bool
     requires { Holds fields.old (object no_members) }

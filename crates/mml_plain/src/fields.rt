@@ -49,7 +49,7 @@ impl<'a> Fields<'a> {
     }
 
     /// Adds one member of an object. If `key` is the key of a field, sets this field to the value, or to `None` if the
-    /// value is of another kind. Keys of one letter are compared apart, so that fewer comparisons are made.
+    /// value is of another kind. Keys of one letter are compared separately, so that fewer comparisons are made.
     #[inline(always)]
     pub(crate) fn put(&mut self, key: &str, value: &MemberValue<'a>)
         ensures { self.new ≡ with key.now value.now self.old }

@@ -35,7 +35,7 @@ impl<'a> MemberValue<'a> {
         }
     }
 
-    /// Returns the value's text, or `None` if it is no text.
+    /// Returns the value's text, or `None` if the value isn't a text.
     #[inline(always)]
     pub(crate) fn text(&self) -> Option<&'a str>
         ensures { result ≡ text_in self.now }
@@ -46,7 +46,7 @@ impl<'a> MemberValue<'a> {
         }
     }
 
-    /// Returns the value's number, or `None` if it is no number of 64 bits.
+    /// Returns the value's number, or `None` if the value isn't a number of 64 bits.
     #[inline(always)]
     pub(crate) fn number(&self) -> Option<u64>
         ensures { result ≡ number_in self.now }
@@ -57,7 +57,7 @@ impl<'a> MemberValue<'a> {
         }
     }
 
-    /// Returns the value's truth value, or `None` if it is none.
+    /// Returns the truth value, or `None` if the value isn't `true` or `false`.
     #[inline(always)]
     pub(crate) fn truth(&self) -> Option<bool>
         ensures { result ≡ truth_in self.now }
@@ -68,8 +68,9 @@ impl<'a> MemberValue<'a> {
         }
     }
 
-    /// Returns this value as one of the register p: `Some(Some(number))` for a number, the identifier of a node,
-    /// `Some(None)` for null, and `None` if the value is neither a number of 64 bits nor null.
+    /// Returns what the register p is to be set to by this value. This is `Some(Some(number))` for a number, which is
+    /// the identifier of a node, and `Some(None)` for null. Returns `None` if the value is neither a number of 64 bits
+    /// nor null.
     #[inline(always)]
     pub(crate) fn register(&self) -> Option<Option<u64>>
         ensures { result ≡ register_in self.now }
@@ -97,8 +98,8 @@ pub(crate) fn read_number(text: &str) -> Option<Option<u64>>
     }
 }
 
-// Returns what `read_number` returns for a number without a minus: `Some(None)` if it needs more than 64 bits or has a
-// point or an exponent, and `None` if it is too great to be read.
+// Returns what `read_number` returns for a number without a minus. This is `Some(None)` if the number needs more than
+// 64 bits or has a point or an exponent, and `None` if it is too great to be read.
 #[inline(always)]
 fn unsigned(numeral: &Numeral<'_>) -> Option<Option<u64>>
     ensures { result ≡ option_map as_u64 (number_from false numeral.now) }
@@ -109,9 +110,9 @@ fn unsigned(numeral: &Numeral<'_>) -> Option<Option<u64>>
     }
 }
 
-// Returns what `read_number` returns for a number with a minus, of which `numeral` is the part after the minus:
-// `Some(None)`, since no request has such a number, not even -0, or `None` if it is too great to be read. An integer
-// below 0 that fits 64 bits isn't read as a float, to save time.
+// Returns what `read_number` returns for a number with a minus; `numeral` is the part after the minus. This is
+// `Some(None)`, since no request has such a number, not even -0, or `None` if the number is too great to be read. To
+// save time, an integer that fits 64 bits isn't read as a float.
 #[inline(never)]
 fn below_zero(numeral: &Numeral<'_>) -> Option<Option<u64>>
     ensures { result ≡ option_map as_u64 (number_from true numeral.now) }
@@ -124,8 +125,8 @@ fn below_zero(numeral: &Numeral<'_>) -> Option<Option<u64>>
     float(true, numeral)
 }
 
-/// Returns what `read_number` returns for a number that is read as a float, with a minus before `numeral` if
-/// `negative`: `Some(None)`, since no request has a float, or `None` if the number is too great for one.
+/// Returns what `read_number` returns for a number that is read as a float, with a minus before `numeral` if `negative`
+/// is set. This is `Some(None)`, since no request has a float, or `None` if the number is too great for one.
 #[inline(never)]
 fn float(negative: bool, numeral: &Numeral<'_>) -> Option<Option<u64>>
     ensures { result ≡ option_map as_u64 (float_of negative numeral.now) }
