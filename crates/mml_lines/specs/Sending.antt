@@ -3,8 +3,8 @@ use Rattle.std.specs.Prelude.{◌≡◌, ℕ, ◌-◌, ◌≤◌, nat_lt, List, 
 use Rattle.std.specs.{List.concat, Io.KnownBytes.Appends}
 use Rattle.mml_lines.specs.declared.write_fault.WriteFault.{WriteFault}
 
--- if the first `out` bytes of lines with the listed lengths are written: how many of those bytes are of the first line
--- that isn't wholly written
+-- if the first `out` bytes of lines with the listed lengths are written, how many of them belong to the first line that
+-- isn't written whole
 abbrev pub part_in : List ℕ → ℕ → ℕ
 part_in [] out = out
 part_in (n ∷ ns) out = if nat_lt out n then out else part_in ns (out - n)

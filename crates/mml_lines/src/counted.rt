@@ -1,4 +1,4 @@
-//! A reader whose reads are counted. `Lines` reads only by means of it.
+//! A reader whose reads are counted. `Lines` reads only through it.
 ghost use Rattle.std.specs.Prelude.{◌≡◌, [], ◌+◌, ◌<◌, ◌≤◌, ◌⊎◌, take, vec_len, IfErr};
 ghost use Rattle.std.specs.Vec.{vec_capacity};
 ghost use Rattle.std.specs.Io.KnownBytes.{Consumes, IsAtEnd, prepend_known};

@@ -156,8 +156,8 @@ impl Outgoing {
     }
 }
 
-// Returns how many bytes of the first line that wasn't wholly written were written. `lengths` has the lengths of the
-// lines, and `out` is how many bytes of all lines together were written.
+// Returns how many bytes were written of the first line that isn't written whole. `lengths` has the lengths of the
+// lines, and `out` is the number of bytes that were written of all lines together.
 fn part_of(lengths: &[usize], out: usize) -> usize
     ensures { result ≡ part_in lengths.now out }
 {
