@@ -15,7 +15,7 @@ pub struct Retrying<T: Drop> {
 }
 
 impl<T: Drop> Retrying<T> {
-    /// Wraps a reader or a writer. So far no read or write of it has run out of memory.
+    /// Wraps a reader or a writer. Notes that memory hasn't run out in a read or write of it yet.
     pub fn new(inner: T) -> Retrying<T>
         ensures inner { result.inner ≡ inner }
         ensures lacked_memory { result.lacked_memory ≡ false }
@@ -74,7 +74,7 @@ impl<W: Write + Drop> Write for Retrying<W> {
         Err(Error::from(ErrorKind::TimedOut))
     }
 
-    // Flushes once, even if a signal interrupts the flush. Remembers nothing of it.
+    // Flushes once, and doesn't retry if a signal interrupts the flush. Doesn't remember whether memory ran out.
     fn flush(&mut self) -> io::Result<()>
         ensures { Keeps (W.contents self.old.inner) (W.contents self.new.inner) }
     {
