@@ -10,9 +10,9 @@ use std::alloc::Global;
 #[derive(Clone, Copy, Debug, PartialEq, Eq)]
 pub struct Closed;
 
-/// A server's state, which answers the commands of known participants. A view is answered by the events that were
-/// published before it, and an act by all events. An account is known on a connection from its granted hello to its
-/// bye. A view is what a see, a look or a report shows; an act is a request for an event.
+/// A server's state, which answers the commands of known participants. The reply to a view depends on the events that
+/// were published before it, and the reply to an act on all events. An account is known on a connection from its
+/// granted hello to its bye. A view is what a see, a look or a report shows; an act is a request for an event.
 pub trait Engine {
     ghost use Rattle.std.specs.Prelude.{◌≡◌, true, false, List, OnOk, IfErr};
     ghost use Rattle.mml_lab.specs.declared.who.Who.{Who};
