@@ -27,14 +27,14 @@ pub record AllAnswered (lab : LabValue) (input left wrote wrote' : Option (List 
   pub appended : Appends wrote wrote' (bytes_written transcript)
 
 -- the first lines of the input, those of a transcript, were answered, and the first bytes of their replies are written:
--- so many of the first line that isn't wholly written
+-- `written` counts those of the first line that isn't written whole
 pub record CutShort (written : ℕ) (lab : LabValue) (input left wrote wrote' : Option (List ℕ)) : Type 0 where
   pub transcript : Transcript lab
   pub consumed : Consumes input left (bytes_read transcript)
   pub cut : BreaksOff (record { written = written }) wrote wrote' (lines_written transcript)
 
--- all lines of the input were answered, the hall is in the state that they lead to, its sink is left as `Leaves` says,
--- and after the lines came the front of a script line
+-- all lines of the input were answered, and the hall is in the state that they lead to. Its sink is left as `Leaves`
+-- says. After the lines came the front of a script line
 abbrev pub Finished : {S : Type 0} → (S → State → Type 0) → HallValue S → LabValue → Option (List ℕ) → Option (List ℕ) → Option (List ℕ)
     → Option (List ℕ) → Type 0
 Finished Leaves hall lab input left wrote wrote' =

@@ -1,3 +1,3 @@
--- What is kept apart from the model: how a script ends. No public clause cites it.
+-- How a script ends. No contract of a public function cites this.
 pub mod Ending
 pub mod HallView

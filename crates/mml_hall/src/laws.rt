@@ -39,8 +39,8 @@ pub fn one_reply_each()
     ensures { (lab : LabValue) (t : Transcript lab) → length t.replies ≡ length t.lines }
 {}
 
-/// A request that is denied or refused leaves the world, the events, and who is known on each connection, as they were.
-/// The only change that it may make is to halt the journal.
+/// A request that is denied or refused doesn't change the world, the events, or who is known on each connection. The
+/// only change that it may make is to halt the journal.
 pub fn refusals_change_nothing()
     ensures { (lab : LabValue) (st : State) (connection : ℕ) (line : List ℕ) (out : Outcome)
         → Turn lab st connection line out → IsRefusal out.reply → IsKept st out.state }
@@ -53,8 +53,8 @@ pub fn events_grow_by_grants()
         → Turn lab st connection line out → GrowsByGrant st out }
 {}
 
-/// The journal is halted if a write to its sink fails, in place of a grant, and by nothing else. Once halted, it stays
-/// so. If the reply is the refusal `journal`, the journal is halted afterwards.
+/// The journal is halted exactly if the line of a granted event can't be written to its sink. The event then doesn't
+/// happen. Once halted, the journal stays so. If the reply is the refusal `journal`, the journal is halted afterwards.
 pub fn failed_puts_halt_for_good()
     ensures failed { (lab : LabValue) (st : State) (connection : ℕ) (line : List ℕ)
         → is_grant (plain_turn lab st connection line).reply ≡ true

@@ -35,10 +35,10 @@ use std::io::{Read, Write};
 pub enum ScriptFault {
     /// A read failed, or one more was needed after the most that there may be.
     Read,
-    /// A write failed, or took nothing, after that many bytes of the first line that isn't wholly written. If a flush
+    /// A write failed, or took nothing, after that many bytes of the first line that isn't written whole. If a flush
     /// failed after all lines, the number is 0.
     Write { written: usize },
-    /// The line with this number, from 1, is no script line.
+    /// The line with this number, counted from 1, isn't a script line.
     BadLine(u64),
     /// Memory ran out before anything was read.
     Memory,
@@ -125,7 +125,7 @@ impl Buffers {
 }
 
 // Reserves the buffers, and answers all lines of the input in a hall that was just opened. Returns an error if the
-// script ended before its input, which is `Memory` only if nothing was read.
+// script ended before its input. This error is `Memory` only if nothing was read.
 fn answer_all<R: Read, W: Write, S: Sink>(
     alloc: Global,
     hall: &mut Hall<S>,
@@ -145,7 +145,7 @@ fn answer_all<R: Read, W: Write, S: Sink>(
 }
 
 // Answers the lines of the input, one by one, until it ends. The buffers must be new, and the hall just opened. Returns
-// an error if the script ended before its input, which is never `Memory`.
+// an error if the script ended before its input. This error is never `Memory`.
 fn answer_lines<R: Read, W: Write, S: Sink>(
     alloc: Global,
     hall: &mut Hall<S>,
@@ -302,8 +302,8 @@ fn serve_line<W: Write, S: Sink>(
 }
 
 // Answers a script line, and appends the reply to the held ones in `outgoing`. A short reply is written straight into
-// that buffer, if it has room, and any other by `write_by_buffer`, by way of `out`. Returns `WriteFault` if a write
-// fails.
+// that buffer, if it has room. Any other reply is written by `write_by_buffer`, which uses the buffer `out`. Returns
+// `WriteFault` if a write fails.
 fn serve_script_line<W: Write, S: Sink>(
     alloc: Global,
     hall: &mut Hall<S>,
