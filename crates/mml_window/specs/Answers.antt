@@ -21,8 +21,8 @@ pub record Takes (lab : LabValue) (l : List Event) (who : Who) (command : Comman
   pub placed : place ≡ (world_in lab (l ++ e ∷ [])).place
   pub numbered : number ≡ (world_in lab (l ++ e ∷ [])).number
 
--- the effect of deciding on the book, by the answer: a denial, no room and no memory leave it as it was; it halts if
--- the journal fails, if it wasn't halted already; a grant adds the event
+-- the effect of a decision on the book, by the answer. A denial leaves the book as it was, and so does a refusal
+-- because of the limit or of memory. If the journal fails, the book is halted afterwards. A grant adds the event
 abbrev pub Decides : {S : Type 0} → LabValue → (S → ℕ) → BookValue S → Who → Command → Answer → BookValue S → Type 0
 Decides lab failures old who command (Denied d) new = (ruling_at lab (world_in lab old.events) who command ≡ ruling.Denied d) × (new ≡ old)
 Decides lab failures old who command (Refused Full) new =
@@ -33,8 +33,8 @@ Decides lab failures old who command (Refused Memory) new = Grants lab old.event
 Decides lab failures old who command (Granted place number done) new =
     (e : Event) × Takes lab old.events who command e place number done × Grows failures old new e
 
--- what a legal event does to the book, if there is room and the journal isn't halted: without memory it stays as it
--- was, it halts if the journal fails, and else it has the event
+-- what a legal event does to the book, if there is room and the journal isn't halted. If memory runs out, the book
+-- stays as it was; if the journal fails, it is halted; otherwise it has the event
 abbrev pub Lets : {S : Type 0} → LabValue → (S → ℕ) → BookValue S → Event → Done → Answer → BookValue S → Type 0
 Lets lab failures old e done (Denied d) new = ⊥
 Lets lab failures old e done (Refused Full) new = ⊥

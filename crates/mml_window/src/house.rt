@@ -29,7 +29,7 @@ impl House for Brand {
     ghost lab = { no_lab };
 }
 
-/// A slot, by which one reader enters the copy of what a house publishes. The writer waits until no reader is in the
+/// A slot, by which one reader enters the published copy of a house's data. The writer waits until no reader is in the
 /// copy that it changes.
 pub(crate) type Slot<H> = Reader<Published, View, Publishing<H>>;
 

@@ -1,8 +1,8 @@
 //! One list of events under a lock, and windows that see what is published without taking the lock.
 //!
 //! A house is one run of a lab that threads share: its list of granted events, the board after them, and their journal.
-//! The book is what a house keeps, and the desk is the book with its lock. A window is one session's view of the
-//! published events and board.
+//! The book has the events, the board and the journal of a house, and the desk is the book with its lock. A window is
+//! one session's view of the published events and board.
 #![tactic(auto)]
 
 mod answer;

@@ -56,8 +56,9 @@ pub(crate) fn take_slot<H: House>(press: &Press<H>, reader: &mut Option<Reader<H
     }
 }
 
-/// Lets the reader enter what is published, which can be read until `leave` is called. Takes the reader out of `reader`
-/// meanwhile. Returns `None` if there is no reader, or if the writer is gone; then the reader stays in `reader`.
+/// Makes the reader enter the published copy, which can be read until `leave` is called. Takes the reader out of
+/// `reader`, which is then `None`. Returns `None` if there is no reader, or if the writer is gone. In the second case,
+/// the reader stays in `reader`.
 pub(crate) fn enter<H: House>(reader: &mut Option<Reader<H>>) -> Option<Entered<H>>
     ensures saw { IfSome result (λ reading.
         Saw H.lab (view_by reader.old) reading.part.value (view reading.place)) }
@@ -75,7 +76,7 @@ pub(crate) fn enter<H: House>(reader: &mut Option<Reader<H>>) -> Option<Entered<
     }
 }
 
-/// Ends the reading that `enter` began, and returns the reader, which has then seen all events of the copy that it had
+/// Ends the reading that `enter` began, and returns the reader. It has then seen all events of the copy that it had
 /// entered.
 pub(crate) fn leave<H: House>(reading: Entered<H>) -> Reader<H>
     requires { view reading.place ≡ viewer reading.part.value.events.items }

@@ -27,8 +27,8 @@ impl<H: House> Protocol<Published, View> for Publishing<H> {
     ghost first = { nothing_seen };
 }
 
-/// The outcome of a publication for the writer, or of an entry for a reader: the writer or the reader sees a list that
-/// begins with all events that it had seen.
+/// What the writer has seen after a publication, or a reader after an entry: a list that begins with all events that it
+/// had seen before.
 pub struct Seeing<H: House> {
     of: PhantomData<H>,
 }

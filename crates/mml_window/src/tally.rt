@@ -1,4 +1,4 @@
-//! Whether the places (event numbers) that windows were granted are those after a first one, each once.
+//! The check that the windows were granted all places (event numbers) after a first one, each once.
 //!
 //! A window is one session's view of the published events and board. The place of an event is its number in the list of
 //! events, from 1. A window keeps the places of the events that its session was granted.
@@ -10,7 +10,7 @@ ghost use Rattle.mml_window.specs.inside.Cursors.{left_of, IsStuck};
 use crate::house::House;
 use crate::window::Window;
 
-/// For each window the index of the first of its places that isn't counted off yet. There are at most 16 windows, as
+/// For each window, the index of the first of its places that isn't counted off yet. There are at most 16 windows, as
 /// many as a lab may have sessions.
 type Cursors = [usize; 16];
 
