@@ -50,10 +50,10 @@ pub record LastUnanswered (lab : LabValue) (old new : WindowValue) (input left w
   pub consumed : Consumes input left (bytes_read talk ++ ended line)
   pub appended : Appends wrote wrote' (bytes_written talk)
 
--- what was answered and written, by how the session ended. `held` are the bytes that were read and not used: after a
--- bye, a failed write or a closed window fewer than one read brings; at the end of the input or after a failed read the
--- beginning of a line; else bytes that are too many for a line. If a write failed, `n` bytes of the replies' lines are
--- written, and only lines of the last flush lack
+-- what was answered and written, by how the session ended. `held` are the bytes that were read and not used. After a
+-- bye, a failed write or a closed window, they are fewer than one read brings. At the end of the input or after a
+-- failed read, they are the beginning of a line. Otherwise they are too many for a line. If a write failed, `n` bytes
+-- of the replies' lines are written, and only lines of the last flush are missing
 abbrev pub Ended : SessionEnd → LabValue → WindowValue → WindowValue → Option (List ℕ) → Option (List ℕ) → Option (List ℕ) → Option (List ℕ) → Type 0
 Ended end.Bye lab old new input left wrote wrote' =
     (held : List ℕ) × (a : LastAnswered (λ line. line) lab old new input (prepend_known held left) wrote wrote')

@@ -31,8 +31,8 @@ pub record BreaksInLastFlush (lab : LabValue) (replies : List Reply) (written : 
   pub few : length (reply_lines lab buffered) ≤ HELD_BYTES
 
 -- of the lines of these replies and of the last one, the writer took all those that earlier flushes wrote, and then
--- `part`. What lacks is the rest of the last flush: before the last line it has at most `HELD_BYTES` bytes, in at most
--- 512 lines
+-- `part`. What is missing is the rest of the last flush, which before the last line has at most `HELD_BYTES` bytes, in
+-- at most 512 lines
 pub record LacksLastFlush (lab : LabValue) (replies : List Reply) (last : Reply) (wrote wrote' : List ℕ) : Type 0 where
   pub flushed : List Reply
   pub buffered : List Reply
@@ -45,8 +45,8 @@ pub record LacksLastFlush (lab : LabValue) (replies : List Reply) (last : Reply)
   pub few : length (reply_lines lab buffered) ≤ HELD_BYTES
   pub few_lines : length buffered ≤ 512
 
--- the buffered replies were written, and the session ended as `ending` says; or the write broke off, and the session
--- ended by that, with `before` as the one who was known
+-- the buffered replies were written, and the session ended as `ending` says. Or the write broke off and ended the
+-- session, and `before` is who was known
 abbrev pub LetsOut : Ending → Option Who → Ending → List ℕ → Option (List ℕ) → Option (List ℕ) → Type 0
 LetsOut ending before result held wrote wrote' =
     ((result ≡ ending) × Appends wrote wrote' held) ⊎ ((result ≡ record { end = end.WriteFault; who = before }) × BreaksOff wrote wrote' held)

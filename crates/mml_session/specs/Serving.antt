@@ -43,8 +43,8 @@ ServesLine (Ok said) number lab st after line unsent unsent' wrote wrote' given 
 ServesLine (Err closed) number lab st after line unsent unsent' wrote wrote' given given' =
     (after ≡ st) × IsView st line × (unsent' ≡ unsent) × (wrote' ≡ wrote) × Records number given given' []
 
--- a session goes on if its reply is written or held and isn't that to a bye, and else has ended: by the bye, the write
--- that failed, or the window that shows nothing any more
+-- a session goes on if its reply is written or buffered, and isn't the reply to a bye. Otherwise it has ended: by the
+-- bye, by a failed write, or because the window shows nothing any more
 abbrev pub next_after : Result Sent Closed → Next
 next_after (Ok sent.Told) = next.Served
 next_after (Ok sent.Bye) = next.Ended end.Bye

@@ -18,7 +18,7 @@ const HELD_BYTES: usize = 8192;
 #[derive(Drop)]
 pub(crate) struct Held {
     pub(crate) bytes: Vec<u8>,
-    // How many replies, buffered or written, the observer hasn't been called for yet.
+    // How many replies were buffered or written since the observer was last called for written replies.
     pub(crate) replies: u32,
 }
 

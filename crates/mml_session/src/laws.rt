@@ -25,8 +25,8 @@ pub fn places_are_those_told()
         t.end.window.places ≡ st.window.places ++ flat_map places_in t.replies }
 {}
 
-/// What a session's window has seen only grows: the events that it had seen before a turn, or before several, are the
-/// first of those that it has seen afterwards.
+/// What a session's window has seen only grows. The events that it had seen before one or several turns are the first
+/// of those that it has seen afterwards.
 pub fn seen_goes_on()
     ensures turn { (lab : LabValue) (st after : Standing) (t : LineTurn lab st after) →
         IsPrefix st.window.seen after.window.seen }
@@ -41,7 +41,7 @@ pub fn one_reply_each()
 {}
 
 /// If lines were answered and other bytes follow, the lines of the whole input begin with the answered ones. If no
-/// newline follows, they are all.
+/// newline is among the other bytes, there are no further lines.
 pub fn lines_of_a_talk()
     ensures first { (lab : LabValue) (st : Standing) (t : Talk lab st) (rest : List ℕ) →
         lines_of (bytes_read t ++ rest) ≡ t.lines ++ lines_of rest }
@@ -50,8 +50,8 @@ pub fn lines_of_a_talk()
 {}
 
 /// If a session ended because a write failed, the writer took all lines that earlier flushes wrote, and a beginning of
-/// the last flush. The rest of the last flush lacks, and it isn't empty. Before the last line, the last flush has at
-/// most 8192 bytes (`HELD_BYTES`), in at most 512 lines.
+/// the last flush. The rest of the last flush is missing, and it isn't empty. Before the last line, the last flush has
+/// at most 8192 bytes (`HELD_BYTES`), in at most 512 lines.
 pub fn a_broken_session_lacks_its_last_flush()
     ensures lacks { (lab : LabValue) (old new : WindowValue) (input left : Option (List ℕ)) (wrote wrote' : List ℕ)
         (e : Ended end.WriteFault lab old new input left (Some wrote) (Some wrote')) →

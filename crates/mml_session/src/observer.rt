@@ -72,8 +72,8 @@ impl<'a, G: Gate, K: Recorder + Drop> Observer for Gated<'a, G, K> {
 }
 
 // Records a line, its reply and `out`, the reply's line, in a recorder, unless the reply shows a view. `seen` is how
-// many events the window has seen after the line. Recorded is how many it had seen when the line was judged: one less
-// if the line was granted, since that made an event.
+// many events the window has seen after the line. The record instead gets how many it had seen when the line was
+// judged. This is one less if the reply grants an event, and otherwise `seen`.
 fn record<K: Recorder>(
     recorder: &mut K,
     number: u8,

@@ -61,8 +61,8 @@ pub struct Ending {
 
 /// Answers the lines of a reader one by one through a window, and returns how the session ended. Replies are buffered,
 /// and all are written before the reader is read again. If a write fails, all replies of earlier flushes were written
-/// whole, and only lines of the last flush can lack. A granted event stays granted even if its reply can't be written.
-/// `gate` may pause the session, and is called with its number `connection`.
+/// whole, and only lines of the last flush can be missing. A granted event stays granted even if its reply can't be
+/// written. `gate` may pause the session, and is called with its number `connection`.
 pub fn serve_one<Rt: Wait, S: Sink + Drop, H: House, R: Read, W: Write, G: Gate>(
     rt: &Rt,
     alloc: Global,
@@ -128,8 +128,8 @@ pub fn serve_observed<Rt: Wait, S: Sink + Drop, H: House, R: Read, W: Write, O: 
     }
 }
 
-// The state of a session: the number of its connection, who is known on it, its line reader, memory for reading a line
-// and for a long reply, and the buffered replies.
+// The state of a session: the number of its connection, who is known on it, its line reader, and the buffered replies.
+// It also has memory for reading a line and for a long reply.
 #[derive(Drop)]
 struct Session {
     connection: u8,
@@ -164,7 +164,7 @@ impl Session {
 // What happens after a line was read, or couldn't be.
 #[derive(Clone, Copy)]
 enum Next {
-    // It was answered, and the session goes on.
+    // The line was answered, and the session goes on.
     Served,
     // The session ended, by that line or without one.
     Ended(SessionEnd),

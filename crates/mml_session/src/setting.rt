@@ -6,8 +6,7 @@ use mml_journal::Sink;
 use mml_window::{Desk, House};
 use std::alloc::Global;
 
-/// What all sessions of a house (one run of the server) share: the runtime, the allocator, and the desk, which decides
-/// acts.
+/// What all sessions of a house share: the runtime, the allocator, and the desk, which decides acts.
 #[derive(Drop)]
 pub struct Setting<'a, Rt, S: Sink, H: House> {
     pub rt: &'a Rt,
