@@ -10,7 +10,7 @@ use std::io::{ErrorKind, Read, Write};
 use std::net::TcpListener;
 use std::vec::IntoIter;
 
-/// A source of connections, which it returns as they come, each as a reading and a writing end.
+/// A source of connections. It returns each connection as it comes, as a reading and a writing end.
 pub trait Arrivals<R: Read + Drop, W: Write + Drop> {
     // The connections that are still to come; `None` if contracts can't name them.
     ghost to_come: { Self → Option (List (R × W)) } = { λ _. None };
@@ -47,7 +47,7 @@ pub trait HangUp: Write {
 
 impl Arrivals<Socket, Socket> for TcpListener {
     // Waits for the next connection and returns its two ends: two handles of one socket, which is set to send each
-    // write at once. Returns an error if no connection was accepted, or no second handle could be made.
+    // write at once. Returns an error if accepting fails, or no second handle can be made.
     fn accept_next(&mut self) -> io::Result<(Socket, Socket)> {
         let (stream, _) = self.accept()?;
         // If the system refuses to send each write at once, replies are still sent, only later.

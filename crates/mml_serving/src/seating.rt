@@ -36,8 +36,8 @@ struct Seated<H: House, R: Drop, W: Drop> {
 }
 
 /// Serves the next `connections` connections, each in a thread of its own and through one of `windows`. Returns the
-/// used windows, and how the sessions ended, both in the order in which the connections came. Returns an error if one
-/// couldn't be accepted, no thread could be made, or memory runs out. All threads have ended when it returns, even
+/// used windows, and how the sessions ended, both in the order in which the connections came. Returns an error if
+/// accepting a connection or starting a thread fails, or memory runs out. All threads have ended when it returns, even
 /// after an error.
 pub(crate) fn serve_all<
     Rt: Threads + Wait + Sync,
@@ -99,8 +99,7 @@ pub(crate) fn serve_all<
     )
 }
 
-// What a thread promises about its result: the connection was served to its end, through a window that had seen
-// nothing.
+// The contract of a thread's result: the connection was served to its end, through a window that had seen nothing.
 #[derive(Drop)]
 struct ConnectionPledge<R: Drop, W: Drop>(Snapshot<Connection<R, W>>);
 
@@ -165,8 +164,9 @@ fn accept_fault(kind: ErrorKind) -> SeatingFault
     }
 }
 
-// Serves the connection of a seat and closes it at once, so that neither its other side nor the system has to wait for
-// other sessions. Returns the seat's window, and how the session ended with the connection's two ends.
+// Serves the connection of a seat, and closes it as soon as its session has ended. So neither the other side nor the
+// system has to wait for other sessions. Returns the seat's window, and how the session ended with the connection's two
+// ends.
 fn serve_seated<Rt: Wait, S: Sink + Drop, H: House, R: LetGo + Drop, W: HangUp + Drop, G: Gate>(
     rt: &Rt,
     alloc: Global,

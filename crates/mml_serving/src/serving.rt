@@ -46,7 +46,7 @@ pub enum ServeFault {
     Place,
     /// A connection couldn't be accepted.
     Accept,
-    /// A check at the end failed: the places that the windows were given aren't those of the events, each once.
+    /// A check at the end failed: the places in the windows' grants aren't exactly those of the events, each once.
     Astray,
     /// The journal is halted.
     Halted,
@@ -84,7 +84,7 @@ pub fn serve_on<Rt: Threads + Wait + Sync, S: Sink + Send + Drop, G: Gate + Sync
 /// Serves the next `connections` connections of a listener in a new house of the lab. Then writes the last line: the
 /// number of events, and the configuration that they led to. Returns the result of the house, or why it failed. If
 /// accepting fails, the connections that had come are still served to their ends. If memory ran out in a session or a
-/// socket, returns `Memory`, though the last line was written. The contract can't speak of a socket's bytes; see
+/// socket, returns `Memory`, even though the last line was written. The contract can't speak of a socket's bytes; see
 /// `serve_arrivals`.
 pub fn serve_house_on<Rt: Threads + Wait + Sync, S: Sink + Send + Drop, G: Gate + Sync, W: Write>(
     rt: &Rt,
@@ -121,9 +121,9 @@ pub fn serve_house_on<Rt: Threads + Wait + Sync, S: Sink + Send + Drop, G: Gate 
 }
 
 /// Serves the first `connections` connections that arrive, each in a thread and through a window of its own. Opens a
-/// house for them, ends it when all sessions have ended, and then writes the last line. Without a fault there is one
-/// legal list of events, and each reply shows a beginning of it. The places that the replies name are those of its
-/// events, each once.
+/// house for them, ends it when all sessions have ended, and then writes the last line. If there is no fault, the house
+/// has one legal list of events, and each reply shows a beginning of it. The places that the replies name are those of
+/// its events, each once.
 pub fn serve_arrivals<
     Rt: Threads + Wait + Sync,
     S: Sink + Send + Drop,

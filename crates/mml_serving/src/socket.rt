@@ -18,7 +18,7 @@ const TURN: u64 = 15;
 // The most bytes that a turn of `linger` reads, so that all together read at most 64 kB.
 const TURN_SIZE: usize = 1024;
 
-/// A handle of a connected socket. When it was closed, each read and each write fails.
+/// A handle of a connected socket. Once it is closed, each read and each write fails.
 #[derive(Drop)]
 pub struct Socket {
     pub(crate) end: Retrying<Handle>,
@@ -34,14 +34,16 @@ impl Socket {
 }
 
 impl Read for Socket {
-    // Reads from the socket, and retries if a signal interrupts it. Returns `NotConnected` once the handle was closed.
+    // Reads from the socket, and retries if a signal interrupts the read. Returns `NotConnected` once the handle is
+    // closed.
     fn read(&mut self, buf: &mut [u8]) -> io::Result<usize> {
         self.end.read(buf)
     }
 }
 
 impl Write for Socket {
-    // Writes to the socket, and retries if a signal interrupts it. Returns `NotConnected` once the handle was closed.
+    // Writes to the socket, and retries if a signal interrupts the write. Returns `NotConnected` once the handle is
+    // closed.
     fn write(&mut self, buf: &[u8]) -> io::Result<usize> {
         self.end.write(buf)
     }
@@ -74,13 +76,13 @@ impl HangUp for Socket {
 }
 
 /// Ends a connection without losing what was written to it. Shuts down the writing side, and then reads and drops what
-/// the other side still sends, in at most 64 turns of 15 milliseconds and 1024 bytes: closing a socket with unread
-/// bytes would discard what it has still to send. Stops early if the other side has ended or is gone, or once
+/// the other side still sends, in at most 64 turns of 15 milliseconds and 1024 bytes. Closing a socket with unread
+/// bytes would discard what it still has to send. Stops early if the other side has ended or is gone, or once
 /// `is_hurried` is set. Then closes the handle.
 pub fn linger(stream: TcpStream, is_hurried: &AtomicBool) {
     let mut stream = stream;
     let turn = Some(Duration::from_millis(TURN));
-    // Both fail if the other side is gone.
+    // Both calls fail if the other side is gone.
     if stream.shutdown(Shutdown::Write).is_err() || stream.set_read_timeout(turn).is_err() {
         return;
     }
@@ -111,12 +113,12 @@ fn is_transient(kind: ErrorKind) -> bool
     matches!(kind, ErrorKind::WouldBlock | ErrorKind::Interrupted)
 }
 
-// The handle of a `Socket`, or none once it was closed.
+// The handle of a `Socket`, or `None` once it is closed.
 #[derive(Drop)]
 pub(crate) struct Handle(Option<TcpStream>);
 
 impl Read for Handle {
-    // Reads the socket once. Returns `NotConnected` once the handle was closed.
+    // Reads from the socket once, without a retry. Returns `NotConnected` if the handle is closed.
     fn read(&mut self, buf: &mut [u8]) -> io::Result<usize> {
         match &mut self.0 {
             Some(stream) => stream.read(buf),
@@ -126,7 +128,7 @@ impl Read for Handle {
 }
 
 impl Write for Handle {
-    // Writes to the socket once. Returns `NotConnected` once the handle was closed.
+    // Writes to the socket once, without a retry. Returns `NotConnected` if the handle is closed.
     fn write(&mut self, buf: &[u8]) -> io::Result<usize> {
         match &mut self.0 {
             Some(stream) => stream.write(buf),
