@@ -13,8 +13,9 @@ pub record ComesAfter (begun count : ℕ) (ps before : List ℕ) (p : ℕ) : Typ
   pub split : ps ≡ before ++ p ∷ after
   pub granted : AreGranted begun count before
 
--- nothing is amiss with the places, and if the records are whole, each from begun + 1 to `count` is there; or the first one with which
--- something is amiss isn't above `begun` and at most `count`, or stands there before; or in whole records the least is missing
+-- nothing is amiss with the places, and if the records are whole, each from begun + 1 to `count` is there. Or something
+-- is amiss with a place: the first such place isn't above `begun` and at most `count`, or it also comes earlier in the
+-- list. Or the records are whole, and this is the least place that is missing
 abbrev pub IsFound : ℕ → ℕ → Bool → List ℕ → Option Misgranted → Type 0
 IsFound begun count whole ps None = AreGranted begun count ps × (whole ≡ true → IsEachOnceFrom begun count ps)
 IsFound begun count whole ps (Some (Early p)) = (before : List ℕ) × ComesAfter begun count ps before p × (once_from begun count p ≡ 0)

@@ -1,4 +1,4 @@
--- What stands apart from classes: what is held while their records are read. No public clause cites it.
+-- The state while the records of a class are read. No contract of a public function cites this.
 pub mod Marking
 pub mod Seats
 pub mod Unread

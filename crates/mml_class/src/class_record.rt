@@ -62,10 +62,10 @@ impl From<SeatFault> for ClassFault {
     }
 }
 
-/// Checks the texts of all seats as the record of a class, against the list of events of a journal of the lab. Reads
-/// first how many events came before, then seat by seat, and at last checks that the events are granted once each.
-/// Returns the first fault that is found. If `with_asks` is set, also returns what each line asked; each text is then
-/// read into memory as a whole.
+/// Checks that the texts of all seats are the record of a class with this list of events. First reads how many events
+/// came before the record, and then the text of each seat. At last checks that each event is granted once. Returns the
+/// first fault that is found. If `with_asks` is set, also returns what each line asked; each text is then read into
+/// memory as a whole.
 pub fn read_class<R: Read + Drop, S: Seats<R>>(
     alloc: Global,
     lab: &Lab,
@@ -110,9 +110,9 @@ pub fn read_class<R: Read + Drop, S: Seats<R>>(
     }
 }
 
-// Returns the first fault in the places that records grant: a place that isn't from `begun` + 1 to `count`, one that is
-// granted twice, or, if the records are `whole`, one that is granted nowhere. Returns `None` if there is no fault, and
-// `Memory` if memory runs out.
+// Returns the first fault in the places that records grant. A fault is a place that isn't from `begun` + 1 to `count`,
+// or one that is granted twice. If the records are `whole`, a place that is granted nowhere is a fault, too. Returns
+// `None` if there is no fault, and `Memory` if memory runs out.
 fn find_amiss(
     alloc: Global,
     places: &[u64],
@@ -184,9 +184,9 @@ fn read_seat<R: Read + Drop, S: Seats<R>>(
     }
 }
 
-// Checks a seat's text as a record, and returns the verdict. If `with_asks` is set, reads the text as a whole, and
-// appends what its lines asked to `asks` if it is a record; otherwise reads it piece by piece. Appends the places that
-// it grants to `granted`.
+// Checks whether a seat's text is a record, and returns the verdict. Appends the places that it grants to `granted`. If
+// `with_asks` is set, reads the text as a whole, and if it is a record, appends what its lines asked to `asks`.
+// Otherwise reads the text piece by piece.
 fn read_text<R: Read + Drop>(
     alloc: Global,
     lab: &Lab,
@@ -210,8 +210,8 @@ fn read_text<R: Read + Drop>(
     }
 }
 
-// Checks a seat's text, which is in memory, as a record, and returns the verdict. Appends the places that it grants to
-// `granted`, and, if it is a record, what its lines asked to `asks`.
+// Checks whether a seat's text, which is in memory, is a record, and returns the verdict. Appends the places that it
+// grants to `granted`, and, if it is a record, what its lines asked to `asks`.
 fn read_asked(
     alloc: Global,
     lab: &Lab,
@@ -234,9 +234,9 @@ fn read_asked(
     }
 }
 
-// Checks the bytes of a reader as a seat's record, piece by piece, and returns the verdict. Appends the places that it
-// grants to `granted`. Returns `Read` if a read fails, or the text or an entry is too long, and `Memory` if memory runs
-// out.
+// Checks piece by piece whether the bytes of a reader are a seat's record, and returns the verdict. Appends the places
+// that it grants to `granted`. Returns `Read` if a read fails, or the text or an entry is too long, and `Memory` if
+// memory runs out.
 fn read_pieces<R: Read + Drop>(
     alloc: Global,
     lab: &Lab,
@@ -256,7 +256,7 @@ fn read_pieces<R: Read + Drop>(
     }
 }
 
-// Returns why a text couldn't be read, by why it couldn't be read piece by piece. A text that is too long is `Read`.
+// Converts the error of reading a text piece by piece. A text that is too long becomes `Read`.
 fn of_pieces(why: PieceFault) -> SeatFault
     ensures { result ≡ of_pieces why }
 {
@@ -277,7 +277,7 @@ fn read_all<R: Read + Drop>(alloc: Global, reader: R, limit: u32) -> Result<Vec<
     }
 }
 
-// Returns why a text couldn't be read, by why it couldn't be read as a whole. A text that is too long is `Read`.
+// Converts the error of reading a text as a whole. A text that is too long becomes `Read`.
 fn of_whole(why: WholeFault) -> SeatFault
     ensures { result ≡ of_whole why }
 {
