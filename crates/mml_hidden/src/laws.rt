@@ -34,8 +34,8 @@ ghost use Rattle.mml_hidden.specs.Sight.{ShowsTheSame, MoveAlike, IsUntouched, I
 ghost use Rattle.mml_hidden.specs.Twins.{AreTwins, BeginAlike, StatesAlike, is_hers};
 ghost use Rattle.mml_hidden.specs.Coalitions.{AlikeFor, StatesAlikeFor, StayAlikeFor, AreTheirsThroughout, BeginAlikeFor, RunAlikeFor, is_theirs};
 
-/// If two worlds are alike for a student (they agree in all that she may see), each command of hers has the same reply
-/// in both, with the same bytes. The worlds after the command are alike again.
+/// Take two worlds that are alike for a student: they agree in all that she may see. Each command of hers has the same
+/// reply in both, with the same bytes. The worlds after the command are alike again.
 pub fn hidden_values_change_no_reply_line()
     ensures reply { (ids : List ℕ) (r : RosterValue) (limit : ℕ) (is_halted : Bool) (w v : World)
         (s : ℕ) (c : Command) → IsWorldOf ids w → IsWorldOf ids v → Alike r s w v →
@@ -52,9 +52,9 @@ pub fn hidden_values_change_no_reply_line()
 {}
 
 /// Take states of two twin labs, which differ at most in the links and registers at the beginning. If the states are
-/// alike for a student, a line on a connection that is known as hers, or as nobody's yet, gets the same reply line in
-/// both. The states afterwards are alike again. The same mishap (memory that ran out or a failed write) must befall
-/// both turns.
+/// alike for a student, a line gets the same reply line in both if its connection is known as hers, or as nobody's yet.
+/// The states afterwards are alike again. The same mishap (memory that ran out or a failed write) must befall both
+/// turns.
 pub fn hidden_values_change_no_turn()
     ensures line { (lab other : LabValue) (s : ℕ) (st su : State) (mishap : Mishap) (k : ℕ)
         (line : List ℕ) → AreTwins lab other → StatesAlike lab s st su →
@@ -132,9 +132,8 @@ pub fn hidden_values_change_no_script_with_mishaps()
         StatesAlike lab s (end_with lab st bs) (end_with other su bs) }
 {}
 
-/// For each run of a hall (the engine that answers the lines of numbered connections) there is a list of mishaps, one
-/// for each line, so that the run consists of the turns with these mishaps. The mishap `nothing` means that all went
-/// well.
+/// Each run of a hall (the engine that answers the lines of numbered connections) consists of turns with mishaps, one
+/// for each line. The mishap `nothing` means that all went well.
 pub fn something_befell_each_line()
     ensures { (lab : LabValue) (st : State) (lines : List RequestLine) (rs : List Reply)
         (end : State) → Run lab st lines rs end → Befalls lab st lines rs end }
@@ -157,8 +156,9 @@ pub fn one_who_is_alone_can_not_tell()
         AreUnhindered u.replies → bytes_written t ≡ bytes_written u }
 {}
 
-/// If two labs begin alike for a student (with the same participants, and worlds that agree in all that she may see),
-/// the first states of their runs are alike for her. In the first state of a run nobody is known on any connection.
+/// Two labs begin alike for a student if they have the same participants, and their first worlds agree in all that she
+/// may see. Then the first states of their runs are alike for her. In the first state of a run nobody is known on any
+/// connection.
 pub fn runs_begin_alike()
     ensures states { (lab other : LabValue) (s : ℕ) → BeginAlike lab other s →
         StatesAlike lab s (opening lab) (opening other) }
@@ -173,9 +173,9 @@ pub fn unhindered_runs_are_plain()
         (rs ≡ replies_to lab st lines) × (end ≡ end_of lab st lines) }
 {}
 
-/// If an event happens in only one of two worlds that are alike for a student, the worlds aren't alike any more: their
-/// places (how many events there were) differ. If an event happens in each, of which one makes a configuration and the
-/// other doesn't, the numbers of their configurations differ.
+/// If an event happens in only one of two worlds that are alike for a student, the worlds aren't alike any more: the
+/// numbers of their events differ. If an event happens in each, but only one of the two makes a configuration, the
+/// numbers of their configurations differ.
 pub fn events_are_told_by_place_and_number()
     ensures first { (r : RosterValue) (s : ℕ) (w v : World) (e : Event) → Alike r s w v →
         ¬ Alike r s (after w e) v }
@@ -210,7 +210,7 @@ pub fn events_out_of_sight_keep_worlds_alike()
 {}
 
 /// Two networks are alike for a student at the beginning if they differ only in the registers of one node that isn't
-/// visible to her, or only in a link between two nodes, neither of which she owns.
+/// visible to her. They are also alike if they differ only in a link between two nodes, neither of which she owns.
 pub fn labs_may_differ_out_of_sight()
     ensures registers { (n : Network) (r : RosterValue) (s i : ℕ) (regs : Regs) → IsNetwork n →
         ¬ IsVisible r (configuration_of n) (who.Student s) i →
@@ -287,7 +287,8 @@ pub fn coalitions_learn_nothing_hidden()
 {}
 
 /// Two networks are alike for each member of a coalition at the beginning if they differ only in the registers of one
-/// node that is visible to none of them, or only in a link between two nodes that none of them owns.
+/// node that is visible to none of them. They are also alike if they differ only in a link between two nodes that none
+/// of them owns.
 pub fn labs_may_differ_out_of_a_coalitions_sight()
     ensures registers { (n : Network) (r : RosterValue) (members : ℕ → Bool) (i : ℕ)
         (regs : Regs) → IsNetwork n →
