@@ -10,9 +10,9 @@ use Rattle.mml_hall.specs.Turns.{State, RequestLine, TurnOf, Run, known_on}
 use Rattle.mml_window.specs.Rulings.{ruling_at}
 use Rattle.mml_session.specs.Turns as session
 
--- event p of the list is the one that the command of x is granted after the events before it, line p of the list's
--- journal is the event's line, and the reply has the event's effect, its place, and the number of the configuration
--- after it
+-- event p of the list is the one that the command of x is granted after the events before it. Line p of the list's
+-- journal is the event's line. The reply has the event's effect, its place, and the number of the configuration after
+-- it
 pub record IsToldAt (lab : LabValue) (l : List Event) (p : ℕ) (x : Who) (command : Command) (r : Reply) : Type 0 where
   pub before : List Event
   pub event : Event

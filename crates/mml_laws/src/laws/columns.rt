@@ -24,10 +24,10 @@ ghost use Rattle.mml_class.specs.declared.class_record.ClassRecord.{ClassRecord}
 ghost use Rattle.mml_class.specs.Classes.{IsClassRecord};
 
 /// The lines of a tally have these columns, in this order. A student's line has the granted moves by rule, the applied
-/// moves by rule, the number of closes that applied one, the places of the first and the last grant, and the applied
-/// moves at shared nodes. The line of a student's denials by clause has those of clauses 1 to 4, and then the number of
-/// lines that were no request. The line of a student's refusals has those for `journal`, `memory` and `full`. The line
-/// of a student's denials by name has those of clause 1, then of clauses 2, 3 and 4.
+/// moves by rule, and the number of closes that applied one. Then it has the places of the first and the last grant,
+/// and the applied moves at shared nodes. The line of a student's denials by clause has those of clauses 1 to 4, and
+/// then the number of lines that were no request. The line of a student's refusals has those for `journal`, `memory`
+/// and `full`. The line of a student's denials by name has those of clause 1, then of clauses 2, 3 and 4.
 pub fn tallies_have_these_columns()
     ensures student { (name : List ℕ) (m : Marks) → student_line name m ≡ codes "student " ++ (name
         ++ ((numbers_text (m.granted.update ∷ m.granted.marriage ∷ m.granted.seduction ∷ m.granted.abandonment ∷ [])
@@ -52,8 +52,8 @@ pub fn tallies_have_these_columns()
         ++ codes "\n")) }
 {}
 
-/// In the record of a class, over all its seats together, each line of a student is denied exactly by the clause of the
-/// denial that is named. So in the tally of the class the number of lines that a clause denied to a student is the sum
+/// In the record of a class, over all its seats, a denied line of a student is counted under the clause of the denial
+/// that its reply names. So in the tally of the class the number of lines that a clause denied to a student is the sum
 /// over the clause's denials.
 pub fn columns_are_sums_in_a_class()
     ensures named { (lab : LabValue) (l : List Event) (start : List ℕ) (texts : ℕ → List ℕ) (c : ClassRecord) →
@@ -62,9 +62,9 @@ pub fn columns_are_sums_in_a_class()
         IsClassRecord lab l true start texts c → AreSums (denials_of c.asks.items s) (named_of c.asks.items s) }
 {}
 
-/// In the record of a class, over all its seats together, a student who is known is one of the lab, and only the
-/// clauses from 1 to 4 deny a student anything. So each line that was denied, and each that was no request, is counted
-/// for one student, or came while the teacher or nobody was known.
+/// In the record of a class, over all its seats together, each student who has greeted is one of the lab's students.
+/// Only the clauses from 1 to 4 deny such a student anything. So each line that was denied, and each that was no
+/// request, is counted for one student, or came while the teacher or nobody had greeted on its connection.
 pub fn asks_of_a_class_are_of_the_labs_students()
     ensures asks { (lab : LabValue) (l : List Event) (start : List ℕ) (texts : ℕ → List ℕ) (c : ClassRecord) →
         IsClassRecord lab l true start texts c → AreAsksOf (length lab.roster.students) c.asks.items }

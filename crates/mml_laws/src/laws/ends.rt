@@ -22,8 +22,8 @@ ghost use Rattle.mml_window.specs.Logs.{IsLogFrom};
 ghost use Rattle.mml_window.specs.Windows.{WindowValue};
 ghost use Rattle.mml_laws.specs.Ends.{GrantsNoStep};
 
-/// If a house (one run of a lab) is neither full nor halted, and no move of a student and no close would be granted any
-/// more, then no node is privileged. The pairs in its report are a maximal matching.
+/// Take a house (one run of a lab) that is neither full nor halted, in which no move of a student and no close would be
+/// granted any more. Then no node is privileged. The pairs in its report are a maximal matching.
 pub fn a_house_that_is_over_is_stable<S>()
     ensures { (bytes : List ℕ) (lab : LabValue) (first : ℕ)
         (contents : S → Option (List ℕ)) (windows : List WindowValue) (log : Log S) →
@@ -34,8 +34,8 @@ pub fn a_house_that_is_over_is_stable<S>()
         × IsMaximalMatching (configuration log.board) (report_of log.board).pairs }
 {}
 
-/// If no fault, link or cut comes after some place of a journal, then at most 2L + 3n moves are applied after this
-/// place, and at most 2L + 3n closes come. L is the number of links at that place, and n the number of nodes.
+/// If no fault, link or cut comes after some place of a journal, then at most 2L + 3n moves are applied after it, in at
+/// most 2L + 3n closes. L is the number of links at that place, and n the number of nodes.
 pub fn few_moves_follow_the_last_fault()
     ensures moves { (lab : LabValue) (es fs : List Event) (bytes : List ℕ) → IsLab lab →
         IsJournalOf lab (es ++ fs) bytes → list_all is_of_step fs ≡ true →

@@ -20,7 +20,7 @@ ghost use Rattle.mml_session.specs.Turns as session;
 ghost use Rattle.mml_laws.specs.Greeted.{IsTold, IsDenied};
 
 /// The rules of greeting. On a connection on which a participant is known, each hello is denied as `greeted`, and the
-/// participant stays known; commands are judged as those of this participant. On a connection on which nobody is known,
+/// participant stays known. Commands are judged as those of this participant. On a connection on which nobody is known,
 /// each command is denied as `not-greeted`, and a hello with nobody's name and key as `unknown`.
 pub fn a_connection_is_known_as_one()
     ensures again { (r : RosterValue) (x : Who) (name key : List ℕ) →

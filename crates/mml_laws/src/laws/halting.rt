@@ -14,9 +14,9 @@ ghost use Rattle.mml_window.specs.Books.{BookValue};
 ghost use Rattle.mml_window.specs.Windows.{WindowValue};
 ghost use Rattle.mml_laws.specs.Halting.{Act, DecidesEach, IsNoGrant};
 
-/// The first refusal for `journal` halts a house for good: after it the house's book (its list of events and its
-/// journal) is halted, never changes again, and grants nothing. A book halts only by such a refusal, when a put to its
-/// sink fails.
+/// The first refusal for `journal` halts a house for good. After it, the house's book (its list of events and its
+/// journal) is halted. The book never changes again, and grants nothing. A book halts only by such a refusal, when a
+/// put to its sink fails.
 pub fn a_house_halts_for_good<S>()
     ensures refused { (lab : LabValue) (failures : S → ℕ) (old new last : BookValue S) (who : Who)
         (command : Command) (acts : List Act) (answers : List Answer) →

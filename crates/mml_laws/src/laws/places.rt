@@ -36,8 +36,9 @@ pub fn replies_of_a_hall_name_their_events()
 {}
 
 /// In a session, a reply that names place p replies to a command of the participant who was known. The command was
-/// granted after events 1 to p - 1 of the list, and event p is what was granted. The list can be any legal one of the
-/// lab, within its limit, that begins with the events that the window has seen at the end; the house's list is one.
+/// granted after events 1 to p - 1 of the list, and event p is what was granted. The list can be any legal list of the
+/// lab, within its limit, that begins with the events that the window has seen at the end. The list of the house is
+/// such a list.
 pub fn replies_of_a_session_name_their_events()
     ensures talk { (lab : LabValue) (st : session.Standing) (t : Talk lab st) (l : List Event) →
         IsLab lab → is_legal_in lab l ≡ true → length l ≤ lab.events →

@@ -20,8 +20,8 @@ ghost use Rattle.mml_laws.specs.Ruled.{IsGrantable, IsShown};
 
 /// The verdict on a command depends on the world; the ruling depends also on the limit and the journal. A command is
 /// denied exactly if the verdict denies it, for the same reason, and shows something exactly if the verdict says so. If
-/// the verdict grants it, the ruling is `full` if the limit is reached, `journal` if it isn't and the journal is
-/// halted, and otherwise grants it, with its effect in that world.
+/// the verdict grants it, the ruling is `full` if the limit is reached, and otherwise `journal` if the journal is
+/// halted. In any other case the ruling grants it, with its effect in that world.
 pub fn the_ruling_is_the_verdicts()
     ensures denied { (ids : List ℕ) (r : RosterValue) (limit : ℕ) (is_halted : Bool) (w : World)
         (x : Who) (c : Command) (d : Denial) →

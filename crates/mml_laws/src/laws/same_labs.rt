@@ -19,9 +19,9 @@ ghost use Rattle.mml_audit.specs.Audit.{audited};
 ghost use Rattle.mml_journal.specs.EventLines.{said_by, event_line, IsEventOf};
 ghost use Rattle.mml_lab_file.specs.Sameness.{IsSameLab};
 
-/// Labs that are the same read each journal alike. A line means the same event in both, or has the same error, and an
-/// event has the same line. A list of events leads to the same world. The participants have the same names, and own the
-/// same nodes.
+/// A journal means the same in two labs that are the same. A line is the same event in both, or has the same error, and
+/// an event has the same line. A list of events leads to the same world. The participants have the same names, and own
+/// the same nodes.
 pub fn same_labs_read_alike()
     ensures read { (a b : LabValue) (bytes : List ℕ) → IsSameLab a b →
         said_by a.ids a.roster bytes ≡ said_by b.ids b.roster bytes }
@@ -36,8 +36,9 @@ pub fn same_labs_read_alike()
         IsPrincipal a.roster who → i < length a.ids → owns a.roster who i ≡ owns b.roster who i }
 {}
 
-/// Labs that are the same, and allow equally many events, audit alike: the same bytes pass in both and lead to the same
-/// world, or have the same error in the same line. In each world an event is legal in both or in neither.
+/// Audits over two labs that are the same, and allow equally many events, have the same result. The same bytes pass in
+/// both and lead to the same world, or have the same error in the same line. In each world an event is legal in both or
+/// in neither.
 pub fn same_labs_audit_alike()
     ensures audit { (a b : LabValue) (bytes : List ℕ) → IsLab a → IsLab b → IsSameLab a b →
         a.events ≡ b.events → audited a bytes ≡ audited b bytes }
@@ -45,9 +46,9 @@ pub fn same_labs_audit_alike()
         is_legal a.roster w e ≡ is_legal b.roster w e }
 {}
 
-/// Labs that are the same have the same owners and the same teacher. In each world both rule alike on each command:
-/// they show, deny, refuse or grant it, for the same cause and with the same effect. A hello that is granted has the
-/// same reply line in both.
+/// Labs that are the same have the same owners and the same teacher. In each world, each command has the same ruling in
+/// both: it is shown something, denied, refused or granted, for the same reason and with the same effect. A hello that
+/// is granted has the same reply line in both.
 pub fn same_labs_rule_alike()
     ensures rulings { (a b : LabValue) (limit : ℕ) (is_halted : Bool) (w : World) (who : Who)
         (c : Command) → IsLab a → IsLab b → IsSameLab a b →
