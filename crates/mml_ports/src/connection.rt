@@ -7,8 +7,8 @@ use std::alloc::Global;
 use std::io;
 use std::sync::{Arc, Wait};
 
-/// What the parts of a connection (its reader, its writer and its cut-off) share: the host's state, the crowd (the list
-/// of the connections that are served at its port), and its socket.
+/// What the parts of a connection share: the host's state, the crowd (the list of the connections that are served at
+/// its port), and its socket. The parts are its reader, its writer, and its cut-off, by which another thread ends it.
 #[derive(Drop)]
 pub struct SharedConnection<'a, Rt> {
     pub rt: &'a Rt,

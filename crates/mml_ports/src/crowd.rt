@@ -14,7 +14,7 @@ use std::sync::atomic::{AtomicBool, Ordering};
 use std::sync::{Arc, Mutex, Wait};
 use std::time::{Clock, Duration, Instant};
 
-// Strangers may hold one seat in this many, and at least one.
+// Strangers may hold one of this many seats, rounded down, but always at least one seat.
 const STRANGERS: usize = 3;
 
 // How many seats connections of one participant may hold while others wait for a seat.
@@ -24,7 +24,7 @@ const SEATS_OF_A_NAME: usize = 4;
 // loses one. The delay is for seats that are just becoming free.
 const MOMENT: u64 = 250;
 
-// How many milliseconds a connection may stay without having sent a hello and got an answer, if others wait.
+// How many milliseconds a stranger who got no reply yet may keep a seat while others wait for one.
 const GRACE: u64 = 100;
 
 // A guest: a connection that is served in a seat.
@@ -45,7 +45,7 @@ impl Guest {
     }
 
     // Returns whether the guest is a stranger who may be sent away: one who was answered or denied, or has been here
-    // for `GRACE` milliseconds. A stranger needs no seat to wait for the delayed reply that denies its hello.
+    // for `GRACE` milliseconds. A stranger whose hello was denied needs no seat to wait for the delayed reply.
     fn may_go(&self, now: Instant) -> bool {
         self.is_stranger()
             && (self.socket.is_answered.load(Ordering::SeqCst)
@@ -157,9 +157,9 @@ impl Crowd {
         count_strangers(guests) >= (self.seats / STRANGERS).max(1)
     }
 
-    // Sends away the first stranger that `may_go`, if strangers hold all the seats that they may, or if no seat is free
-    // and nobody is leaving. Without the second condition, few strangers could keep the last seats until their
-    // deadlines.
+    // Sends away the first stranger for whom `may_go` is true, if strangers hold all the seats that they may, or if no
+    // seat is free and nobody is leaving. Without the second case, a few strangers could keep the last seats until
+    // their deadlines.
     fn let_stranger_go<Rt: Wait>(&self, rt: &Rt, guests: &mut Vec<Guest>, now: Instant) {
         let is_full = guests.len() >= self.seats && !is_one_leaving(guests);
         if (is_full || self.is_share_taken(guests))
@@ -173,16 +173,16 @@ impl Crowd {
     /// Returns whether a guest is leaving, or a connection that has left isn't closed yet.
     pub fn is_parting<Rt: Wait>(&self, rt: &Rt) -> bool {
         let is_leaving = is_one_leaving(&self.guests.lock(rt));
-        // The guests are checked first: one whose denial is sent later joins the partings before it stops being a
-        // guest.
+        // The guests are checked first, since a guest whose denial is sent later joins the partings before it leaves
+        // the list of guests.
         is_leaving || !self.partings.is_empty(rt)
     }
 
     /// Returns whether there is a seat for a new connection: one is free, and strangers don't hold all that they may.
     /// If there is none, tries to free one, and returns `false`. First sends away a stranger, if `let_stranger_go`
-    /// finds one. Then sends away the last guest whose participant has too many seats, if three conditions hold:
-    /// strangers don't hold all the seats that they may, new connections have waited for `MOMENT` or longer (`wanted`
-    /// is how long), and nobody is leaving.
+    /// finds one. Then sends away the last guest whose participant has too many seats, if three conditions hold.
+    /// Strangers don't hold all the seats that they may. New connections have waited for `MOMENT` or longer; `wanted`
+    /// is how long. And nobody is leaving.
     pub fn finds_room<Rt: Wait>(&self, rt: &Rt, now: Instant, wanted: Duration) -> bool {
         let mut guests = self.guests.lock(rt);
         let is_share_taken = self.is_share_taken(&guests);

@@ -21,7 +21,7 @@ pub(crate) const PARTING: u64 = 20;
 // The most bytes of what the other side sent that are read before its connection is closed.
 const PARTING_SIZE: usize = 4096;
 
-// If as many connections as this are waiting to be closed, the oldest that was sent everything is closed early, so that
+// If as many connections as this are waiting to be closed, the oldest one that was sent everything is closed early. So
 // a flood of connections doesn't use up the descriptors.
 const MANY_PARTINGS: usize = 64;
 
@@ -59,7 +59,7 @@ impl Parting {
 // which is to be closed `PARTING` milliseconds after `now`. Closes the stream at once, and returns `None`, if the other
 // side has ended or is gone, or the clock can't represent that time.
 fn closing(stream: TcpStream, now: Instant) -> Option<Parting> {
-    // This fails if the other side is gone.
+    // The shutdown fails if the other side is gone.
     if stream.shutdown(Shutdown::Write).is_err() || !drain(&stream) {
         return None;
     }
@@ -179,7 +179,7 @@ impl Partings {
             if let Some(first) = all.pop_front()
                 && let Some(parting) = first.step(now)
             {
-                // The list has room for it, since it was in the list before.
+                // It fits, since it was in the list before.
                 let _ = all.push_back(parting);
             }
         }
@@ -193,7 +193,7 @@ impl Partings {
                 if first.is_sent {
                     let _may_send = drain(&first.stream);
                 } else {
-                    // The list has room for it, since it was in the list before.
+                    // It fits, since it was in the list before.
                     let _ = all.push_back(first);
                 }
             }

@@ -31,7 +31,7 @@ const WAITING: usize = 16;
 // How many milliseconds a new connection has to send its first line, before it counts as silent.
 const SILENCE: u64 = 5;
 
-// How often the host tries to connect to its own port, to wake the accept there.
+// How often the host tries to connect to its own port, to wake the thread that waits in an accept there.
 const WAKE_TRIES: u32 = 50;
 
 // How many milliseconds it waits for each of these connections.
@@ -45,7 +45,7 @@ struct Newcomer<'a, Rt> {
     cut_off: SocketCutOff<'a, Rt>,
     connection: SharedConnection<'a, Rt>,
     since: Instant,
-    // Whether its socket's reads were set not to wait, which the first check does.
+    // Whether it was checked already; the first check sets its socket's reads not to wait.
     is_looked_at: bool,
     // What the checks have found of what it sent.
     peeked: Peeked,
@@ -203,9 +203,10 @@ impl<'a, Rt: Clock + Wait + Eprint> Port<'a, Rt> {
         }
     }
 
-    // Returns the next newcomer to serve, if there is a seat. If there is none, has the crowd send a guest away, if one
-    // must leave; turns away the first newcomer if it has waited for half a second; and returns `None`. Notes in the
-    // crowd whether a newcomer waits for a seat. If there are no newcomers, or the clock fails, only returns `None`.
+    // Returns the next newcomer to serve, if there is a seat for it. Otherwise returns `None`, after two steps: the
+    // crowd sends a guest away, if one must leave, and the first newcomer is turned away if it has waited for half a
+    // second. Notes in the crowd whether a newcomer waits for a seat. Returns `None` also if there are no newcomers, or
+    // the clock fails.
     fn admit_next(&mut self) -> Option<SocketAccepted<'a, Rt>> {
         let Some(first) = self.waiting.front() else {
             self.wanted_since = None;
@@ -233,8 +234,9 @@ impl<'a, Rt: Clock + Wait + Eprint> Port<'a, Rt> {
         None
     }
 
-    // Returns the index of the newcomer to turn away if too many wait: the first that has sent no line though it had
-    // time for one; or else the first that hasn't sent a hello; or else the first of all.
+    // Returns the index of the newcomer to turn away if too many wait. This is the first one that has sent no line
+    // although it had time for one. If there is none, it is the first that hasn't sent a hello, and otherwise the first
+    // of all.
     fn first_to_drop(&mut self, now: Instant) -> usize {
         let mut first_without_hello = None;
         for index in 0..self.waiting.len() {
@@ -251,8 +253,8 @@ impl<'a, Rt: Clock + Wait + Eprint> Port<'a, Rt> {
         first_without_hello.unwrap_or(0)
     }
 
-    // Returns the index of the newcomer to serve next: the first that has sent a hello, or else the first that has sent
-    // another line, or else the first of all.
+    // Returns the index of the newcomer to serve next. This is the first one that has sent a hello. If there is none,
+    // it is the first that has sent another line, and otherwise the first of all.
     fn first_to_speak(&mut self) -> usize {
         let mut first_with_line = None;
         for index in 0..self.waiting.len() {
@@ -302,7 +304,8 @@ impl<'a, Rt: Clock + Wait + Eprint> Port<'a, Rt> {
         Some(Accepted::Came((reader, writer), cut_off))
     }
 
-    // Turns away all newcomers, and closes all connections that have left, because the host is over. Returns `Over`.
+    // Turns away all newcomers, and closes all connections that have left their seats, because the host is over.
+    // Returns `Over`.
     fn turn_all_away(&mut self) -> SocketAccepted<'a, Rt> {
         for _ in 0..self.waiting.len() {
             if let Some(first) = self.waiting.pop_front() {
@@ -315,8 +318,8 @@ impl<'a, Rt: Clock + Wait + Eprint> Port<'a, Rt> {
 
     // Prepares the next accept after one that failed with this kind of error. If memory ran out, notes that. If the
     // system refused the accept, frees descriptors: closes connections that were sent everything, and turns the first
-    // newcomer away. Afterwards, unless a signal or the other side broke off the accept, waits for at most a tenth of a
-    // second until more than `ended` sessions have ended.
+    // newcomer away. Afterwards waits until more than `ended` sessions have ended, for at most a tenth of a second.
+    // Doesn't wait if a signal or the other side broke off the accept.
     fn put_off(&mut self, kind: ErrorKind, ended: u64) {
         match kind {
             ErrorKind::OutOfMemory => self.state.note_memory(self.rt),
@@ -384,8 +387,9 @@ pub struct EndBell<'a, Rt> {
 
 impl<'a, Rt: Net<Listener = TcpListener, Stream = TcpStream> + Clock + Wait> Bell
     for EndBell<'a, Rt> {
-    // Counts a session that has ended. If `is_dismissed` (by the teacher's bye, or since a port couldn't be served),
-    // notes that the host is over, closes the spare descriptor, and wakes the accepts at both ports.
+    // Counts a session that has ended. If `is_dismissed` is set, the class is over, by the teacher's bye or because a
+    // port can't be served. Then notes that the host is over, closes the spare descriptor, and wakes the accepts at
+    // both ports.
     fn ring(&self, is_dismissed: bool) {
         self.state.note_end(self.rt, is_dismissed);
         if is_dismissed {

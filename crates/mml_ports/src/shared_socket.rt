@@ -42,8 +42,8 @@ pub struct SharedSocket {
     pub(crate) is_teachers: AtomicBool,
     // Whether the connection is no stranger any more: a hello was granted, and at the desk the teacher's.
     pub(crate) may_stay: AtomicBool,
-    // Whether the teacher's bye at the desk was answered, so that the next bytes to write end with the class's last
-    // reply.
+    // Whether the reply to the teacher's bye at the desk is made. The next bytes to write then end with this reply, the
+    // last one of the class.
     pub(crate) is_farewell: AtomicBool,
     // Whether a reply was sent.
     pub(crate) is_answered: AtomicBool,

@@ -24,7 +24,7 @@ pub const DESK_GREETING: u64 = 5;
 /// deadline.
 pub const NEXT_LINE: u64 = 600;
 
-// How the first line of a connection begins: like a JSON object, otherwise, or not yet.
+// How the first line of a connection begins: like a JSON object, in another way, or not yet.
 #[derive(Clone, Copy, PartialEq, Eq)]
 enum FirstLine {
     Awaited,
@@ -194,7 +194,7 @@ impl<'a, Rt: Clock + Wait> Read for SocketReader<'a, Rt> {
     fn read(&mut self, buf: &mut [u8]) -> io::Result<usize> {
         let socket = &self.connection.socket;
         socket.is_served.store(true, Ordering::SeqCst);
-        // The first line was answered. If it wasn't a JSON object, nothing more is read.
+        // If the first line didn't begin like a JSON object, nothing more is read after it.
         if socket.is_done() || self.is_first_line_read && self.first == FirstLine::Other {
             return Ok(0);
         }

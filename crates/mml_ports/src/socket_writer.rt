@@ -157,7 +157,7 @@ impl<'a, Rt: Clock + Wait + Eprint> SocketWriter<'a, Rt> {
             crowd.partings.add_denied(rt, stream, turn);
             return;
         }
-        // After a part of a reply, the reason would not be a line of its own.
+        // The reason isn't sent after a part of a reply, since it wouldn't be a line of its own there.
         let why = if self.is_at_line {
             socket.end_reason(rt)
         } else {

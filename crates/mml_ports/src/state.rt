@@ -35,8 +35,8 @@ struct Notes {
     next_report: u64,
 }
 
-/// The state of a host, which its threads share: how many sessions have ended, whether the host is over, whether memory
-/// ran out, when denials are due, and who is served at each port.
+/// The state of a host, which its threads share: how many sessions have ended, whether the host is over, and whether
+/// memory ran out. It also says when denials are due, and who is served at each port.
 #[derive(Drop)]
 pub struct HostState {
     notes: Mutex<Notes>,

@@ -51,9 +51,9 @@ pub struct Ports {
     pub desk: u16,
 }
 
-/// Listens on the desk's port and then on the students', for connections of this machine only. For the number 0, the
-/// system chooses a port. If the desk's number was given, waits for at most a second for a first connection there, so
-/// that the teacher's program is connected before a student can see that the class begins. Returns an error if the host
+/// Listens on the desk's port and then on the students', for connections of this machine only. If a number is 0, the
+/// system chooses the port. If the desk's number isn't 0, waits for at most a second for a first connection there. So
+/// the teacher's program is connected before a student can see that the class begins. Returns an error if the host
 /// can't listen on one of them.
 pub fn listen_at<R: Clock + Net<Listener = TcpListener, Stream = TcpStream>>(
     rt: &R,
