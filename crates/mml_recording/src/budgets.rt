@@ -123,8 +123,8 @@ impl SeatBudget {
     }
 
     // Returns whether an entry of this many `bytes` may be written while nobody is known. If so, charges it to the
-    // common counter. It may be written if the entries of this connection then have at most `STRANGER` such bytes, and
-    // those of all connections together at most `BUDGET`.
+    // common counter. It may be written if such entries then have at most `STRANGER` bytes on this connection, and at
+    // most `BUDGET` on all connections together.
     fn takes_unknown(&mut self, bytes: u64) -> bool
         ensures known { self.new.account ≡ self.old.account }
         ensures greeted { self.new.is_greeted ≡ self.old.is_greeted }
