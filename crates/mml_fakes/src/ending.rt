@@ -11,7 +11,7 @@ pub enum Ending {
         number: u64,
         halted: bool,
     },
-    /// The windows that came back don't have one place for each event, as if a window was missing.
+    /// The windows that were returned don't have exactly one place for each event. This happens if a window is missing.
     Astray(Astray),
 }
 

@@ -18,8 +18,8 @@ pub fn boxed_board(alloc: Global, lab: &Lab) -> Result<Box<Board>, Fail> {
 }
 
 /// Makes a lab file with at most 100 events and four sessions, whose teacher is tess. Its arguments are the line with
-/// the links (empty if there are none), the students by name and key, and the nodes by identifier, owner and further
-/// lines (empty if there are none).
+/// the links, the students by name and key, and the nodes by identifier, owner and further lines. The line with the
+/// links and the further lines may be empty.
 #[macro_export]
 macro_rules! lab {
     ($links:literal, [$(($name:literal, $key:literal)),*], [$(($id:literal, $owner:literal, $more:literal)),*]) => {
@@ -62,9 +62,9 @@ pub const FAR_APART: &str = lab!(
     [(7, "ana", ""), (65535, "ana", "")]
 );
 
-/// Returns the file of the largest lab: 256 nodes with the greatest identifiers, each linked to all others and owned by
-/// two students; 256 students with the longest names and keys; and the greatest limits. Returns an error if memory runs
-/// out.
+/// Returns the file of the largest lab. It has the greatest limits, 256 students with the longest names and keys, and
+/// 256 nodes with the greatest identifiers. Each node is linked to all others and owned by two students. Returns an
+/// error if memory runs out.
 pub fn greatest(alloc: Global) -> Result<String, AllocError> {
     let mut text = String::from_str(alloc, "events = 100000\nsessions = 16\nlinks = [\n")?;
     for a in 65280..65536u64 {

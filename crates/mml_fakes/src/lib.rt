@@ -1,6 +1,6 @@
-//! For tests only: readers, writers and sinks that fail on demand, threads that wait for each other, pseudo-random
-//! numbers, and the labs, lines and scripts that several tests share. For a house there are its windows, visits through
-//! them, the ways in which it ends, and the acts of a stored run. Nothing of the program depends on it.
+//! What tests share: readers, writers and sinks that fail on demand, threads that wait for each other, pseudo-random
+//! numbers, and labs, lines and scripts. For tests of a house (one run of a lab) it has windows, visits through them,
+//! the ways in which a house ends, and the acts of a stored run. Nothing of the program depends on it.
 #![tactic(auto)]
 
 mod acts;

@@ -4,12 +4,13 @@
 /// in parentheses. A text between the words, such as the number of a script's connection, is copied unchanged.
 ///
 /// Requests are `hello`, `see`, `seduction` (of a node, in configuration 0), `close` and `bye`. Replies are `welcome`
-/// (to a hello), `seen` (configuration, m, node, p), `granted` (the node of a seduction, and its place), `closed` (as
-/// the second event, which applies the move of node 1), `left` (to a bye), and the denials.
+/// (to a hello), `seen` (configuration, m, node, p), `granted` (the node of a seduction, and its place), and `left` (to
+/// a bye). `closed` is the reply to a close that is the second event and applies the move of node 1. Denials have their
+/// names.
 #[macro_export]
 macro_rules! lines {
-    // After `@` come the end of a line and all pieces so far, then the pieces of one more line, then the words that are
-    // left. `concat!` takes no macros, so the pieces are put together one by one.
+    // After `@` come the end of a line and all pieces so far, then the pieces of one more line, and then the words that
+    // aren't expanded yet. The pieces are joined one by one, since `concat!` takes no macros as arguments.
     (@ [$end:literal $($so_far:literal)*]) => { concat!($($so_far),*) };
     (@ [$end:literal $($so_far:literal)*] [$($piece:literal)*] $($left:tt)*) => {
         $crate::lines!(@ [$end $($so_far)* $($piece)* $end] $($left)*)

@@ -37,10 +37,10 @@ pub trait Visit<S: Sink> {
     fn visit<H: House, R: Wait>(self, pair: &mut Pair<'_, S, H, R>) -> Self::Outcome;
 }
 
-/// Makes a visit through the last two of these windows. The last window is the visit's first, and the one before it is
-/// the visit's second. Afterwards puts the first window back, and then the second, so that the windows have changed
-/// places. Returns the result of the visit. Returns `None` if there were fewer than two windows (then none is left), or
-/// memory ran out before both were put back.
+/// Makes a visit through the last two of these windows, and returns its result. The last window is the visit's first
+/// window, and the one before it is the second. Afterwards puts the first window back, and then the second, so that
+/// they have swapped their positions in the list. Returns `None` if memory runs out before both are put back. Also
+/// returns `None` if there are fewer than two windows; then none is left.
 pub fn visit_windows<V: Visit<S> + Drop, S: Sink + Drop, H: House, R: Wait>(
     rt: &R,
     alloc: Global,
