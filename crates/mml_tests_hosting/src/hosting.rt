@@ -12,14 +12,14 @@ use std::sync::Wait;
 use std::test::Fail;
 use std::thread::Threads;
 
-/// One connection of a test: whether it comes to the desk (otherwise to the port), what it sends, and which replies it
-/// should get.
+/// One connection of a test: whether it comes to the desk's port (otherwise it comes to the students'), what it sends,
+/// and which replies it should get.
 type Talk = (bool, &'static str, &'static str);
 
 // Ana's hello, a move of node 1, a see of it, and a bye.
 const ANA_MOVES: &str = lines!(hello("ana", "a-key"), seduction(1), see(1), bye);
 
-/// Ana moves node 1, sees it, and says bye. She connects to the port.
+/// Ana moves node 1, sees it, and says bye. She connects to the students' port.
 const ANA: Talk = (
     false,
     ANA_MOVES,
@@ -31,7 +31,7 @@ const ANA: Talk = (
     ),
 );
 
-/// Ben leaves without a bye. The guard of his move doesn't hold, since node 6 has no neighbour with a greater
+/// Ben asks for a seduction and leaves without a bye. His move is denied, since node 6 has no neighbour with a greater
 /// identifier.
 const BEN: Talk = (
     false,
@@ -65,9 +65,9 @@ const AGAIN: Talk = (
 /// The connections of one house, in the order in which they come.
 const TALKS: &[Talk] = &[ANA, BEN, NOBODY, FALLEN, ELSEWHERE, AGAIN, AGAIN, TESS];
 
-/// Returns the connections of these talks that come to the desk, if `is_desk`, or those that come to the port. Each
-/// comes when the connections of all talks before it have ended, as `count` counts them. Returns an error if memory
-/// runs out.
+/// Returns the connections of these talks that come to the desk's port if `is_desk` is set, and otherwise those that
+/// come to the students' port. Each comes when the connections of all earlier talks have ended; `count` counts them.
+/// Returns an error if memory runs out.
 fn texts_of<'a>(
     alloc: Global,
     talks: &[Talk],
@@ -138,7 +138,7 @@ fn are_answered(left: &Left, talks: &[Talk]) -> bool {
 }
 
 /// Serves `TALKS` in a house. Returns three answers: whether each connection gets the right replies, whether the
-/// journal has exactly a move and its close, and whether the last line that is printed counts both. Returns an error if
+/// journal has exactly a move and its close, and whether the last printed line counts both events. Returns an error if
 /// the house ends with a fault.
 fn results_of_talks<R: Threads + Wait + Sync>(rt: &R, alloc: Global) -> Result<[bool; 3], Fail> {
     let mut out = Vec::new(alloc);

@@ -1,5 +1,5 @@
-//! Tests in which one request for memory after another is refused. The answer must be the usual one, or say so, and
-//! nothing may be lost.
+//! Tests in which one request for memory after another is refused. The answer must be the usual one, or say that memory
+//! ran out, and nothing may be lost.
 mod asking;
 mod halting;
 mod library;

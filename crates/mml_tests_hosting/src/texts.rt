@@ -32,7 +32,7 @@ impl Count {
 }
 
 impl Bell for Count {
-    // Counts one more ring, whatever it is for.
+    // Counts one more ring, whether or not the class is over.
     fn ring(&self, _is_dismissed: bool) {
         self.0.fetch_add(1, Ordering::SeqCst);
     }

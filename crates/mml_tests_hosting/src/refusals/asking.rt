@@ -13,8 +13,9 @@ use std::alloc::Global;
 use std::sync::Wait;
 use std::test::Fail;
 
-/// Returns `true` if an answer grants an act at this place. Returns `false` if the answer is that memory ran out and a
-/// request for memory was indeed refused, that is, if `was_none` is `false`. Returns `None` for any other answer.
+/// Returns `true` if an answer grants an act at this place. Returns `false` if the answer is that memory ran out, and
+/// `was_none` is `false`, which means that a request for memory was indeed refused. Returns `None` for any other
+/// answer.
 fn granted_or_refused(answer: &Answer, place: u64, was_none: bool) -> Option<bool> {
     match answer {
         Answer::Granted { place: granted, .. } => (*granted == place).then_some(true),
@@ -40,9 +41,8 @@ fn ask_with_refusal<H: House, R: Wait>(
     is_kept.then_some(is_granted)
 }
 
-/// Asks for the act at this place until it is granted: first with its first request for memory refused, then with the
-/// second, and so on. Returns how often the act was refused. Returns `None` if an answer was wrong, or the act wasn't
-/// granted in `MOST` tries.
+/// Asks for the act at this place until it is granted. In the nth try, its nth request for memory is refused. Returns
+/// how often the act was refused. Returns `None` if an answer was wrong, or the act wasn't granted in `MOST` tries.
 fn refusals_of<H: House, R: Wait>(
     at_desk: &mut WindowAtDesk<'_, NullSink, H, R>,
     place: u64,
@@ -140,9 +140,9 @@ fn was_first_granted<R: Wait>(
     Ok((ending_of(&end) == wanted).then_some(was_granted))
 }
 
-/// Makes the visit `FirstThenSecond` in one new house after another until the first act is granted: first with its
-/// first request for memory refused, then with the second, and so on. Returns how often the first act was refused.
-/// Returns `None` if a house went wrong, or the act was never granted.
+/// Makes the visit `FirstThenSecond` in one new house after another until the first act is granted. In the nth house,
+/// the nth request for memory of this act is refused. Returns how often the first act was refused. Returns `None` if a
+/// house went wrong, or the act was never granted.
 fn refusals_of_first<R: Wait>(
     rt: &R,
     alloc: Global,

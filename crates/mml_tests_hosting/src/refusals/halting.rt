@@ -58,7 +58,8 @@ enum Grant {
 }
 
 /// Returns the outcome of the first move, as its reply shows it. Returns `None` if the reply shows none of the three
-/// outcomes, or the hall's events or journal, or whether that is halted, don't fit the outcome.
+/// outcomes. Also returns `None` if the hall's events or its journal don't fit the outcome, or the journal is wrongly
+/// halted or not.
 fn grant_of(hall: &Hall<MemorySink>, reply: &[u8]) -> Option<Grant> {
     let (found, events) = if reply == GRANTED.as_bytes() {
         (Grant::Made, 1)
@@ -101,8 +102,8 @@ fn grant_in(
     is_so.then_some((found, was_none))
 }
 
-/// Makes a new hall over the path of three, and lets ana move node 1 in it while the nth request for memory is refused,
-/// as `grant_in` does. Returns what `grant_in` returns.
+/// Makes a new hall over the path of three, and calls `grant_in` for it: ana moves node 1 while the nth request for
+/// memory is refused. Returns what `grant_in` returns.
 fn grant_in_new_hall(
     alloc: Global,
     nth: usize,
@@ -113,9 +114,9 @@ fn grant_in_new_hall(
     Ok(grant_in(alloc, &mut hall, nth, is_there))
 }
 
-/// Moves node 1 in one new hall after another until the move is granted: first with its first request for memory
-/// refused, then with the second, and so on. Returns in how many halls the move was refused, and how many were halted.
-/// Returns `None` if a hall went wrong, or the move was never granted.
+/// Moves node 1 in one new hall after another until the move is granted. In the nth hall, the nth request for memory is
+/// refused. Returns in how many halls the move was refused, and how many halls were halted. Returns `None` if a hall
+/// went wrong, or the move was never granted.
 fn results_of_grants(alloc: Global, is_there: bool) -> Result<Option<(usize, usize)>, Fail> {
     let (mut refused, mut halted) = (0usize, 0usize);
     for nth in 1..MOST {

@@ -3,18 +3,20 @@
 //! refused.
 use std::alloc::Global;
 
-/// A request that makes the library refuse one request for memory. The number of that request is added to it, or 0 for
-/// none.
+/// A size whose request makes the library refuse one later request for memory. The number of that later request is
+/// added to the size, or 0 for none.
 const ARM: usize = 0x11 << 56;
 
-/// A request that makes the library refuse each request for memory from one on. The number of that request is added to
-/// it.
+/// A size whose request makes the library refuse each request for memory from a later one on. The number of that later
+/// request is added to the size.
 const FROM: usize = 0x12 << 56;
 
-/// A request that is granted only if the library is loaded, and no request was made since it was given its task.
+/// A size whose request is granted only if the library is loaded, and no request was made since the library got its
+/// last task.
 const MADE: usize = 0x13 << 56;
 
-/// A request that is granted only if the library is loaded, and it has refused no request since it was given its task.
+/// A size whose request is granted only if the library is loaded, and has refused no request since it got its last
+/// task.
 const MET: usize = 0x14 << 56;
 
 /// Returns whether a request for this many bytes is granted.

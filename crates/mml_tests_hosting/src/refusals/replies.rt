@@ -113,8 +113,8 @@ fn is_written(
     answered.is_ok() && out.strip_suffix(b"\n") == Some(wanted.as_bytes())
 }
 
-/// Returns whether the request of each row gets the row's reply, which is written without more memory than `out` has.
-/// Stops at the first row for which this isn't so.
+/// Returns whether each row's request gets the row's reply, written without more memory than `out` has. Stops at the
+/// first row that is wrong.
 fn are_written(
     alloc: Global,
     hall: &mut Hall<NullSink>,

@@ -95,8 +95,8 @@ fn takes_none_after_first<R: Wait>(
     Ok(hold)
 }
 
-/// Checks that a denied act, an act over the limit of events, an act when the journal is halted, and a view are
-/// answered rightly, and request no memory.
+/// Checks that a denied act, an act over the limit of events, an act while the journal is halted, and a view get the
+/// right answer, and request no memory.
 #[test]
 fn refusals_that_take_no_memory(rt: HostRuntime) -> Result<(), Fail> {
     let is_there = is_there(rt.alloc());
