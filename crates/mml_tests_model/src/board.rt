@@ -1,5 +1,5 @@
-//! Tests of a board and its copy at the beginning of a run and after each event, also after illegal events, and of a
-//! look and a journal's line. An error means that memory ran out.
+//! Tests of a board and its copy at the beginning of a run and after each event, even an illegal one. They also test a
+//! look, and a line of the journal. An error means that memory ran out.
 //!
 //! The first board of a lab is the one at the beginning of a run. The path of three is the lab of nodes 1, 2 and 3 in a
 //! row. The rank of a node is its index in the rising order of identifiers.
@@ -44,8 +44,8 @@ fn push_node(text: &mut String, board: &Board, node: Rank) -> Result<(), AllocEr
     write!(text, "; {p:?} {} {kind:?}", regs.m)
 }
 
-/// Appends to a text whether no move is chosen at a node, and then one character for each node of the board: `-` if the
-/// two are linked, and `.` if not.
+/// Appends to a text `true` if no move is chosen at a node, and otherwise `false`. Then appends one character for each
+/// node of the board: `-` if the two nodes are linked, and `.` if not.
 fn push_links(text: &mut String, board: &Board, node: Rank) -> Result<(), AllocError>
     requires { node < length board.now.network.registers }
 {
@@ -62,9 +62,9 @@ fn push_links(text: &mut String, board: &Board, node: Rank) -> Result<(), AllocE
     Ok(())
 }
 
-/// Returns a board as text: the number of the configuration, the number of events, how many nodes are privileged, how
-/// many moves are chosen, and then each node as `push_node` shows it. If `with_links` is set, each node is followed by
-/// its links, as `push_links` shows them.
+/// Returns a board as text. It has the numbers of the configuration, of events, of privileged nodes and of chosen
+/// moves, and then each node as `push_node` shows it. If `with_links` is set, the links of each node follow it, as
+/// `push_links` shows them.
 fn board_text(alloc: Global, board: &Board, with_links: bool) -> Result<String, AllocError> {
     let (number, place) = (board.number(), board.place());
     let (privileged, chosen) = (board.privileged_count(), board.chosen_set().len());
@@ -144,8 +144,8 @@ fn first_event_line(alloc: Global, lab: &Lab, board: &Board) -> Result<Vec<u8>, 
     Ok(line)
 }
 
-/// Returns two answers: whether the texts of a lab's first board and of its copy are `OPENING`; and whether a look at
-/// the first node and the line of the first event are right.
+/// Returns two answers. The first is whether the texts of a lab's first board and of its copy are `OPENING`. The second
+/// is whether a look at the first node and the line of the first event are right.
 fn are_told_at_first(alloc: Global, lab: &Lab) -> Result<(bool, bool), Fail> {
     let board = boxed_board(alloc, lab)?;
     let are_opening = are_both_opening(alloc, &board)?;

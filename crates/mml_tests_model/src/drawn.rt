@@ -1,5 +1,6 @@
-//! Tests with pseudo-random events, legal or not, over a cycle of 64 nodes and one of 256: the board must find those
-//! events legal that the plain model in Python, `model/`, finds legal. An error means that memory ran out.
+//! Tests with pseudo-random events, legal or not, over a cycle of 64 nodes and one of 256. On the board, the same
+//! events must be legal as in the plain model, which has the same rules in Python (`model/`). An error means that
+//! memory ran out.
 use mml_board::{Board, Event};
 use mml_fakes::Numbers;
 use mml_fakes::cycles::cycle;
@@ -13,8 +14,8 @@ use std::test::Fail;
 // How many events are drawn (pseudo-randomly).
 const DRAWS: u64 = 5000;
 
-// How many of the drawn events are illegal before each legal one, over the cycle of 64 nodes: one letter for each legal
-// event, from `a` for none to `z` for 25 or more. The plain model computes them (`tests/random/tables.py`).
+// How many of the drawn events are illegal before each legal one, over the cycle of 64 nodes. There is one letter for
+// each legal event, from `a` for none to `z` for 25 or more. The plain model computes them (`tests/random/tables.py`).
 const OF_64: &str = concat!(
     "aabgdaaabdcaaaabcbacbbbccdcdaabacbebbbaafcofdecababaddabcbbdadbacegdjafkaaecaada",
     "baddaaaacabcaaecadbdaababcabccbaabebababehaababacabaaagbabaaafaaccabeccebaaabecb",

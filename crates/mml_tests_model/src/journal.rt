@@ -1,5 +1,5 @@
-//! Tests of reading and writing a journal's lines: those of events that need not be legal, and lines that are no
-//! event's. An error means that memory ran out.
+//! Tests of reading and writing a journal's lines: lines of events, which need not be legal, and lines that aren't
+//! those of an event. An error means that memory ran out.
 //!
 //! `TEN_LINES` is the journal of a stored run over the path of three: nodes 1, 2 and 3 in a row.
 mod replaced;
@@ -135,16 +135,16 @@ fn are_read_and_written(alloc: Global, lab: &Lab) -> Result<bool, Fail> {
     Ok(true)
 }
 
-/// Returns three answers: whether each line of `SHAPES` is rejected as `Shape`, whether each of `UNKNOWNS` is rejected
-/// as `Unknown`, and whether those of `OTHERS` are read and written rightly.
+/// Returns three answers: whether all lines of `SHAPES` are rejected as `Shape`, whether all of `UNKNOWNS` are rejected
+/// as `Unknown`, and whether all of `OTHERS` are read and written rightly.
 fn are_rows_read(alloc: Global, lab: &Lab) -> Result<(bool, bool, bool), Fail> {
     let shapes = have_fault(lab, SHAPES, JournalFault::Shape);
     let unknowns = have_fault(lab, UNKNOWNS, JournalFault::Unknown);
     Ok((shapes, unknowns, are_read_and_written(alloc, lab)?))
 }
 
-/// Returns, for lines that are read over the path of three: the three answers of `are_rows_read`, about the lines of
-/// this file's tables; and whether the lines of `TEN_LINES` with replaced bytes are read as `replaced::REPLACED` says.
+/// Reads lines over the path of three. Returns the three answers of `are_rows_read`, about the tables of this file.
+/// Also returns whether the lines of `TEN_LINES` with replaced bytes are read as `replaced::REPLACED` says.
 fn are_lines_read(alloc: Global) -> Result<((bool, bool, bool), bool), Fail> {
     let lab = boxed_lab(alloc, PATH_OF_THREE)?;
     Ok((
@@ -153,8 +153,8 @@ fn are_lines_read(alloc: Global) -> Result<((bool, bool, bool), bool), Fail> {
     ))
 }
 
-/// Checks how lines are read and written, and with which error lines that are no event's are rejected. The right
-/// results were worked out by hand, and for replaced bytes by the plain model.
+/// Checks how lines are read and written, and with which error lines are rejected that aren't those of an event. The
+/// right results were worked out by hand, and for replaced bytes by the plain model.
 #[test]
 fn lines_are_read_and_written(rt: HostRuntime) -> Result<(), Fail> {
     assert_eq!(rt; are_lines_read(rt.alloc())?, ((true, true, true), true));

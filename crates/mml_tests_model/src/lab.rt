@@ -9,9 +9,9 @@ use mml_rules::Network;
 use std::alloc::{AllocError, Global};
 use std::test::Fail;
 
-/// Returns how one node relates to another: `-` if the two are linked and the node doesn't point at the other, `>` if
-/// they are linked and it does, `!` if it points there without a link, and `.` if they aren't linked and it doesn't
-/// point there.
+/// Returns a character for the relation of a node to another one. If the two are linked, it is `>` if the node points
+/// at the other, and `-` if it doesn't. If they aren't linked, it is `!` if the node points at the other, and `.` if it
+/// doesn't.
 fn mark(lab: &Lab, node: Rank, other: Rank) -> &'static str
     requires { node < length lab.now.ids }
 {
@@ -155,7 +155,7 @@ fn shown_of_lab(alloc: Global, lab: &Lab) -> Result<(String, bool, Option<&'stat
     ))
 }
 
-/// Returns whether the text of the lab of a lab file is `wanted`, whether the lab's network can be copied exactly, and
+/// Reads the lab of a lab file. Returns whether its text is `wanted`, whether its network can be copied exactly, and
 /// the result of `first_other_index` for its roster.
 fn is_document_shown(
     alloc: Global,

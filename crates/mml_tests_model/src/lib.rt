@@ -1,5 +1,5 @@
-//! Tests of the model and the journal for what no script, audit or lab file reaches: sets, sinks that fail, and each
-//! public call that can report that memory ran out, if there is enough memory.
+//! Tests of the model and the journal for what no script, audit or lab file reaches. They test sets, and sinks that
+//! fail. They also test that each public call that can report out of memory succeeds if there is enough.
 #![tactic(auto)]
 
 #[cfg(test)]

@@ -106,8 +106,8 @@ fn is_list(set: NodeSet, list: &[bool]) -> bool {
     (set.len(), least_of(set), greatest_of(set)) == (count, least, greatest)
 }
 
-/// Compares four sets with plain lists, and returns whether all are equal: the set of the seed `a`, the ranks that it
-/// shares with the set of `b`, those that it doesn't, and all ranks above `rank`.
+/// Compares four sets with plain lists, and returns whether all are equal. The sets are that of the seed `a`, its ranks
+/// that are also in the set of the seed `b`, its ranks that aren't, and all ranks above `rank`.
 fn sets_are_lists(a: u64, b: u64, rank: Rank) -> bool {
     let mut first = [false; 256];
     let mut both = [false; 256];
@@ -153,8 +153,8 @@ fn first_unlike_lists() -> Option<(u64, u64, u64)> {
     None
 }
 
-/// Checks that seven sets have the ranks in their lists, that pseudo-random sets have those that `is_drawn` says, and
-/// that 192 ranks are above 63.
+/// Checks that seven sets have the ranks in their lists, that pseudo-random sets have the ranks for which `is_drawn` is
+/// true, and that 192 ranks are above 63.
 #[test]
 fn sets_of_ranks(rt: HostRuntime) {
     assert_eq!(rt;

@@ -58,8 +58,9 @@ fn first_other_count(alloc: Global, lab: &Lab) -> Result<Option<usize>, Fail> {
     Ok(None)
 }
 
-/// Returns three results: that of `first_other_count`; whether a sink that fails from the beginning has no line, and
-/// halts its journal; and whether one that never fails has all ten lines, and doesn't halt it.
+/// Returns three results. The first is that of `first_other_count`. The second is whether a sink that fails from the
+/// beginning gets no line and halts its journal. The third is whether a sink that never fails gets all ten lines and
+/// doesn't halt it.
 fn faults_of_sinks(alloc: Global, lab: &Lab) -> Result<(Option<usize>, bool, bool), Fail> {
     let other = first_other_count(alloc, lab)?;
     let none = takes_lines(alloc, lab, Some(0), 0)?;
@@ -68,8 +69,8 @@ fn faults_of_sinks(alloc: Global, lab: &Lab) -> Result<(Option<usize>, bool, boo
 }
 
 /// Appends the ten lines, whose text is `text`, to a journal whose sink stores `left` bytes and then fails. Returns
-/// whether the sink then has exactly the first `left` bytes of the text (or all, if it is shorter), and the journal is
-/// halted exactly if some are missing.
+/// whether the sink then has exactly the first `left` bytes of the text, or all bytes if the text is shorter. The
+/// journal must be halted exactly if some bytes are missing.
 fn takes_bytes(alloc: Global, lab: &Lab, text: &[u8], left: usize) -> Result<bool, Memory> {
     let mut journal = Journal::new(Drip::failing_after(left, alloc));
     put_lines(alloc, lab, &mut journal)?;
@@ -89,16 +90,16 @@ fn takes_each_number_of_bytes(alloc: Global, lab: &Lab) -> Result<bool, Fail> {
     Ok(true)
 }
 
-/// Returns, for journals of the path of three: the three results of `faults_of_sinks`, about sinks that fail at a line;
-/// and whether sinks are right that fail after each number of bytes.
+/// Writes journals of the path of three. Returns the three results of `faults_of_sinks`, about sinks that fail at a
+/// line. Also returns the result of `takes_each_number_of_bytes`, about sinks that fail after a number of bytes.
 fn lines_and_bytes_taken(alloc: Global) -> Result<((Option<usize>, bool, bool), bool), Fail> {
     let lab = boxed_lab(alloc, PATH_OF_THREE)?;
     let lines = faults_of_sinks(alloc, &lab)?;
     Ok((lines, takes_each_number_of_bytes(alloc, &lab)?))
 }
 
-/// Checks that after a failed put a sink has exactly what was put before, and the journal is halted, and that a journal
-/// isn't halted if no put failed.
+/// Checks that after a failed put a sink has exactly what was put before, and the journal is halted. If no put failed,
+/// the journal mustn't be halted.
 #[test]
 fn sinks_fail_at_each_put_and_at_each_byte(rt: HostRuntime) -> Result<(), Fail> {
     assert_eq!(rt;
