@@ -10,9 +10,9 @@ use std::alloc::Global;
 use std::sync::Wait;
 use std::test::Fail;
 
-/// Returns whether an answer to the act at this place is right, if the sink fails at the line of event `last`. Acts
-/// before this event must be granted, the act for it must be refused for the journal, and later ones must be denied, or
-/// refused for the journal.
+/// Returns whether an answer to the act at this place is right, if the sink fails at the line of event `last`. Acts at
+/// earlier places must be granted. The act at place `last` must be refused for the journal, and later acts must be
+/// denied, or refused for the journal.
 fn is_right_answer(answer: &Answer, place: u64, last: u64) -> bool {
     match answer {
         Answer::Granted { place: granted, .. } => place < last && *granted == place,
@@ -53,8 +53,8 @@ impl Visit<Drip> for Acts {
     }
 }
 
-/// Returns how a house must have ended that was asked for all ten acts, if its sink failed at the line of event `last`,
-/// or never if that is 11.
+/// Returns how a house must have ended in which all ten acts were asked for. Its sink failed at the line of event
+/// `last`, or never if that is 11.
 fn ending_at(last: u64) -> Ending {
     Ending::Log {
         events: last.saturating_sub(1) as usize,
@@ -74,9 +74,9 @@ fn has_dripped(end: &Result<Log<Drip>, Astray>, wanted: &[u8]) -> bool {
     }
 }
 
-/// Asks for the ten acts in a house whose sink stores `puts` bytes and then fails. Returns whether they are answered
-/// rightly, the sink has exactly the first `puts` bytes of their journal, and the house has one event for each whole
-/// line in these bytes.
+/// Asks for the ten acts in a house whose sink stores `puts` bytes and then fails. Returns whether all is right. The
+/// acts must be answered rightly, the sink must have exactly the first `puts` bytes of their journal, and the house one
+/// event for each whole line in these bytes.
 fn fails_rightly_after<R: Wait>(rt: &R, alloc: Global, puts: usize) -> Result<bool, Fail> {
     let (wanted, _) = TEN_LINES.as_bytes().split_at(puts.min(TEN_LINES.len()));
     let last = (ended_lines(wanted) as u64).saturating_add(1);

@@ -325,8 +325,8 @@ fn is_lack_told<R: Threads + Wait + Sync>(rt: &R, alloc: Global) -> Result<bool,
     Ok(matches!(one, Err(ServeFault::Accept)) && out.is_empty())
 }
 
-/// Returns two answers about a server for two connections: whether it serves exactly the first two of three, in their
-/// order; and whether it ends with the fault `Accept` if only one comes.
+/// Returns two answers about a server for two connections. The first is whether it serves exactly the first two of
+/// three, in their order. The second is whether it ends with the fault `Accept` if only one comes.
 fn results_of_arrivals<R: Threads + Wait + Sync>(
     rt: &R,
     alloc: Global,

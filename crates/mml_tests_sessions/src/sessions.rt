@@ -96,8 +96,8 @@ fn bye(alloc: Global, spaces: usize, end: &str) -> Result<Vec<u8>, AllocError> {
 /// The reply to a bye.
 const LEFT: &str = lines!(left);
 
-/// How many spaces follow a bye, and which text comes after them; then how the session must end, what it must write,
-/// how many reads of one byte it must make, and how many bytes it must leave unread.
+/// A row of a table. First come the number of spaces after a bye, and the text after them. Then come how the session
+/// must end, what it must write, how many reads of one byte it must make, and how many bytes it must leave unread.
 type Row = (usize, &'static str, SessionEnd, &'static str, usize, usize);
 
 /// Byes at the limit of a line's length, one byte over it, without a newline, and with another line after them.
@@ -148,9 +148,9 @@ fn ana_moving(step: usize) -> FakeReader<'static> {
     reader
 }
 
-/// Serves `ANA_MOVES` with a writer that fails after `good` bytes. Returns whether exactly these bytes are written, the
-/// session ends with `WriteFault` (or with `End` if they are all), and the move stays granted: the close applies it
-/// even if its reply wasn't written.
+/// Serves `ANA_MOVES` with a writer that fails after `good` bytes. Returns whether exactly these bytes are written, and
+/// the session ends with `WriteFault`, or with `End` if these are all bytes. The move must stay granted: the close
+/// applies it even if its reply wasn't written.
 fn tells_a_write<R: Wait>(rt: &R, alloc: Global, good: usize) -> Result<bool, Fail> {
     let reader = ana_moving(usize::MAX);
     let mut writer = FakeWriter::failing_after(good, alloc);
@@ -170,8 +170,8 @@ fn tells_a_write<R: Wait>(rt: &R, alloc: Global, good: usize) -> Result<bool, Fa
     )
 }
 
-/// Tries a writer that fails after each number of bytes of the replies. Returns the first number for which the session
-/// ends otherwise than `tells_a_write` requires, or `None` if there is no such number.
+/// Tries a writer that fails after each number of bytes of the replies. Returns the first number for which
+/// `tells_a_write` is `false`, or `None` if there is no such number.
 fn first_other_write<R: Wait>(rt: &R, alloc: Global) -> Result<Option<usize>, Fail> {
     for good in 0..=ANA_GRANTED.len() {
         if !tells_a_write(rt, alloc, good)? {
@@ -202,8 +202,8 @@ fn replies_after(good: usize) -> &'static str {
 }
 
 /// Serves `ANA_MOVES` with a reader that fails after `good` bytes. Returns whether the session ends with `ReadFault`,
-/// exactly the whole lines among these bytes are answered, and the close applies the move exactly if the move's line is
-/// one of them.
+/// and exactly the whole lines among these bytes are answered. The close must apply the move exactly if the move's line
+/// is one of them.
 fn tells_a_read<R: Wait>(rt: &R, alloc: Global, good: usize) -> Result<bool, Fail> {
     let reader = FakeReader::failing_after(good, ANA_MOVES.as_bytes());
     let (served, is_ended) = serve(rt, alloc, reader, FakeWriter::patient(alloc))?;
@@ -225,8 +225,8 @@ fn first_other_read<R: Wait>(rt: &R, alloc: Global) -> Result<Option<usize>, Fai
     Ok(None)
 }
 
-/// Checks sessions whose reader fails after each possible number of bytes of the lines: how they end, what they write,
-/// and that their move is granted exactly if its line was read whole.
+/// Checks how sessions end, and what they write, if the reader fails after each possible number of bytes of the lines.
+/// The move must be granted exactly if its line was read whole.
 #[test]
 fn failed_reads_are_told(rt: HostRuntime) -> Result<(), Fail> {
     assert_eq!(rt; first_other_read(&rt, rt.alloc())?, None);

@@ -41,8 +41,8 @@ fn is_first_move(answer: &Answer) -> bool {
     }
 }
 
-/// Returns whether the teacher's window shows configuration 1, by its number, a see, a student's look and a report:
-/// node 1 points at node 2, and all three nodes are free.
+/// Returns whether the teacher's window shows configuration 1, in which node 1 points at node 2, and all three nodes
+/// are free. Asks for the number of the configuration, a see, a student's look and a report.
 fn sees_the_close<H: House, R: Wait>(teacher: &mut WindowAtDesk<'_, MemorySink, H, R>) -> bool {
     let number = teacher.window.number() == Ok(1);
     let see = match teacher.window.see(Who::Teacher, 1) {
@@ -60,8 +60,8 @@ fn sees_the_close<H: House, R: Wait>(teacher: &mut WindowAtDesk<'_, MemorySink, 
     number && see && look && report
 }
 
-/// Returns whether ana's window, through which the move was asked for, shows configuration 1, which the close through
-/// the other window has made, and the same move is now denied as stale.
+/// Returns whether ana's window shows configuration 1, which the close through the other window has made. The move that
+/// was asked for through ana's window must now be denied as stale.
 fn meets_the_close<H: House, R: Wait>(ana: &mut WindowAtDesk<'_, MemorySink, H, R>) -> bool {
     let number = ana.window.number() == Ok(1);
     let answer = ana.ask(student(0), &seduction(1, 0));
@@ -107,8 +107,8 @@ struct HouseResult {
     has_journal: bool,
 }
 
-/// Starts a house, asks for a move and a close in it, and ends it: with all its windows if `with_all`, and otherwise
-/// without the last one, through which ana moved. Returns the result, or `Memory` if memory runs out.
+/// Starts a house, asks for a move and a close in it, and ends it. If `with_all` is set, ends it with all its windows,
+/// and otherwise without the last one, through which ana moved. Returns the result, or `Memory` if memory runs out.
 fn in_house<H: House, R: Wait>(
     rt: &R,
     alloc: Global,
@@ -133,15 +133,15 @@ fn in_house<H: House, R: Wait>(
     })
 }
 
-/// Asks for a move and a close in a house over the path of three, and ends it: with all its windows if `with_all`, and
-/// otherwise without the last one, through which ana moved. Returns the result.
+/// Asks for a move and a close in a house over the path of three, and ends it. If `with_all` is set, ends it with all
+/// its windows, and otherwise without the last one, through which ana moved. Returns the result.
 fn ended_with<R: Wait>(rt: &R, alloc: Global, with_all: bool) -> Result<HouseResult, Fail> {
     let blank = open_path(rt, alloc, None)?;
     Ok(in_house::<Brand, _>(rt, alloc, blank, with_all)?)
 }
 
-/// Returns the result that a house has in which all went well, and which has ended as `ending`. `has_journal` is
-/// whether it left the journal of a move and its close.
+/// Returns the result of a house in which all went well, and which has ended as `ending`. `has_journal` is whether it
+/// left the journal of a move and its close.
 fn good_result(ending: Ending, has_journal: bool) -> HouseResult {
     HouseResult {
         is_visited: true,
@@ -212,7 +212,8 @@ fn a_window_that_outlives_its_house_is_closed(rt: HostRuntime) -> Result<(), Fai
 }
 
 /// Asks a book, whose sink fails at its second line, for three moves. Returns whether the first is granted, the second
-/// is refused for the journal, the first is denied as chosen when asked again, and the book has one event.
+/// is refused for the journal, and the third, which is the first again, is denied as chosen. The book must then have
+/// one event.
 fn refuses_the_second<H: House, R: Wait>(
     rt: &R,
     alloc: Global,
@@ -228,7 +229,7 @@ fn refuses_the_second<H: House, R: Wait>(
 }
 
 /// Takes the book out of a house whose sink fails at its second line. Returns the result of `refuses_the_second` for
-/// it, and how the house has ended, whose windows have no place. Returns `Memory` if memory runs out.
+/// it, and how the house has ended. The windows of this house have no place. Returns `Memory` if memory runs out.
 fn decides_alone<H: House, R: Wait>(
     rt: &R,
     alloc: Global,
@@ -242,8 +243,8 @@ fn decides_alone<H: House, R: Wait>(
     Ok((holds, ending_of(&book.finish_from(rt, windows, 0))))
 }
 
-/// Checks that a book (the granted events and their journal, which a lock usually protects) decides rightly without its
-/// lock, and that a house doesn't leave a log if no window has the place of its event.
+/// Checks that a book decides rightly without its lock. A book is the granted events and their journal. Also checks
+/// that a house doesn't leave a log if no window has the place of its event.
 #[test]
 fn a_book_decides_alone(rt: HostRuntime) -> Result<(), Fail> {
     let blank = open_path(&rt, rt.alloc(), Some(2))?;

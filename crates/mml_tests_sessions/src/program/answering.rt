@@ -36,8 +36,8 @@ fn is_listening_told(alloc: Global) -> bool {
     write_listening(alloc, 7000, &mut first) == Ok(()) && first.taken.as_slice() == LISTENING
 }
 
-/// Returns whether the line of `check` for this lab is `SIZE` and the line of `audit` is `AUDITED`, each with one
-/// write, and a failed write of the first is reported, with nothing written.
+/// Returns whether the line of `check` for this lab is `SIZE`, and the line of `audit` is `AUDITED`, each with one
+/// write. A failed write of the first line must be reported, with nothing written.
 fn are_lines_told(alloc: Global, lab: &Lab) -> bool {
     let mut size = FakeWriter::failing_after(1, alloc);
     let is_size = write_size(alloc, lab, &mut size);
@@ -50,15 +50,15 @@ fn are_lines_told(alloc: Global, lab: &Lab) -> bool {
         && has_written(is_failed, &failing, Some(Fault::Write), b"")
 }
 
-/// Returns whether a server's first line, and the lines of `check` and `audit` for the built-in lab, are right, each
-/// with one write, and a failed write is reported. Returns an error if the built-in lab can't be read.
+/// Returns whether a server's first line, and the lines of `check` and `audit` for the built-in lab, are right. Each
+/// must take one write, and a failed write must be reported. Returns an error if the built-in lab can't be read.
 fn are_lines_right(alloc: Global) -> Result<bool, Fail> {
     let lab = boxed_lab(alloc, BUILT_IN)?;
     Ok(is_listening_told(alloc) && are_lines_told(alloc, &lab))
 }
 
-/// Checks that a server's first line, and the lines of `check` and `audit`, are right and take one write each, that a
-/// failed write is reported, and that the built-in lab is the path of three.
+/// Checks that a server's first line, and the lines of `check` and `audit`, are right and take one write each. A failed
+/// write must be reported. The built-in lab must be the path of three.
 #[test]
 fn lines_go_out_in_one_write(rt: HostRuntime) -> Result<(), Fail> {
     let are_told = are_lines_right(rt.alloc())?;
@@ -76,8 +76,8 @@ const LEFT: &str = lines!("1 ", left);
 /// A script whose second line names connection 5, which the built-in lab doesn't have.
 const BAD_SECOND_LINE: &str = lines!("1 ", bye, "5 ", bye);
 
-/// A script and how often it is repeated; how many writes and how many flushes of its writer succeed; the error at its
-/// end; and what must be written: a text and how often it is repeated.
+/// A script, and how often it is repeated; how many writes and how many flushes of its writer succeed; and the error
+/// with which it ends. At last what must be written: a text, and how often it is repeated.
 type Row = (
     &'static str,
     usize,

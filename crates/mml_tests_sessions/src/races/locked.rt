@@ -1,4 +1,4 @@
-//! A test of a slow put: it holds the lock until another session wants the lock and a third was answered.
+//! A test of a slow put. It holds the lock until another session waits for the lock, and a third one was answered.
 //!
 //! An act is a request for an event. A view is what a see, a look or a report shows. A put is a write to the sink.
 use super::steps::{Hold, Holds, Steps};
@@ -20,8 +20,8 @@ const PUT: u8 = 4;
 /// its second reply.
 const TURNS: u64 = 100_000;
 
-/// The holds of the sessions: the second and the third wait at their second line until the first put has begun, and the
-/// put waits until the second session has come to its second line and the third has got its second reply.
+/// Where the sessions wait. The second and the third wait at their second line until the first put has begun. The put
+/// waits until the second session has come to its second line, and the third has got its second reply.
 const HOLDS: &[Hold] = &[
     (2, 2, PUT, 1),
     (3, 2, PUT, 1),
@@ -44,8 +44,8 @@ impl<'a> Sink for Slow<'a> {
 
     ghost failures = { λ s. s.failures };
 
-    // Stores all bytes. The first put waits until the second session has come to its second line and the third has got
-    // its second reply, and then lets other threads run `TURNS` times. If memory runs out, fails and counts that.
+    // Stores all bytes. The first put waits until the second session has come to its second line, and the third has got
+    // its second reply. Then it lets other threads run `TURNS` times. If memory runs out, fails and counts that.
     fn put(&mut self, bytes: &[u8]) -> Result<usize, SinkFault> {
         if self.bytes.is_empty() {
             self.steps.come(PUT, Point::Line);

@@ -51,8 +51,9 @@ impl<'a> Steps<'a> {
         self.steps.get(usize::from(connection.saturating_sub(1)))
     }
 
-    /// Waits until `come`, the counter of a connection's steps, is at least `wanted`. If that takes too long, or `come`
-    /// is `None`, since there is no such connection, gives up and counts that.
+    /// Waits until `come`, the counter of a connection's steps, is at least `wanted`. If that takes too long, gives up
+    /// and counts that in `given_up`. Does the same if `come` is `None`, which stands for a connection that doesn't
+    /// exist.
     fn wait_until(&self, come: Option<&AtomicU64>, wanted: u64) {
         let has_come = match come {
             Some(come) => wait_for(come, wanted),
