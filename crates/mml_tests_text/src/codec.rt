@@ -170,10 +170,10 @@ fn named_node(scratch: &mut LineScratch, line: &[u8]) -> Result<Option<u64>, Fai
 /// three lines.
 type Results = (Option<usize>, Option<usize>, [Option<u64>; 3]);
 
-/// Returns the results of three checks, all of which use `scratch` as memory for reading lines. These are the first row
-/// of `LINES` that is read wrongly, the first row of `HELLOS` that is written or read wrongly (`None` if all are
-/// right), and the numbers under `node` in three lines: a plain one, one with nested arrays and objects, and one with a
-/// number that is too great to be read.
+/// Returns the results of three checks, all of which use `scratch` as memory for reading lines. The first is the first
+/// row of `LINES` that is read wrongly, and the second the first row of `HELLOS` that is written or read wrongly. They
+/// are `None` if all rows are right. The third has the numbers under `node` in three lines: a plain line, one with
+/// nested arrays and objects, and one with a number that is too great to be read.
 fn results_with(alloc: Global, scratch: &mut LineScratch) -> Result<Results, Fail> {
     let line = first_other_line(alloc, scratch)?;
     let hello = first_other_hello(alloc, scratch)?;
@@ -183,8 +183,8 @@ fn results_with(alloc: Global, scratch: &mut LineScratch) -> Result<Results, Fai
     Ok((line, hello, [plain, nested, great]))
 }
 
-// Checks that the rows of `LINES` and `HELLOS` are read and written rightly, and that a node is found in a plain and in
-// a nested line, but not in one with a number that can't be read.
+// Checks that the rows of `LINES` and `HELLOS` are read and written rightly. The number under `node` must be found in a
+// plain and in a nested line, but not in one with a number that can't be read.
 #[test]
 fn requests_are_read_and_written(rt: HostRuntime) -> Result<(), Fail> {
     let mut scratch = LineScratch::new(rt.alloc(), 4096)?;

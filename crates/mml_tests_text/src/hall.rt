@@ -1,5 +1,5 @@
-//! Tests of scripts over the path of three (nodes 1, 2 and 3 in a row), from the bytes that are read to the bytes that
-//! are written. An error (`Fail`) means that memory ran out, or is that of a lab file.
+//! Tests of scripts over the path of three (nodes 1, 2 and 3 in a row): which bytes are written for the bytes that are
+//! read. An error (`Fail`) means that memory ran out, or is that of a lab file.
 mod answers;
 mod journals;
 mod reads;

@@ -1,5 +1,5 @@
-//! Tests of the libraries of text, which use only public items: lines, requests and replies, and scripts and audits,
-//! over readers, writers and sinks that count and fail.
+//! Tests of lines, requests, replies, scripts and audits, with readers, writers and sinks that count and fail. They use
+//! only public items.
 #![tactic(auto)]
 
 #[cfg(test)]

@@ -185,25 +185,25 @@ fn first_other_reads(alloc: Global) -> Result<Option<usize>, Fail> {
     Ok(None)
 }
 
-/// Returns three results, each `None` if all is right: the first offset at which cutting `TEXT` in two changes the
-/// answers if the second part comes in reads of one byte, the first one if it comes in reads of up to 100 bytes, and
-/// the index of the first row of `READS` that is wrong.
+/// Returns three results, each `None` if all is right. The first is the first offset at which cutting `TEXT` in two
+/// changes the answers, if the second part comes in reads of one byte. The second is the same for reads of up to 100
+/// bytes. The third is the index of the first row of `READS` that is wrong.
 fn first_others(alloc: Global) -> Result<[Option<usize>; 3], Fail> {
     let by_bytes = first_cut_that_changes(alloc, 1)?;
     let at_once = first_cut_that_changes(alloc, 100)?;
     Ok([by_bytes, at_once, first_other_reads(alloc)?])
 }
 
-// Checks that the same lines are read however the input is cut into reads, that a failed read is the last answer, and
-// that the number of reads is right.
+// Checks that the same lines are read, however the input is cut into reads. A failed read must be the last answer, and
+// the number of reads must be right.
 #[test]
 fn cuts_change_nothing_and_a_failed_read_ends_the_lines(rt: HostRuntime) -> Result<(), Fail> {
     assert_eq!(rt; first_others(rt.alloc())?, [None; 3]);
     Ok(())
 }
 
-/// Counts the lines before the first answer that isn't `Line`. Returns the count and that answer, or `u32::MAX` and
-/// `Line` if that many lines come.
+/// Counts the lines before the first answer that isn't `Line`. Returns the count and that answer. If `u32::MAX` lines
+/// come, returns this number and `Line`.
 fn count_lines(lines: &mut Lines, reader: &mut FakeReader) -> (u32, Step) {
     for count in 0..u32::MAX {
         match lines.next(reader) {
@@ -252,8 +252,8 @@ fn line_by_bytes(alloc: Global, text: &[u8]) -> Result<(bool, usize), Fail> {
 /// The results of `lines_of_many_newlines` and of `longest_line_by_bytes`.
 type Counts = ((u32, Step, usize), (bool, usize));
 
-/// Returns what comes of two inputs that are read one byte at a time: of newlines, one more than the reads that are
-/// allowed, as `lines_of_many_newlines` returns it; and of a line of 4,096 bytes, as `longest_line_by_bytes` does.
+/// Returns the results of `lines_of_many_newlines` and of `longest_line_by_bytes`, which read an input one byte at a
+/// time.
 fn counts(alloc: Global) -> Result<Counts, Fail> {
     Ok((
         lines_of_many_newlines(alloc)?,
@@ -261,8 +261,8 @@ fn counts(alloc: Global) -> Result<Counts, Fail> {
     ))
 }
 
-// Checks that as many lines come as reads are allowed, if each line takes one read, and that a line of 4,096 bytes
-// comes whole with one read for each byte, and one that finds the end.
+// Checks that as many lines come as reads are allowed, if each line takes one read. Also checks that a line of 4,096
+// bytes comes whole, with one read for each byte and one that finds the end.
 #[test]
 fn reads_are_counted_over_all_lines(rt: HostRuntime) -> Result<(), Fail> {
     // One read for each byte, and one that finds the end.

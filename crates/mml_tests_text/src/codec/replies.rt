@@ -34,8 +34,8 @@ fn line_of_see(alloc: Global, lab: &Lab) -> Result<String, Fail> {
     line_of(alloc, lab, &Reply::See(See { at, node, regs }))
 }
 
-/// Returns whether the reply to an allowed report on a board is a report with the same number and stability as the
-/// given one.
+/// Returns whether `reply_of` makes, for an allowed report on a board, a report with the same number and stability as
+/// the given one.
 fn is_reported(alloc: Global, board: &Board, told: &Report) -> Result<bool, Fail> {
     match reply_of(alloc, board, Ruling::Reported)? {
         Reply::Report(other) => Ok(other.at == told.at && other.stable == told.stable),
@@ -73,16 +73,16 @@ fn rooms(alloc: Global, lab: &Lab) -> Result<[usize; 3], Fail> {
     Ok([first, second, third])
 }
 
-/// Returns the line of the reply to a see, the line of the lab's report, and whether a vector with memory for a reply
-/// keeps its capacity when a reply is written into it.
+/// Returns the line of the reply to a see, and the line of the lab's report. Also returns whether a vector with memory
+/// for a reply keeps its capacity when a reply is written into it.
 fn replies_of_lab(alloc: Global, lab: &Lab) -> Result<(String, String, bool), Fail> {
     let rooms = rooms(alloc, lab)?;
     let stays = rooms[1] == rooms[0] && rooms[2] == rooms[0];
     Ok((line_of_see(alloc, lab)?, report_line(alloc, lab)?, stays))
 }
 
-/// Returns, for the lab of two nodes far apart: the line of the reply to a see, the line of the lab's report, and
-/// whether a vector with memory for a reply keeps its capacity.
+/// Returns what `replies_of_lab` returns for the lab of two nodes far apart: the line of the reply to a see, the line
+/// of the lab's report, and whether a vector keeps its capacity.
 fn replies_far_apart(alloc: Global) -> Result<(String, String, bool), Fail> {
     let lab = boxed_lab(alloc, FAR_APART)?;
     replies_of_lab(alloc, &lab)

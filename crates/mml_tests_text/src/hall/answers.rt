@@ -85,14 +85,14 @@ fn is_one_beginning(alloc: Global) -> Result<bool, Fail> {
     are_one(alloc, document.as_str(), &lab)
 }
 
-/// Returns two answers: whether a look is answered rightly and leaves the board as it is, and whether all first boards
-/// of the largest lab have the same world.
+/// Returns two answers. The first is whether a look is answered rightly and doesn't change the board. The second is
+/// whether the first boards of the largest lab all have the same world.
 fn are_looks_and_beginnings_right(alloc: Global) -> Result<(bool, bool), Fail> {
     Ok((is_look_answered(alloc)?, is_one_beginning(alloc)?))
 }
 
-// Checks that a hello and a look are answered rightly and don't change the board, and that the first board of the
-// largest lab, its copy, and the first board of a hall have the same world.
+// Checks that a hello and a look are answered rightly and don't change the board. Also checks that the first board of
+// the largest lab, its copy, and the first board of a hall have the same world.
 #[test]
 fn requests_are_answered(rt: HostRuntime) -> Result<(), Fail> {
     assert_eq!(rt; are_looks_and_beginnings_right(rt.alloc())?, (true, true));

@@ -1,5 +1,5 @@
-//! Tests of a hall whose sink fails after each possible number of bytes: what the sink has, and what the hall and
-//! audits make of it. An error means that memory ran out, or is that of a script.
+//! Tests of a hall whose sink fails after each possible number of bytes: which bytes the sink has, which events the
+//! hall has, and what audits say about the bytes. An error means that memory ran out, or is that of a script.
 //!
 //! A hall is the server of one thread, which answers scripts. `TEN_LINES` is the journal of the ten acts of a stored
 //! run over the path of three: nodes 1, 2 and 3 in a row.

@@ -1,5 +1,5 @@
-//! Tests that each read of a script is made once, and none after its end; and of how a script ends, and which lines are
-//! answered, if a read fails. An error (`Fail`) means that memory ran out.
+//! Tests that each read of a script is made once, and none after the script's end. They also test how a script ends,
+//! and which lines are answered, if a read fails. An error (`Fail`) means that memory ran out.
 use super::script_error_of;
 use mml_fakes::scripts::{
     FIRST_LOOK, FIRST_LOOK_REPLIES, GREETING, GREETING_REPLIES, ended_lines, first_lines,
@@ -45,8 +45,8 @@ fn is_read_once(alloc: Global, script: &str, replies: &str) -> Result<bool, Fail
 }
 
 /// Tries a failed read after each number of good reads of `GREETING`, of one byte each. Returns the first number for
-/// which the error isn't reported, or other lines are answered than those that came whole, or `None` if there is no
-/// such number.
+/// which the error isn't reported, or the answered lines aren't exactly those that came whole. Returns `None` if there
+/// is no such number.
 fn first_other_read(alloc: Global) -> Result<Option<usize>, Fail> {
     let script = GREETING.as_bytes();
     for good in 0..=script.len() {
@@ -106,8 +106,8 @@ fn is_bad_line_told(alloc: Global) -> Result<bool, Fail> {
     is_script_answered(alloc, script, lines!("2 ", left), 1, end)
 }
 
-/// Returns for each of four scripts whether each read is made once, and the replies are right: one with looks, one with
-/// hellos, one with a long hello, and one with a bad line.
+/// Tries four scripts: one with looks, one with hellos, one with a long hello, and one with a bad line. Returns for
+/// each whether each read is made once, and the replies are right.
 fn are_read_once(alloc: Global) -> Result<[bool; 4], Fail> {
     let look = is_read_once(alloc, FIRST_LOOK, FIRST_LOOK_REPLIES)?;
     let greeting = is_read_once(alloc, GREETING, GREETING_REPLIES)?;
@@ -115,16 +115,16 @@ fn are_read_once(alloc: Global) -> Result<[bool; 4], Fail> {
     Ok([look, greeting, long, is_bad_line_told(alloc)?])
 }
 
-/// Returns the results of the checks of reads: for each of four scripts whether each read is made once; and the first
-/// failed read that is reported wrongly, and the first row of `BUFFERS` that is wrong, each of them `None` if all is
-/// right.
+/// Returns the results of all checks of reads: for each of four scripts, whether each read is made once, then the first
+/// failed read that is reported wrongly, and then the first row of `BUFFERS` that is wrong. The last two are `None` if
+/// all is right.
 fn reads_made(alloc: Global) -> Result<([bool; 4], [Option<usize>; 2]), Fail> {
     let are_read_once = are_read_once(alloc)?;
     let firsts = [first_other_read(alloc)?, first_other_buffer(alloc)?];
     Ok((are_read_once, firsts))
 }
 
-// Checks that each read of a script is made once: none is tried again after it failed, and none is made after the
+// Checks that each read of a script is made once. A read that failed mustn't be tried again, and no read may follow the
 // script's end or a bad line. A failure means that a script of this file had more or fewer reads, other replies,
 // another error, or other bytes left unread.
 #[test]

@@ -66,7 +66,8 @@ impl<'a> Write for Answered<'a> {
 }
 
 /// Answers a script that comes one line in each read. Returns whether it ends well with exactly the replies in
-/// `wanted`, all of them written and flushed before the next read and at the end; and how many reads there were.
+/// `wanted`, all of them written and flushed before the next read and at the end. Also returns how many reads there
+/// were.
 fn answer_line_by_line(alloc: Global, script: &str, wanted: &str) -> Result<(bool, usize), Fail> {
     let replies = Replies {
         count: Cell::new(0),
@@ -139,8 +140,8 @@ fn writes_before_reads(alloc: Global) -> Result<Writes, Fail> {
     Ok((looks, greets, first_cut_that_changes(alloc)?))
 }
 
-// Checks that all replies are written and flushed before the next read, and that cutting the script in two reads
-// doesn't change the replies, and needs few writes and flushes.
+// Checks that all replies are written and flushed before the next read. If the script comes in two reads, the replies
+// must be the same, with few writes and flushes.
 #[test]
 fn replies_go_out_before_the_next_read(rt: HostRuntime) -> Result<(), Fail> {
     // Both scripts pass, with one read for each line and one that finds the end, and no cut changes anything.

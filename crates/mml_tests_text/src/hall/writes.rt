@@ -39,9 +39,8 @@ const FAILS: Refusal = Refusal::Fails(ErrorKind::Other);
 // How many bytes each write takes, and how writes are refused later.
 const WRITERS: [(usize, Refusal); 3] = [(1, FAILS), (1, Refusal::TakesNothing), (7, FAILS)];
 
-/// Tries writers that fail after each number of bytes of the replies. Returns the first number for which the script
-/// ends otherwise than `tells_a_write` requires, with the number of bytes in each write, or `None` if there is no such
-/// number.
+/// Tries writers that fail after each number of bytes of the replies. Returns the first number for which
+/// `tells_a_write` is `false`, and the number of bytes in each write. Returns `None` if there is no such number.
 fn first_other_write(alloc: Global) -> Result<Option<(usize, usize)>, Fail> {
     for good in 0..=FIRST_LOOK_REPLIES.len() {
         for (step, refusal) in WRITERS {
@@ -53,8 +52,9 @@ fn first_other_write(alloc: Global) -> Result<Option<(usize, usize)>, Fail> {
     Ok(None)
 }
 
-/// Answers `GREETING` with a writer whose flush fails after `good` good ones. Returns whether the script ends with a
-/// write fault of no bytes, only whole lines of replies are written, and there were as many reads as good flushes.
+/// Answers `GREETING` with a writer whose first `good` flushes succeed, and whose next flush fails. Returns whether the
+/// script ends with the fault `Write` of 0 bytes, and only whole lines of replies are written. There must be as many
+/// reads as good flushes.
 fn tells_a_flush(alloc: Global, good: usize) -> Result<bool, Fail> {
     let mut reader = FakeReader::failing_after(usize::MAX, GREETING.as_bytes());
     reader.step = 40;
@@ -67,9 +67,8 @@ fn tells_a_flush(alloc: Global, good: usize) -> Result<bool, Fail> {
     Ok(fault == Some(ScriptFault::Write { written: 0 }) && is_front && is_unread)
 }
 
-/// Tries a writer whose flush fails after each number of good ones, from 0 to 6; the script makes seven flushes.
-/// Returns the first number for which the script ends otherwise than `tells_a_flush` requires, or `None` if there is no
-/// such number.
+/// Tries writers whose first 0 to 6 flushes succeed, and whose next flush fails. The script makes seven flushes.
+/// Returns the first number for which `tells_a_flush` is `false`, or `None` if there is no such number.
 fn first_other_flush(alloc: Global) -> Result<Option<usize>, Fail> {
     for good in 0..7 {
         if !tells_a_flush(alloc, good)? {

@@ -127,17 +127,17 @@ fn sent(alloc: Global) -> Result<[usize; 3], Fail> {
 /// The results of `first_other_put` for writers that fail and for writers that write nothing, and that of `sent`.
 type Written = (Option<usize>, Option<usize>, [usize; 3]);
 
-/// Returns the results of the three checks of this file's second test: the first row of `PUTS` that is wrong for a
-/// writer that fails, the first that is wrong for one that writes nothing (`None` if all are right), and the result of
-/// `sent`.
+/// Returns the results of the three checks of this file's second test. The first is the first row of `PUTS` that is
+/// wrong for a writer that fails. The second is the first that is wrong for a writer that writes nothing. Both are
+/// `None` if all rows are right. The third is the result of `sent`.
 fn results_of_writes(alloc: Global) -> Result<Written, Fail> {
     let failed = first_other_put(alloc, Refusal::Fails(ErrorKind::Other))?;
     let refused = first_other_put(alloc, Refusal::TakesNothing)?;
     Ok((failed, refused, sent(alloc)?))
 }
 
-// Checks that the writer has exactly the bytes that it took, and the error says how many; and that 512 lines are all
-// buffered, and written when another line comes.
+// Checks that the writer has exactly the bytes that it took, and the error says how many. Also checks that 512 lines
+// are all buffered, and are written when another line comes.
 #[test]
 fn writes_tell_what_went_out(rt: HostRuntime) -> Result<(), Fail> {
     assert_eq!(rt;
