@@ -20,8 +20,8 @@ const PUT: u8 = 4;
 /// its second reply.
 const TURNS: u64 = 100_000;
 
-/// Where the sessions wait. The second and the third wait at their second line until the first put has begun. The put
-/// waits until the second session has come to its second line, and the third has got its second reply.
+/// The places at which the sessions wait. The second and the third wait at their second line until the first put has
+/// begun. The put waits until the second session has come to its second line, and the third has got its second reply.
 const HOLDS: &[Hold] = &[
     (2, 2, PUT, 1),
     (3, 2, PUT, 1),
