@@ -28,15 +28,15 @@ from pathlib import Path
 from typing import Any, Literal
 
 Rule = Literal["update", "marriage", "seduction", "abandonment"]
-KEY, SLIP = "CENDUWA_KEY", "CENDUWA_SLIP"  # of the environment: others can't read it as they can a process's words
-MOST, DEEPEST, DEEP, GREETING, NEXT_LINE = 4096, 127, "nested deeper than 127", 10, 600  # bytes; lists in one another; seconds to a hello, and to a line
+KEY, SLIP = "CENDUWA_KEY", "CENDUWA_SLIP"  # environment variables; other users can't read them
+MOST, DEEPEST, DEEP, GREETING, NEXT_LINE = 4096, 127, "nested deeper than 127", 10, 600  # a line's bytes and nesting; seconds to a hello, and to a next line
 LAST = {  # what a class's server says last when it ends a connection, in words
     "late": "a hello has to be granted within ten seconds, and each next line has to come within ten minutes",
     "long": f"a line has at most {MOST} bytes",
     "over": "the class is over",
 }
 LOST, LOST_SO = 7, "the connection was lost: start again"
-STOPS = {  # why a program stops, with its exit status; 0 is the run's end, 1 wrong words, 4 no server
+STOPS = {  # why a program stops, with its exit status; 0 means the run's end, 1 a wrong command line, 4 no server
     "unknown": (2, "name and key don't match: take both from your slip"),
     "not-owner": (3, "a node isn't yours: correct the nodes by your slip"),
     "hidden": (3, "a node isn't shown to you: correct the nodes by your slip"),
@@ -46,7 +46,7 @@ STOPS = {  # why a program stops, with its exit status; 0 is the run's end, 1 wr
     **dict.fromkeys(("full", "journal"), (6, "nothing is granted any longer: tell your teacher")),
 }
 NODE, OPTIONS, TOLD, PASSING = "a number", ("--log", "--tunnel"), "; --help prints what to type", ("busy", "memory")
-KEYS: dict[str, dict[str, str]] = {  # of each request, with what they have to be
+KEYS: dict[str, dict[str, str]] = {  # the keys of each request, with the kind of each value
     "hello": {"name": "a string", "key": "a string"}, "bye": {}, "see": {"node": NODE}, "look": {"node": NODE},
     "move": {"node": NODE, "at": NODE, "rule": "a rule"}, "close": {}, "report": {}, "release": {"node": NODE},
     "fault": {"node": NODE, "p": "a number or null", "m": "true or false"}, "link": {"a": NODE, "b": NODE}, "cut": {"a": NODE, "b": NODE},

@@ -100,9 +100,9 @@ def map_user(user: int, group: int) -> None:
 
 
 def enter_own_root(world: World, folder: str, megabytes: int) -> None:
-    """Moves this process into a new root, which is a file system in memory of so many megabytes. The root contains the
-    files that `world` shows and, at its path on the host, the program's folder with the slip. Raises the `OSError` of a
-    call that the system refuses."""
+    """Moves this process into a new root, which is a file system in memory of `megabytes` megabytes. The root contains
+    the files that `world` shows and, at its path on the host, the program's folder with the slip. Raises the `OSError`
+    of a call that the system refuses."""
     mount("none", "/", None, DEEP | PRIVATE)
     mount("none", folder, "tmpfs", NO_SETUID | NO_DEVICES, f"size={megabytes + SPARE}m,nr_inodes={MOST_FILES},mode=0755")
     os.chdir(folder)

@@ -192,7 +192,7 @@ class Attempt:
             self.turn()
 
     def run_for(self, seconds: float) -> None:
-        """Runs the class for so many seconds."""
+        """Runs the class for `seconds` seconds."""
         end = time.monotonic() + seconds
         while time.monotonic() < end:
             self.turn()

@@ -30,7 +30,7 @@ KEPT = ("PATH", "LANG", "LC_ALL", "JAVA_HOME")
 RUN_BY = {".py": [sys.executable], ".java": ["java", "-XX:TieredStopAtLevel=1", "-XX:+UseSerialGC"], ".js": ["node"]}
 SHOWN = 400  # bytes at the end of a bot's output in which its last line is searched
 PATIENCE = 30.0  # seconds that a keeper has to end its bot
-AGAIN = 0.1  # seconds after which a keeper is sent the signal to go on again: its bot may stop it again
+AGAIN = 0.1  # seconds between two signals that let a keeper continue, since its bot may stop it again and again
 
 
 @dataclass(frozen=True)
@@ -84,9 +84,9 @@ class RunningBot:
     def __init__(self, bot: Bot, slip: Path, folder: Path, seconds: float | None, megabytes: int, output: int = 2,
                  world: World | None = None) -> None:
         """Starts the bot in `folder`, with the path `slip` as its last argument. `seconds` limits its processor time,
-        `megabytes` its memory, and `output` is the file descriptor that it prints to. Without `seconds`, only its
-        memory is limited, and it gets the whole environment of this process, as a student's own program at home. With a
-        world, it is kept apart. Raises `Fault` if the keeper can't be started."""
+        `megabytes` its memory, and `output` is the file descriptor that it prints to. If `seconds` is None, only its
+        memory is limited, and it gets the whole environment of this process, like a student's own program at home. If a
+        world is given, the bot is kept apart in it. Raises `Fault` if the keeper can't be started."""
         self.how = ""
         self.channel, theirs = socket.socketpair()
         at_home = seconds is None

@@ -12,11 +12,15 @@ from collections import Counter, deque
 from dataclasses import dataclass, field
 from typing import Any
 
-MOST_AGAIN = 2  # moves for nodes that it knows to be chosen, and `stale` answers for one node under one number
-MOST_BEHIND, SHARE = 9, 4  # moves that may have another number than the last look, and at most one in so many: lines of threads may overtake each other
-MOST_ACROSS = 4  # moves that may be sent on a new connection by a look on a lost one: lines of threads may overtake each other
+# The most moves for nodes that a reply has shown to be chosen already, and the most `stale` answers for one node and
+# number.
+MOST_AGAIN = 2
+# Moves with another number than the last look's are a fault if there are more than MOST_BEHIND of them, and if they are
+# also more than one move in SHARE. Fewer are none, since the lines of threads may overtake each other.
+MOST_BEHIND, SHARE = 9, 4
+MOST_ACROSS = 4  # moves that may be sent on a new connection with the number of a look on a lost one, since threads overtake
 FLOOD = 200  # the number of last lines among which pauses are counted
-RATE = 50  # lines a second that are allowed while nothing changes, for each node and once more
+RATE = 50  # lines a second, times one more than its nodes, that a bot may send while nothing changes
 QUITS = 4  # connections that a bot may end by itself, in addition to one for each node
 MINUTE = 60.0
 FLOODS = "it floods the server: it sends line after line without a pause; a bot waits when it has looked at its nodes"
@@ -28,18 +32,18 @@ def number_of(value: object) -> int:
 
 
 def most_open(nodes: int) -> int:
-    """Returns how many connections a bot with so many nodes may have open at once: two for each node, and at least
-    two more than it has nodes."""
+    """Returns how many connections a bot with `nodes` nodes may have open at once: two for each node, and at least two
+    more than it has nodes."""
     return max(2 * nodes, nodes + 2)
 
 
 def most_quits(nodes: int) -> int:
-    """Returns how many connections a bot with so many nodes may close by itself."""
+    """Returns how many connections a bot with `nodes` nodes may close by itself."""
     return nodes + QUITS
 
 
 def polling_fault(lines: int, seconds: float, nodes: int) -> str:
-    """Returns what is wrong with a bot of so many nodes that sent so many lines in so many seconds while nothing
+    """Returns what is wrong with a bot of `nodes` nodes that sent `lines` lines in `seconds` seconds while nothing
     changed, or an empty text."""
     if lines <= RATE * (nodes + 1) * seconds:
         return ""
@@ -47,7 +51,7 @@ def polling_fault(lines: int, seconds: float, nodes: int) -> str:
 
 
 def most_connections(nodes: int) -> int:
-    """Returns how many connections a bot with so many nodes may open in a minute."""
+    """Returns how many connections a bot with `nodes` nodes may open in a minute."""
     return 20 + 10 * nodes
 
 
@@ -133,7 +137,7 @@ class Conduct:
         self.wrong = self.wrong or why
 
     def is_flooding(self, nodes: int) -> bool:
-        """Returns whether the last FLOOD lines of a bot with so many nodes came almost without pauses. A correct bot
+        """Returns whether the last FLOOD lines of a bot with `nodes` nodes came almost without pauses. A correct bot
         pauses after it has looked at all its nodes. So one pause is enough for 4 * nodes + 4 lines. With fewer lines
         than FLOOD, returns false."""
         return len(self.pauses) == FLOOD and sum(self.pauses) * (4 * nodes + 4) < FLOOD

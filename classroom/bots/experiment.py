@@ -99,7 +99,7 @@ def settings(words: argparse.Namespace) -> list[Setting]:
 
 
 def links_of(nodes: int) -> int:
-    """Returns the number of links of a random network with so many nodes: three for each two nodes, but at least those
+    """Returns the number of links of a random network with `nodes` nodes: three for each two nodes, but at least those
     of a tree, and at most all that are possible."""
     return max(nodes - 1, min(3 * nodes // 2, nodes * (nodes - 1) // 2))
 

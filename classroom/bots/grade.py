@@ -35,7 +35,7 @@ from classroom.run.daemons import daemons
 MOST_AT_ONCE = 16  # bots that run side by side
 ROOMS: set[Path] = set()  # the folders of the running bots
 LONG = 0.5  # seconds: if writing the results takes longer, they aren't written after each case
-SPARING = 9  # how many times as long as writing took to wait before the next time
+SPARING = 9  # after a slow writing, the next one comes this many times as long after it as it took
 
 
 def add_words(words: argparse.ArgumentParser) -> None:

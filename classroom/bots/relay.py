@@ -16,7 +16,7 @@ from collections.abc import Callable
 from classroom.core import limits
 
 MOST_WAITING = 1 << 16  # bytes of unsent replies from which on no more lines of a caller are read
-PAUSE = 2  # so many turns without a line are a pause
+PAUSE = 2  # turns in a row without a line that count as a pause
 # A function that returns the reply to a line, by the connection's number, the line, and whether it came after a pause.
 Answer = Callable[[int, bytes, bool], bytes]
 BUSY, OVER = b'{"refuse":"busy"}\n', b'{"refuse":"over"}\n'

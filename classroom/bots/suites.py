@@ -19,11 +19,12 @@ from classroom.setup.new import start
 
 BOT, HOUSE = "bot", "house"
 TEACHER = "teacher"
-# The troubles of a case, each with a fault at a node of the bot: nothing more; closed connections; some seconds of rest; a
-# step that stays open; a move that is taken back; a step closed between look and move; a reply that is lost with its server;
-# another owner who is faster; many configurations, one after another.
-# Then: a change between look and move that enables another rule; a fault elsewhere that drops a grant; a new link and a cut;
-# the refusal `memory`; a seat that goes to a newcomer; a minute of rest.
+# The names of the troubles. Most of them have a fault at a node of the bot, and FAULT has nothing else.
+# CUT: the connections are closed. REST: the class rests for some seconds. OPEN: a step stays open. RELEASE: a move is
+# taken back. OVERTAKE: a step is closed between look and move. LOST: a reply is lost, and its server is gone for a
+# while. TAKEN: another owner is faster. RULES: many configurations come one after another. TURN: a change between look
+# and move enables another rule. DROP: a fault elsewhere drops a grant. RELINK: a link is added, and one is cut.
+# MEMORY: a line is refused with `memory`. SEAT: the bot's seat goes to a newcomer. LONG_REST: a minute of rest.
 FAULT, CUT, REST, OPEN, RELEASE, OVERTAKE, LOST, TAKEN, RULES = "fault", "cut", "rest", "open", "release", "overtake", "lost", "taken", "rules"
 TURN, DROP, RELINK, MEMORY, SEAT, LONG_REST = "turn", "drop", "relink", "memory", "seat", "long-rest"
 BUSY, OVER = "busy", "over"  # no seat is free at first; the class ends, and the bot with it

@@ -53,9 +53,9 @@ def run(attempt: Attempt) -> None:
 
 
 def check_rest(attempt: Attempt, seconds: float) -> None:
-    """Runs the stable class for so many seconds, and checks that the bot asks for no move. Accepts one move for each of
-    its nodes, because it may follow from an earlier look. Raises `Fails` if the bot asks for more, or if it sends its
-    lines too fast."""
+    """Runs the stable class for `seconds` seconds, and checks that the bot asks for no move. Accepts one move for each
+    of its nodes, because it may follow from an earlier look. Raises `Fails` if the bot asks for more, or if it sends
+    its lines too fast."""
     attempt.run_for(LATE)
     before, lines, since = attempt.heard.asked, attempt.heard.lines, time.monotonic()
     attempt.run_for(seconds)
@@ -119,8 +119,8 @@ def cut(attempt: Attempt) -> None:
 
 
 def rest(attempt: Attempt, seconds: float = RESTING) -> None:
-    """Lets the class rest for so many seconds, and hurts a node. Raises `Fails` if the bot didn't look at all its nodes
-    meanwhile."""
+    """Lets the class rest for `seconds` seconds, and hurts a node. Raises `Fails` if the bot didn't
+    look at all its nodes meanwhile."""
     attempt.doing = f", after the class was at rest for some seconds{ON}"
     recent = attempt.heard.conduct.recent
     recent.clear()

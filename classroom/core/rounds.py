@@ -35,5 +35,6 @@ class Recovery:
             self.left = set(privileged)
 
     def told(self, nodes: int, links: int) -> str:
-        """Returns the counts as a text, with the bounds for a network of so many nodes and links if they are known."""
+        """Returns the counts as a text, with the bounds for a network of `nodes` nodes and `links` links if they are
+        known."""
         return counts_told(self.moves, self.closes, self.rounds, bounds.told(nodes, links))

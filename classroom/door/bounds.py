@@ -39,7 +39,7 @@ class Meter:
         self.left, self.at = rate * BURST, now()
 
     def spend(self, count: int) -> float:
-        """Counts so many bytes of traffic. Returns the seconds to wait before more bytes are passed on."""
+        """Counts `count` bytes of traffic. Returns the seconds to wait before more bytes are passed on."""
         now = self.now()
         self.left = min(self.rate * BURST, self.left + (now - self.at) * self.rate) - count
         self.at = now
@@ -99,7 +99,7 @@ class Bounds:
             self.handshakes.remove(it)
 
     async def wait_for_rate(self, origin: str, count: int) -> None:
-        """Counts so many bytes of an origin, and waits as long as its rate limit and the common one require."""
+        """Counts `count` bytes of an origin, and waits as long as its rate limit and the common one require."""
         wait = max(self.all.spend(count), self.meters[origin].spend(count))
         if wait > 0:
             await asyncio.sleep(wait)

@@ -76,7 +76,7 @@ class Passing:
     door: Door
 
     async def wait_for_rate(self, count: int) -> None:
-        """Counts so many bytes of the connection, and waits as long as the rate limits require."""
+        """Counts `count` bytes of the connection, and waits as long as the rate limits require."""
         await self.door.bounds.wait_for_rate(self.origin, count)
 
     async def first_bytes(self) -> bytes:

@@ -92,14 +92,14 @@ class Drawing:
         return " ".join(["named" if self.view.labels else "bare", *["tiny"] * self.is_tiny])
 
     def link_opacity(self, links: int) -> float:
-        """Returns the opacity of the line of each link, if there are so many links. The more there are, the fainter is
+        """Returns the opacity of the line of each link if `links` of them are drawn. The more there are, the fainter is
         each."""
         return min(1.0, FAINT_ABOVE * len(self.lab.nodes) / max(links, 1))
 
     def rows(self, name: str, thick: float, drawn: list[tuple[int, str]], opacity: float = 1.0) -> list[str]:
         """Returns a group with the CSS class `name` as SVG, with one path for each node. `drawn` has the lines, each
-        after the node to whose path it belongs, and `thick` is their width. So few paths change from one state to the
-        next."""
+        after the node to whose path it belongs, and `thick` is their width. Since each path has the lines of one node,
+        few paths change from one state to the next."""
         lines: dict[int, list[str]] = {node.id: [] for node in self.lab.nodes}
         for node, line in drawn:
             lines[node].append(line)

@@ -63,8 +63,8 @@ class Hall(TwoAddresses):
                 self.turn.notify_all()
 
     def wait_for_change(self, version: int, seconds: float) -> tuple[int, bool]:
-        """Waits until the state has a version other than this one, at most so many seconds. Returns its version, and
-        whether the state is the last."""
+        """Waits at most `seconds` seconds until the state's version isn't `version`. Returns its version, and whether
+        the state is the last."""
         with self.turn:
             self.turn.wait_for(lambda: self.version != version, seconds)
             return self.version, self.ended

@@ -161,7 +161,7 @@ class Replay:
 
 
 def alone(nodes: list[labs.Node], links: list[tuple[int, int]], events: int) -> labs.Lab:
-    """Returns a lab in which one student owns the nodes, for a script with so many events."""
+    """Returns a lab that allows `events` events, and in which one student owns all nodes."""
     return labs.Lab(events, 2, (TEACHER, KEY), {STUDENT: KEY}, nodes, links)
 
 

@@ -13,7 +13,7 @@ from contextlib import contextmanager
 
 from classroom.pages.web import PageRequest, Web
 
-STILL_HERE = 10.0  # seconds without news after which a page is told that there are none
+STILL_HERE = 10.0  # seconds without news after which a page gets a line that says so
 MOST_BYTES = 200  # of a line that a page sends
 
 
@@ -59,7 +59,7 @@ class TwoAddresses(Web):
             self.leaving.notify_all()
 
     def close_after(self, seconds: float) -> None:
-        """Waits until no page receives events any longer, at most so many seconds, and closes the port."""
+        """Waits until no page receives events any longer, for at most `seconds` seconds, and closes the port."""
         with self.leaving:
             self.leaving.wait_for(lambda: self.receiving == 0, seconds)
         self.close()

@@ -94,8 +94,7 @@ class Present:
             self.turn.notify_all()
 
     def after(self, version: int, seconds: float) -> Now:
-        """Waits for a snapshot with another version than this one, at most so many seconds. Returns the latest
-        snapshot."""
+        """Waits at most `seconds` seconds for a snapshot whose version isn't `version`. Returns the latest snapshot."""
         with self.turn:
             self.turn.wait_for(lambda: self.now.version != version, seconds)
             return self.now

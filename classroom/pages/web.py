@@ -88,7 +88,7 @@ class DeadlineReader(io.RawIOBase):
     """The input of a connection with a deadline. Reading after the deadline raises `TimeoutError`."""
 
     def __init__(self, connection: socket.socket, seconds: float) -> None:
-        """Reads from `connection`. The deadline is so many seconds from now."""
+        """Reads from `connection`, until `seconds` seconds from now at the latest."""
         super().__init__()
         self.connection, self.end = connection, time.monotonic() + seconds
 

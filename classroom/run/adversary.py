@@ -14,9 +14,9 @@ from classroom.core import lab as labs
 from classroom.core.bench import TEACHER, Bench
 from classroom.run.daemons import Daemon, Search
 
-# The order of the rules in the schedule: pairs form as late as possible, after all seductions of a node.
+# The order in which the schedule lets rules move, so that pairs form as late as possible, after all seductions.
 ORDER = {"abandonment": 0, "update": 1, "seduction": 2, "marriage": 3}
-HIGHEST = ("seduction", "marriage")  # rules of which the highest node is next, and of the others the lowest
+HIGHEST = ("seduction", "marriage")  # for these rules the node with the highest number is next, else the lowest
 FIRST = 7  # how many of the nodes that may move are tried
 STEPS = 32_000  # the most steps that are tried for a choice, over all ways and nodes of the network
 Partner = Callable[[Sequence[int]], int]  # a function that chooses one of these nodes

@@ -233,7 +233,7 @@ def hold(run: Running, it: server.Server) -> int | None:
 
 def give_up(it: server.Server, run: Running, seconds: float) -> int | None:
     """Ends the server `it`, because its desk can't be held, and returns the exit status. If another process started the
-    server, waits for its end only so many seconds, and returns None if it continues."""
+    server, waits for its end at most `seconds` seconds, and returns None if it continues."""
     ended = it.has_ended(seconds)
     if it.child is None and not ended:
         leave(it, run)

@@ -35,7 +35,7 @@ class Server:
     first: socket.socket | None = None  # The first connection at the desk, until the hello on it is sent.
 
     def has_ended(self, seconds: float = 0.0) -> bool:
-        """Returns whether the process has ended. Waits for that at most so many seconds."""
+        """Returns whether the process has ended. Waits at most `seconds` seconds for that."""
         if self.child is None:
             end = time.monotonic() + seconds
             while self.process.lives():
@@ -161,7 +161,7 @@ def start(folder: Path, lab: Path, port: int, journal: Path, by_number: int | No
           resumed: Record | None = None) -> Server:
     """Starts a host over a lab at the first free port from this one on, with its output and record in the folder, and
     returns it. With `resumed`, the host continues a class, if possible at its own ports. With `by_number`, starts `mml
-    serve` for so many connections, one of which is the teacher's. Raises `Fault` if no server can be started."""
+    serve` for that number of connections, one of which is the teacher's. Raises `Fault` if no server can be started."""
     require_built(by_number is not None)
     call = Call(folder, lab, journal, by_number, resumed is not None, folder / record.FOLDER)
     again = call.at(resumed.port, resumed.desk) if resumed is not None else None

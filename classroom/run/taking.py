@@ -10,7 +10,7 @@ from classroom.client import Client, Closed, Over, Refused
 from classroom.run.server import Server
 from classroom.run.typed import HUNG, LEAVE, NOW, Typed
 
-PATIENCE = 60.0  # seconds for which a desk is tried again while it can't be had
+PATIENCE = 60.0  # seconds after which no further try to take the desk begins
 PAUSE = 0.5  # seconds between two tries
 
 

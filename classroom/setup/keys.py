@@ -35,5 +35,5 @@ def count_parts(key: str) -> tuple[int, int] | None:
 
 
 def bits_of(words: int, digits: int) -> float:
-    """Returns the bits of a key that consists of so many random words and digits."""
+    """Returns the bits of entropy of a key that consists of `words` random words and `digits` random digits."""
     return words * math.log2(len(WORDS)) + digits * math.log2(10)

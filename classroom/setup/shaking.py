@@ -23,7 +23,7 @@ def pairs_of(links: Iterable[Collection[int]]) -> list[tuple[int, int]]:
 
 def shaken(nodes: list[int], links: Iterable[Collection[int]], word: str, seed: int | None) -> list[Registers]:
     """Returns random registers for random nodes of the network with these nodes and links, drawn with the seed. `word`
-    is the number of nodes to draw, or `all`. Raises `Fault` if there aren't so many nodes."""
+    is the number of nodes to draw, or `all`. Raises `Fault` if there are fewer nodes than that."""
     count = len(nodes) if word == "all" else int(word)
     if not 1 <= count <= len(nodes):
         raise Fault(f"shake {word}: write a number of nodes from 1 to {len(nodes)}, or all")
