@@ -15,10 +15,10 @@ from pathlib import Path
 TOP = Path(__file__).resolve().parents[2]
 LIMIT = 300.0  # seconds after which a command counts as hanging
 CRATES = "# A line a crate.\nlow: itoa\nunused: low\nleft: low\nright: low\nmml_server: left\nmml_host: left right\n"
-# Proves one crate after another by a process that is named as the prover is; in the first repository of a build, if
-
-# nothing is to be proved, that process doesn't end. Waits before the crate that the file `waits` names, fails at the one
-# that `fails` names, wants those that `meets` names to be proved side by side, and keeps nothing if `lacks` says so.
+# A program in place of the toolchain's `rt`, which proves one crate after another by a process with the prover's name.
+# In the first repository of a build, if nothing is to be proved, that process doesn't end. Files in the room change
+# what it does: it waits before the crate that `waits` names, and fails at the one that `fails` names. Those that
+# `meets` names have to be proved side by side, and `lacks` makes it keep nothing.
 STAND_IN = '''#!{python}
 import os, pathlib, re, subprocess, sys, time
 if sys.argv[1:] == ["version"]:

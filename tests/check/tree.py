@@ -17,7 +17,7 @@ PROOFS = Part("proofs", ("sh", "-c", {proofs!r}, "proofs"), 8, 1, ALL, (), shows
 WRONG = Part("wrong", ("sh", "-c", {wrong!r}, "wrong"), 4, 1, ALL)
 QUICK = [Part(name, ("sh", "-c", line), 1, 0.5, width, needs, likes) for name, line, width, needs, likes in {quick!r}]
 '''
-# A need that is never met.
+# Needs that are never met.
 NEED = '''
 NEEDS["nothing"] = Need("a thing that nobody has", lambda: False, ("no-such-package",))
 NEEDS["must"] = Need("what a check is of", lambda: False, is_a_must=True)

@@ -51,7 +51,7 @@ def started() -> Any:
     for _ in range(STARTS):
         try:
             return chrome(options=options, service=service("/usr/bin/chromedriver"))
-        except SessionNotCreatedException as error:  # It waits a minute for a browser, which may be slower beside other work.
+        except SessionNotCreatedException as error:  # The driver waits only a minute, and other work may slow the browser down.
             late = error
     raise late
 
@@ -107,9 +107,9 @@ def told(state: State, frame: Frame) -> Shown:
     return root, sorted(nodes, key=lambda node: int(node["node"])), line
 
 
-# Each text that is seen, in its colour over what lies below it. On paper no background of HTML is printed. Behind a text of
-# the drawing is the ground that surrounds its letters, but for those that stand in a disc or a frame. A colour that is
-# changing little by little is taken as it will be.
+# Returns each visible text with its colour and that of its background. On paper no background of HTML is printed. The
+# background of a text in the drawing is the outline around its letters, except for a text in a disc or a frame. If an
+# animation is changing a colour, the colour at its end counts.
 TEXTS = """
 const onPaper = arguments[0];
 for (const change of document.getAnimations()) change.finish();

@@ -39,7 +39,7 @@ def lab_text(nodes: int, links: list[tuple[int, int]], events: int) -> str:
 
 
 def many_owners(room: Path, nodes: int) -> Path:
-    """Writes a lab with a cycle of so many nodes, and returns its path. Its owners have names with the same initial or
+    """Writes a lab with a cycle of `nodes` nodes, and returns its path. Its owners have names with the same initial or
     another one, and each third node has two owners."""
     names = [f"student-{number}" for number in range(1, 13)] + ["zoe"]
     lab = room / f"owners-{nodes}.toml"
@@ -85,7 +85,7 @@ def largest_run(room: Path) -> tuple[Path, Path]:
 
 
 def long_run(room: Path, events: int) -> tuple[Path, Path]:
-    """Writes a run of so many events over a path of 15 nodes. It repeats a fault, the move that this enables, and a
+    """Writes a run of `events` events over a path of 15 nodes. It repeats a fault, the move that this enables, and a
     close. Returns the lab and the journal."""
     lab, journal = room / "long.toml", room / "long.journal"
     lab.write_text(lab_text(15, [(a, a + 1) for a in range(1, 15)], events))

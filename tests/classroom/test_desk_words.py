@@ -51,7 +51,7 @@ TOLD = {
     "help": "  close ",
     "end": "not stable, 1 privileged: type `end` once more to end the run anyway",
 }
-# What each button of the page says, where three nodes are asked for, every 5 seconds are chosen, and node 4 is picked.
+# The line that each button of the page sends, if the fields have the values of FIELDS.
 SENT = {
     "close": "close", "every": "every 5", "when-idle": "when-idle 5", "by-hand": "by-hand", "shake": "shake 3", "shake-all": "shake all",
     "break": "break", "set": "fault 4 null true", "release": "release 4",

@@ -116,7 +116,7 @@ class AtDoor(InRoom):
         self.door.child.wait()
 
     def wait(self, until: object, seconds: float = LIMIT) -> None:
-        """Waits until a function returns a true value. Fails after so many seconds."""
+        """Waits until a function returns a true value. Fails after `seconds` seconds."""
         end = time.monotonic() + seconds
         assert callable(until)
         while not until():

@@ -143,7 +143,7 @@ class Words(InRoom):
         picture = ElementTree.parse(plot).getroot()
         drawn_as = [each.get("class") for each in picture.iter("{http://www.w3.org/2000/svg}path")]
         for kind in ("bound", "bound loose", "bound least"):
-            self.assertEqual(drawn_as.count(kind), 9 + 1, kind)  # the number of such elements in each panel, and their meaning
+            self.assertEqual(drawn_as.count(kind), 9 + 1, kind)  # one in each of the nine panels, and one in the legend
         titles = [each.text for each in picture.iter("{http://www.w3.org/2000/svg}text") if each.get("class") == "title"]
         self.assertEqual(titles, [f"{family}, {daemon}" for daemon in ("central", "random:0.5", "synchronous")
                                   for family in ("path", "random", "star")])

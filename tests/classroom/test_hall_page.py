@@ -21,12 +21,12 @@ DOWN = "its server was killed; resume 2 goes on with it, end 2 gives it up"
 NODES = """
 return [...document.querySelectorAll(`article[data-number="${arguments[0]}"] .node`)].map((it) => ({...it.dataset}));
 """
-# The boxes of discs and of the letters of rules, in a drawing.
+# Returns for each drawing its box and those of its discs, in pixels of the window.
 BOXES = """
 const box = (it) => { const {left, top, right, bottom} = it.getBoundingClientRect(); return [left, top, right, bottom]; };
 return [...document.querySelectorAll('article svg')].map((svg) => [box(svg), [...svg.querySelectorAll('.node')].map((it) => box(it.querySelector('.disc')))]);
 """
-# What a screen reader reads out: each new text of the live regions.
+# Collects what a screen reader reads out, which is each new text of the live regions.
 LISTEN = """
 window.heard = [];
 for (const region of document.querySelectorAll('[aria-live], [role=status]')) {
@@ -38,7 +38,7 @@ for (const region of document.querySelectorAll('[aria-live], [role=status]')) {
 
 
 def network(word: str, count: int | None) -> tuple[labs.Lab, Links]:
-    """Returns a lab of the family `word` with so many nodes, and its links."""
+    """Returns a lab of the family `word` with `count` nodes, and its links."""
     size, links = family(word, count, 0, random.Random(1))
     nodes = [labs.Node(node, [f"s{node}"]) for node in range(1, size + 1)]
     return labs.Lab(1000, 16, ("t", "key"), {f"s{node}": "key" for node in range(1, size + 1)}, nodes, links), links

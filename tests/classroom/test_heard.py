@@ -30,8 +30,8 @@ class Listened(InRoom):
             it.write(text)
 
     def say(self, seat: int, place: int, line: str, reply: str, times: int = 1) -> None:
-        """Appends the entries of a line and its reply to a seat's file, so many times. `place` is the number of events
-        before."""
+        """Appends the entries of a line and its reply to a seat's file, `times` times. `place` is the number of events
+        before them."""
         self.put(seat, f"{seat} {place} > {line}\n{seat} {place} < {reply}\n" * times)
 
     def greet(self, seat: int, name: str) -> None:
@@ -39,7 +39,7 @@ class Listened(InRoom):
         self.say(seat, 0, HELLO % (name, "some-key"), f'{{"ok":"hello","who":"{name}"}}')
 
     def news(self, step: int = 0, seconds: float = 1.0) -> list[str]:
-        """Returns the lines that are printed after so many seconds. `step` is the place of the last step."""
+        """Returns the lines that are printed after `seconds` more seconds. `step` is the place of the last step."""
         self.now += seconds
         return self.heard.look(step, self.now)
 

@@ -35,7 +35,8 @@ class Alone(unittest.TestCase):
         self.told: list[str] = []
 
     def house(self, seconds: float | None) -> House:
-        """Returns a house that plays after so many seconds, because a student has come."""
+        """Returns a house that plays a node for which the class has waited for `seconds` seconds. A first student has
+        come already."""
         house = House(self.lab, 1, seconds, self.told.append)
         house.begun = True
         return house

@@ -8,9 +8,9 @@ from pathlib import Path
 from tests.classroom.browser import Played, is_ready, shown, until
 from tests.classroom.runs import largest_run, long_run
 
-# The limits are for the machine on which LOAD takes so many milliseconds if nothing else runs. A slower one has as much
-# more time as it is slower. There the page opens in 400 and steps in 56, so that a limit is met beside other work too;
-# a step that draws more than what changed is seen by what it touches.
+# The most milliseconds in which the page opens and steps, on a machine where LOAD takes LOADED milliseconds if nothing
+# else runs. A machine that is slower by a factor gets that factor more. On such a machine the page opens in 400
+# milliseconds and steps in 56, so that the limits are met beside other work too.
 OPENS, STEPS, LOADED = 2000, 250, 170
 LOAD = """
 for (let round = 0; round < 10; round += 1) {

@@ -18,7 +18,7 @@ FAMILIES = ("path", "cycle", "star", "tree", "complete", "grid:4x3", "grid:3x7",
             "random:15:60", "crowd")
 NAMES = ("zoe-mueller", "jonas-ek", "ana", "gus-roy", "ida-bergstroem", "tim", "eva-sol", "bo-dahl", "kim-vo", "pia-rot", "leo-wolf", "uma-das",
          "kai-ness", "nora-lind", "jean-baptiste-lamarck")
-SECONDS = 60  # of a processor for a network of 256 nodes, at most; this machine takes one and a half, and a slower one ten times as long
+SECONDS = 60  # the most processor time for 256 nodes; this project's machine takes 1.5 seconds, and a slow one ten times that
 
 
 def network(word: str, size: int = 15) -> tuple[list[int], Links]:

@@ -97,7 +97,7 @@ class New(InRoom):
     """Labs and slips."""
 
     def new(self, *more: str, students: int = 5, status: int = 0) -> str:
-        """Runs `./class new` for so many students with these options, and checks the status. Returns the output."""
+        """Runs `./class new` for `students` students with these options, and checks the status. Returns the output."""
         list_file = self.file("students", "".join(f"Student {number}\n" for number in range(students)))
         done = words("new", self.room / "lab.toml", "--students", list_file, *more)
         self.assertEqual(done.returncode, status, done.stderr)

@@ -10,7 +10,7 @@ from tests.classroom.browser import Played
 CONFIGURATIONS = (test_play.Play, "test_each_configuration_by_keys")
 READ = (test_shown.Sizes, "test_every_text_can_be_read_and_the_step_is_on_the_screen")
 SAID, STILL = ((test_spoken.Spoken, test) for test in ("test_a_new_state_is_said_once", "test_nothing_moves_if_that_is_asked_for"))
-# What the bug is, the text in the page and what is planted for it, and the test that sees it.
+# A bug in words, the text in the page's source, the text that replaces it, and the test that finds the bug.
 PLANTS = (
     ("the count of nodes that can move never falls", "this.privileged += (rule > 0) - (this.rule[node] > 0);", "this.privileged += Number(rule > 0);",
      CONFIGURATIONS),

@@ -17,8 +17,8 @@ from tests.classroom.runs import edited_run, journal_of, many_owners
 from tests.classroom.test_experiment import TINY
 
 RENDERER = "rsvg-convert"
-NEAR = 40  # how far apart two colours are that are alike; black and the dark grey of texts aren't
-BYTES = {2: 3, 6: 4}  # of a point by the kind of PNG: red, green, blue, and perhaps how opaque it is
+NEAR = 40  # the most difference of two colours that count as alike; black and the dark grey of texts differ more
+BYTES = {2: 3, 6: 4}  # bytes of a pixel, by the colour type of a PNG: red, green, blue, and in type 6 the opacity
 
 
 def unfiltered(kind: int, row: bytes, above: bytes, step: int) -> bytes:

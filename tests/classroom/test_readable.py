@@ -10,7 +10,7 @@ from classroom.core.lab import read
 from tests.classroom.browser import Played, pale, settle, show_as
 from tests.classroom.runs import edited_run, examples, many_owners
 
-# The name that is seen beside each node, if any.
+# Returns each node with the name that is seen beside it, or an empty text.
 OWNERS = """
 const isSeen = (it) => it !== null && it.getClientRects().length > 0;
 return [...document.querySelectorAll('.node')].map((node) => {
@@ -30,7 +30,7 @@ for (const [rule, chosen, married] of [['', '', 'false'], ['update', '', 'false'
 }
 return found;
 """
-# How each kind of line is drawn, without its colour.
+# Returns how each kind of line is drawn, without its colour.
 LINES = """
 document.body.classList.add('witnessed');
 return ['.links path', '.open path', 'path.pairs', 'path.pointer', 'path.removed'].map((kind) => {

@@ -17,8 +17,8 @@ from classroom.core.lab import read
 from classroom.core.program import TOP, host
 from tests.classroom.help import CLASS, CYCLE, KEYS, LIMIT, Cycle, Going, a_port
 
-# A host that stays the process that was called, and whose first line is printed by another one, which does before that
-# what the words ask for: a student sits down at the desk, or it waits until somebody has come there.
+# A program that becomes a host. Its child process passes on the host's output, and does what `what` says before the
+# first line: it says hello at the desk as a student, or waits until somebody has connected there.
 RELAY = """#!/usr/bin/python3
 import os, sys
 sys.path.insert(0, {top!r})

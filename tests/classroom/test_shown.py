@@ -18,7 +18,7 @@ from tests.classroom.runs import EXAMPLES, journal_of
 PHONE, LAPTOP, WIDER, PROJECTOR = WINDOWS = (390, 844), (1280, 720), (1366, 768), (1920, 1080)
 SMALLEST, SMALLEST_ON_PHONE = 12, 11  # pixels of a text
 TEXTS = ("told", "pairs", "number", "since", "bound", "event")
-# The pixels of the letters of each text that is seen, and what it says.
+# Returns each visible text with the height of its letters in pixels.
 LETTERS = """
 const isSeen = (it) => it.getClientRects().length > 0 && getComputedStyle(it).visibility === 'visible' && !it.closest('.unseen, title, script, style');
 const own = (it) => [...it.childNodes].some((node) => node.nodeType === 3 && node.data.trim());
@@ -27,7 +27,7 @@ return [...document.querySelectorAll('body *')].filter((it) => own(it) && isSeen
   return [parseFloat(getComputedStyle(it).fontSize) * scale, it.textContent.trim().slice(0, 30)];
 });
 """
-# The places of the events of the step that is shown, and of the list that they are in.
+# Returns the top and bottom of the current event's row, those of the list of events, and the window's height.
 CURRENT = """
 const list = document.getElementById('events').getBoundingClientRect(), row = document.querySelector('#events [aria-current]').getBoundingClientRect();
 return [row.top, row.bottom, list.top, list.bottom, innerHeight];
@@ -39,7 +39,7 @@ return [...document.querySelectorAll('#drawing .node')].map((it) => [Number(it.d
 """
 WITNESSES = "return [...document.querySelectorAll('.witnesses text')].map((it) => it.textContent).sort()"
 DRAWN_OPEN = "return [...document.querySelectorAll('g.open path')].map((it) => (it.getAttribute('d').match(/M/g) || []).length)"
-# The most that a picture can have to show: at each node the longest rule, chosen.
+# Shows the state that needs most room in the picture: each node has the longest rule, and it is chosen.
 FULLEST = """
 const { drawing, run } = player, longest = drawing.data.rules.reduce((best, rule, at, all) => (rule.length > all[best].length ? at : best), 0);
 const state = run.state.copy();
@@ -47,7 +47,7 @@ state.rule.fill(longest);
 state.chosen.fill(longest);
 drawing.show(state, run.frames[player.at]);
 """
-# The boxes of what stands in a picture: of which node it is, or none, what it is, and where.
+# Returns the discs, names and rules in the picture: of each its node, `node` or its text, and its box.
 BOXES = """
 const box = (it) => { const {left, top, right, bottom} = it.getBoundingClientRect(); return [left, top, right, bottom]; };
 const found = [];

@@ -25,7 +25,8 @@ JAVA = ("java", EXAMPLES / "Bot.java")
 BOTS = (BOT, JAVA) if shutil.which("java") else (BOT,)
 Command = tuple[str | Path, ...]
 LOOK = b'{"at":0,"chosen":null,"m":false,"near":[],"node":1,"ok":"look","p":null,"rule":"update"}'
-# Of values under a key that the server ignores: those that make no request of a line, and others.
+# Values of an extra key that the server ignores. With one of STRANGE a line is malformed, and with one of PLAIN it
+# isn't.
 STRANGE = (
     "1e309", "-1e309", "9" * 309, '"\\ud800"', '"\\ud800\\ud800"', "NaN", "Infinity", "-Infinity", "[" * 127 + "]" * 127,
     '{"a":' * 127 + "1" + "}" * 127, '{"\\udc00":1}', '"\udcff"', '"\t"', "01", "+1", "1.", ".1", '"\\x"', "1,", "'a'",
@@ -139,7 +140,7 @@ class Fake(InRoom):
     """Listeners that aren't servers of a class, or that have no seat."""
 
     def answers(self, line: bytes, times: int = 1) -> int:
-        """Listens at a free port, and answers so many connections with a line each. Returns the port."""
+        """Listens at a free port, and answers each of `times` connections with `line`. Returns the port."""
         listener = socket.create_server(("127.0.0.1", 0))
         self.addCleanup(listener.close)
 

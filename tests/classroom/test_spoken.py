@@ -9,7 +9,7 @@ from selenium.webdriver.common.keys import Keys
 from tests.classroom.browser import Played, shown, until
 from tests.classroom.runs import examples
 
-# Each new text of the live regions, in its order.
+# Collects each new text of the live regions, in order.
 LISTEN = """
 window.heard = [];
 for (const region of document.querySelectorAll('[aria-live], [role=status]')) {
@@ -18,9 +18,10 @@ for (const region of document.querySelectorAll('[aria-live], [role=status]')) {
   }).observe(region, {childList: true, subtree: true, characterData: true});
 }
 """
-# Goes through all events at once, as a run that is played as quickly as can be.
+# Shows all events one after another without a pause, like a run that is played at the highest speed.
 ALL = "for (let at = 0; at <= player.last; at += 1) player.goTo(at, true);"
-# The arrows after a step by which pointers turn, at once and when they have grown, and whether discs change little by little.
+# Returns the arrows immediately after a step in which pointers change, those at the end of the animation, and the
+# duration of a disc's transition.
 GROWN = """
 const {drawing} = player, at = player.run.frames.findIndex((row, index) => index > 0 && row.kind === 'close' && (row.registers || []).some(([, p]) => p >= 0));
 player.goTo(at - 1);
@@ -43,7 +44,7 @@ class Spoken(Played):
         self.driver.execute_cdp_cmd("Emulation.setEmulatedMedia", {"features": [{"name": "prefers-reduced-motion", "value": motion}]})
 
     def heard(self, count: int) -> list[str]:
-        """Waits until so many texts were announced, and returns them."""
+        """Waits until `count` texts were announced, and returns them."""
         until(self.driver, lambda driver: len(driver.execute_script("return window.heard")) >= count)
         found: list[str] = self.driver.execute_script("return window.heard")
         return found

@@ -79,7 +79,7 @@ class Host:
         return self.process.poll() is None
 
     def end(self, seconds: float = LIMIT) -> Ended:
-        """Waits at most so many seconds until the host ends by itself. Returns its status and its output after the
+        """Waits at most `seconds` seconds until the host ends by itself. Returns its status and its output after the
         first line."""
         try:
             out, error = self.process.communicate(timeout=seconds)
@@ -191,7 +191,7 @@ class Talk:
     the expected replies and the expected journal."""
 
     def __init__(self, lab: Path, sessions: int, room: Path) -> None:
-        """Begins without a line. The script of the lines will run over this lab with so many sessions, in the folder
+        """Begins without a line. The script of the lines will run over this lab with `sessions` sessions, in the folder
         `room`."""
         self.lab, self.room = lab, room
         self.free = list(range(1, sessions + 1))

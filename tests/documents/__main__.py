@@ -29,11 +29,11 @@ from tests.documents import crates, numbers, style
 TOP = Path(__file__).resolve().parents[2]
 FENCE = re.compile(r"^```.*?^```$", re.MULTILINE | re.DOTALL)
 ENDINGS = "antt c conf css edit html js md out py rt script service sh svg toml txt".split()
-# Names that stand in no source: the toolchain's, the system's, the C library's, and of files that are made.
+# Names that no source has: those of the toolchain, the system and the C library, and of files that are made.
 ELSEWHERE = set(Path(__file__).with_name("elsewhere.txt").read_text(encoding="utf-8").split())
 
-# The pages that show how the program is used, and by which test their blocks are run: those without a mark
-# by `tests/pages/pages`, but for the commands that another test has in these words.
+# The pages that show how the program is used. `tests/pages/pages` runs their blocks without a mark. RUN_BY has the test
+# that runs the blocks of a page with a mark. RUN_BEFORE has, for the beginning of a command, a test and its text.
 USED = ("README.md", "docs/STUDENT.md", "docs/SELF-STABILISATION.md", "docs/TEACHER.md", "docs/COURSE.md", "docs/TRUST.md", "docs/OPERATE.md")
 RUN_BY = {("docs/OPERATE.md", "sh"): "tests/pages/operate", ("docs/STUDENT.md", "python"): "tests/pages/pages"}
 RUN_BEFORE = {

@@ -206,7 +206,8 @@ class Served:
         self.journal = room / "faulty-served.journal"
         replies, self.kept = story.plain(frozenset())
         server = self.server(library.variables({"FAIL": "write"}))
-        # The writes in their order: the first line, then for each line its journal's, if it has one, and its reply.
+        # The writes in their order: the server's first line, and then for each request the line in the journal, if
+        # there is one, and the reply.
         self.writes = ["first line"] * library.counts()[0]
         play(story, server.port)
         server.end()
@@ -266,7 +267,7 @@ class Served:
         closed = {self.story.lines[at].split(b" ", 1)[0] for at in talk.unasked}
         unasked = talk.unasked - lost
         done = self.done(talk.journal)
-        # Out of memory is reported at the end, but for a read after the session, whose bytes nobody wants.
+        # ENOMEM is reported at the end, unless it happened in a read after the session's end, whose bytes aren't used.
         well = kind.error != ENOMEM or (not closed and talk.ended.status == 0)
         return (
             ("two connections were closed" if len(closed) > 1 else "")

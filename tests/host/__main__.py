@@ -113,7 +113,7 @@ def killed_in_a_line(room: Path) -> None:
 
 
 def knocks(port: int, count: int) -> None:
-    """Opens and closes so many connections to a port."""
+    """Opens and closes `count` connections to a port."""
     made = 0
     while made < count:
         try:
@@ -153,8 +153,8 @@ def connect_and_close(room: Path) -> None:
 
 
 def ends_after(caller: Caller, begun: float, piece: bytes, every: float, left: list[bytes]) -> float:
-    """Sends a piece every so many seconds, at most ten, until the connection ends. Returns the seconds until then,
-    and appends the received lines to `left`."""
+    """Sends a piece every `every` seconds until the connection ends, at most ten times. Returns the seconds from
+    `begun` until then, and appends the received lines to `left`."""
     sent, found = 0, b""
     while True:
         caller.socket.settimeout(every)
@@ -319,7 +319,7 @@ def byes_that_end_nothing(room: Path) -> None:
                     fail("host: another reply to a bye without a greeting")
                 caller.close()
             talk.ask(student, look("ana"))
-        # The teacher's program that only falls ends nothing either.
+        # If the teacher's program ends without a bye, that doesn't end the class either.
         for leave in (Caller.close, Caller.reset):
             fallen = talk.comes(host.desk, hello("tess"))
             leave(fallen)
@@ -443,7 +443,7 @@ def own_address() -> str:
     """Returns an address of this machine by which it would reach others."""
     with socket.socket(socket.AF_INET, socket.SOCK_DGRAM) as it:
         try:
-            it.connect(("192.0.2.1", 9))  # Nothing is sent.
+            it.connect(("192.0.2.1", 9))  # For a datagram socket this only chooses the address; nothing is sent.
         except OSError:
             return "127.0.0.2"
         address: str = it.getsockname()[0]
@@ -491,14 +491,14 @@ def few_descriptors(room: Path) -> None:
                 connection ends."""
                 together.wait()
                 replies: tuple[bytes, ...] = ()
-                while replies[2:] != (BID, b""):  # Of a name with more than four seats the newest leaves for a newcomer.
+                while replies[2:] != (BID, b""):  # If a name has more than four seats, its newest connection is closed for a newcomer.
                     caller, reply = let_in(host.port, hello(name))
                     replies = reply, caller.ask(look(name)), caller.ask(BYE), caller.line()
                     caller.close()
                 served.append(replies)
 
             clients = [threading.Thread(target=client, args=[list(NODES)[at % 3]]) for at in range(30)]
-            held = [called(host.port) for _ in range(descriptors)]  # For most of these connections there is no descriptor or no seat.
+            held = [called(host.port) for _ in range(descriptors)]  # The host has no descriptor or no seat for most of these.
             for each in clients:
                 each.start()
             for caller in held:

@@ -38,7 +38,8 @@ HIDDEN = denial_of("hidden")
 # A host closes connections that don't greet.
 DENIED = HIDDEN if OVER_HOST else NOT_GREETED
 Program = Server | Host
-# A hostile client: a port, the time to end at, and what it draws from. It answers what is wrong with its replies.
+# A hostile client is a function of a port, the time when it ends, and a source of random numbers. It returns what is
+# wrong with the replies, or an empty text.
 Hostile = Callable[[int, float, random.Random], str]
 
 
@@ -223,8 +224,8 @@ class Honest:
         return taken
 
     def play(self, most: int, pause: float, until: float = math.inf) -> list[float]:
-        """Sends so many lines, or as many as until that time, with a pause after each. Returns the seconds of
-        each."""
+        """Sends `most` lines, or fewer if the time `until` comes first, with a pause after each. Returns the seconds
+        that each took."""
         times: list[float] = []
         while self.at < len(self.lines) and len(times) < most and time.monotonic() < until:
             times.append(self.ask())
@@ -274,7 +275,7 @@ def answered(futures: list[Future[str]]) -> None:
 
 
 def wait_for_threads(server: Program, wanted: int, when: str) -> None:
-    """Waits until the server has so many threads. Fails with the text `when` if it doesn't get there."""
+    """Waits until the server has `wanted` threads. Fails with the text `when` if that takes too long."""
     for _ in range(int(LIMIT / 0.05)):
         if threads(server) == wanted:
             return
@@ -288,7 +289,7 @@ def handles(server: Program) -> int:
 
 
 def wait_for_handles(server: Program, wanted: int, when: str) -> None:
-    """Waits until the server has so many open files. Fails with the text `when` if it doesn't get there."""
+    """Waits until the server has `wanted` open files. Fails with the text `when` if that takes too long."""
     for _ in range(int(LIMIT / 0.05)):
         if handles(server) == wanted:
             return
@@ -364,7 +365,7 @@ def work(room: Path) -> str:
     honest.play(2, PAUSE)
     rest = resting(server)
     with ProcessPoolExecutor(len(ALL)) as pool:
-        # Their processes stand before the time begins: all are there at once for some seconds.
+        # The processes are started before the time is measured, so that all clients run at once for `seconds` seconds.
         answered([pool.submit(stands) for _ in ALL])
         until = time.monotonic() + seconds
         futures = [
@@ -378,14 +379,14 @@ def work(room: Path) -> str:
     wait_for_threads(server, rest[0], "once the hostile clients have gone")
     wait_for_handles(server, rest[1], "once the hostile clients have gone")
     holds = kilobytes(server)
-    # A host returns what the threads of those connections held, which may be more than a tenth.
+    # A host may hold much less than before, since it returns the memory of the threads of those connections.
     if holds * 10 > held * 11 or isinstance(server, Server) and holds * 10 < held * 9:
         fail(f"hostile: the server holds {holds} kB, not {held} kB as after a hundred lines")
     ended(honest, server)
     if silent is not None:
         silent.end()
     beside = statistics.median(times)
-    # A wait for a hostile client is of seconds; what their share of the processors makes of it is less.
+    # A reply that waited for a hostile client would take seconds. The clients' load on the processors costs less.
     if beside > 20 * quiet + 0.5:
         fail(f"hostile: a reply takes {beside * 1e6:.0f} microseconds, alone {quiet * 1e6:.0f}")
     kind = "a host" if isinstance(server, Host) else "a server"

@@ -2,15 +2,16 @@
 
 A table is a TOML file. Its rows are the tables of the array `labs`, each with the document in one of two ways:
 
-- `text` (or `bytes`, of which each letter is a byte) behind `before` and ahead of `after`, which stand at the
+- `text`, or `bytes`, of which each letter is a byte. It follows `before`, and `after` follows it. These two are at the
   head of the table or in the row;
-- `old` and `new`: the lab that is built into the program, or the table's own `base`, with `new` instead of
-  `old`, which must stand there once. With `goes_on = true` it is the document of the row before.
+- `old` and `new`: the lab that is built into the program, or the table's own `base`, with `new` instead of `old`, which
+  must be there exactly once. With `goes_on = true`, `old` is replaced in the document of the row before.
 
 And with one of these values:
 
 - `says`: the line of `check`: an error, which begins with `lab: `, or the lab's size, which begins with `ok: `;
-- `shows`: all that the lab has, by `tests.labs.shown`; its students are ana, ben and cyd, or the first of these.
+- `shows`: all that the lab has, in the form of `tests.labs.shown`. Its students are ana, ben and cyd, or the first of
+  these.
 
 With `is_newer = true` the document has a form that TOML 1.1 added, which the model's reader may not know.
 """

@@ -71,13 +71,13 @@ class Shown:
         return replies
 
     def takes(self, node: int, events: int) -> Ended:
-        """Returns the result of the audit of a journal with so many faults at a node."""
+        """Returns the result of the audit of a journal with `events` faults at a node."""
         lines = (f"{place} {place - 1} fault {node} - false\n" for place in range(1, events + 1))
         self.journal.write_text("".join(lines), encoding="ascii")
         return run(["audit", str(self.lab), str(self.journal)], b"", {})
 
     def limit(self, node: int, events: int) -> None:
-        """Checks that so many events are allowed, and one more isn't."""
+        """Checks that `events` events are allowed, and that one more isn't."""
         found = self.takes(node, events)
         if not found.out.startswith(b"ok: %d events, configuration %d, " % (events, events)):
             self.fail(f"fewer events than {events}: {found.error!r}")

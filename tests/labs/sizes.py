@@ -17,7 +17,7 @@ def student(number: int) -> tuple[str, str]:
 
 
 def students(count: int) -> str:
-    """Returns the lines of a lab's file for so many students with the longest names and keys."""
+    """Returns the lines of a lab's file for `count` students with the longest names and keys."""
     return "".join('[[student]]\nname = "{}"\nkey = "{}"\n'.format(*student(number)) for number in range(count))
 
 

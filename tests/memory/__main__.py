@@ -61,9 +61,10 @@ def fault_of_end(ended: Ended, replies: list[bytes], audited: bytes) -> str:
     """Returns what is wrong with the end of a server that gave these replies, or an empty text. `audited` is the output
     of the audit of its journal."""
     done = done_line(audited)
-    # If a session got no memory to begin with, its connection is closed, and that is reported at the end.
+    # If there was no memory for a new session, its connection was closed, and the last line reports that.
     wanted = Ended(5, done, b"out of memory\n") if b"" in replies else Ended(0, done, b"")
-    # If no thread can be made, those that were taken are served to their ends, and nothing more is printed.
+    # If no thread can be started, the connections that were accepted are served to their ends, and `done` isn't
+    # printed.
     return "" if ended in (wanted, OUT_OF_MEMORY) else "another end"
 
 

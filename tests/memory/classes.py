@@ -26,18 +26,20 @@ ASKED = [
     (TEACHER, hello("tess")), (STUDENT, hello("ana")), (STUDENT, look("ana")), (TEACHER, fault_at(1)), (STUDENT, seduction(1)), (TEACHER, REPORT),
     (STUDENT, look("ana")),
 ]
-# What they ask in the class that goes on from there: it begins at configuration 1, with a chosen move.
+# Their lines in the resumed class, which begins at configuration 1 with a chosen move.
 ASKED_LATER = [
     (TEACHER, hello("tess")), (STUDENT, hello("ana")), (TEACHER, CLOSE), (STUDENT, look("ana")), (STUDENT, seduction(2)), (TEACHER, CLOSE),
     (TEACHER, REPORT),
 ]
 FEW_THREADS = Ended(5, b"", b"host: too few threads may be started\n")
 AT_ONCE = 8  # the number of runs at the same time, since they mostly wait
-TRIES = 4  # of a line: one is refused, and of a host that is ending some more are lost
-MORE = 12  # requests that a run may make beyond those of the first, since threads make some of them
+TRIES = 4  # tries to send a line: one may be refused, and some more are lost if the host is ending
+MORE = 12  # requests for memory by which a run may exceed the first one, since threads make some of them
 PATIENCE = 30.0  # seconds for the reply to a first line, which a host without a thread for the students never gives
 LAST = 100.0  # seconds for a host's end
-MOST_ALONE = 4  # classes of which the desk alone is served: a thread takes one or two requests, whose numbers may differ from run to run
+# The most runs in which only the desk is served, for want of a thread. A thread takes one or two requests for memory,
+# and their numbers may differ from run to run.
+MOST_ALONE = 4
 
 
 @dataclass(frozen=True)
@@ -181,7 +183,7 @@ class Class:
             if reply != rule:
                 return f"another reply to {line!r}: {reply!r}, not {rule!r}"
         kept, granted = journal.read_bytes(), plain.read_bytes()
-        # If the host ended between, a line that it granted last may have lost its reply.
+        # If the host ended during the run, the reply to the last granted line may be lost.
         if not kept.startswith(granted) or kept.count(b"\n") - granted.count(b"\n") > play.is_over:
             return "another journal than that of the replies"
         done = done_line(good(["audit", str(self.lab), str(journal)]))
@@ -191,7 +193,7 @@ class Class:
             return "" if is_refused and ended == OUT_OF_MEMORY else "another end"
         if play.is_lost or play.lacks > is_refused:
             return "more than one line was refused, or a session lost after its greeting"
-        # If a session or the end ran out of memory, that is the last line; and without memory for the end there is no other.
+        # If a session or the end ran out of memory, the last line says so. Without memory for the end it is the only line.
         ends = (well, Ended(5, done, b"out of memory\n"), OUT_OF_MEMORY) if is_refused else (well,)
         return "" if ended in ends else "another end"
 

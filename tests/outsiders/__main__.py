@@ -76,7 +76,7 @@ def asks_after_the_bye(room: Path) -> None:
     with Host(lab, 0, 0, journal) as host:
         teacher = let_in(host.desk, hello("tess"))[0]
         students = [let_in(host.port, hello(name))[0] for name in NODES]
-        # A bye of the teacher's at the students' port, and one of a student's, let the others go on.
+        # A teacher's bye at the students' port ends only that connection, and so does a student's.
         for name in ("tess", "cyd"):
             if let_in(host.port, hello(name))[0].ask(BYE) != BID or b'"ok":"look"' not in students[0].ask(look("ana")):
                 fail(f"outsiders: a bye of {name} at the students' port ends the class")
@@ -138,7 +138,7 @@ def a_web_form(room: Path) -> None:
             if said != (MALFORMED, b""):
                 fail(f"outsiders: a web form is answered {said}")
             caller.close()
-        # A line that is an object, and no request, ends nothing.
+        # A first line that is an object, but no request, doesn't end the connection.
         caller = Caller(host.port)
         if caller.ask(line_of(do="dance")) != MALFORMED or b'"ok":"hello"' not in caller.ask(hello("ana")):
             fail("outsiders: a first line that is no request ends a connection")
@@ -158,7 +158,7 @@ def words_at_the_end(room: Path) -> None:
                 fail("outsiders: a line that is too long gets no such line")
         greeted, silent = let_in(host.port, hello("ana"))[0], Caller(host.port)
         ends(host, let_in(host.desk, hello("tess"))[0])
-        # On a slow machine ten seconds may have passed for who hasn't greeted.
+        # On a slow machine the ten seconds for a hello may be over already.
         if (told := greeted.line()) != OVER or (told := silent.line()) not in (OVER, LATE):
             fail(f"outsiders: the class's end is answered {told!r}")
 
@@ -272,14 +272,15 @@ def a_third(room: Path) -> None:
     with Host(lab, 0, 0) as host:
         for port, share in ((host.port, 5), (host.desk, 1)):
             strangers = [Caller(port) for _ in range(share)]
-            # Once a second reply is there the host has taken note of the first.
+            # When a second reply has come, the host has recorded that the first line came without a hello.
             if any(caller.ask(b"{}\n") != MALFORMED for caller in strangers * 2):
                 fail("outsiders: who hasn't greeted isn't answered")
             for turn in range(3):
                 newcomer, reply = let_in(port, b"{}\n")
                 strangers.append(newcomer)
                 said = reply, strangers[turn].line(), strangers[turn].line()
-                # A client that is still writing a reply after a tenth of a second is hung up without a word.
+                # If a reply still isn't sent after a tenth of a second, the host closes the connection without the line
+                # `busy`.
                 if said not in ((MALFORMED, BUSY, b""), (MALFORMED, b"", b"")):
                     fail(f"outsiders: {share + 1} who haven't greeted are answered {said}")
             if any(caller.ask(b"{}\n") != MALFORMED for caller in strangers[3:]):
@@ -290,7 +291,7 @@ def a_third(room: Path) -> None:
 
 
 def told_busy(port: int, count: int) -> float:
-    """Opens so many connections to a full port at the same time. Returns the seconds until all of them are answered
+    """Opens `count` connections to a full port at the same time. Returns the seconds until all of them are answered
     `busy`."""
     begun = time.monotonic()
     callers = [Caller(port) for _ in range(count)]
@@ -406,14 +407,15 @@ def never_reads(room: Path) -> None:
             except BlockingIOError:
                 pass
             except ConnectionError:
-                # What moved at the last look may have been the end itself.
+                # The change that was seen last may be the end of the connection itself.
                 last = earlier if looks == 1 else last
                 break
             if (now := queues(host, deaf)) != held:
                 earlier, held, last, looks = last, now, time.monotonic(), 0
             time.sleep(0.05)
             looks += 1
-        # Since anything moved. In seconds it isn't earlier; looks take longer on a slow machine, as all does.
+        # The connection may not end sooner than five seconds after its queues last changed. It has to end within 500
+        # looks, which take longer on a slow machine.
         if time.monotonic() - last < 5 or looks == 500:
             fail(f"outsiders: who never reads is cut off after {time.monotonic() - last} seconds")
         ends(host, let_in(host.desk, hello("tess"))[0])
@@ -428,7 +430,7 @@ def next_wait(library: Preloaded, caller: Caller, piece: bytes) -> float:
         fail(f"outsiders: {piece!r} is answered {said!r}")
     while True:
         count, wait = library.counts()
-        # Until it is greeted a read waits for ten seconds at most.
+        # Ignores reads that began before the hello was granted, which wait for at most ten seconds.
         if count > before and not 0 < wait <= 10_000:
             return wait / 1000
         if time.monotonic() > end:
@@ -445,7 +447,8 @@ def ten_minutes(room: Path) -> None:
         for piece in (hello("ana"), look("ana"), look("ana"), b" ", b" "):
             waits.append(next_wait(library, student, piece))
             time.sleep(5)
-        # If a line's time isn't its own five seconds are missing, and where it begins anew with bytes they are there.
+        # If two lines shared their time, the second would have five seconds less. If the bytes of one line began the
+        # time anew, the later waits would be longer.
         if any(not 595.1 < wait <= 600 for wait in waits[:3]) or not 500 < waits[3] <= 595 or not 500 < waits[4] <= 590:
             fail(f"outsiders: a student's lines have {waits} seconds")
         teacher = Caller(host.desk)
@@ -517,8 +520,8 @@ def limited(kilobytes: int, limit: str = "-s") -> list[str]:
 
 
 def deepest(port: int, count: int) -> None:
-    """Sends lines at the limit of nesting on so many connections at once, which are answered, and deeper ones,
-    which are refused."""
+    """Sends lines at the limit of nesting on `count` connections at once, and checks that they are answered. Then sends
+    deeper ones, and checks that they are refused."""
     arrays, objects = b"[" * 126 + b"]" * 126, b'{"a":' * 126 + b"0" + b"}" * 126
     deep = [look("ana").replace(b"}", b',"x":%s}' % nest) for nest in (arrays, objects, arrays.replace(b"[]", b"[[]]"), b"[" * 4000)]
     callers = [Caller(port) for _ in range(count)]

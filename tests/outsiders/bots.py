@@ -167,7 +167,7 @@ class Class:
             it.caller.close()
 
     def teach(self, seconds: float) -> None:
-        """Closes steps as the teacher for so many seconds, and disturbs a node now and then."""
+        """Closes steps as the teacher for `seconds` seconds, and causes a fault at a node now and then."""
         draw, end = random.Random(0), time.monotonic() + seconds
         while time.monotonic() < end:
             it = Honest(self.host.desk, hello("tess"), self.waits)

@@ -210,7 +210,7 @@ def comes_to_rest(of: Callable[[], Held], first: Held | None) -> Held:
 
 
 def churn(room: Path, seconds: float) -> None:
-    """Runs clients for so many seconds, and prints after each minute what the processes have."""
+    """Runs clients for `seconds` seconds, and prints after each minute what the processes have."""
     it = Class(room)
     comings = Comings(it)
     first: tuple[Held, Held] | None = None

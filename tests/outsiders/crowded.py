@@ -43,7 +43,7 @@ def greeted_within(port: int, name: str, most: float) -> float:
 
 
 def nine_in_ten(port: int, name: str, most: float, beside: str) -> None:
-    """Checks that nine of ten hellos are granted within so many seconds. `beside` names the crowd, for the error."""
+    """Checks that nine of ten hellos are granted within `most` seconds. `beside` names the crowd, for the error."""
     late: list[float] = []
     for _ in range(HELLOS):
         taken = greeted_within(port, name, most)

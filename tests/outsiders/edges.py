@@ -14,7 +14,8 @@ NONE = b"done: 0 events, configuration 0\n"
 TOLD = (30, 300)  # the numbers of wrong guesses at which the host prints their number
 TELLING = 20.0  # seconds that the host may need to print that on a slow machine
 SECONDS = 3.0
-SHORT, PAUSE = 0.005, 0.1  # seconds from one accept that fails to the next, while somebody waits for a seat and else
+# The seconds between a failed `accept` and the next one: SHORT while somebody waits for a seat, and otherwise PAUSE.
+SHORT, PAUSE = 0.005, 0.1
 
 
 def padded(line: bytes, size: int) -> bytes:
@@ -48,7 +49,7 @@ def longest_lines(room: Path) -> None:
 
 
 def guess(host: Host, count: int) -> None:
-    """Guesses a key so many times, three times per connection."""
+    """Guesses a key `count` times, three times per connection."""
     while count > 0:
         caller, reply = let_in(host.port, WRONG)
         said = [reply] + [caller.ask(WRONG) for _ in range(min(count, 3) - 1)]

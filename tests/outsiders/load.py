@@ -1,4 +1,4 @@
-"""Outsiders who come at a rate of so many a second.
+"""Outsiders who come at a constant rate.
 
     python3 -B -m tests.outsiders.load KIND RATE SECONDS PORT..
 
@@ -26,11 +26,11 @@ from tests.common.lines import hello
 
 PIECES = {"idle": [b""], "closing": [b""], "half": [b'{"do":"hel'], "braces": [b"{}\n"], "names": [hello("ben"), hello("cyd")]}
 ALL = ("idle", "closing", "half", "braces")
-STAY = 2.0  # seconds
+STAY = 2.0  # seconds for which an outsider stays, if it doesn't close at once
 MOST = 3000  # the most connections that are open at a time
 BURST = 20  # the most connections that are opened at once if the machine is too slow
 SOURCES = 200  # addresses of this machine
-NO_PORT = 24  # IP_BIND_ADDRESS_NO_PORT: a port is chosen when it connects
+NO_PORT = 24  # IP_BIND_ADDRESS_NO_PORT of <linux/in.h>: the port is chosen by `connect` instead of `bind`
 TOP = Path(__file__).resolve().parents[2]
 
 
@@ -56,7 +56,7 @@ class Load:
         self.counts: Counter[str] = Counter()
 
     def run(self, rate: float, seconds: float) -> None:
-        """Opens so many connections a second, for so long, or fewer if the machine is too slow."""
+        """Opens `rate` connections a second for `seconds` seconds, or fewer if the machine is too slow."""
         begun = time.monotonic()
         due = begun
         while (now := time.monotonic()) < begun + seconds:

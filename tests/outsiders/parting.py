@@ -20,7 +20,7 @@ def slowed(room: Path) -> dict[str, str]:
 
 
 def taken(host: Host, files: int, more: int) -> None:
-    """Waits until a host has accepted so many more connections than when it had `files` open files."""
+    """Waits until a host has accepted `more` connections since the time when it had `files` open files."""
     end = time.monotonic() + LIMIT
     while host.files() < files + more:
         if time.monotonic() > end:

@@ -28,7 +28,7 @@ class Way:
 
 
 def in_groups(size: int) -> Split:
-    """Returns the way to split lines into parts of so many lines."""
+    """Returns the function that splits lines into parts of `size` lines."""
     return lambda lines: [b"".join(lines[at:at + size]) for at in range(0, len(lines), size)]
 
 

@@ -3,11 +3,11 @@
     python3 -B -m tests.outsiders.soak class [SECONDS [RATE]]
     python3 -B -m tests.outsiders.soak host [SECONDS [RATE]]
 
-Two outsiders each make so many connections a second (1,000) at both ports, of all kinds. `class` has fifteen bots under
-three daemons, one after the other, ten minutes in all: twelve bots of `examples/bot.py`, and three that connect and
-disconnect. All play to the end, and the output has the times that these three wait for a seat and for a reply. `host`
-prints, each minute for an hour, the number of a host's threads and descriptors and its memory. At the end these are as
-at the beginning.
+Two outsiders each make RATE connections a second (1,000 without a number) at both ports, of all kinds. `class` has
+fifteen bots under three daemons, one after the other, ten minutes in all: twelve bots of `examples/bot.py`, and three
+that connect and disconnect. All play to the end, and the output has the times that these three wait for a seat and for
+a reply. `host` prints, each minute for an hour, the number of a host's threads and descriptors and its memory. At the
+end these are as at the beginning.
 """
 from __future__ import annotations
 

@@ -44,7 +44,7 @@ ROWS = [
     (ANA + "2 0 close\n3 0 grant ben 2 seduction\n", "audit: line 3: wrong place or configuration"),
 ]
 
-# The same if node 2 is of ana too, and two events are allowed. What is false is reported before the limit.
+# The same if ana owns node 2 too, and only two events are allowed. A false line is reported before the limit.
 SHARED = [
     ("1 0 grant ana 2 seduction\n", "ok: 1 events, configuration 0, not stable"),
     ("1 0 grant ben 2 seduction\n", "ok: 1 events, configuration 0, not stable"),
@@ -55,7 +55,7 @@ SHARED = [
     (ANA + "2 0 close\n3 0 close\n", "audit: line 3: wrong place or configuration"),
 ]
 
-# A class that went on after its journal's first line, over a cycle of six nodes.
+# A lab with a cycle of six nodes, and the journal of a class that was resumed after its first line.
 CYCLE = """events = 100
 sessions = 3
 links = [[1, 2], [2, 3], [3, 4], [4, 5], [5, 6], [6, 1]]

@@ -26,7 +26,7 @@ WELCOMES = b"""1 {"ok":"hello","who":"ana"}
 4 {"ok":"hello","who":"tess"}
 """
 
-# What is asked once the second move found no room, and after it: views and denials are answered as ever.
+# The second move finds no room in the journal. Looks and denied lines after it are still answered.
 ASKED = b"""1 {"at":0,"do":"move","node":1,"rule":"seduction"}
 2 {"at":0,"do":"move","node":2,"rule":"seduction"}
 2 {"do":"look","node":2}
@@ -63,7 +63,7 @@ class Limited:
         self.lab, self.script, self.journal = built_in(room), room / "limited.script", room / "limited.journal"
 
     def run(self, script: bytes, most: int) -> tuple[Ended, bytes]:
-        """Returns the end of a script whose journal takes so many bytes, and the journal."""
+        """Returns the end of a script whose journal's file has room for `most` bytes, and the journal."""
         self.script.write_bytes(script)
         self.journal.unlink(missing_ok=True)
 

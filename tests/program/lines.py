@@ -20,7 +20,8 @@ UNKNOWN = '1 {"clause":2,"deny":"unknown","text":"name and key do not match"}\n'
 
 
 def long_bye(length: int, end: str) -> str:
-    """Returns a script's line with a bye on connection 1 whose request has so many bytes, and which ends with `end`."""
+    """Returns a script's line with a bye on connection 1, whose request has `length` bytes. The line ends with
+    `end`."""
     return "1 " + '{"do":"bye"}'.ljust(length) + end
 
 
@@ -54,7 +55,7 @@ ROWS = [
 
 
 def on_each(connections: int, text: str) -> str:
-    """Returns a script's line with this text for each of so many connections."""
+    """Returns one line of a script for each of the connections 1 to `connections`, with this text."""
     return "".join(f"{connection} {text}\n" for connection in range(1, connections + 1))
 
 
@@ -219,7 +220,7 @@ def work(room: Path) -> str:
     large.write_text(lab.read_text(encoding="ascii").replace("sessions = 4", f"sessions = {MANY}"), encoding="ascii")
     wants(room, large, ON_MANY)
     requests, events = each_way(room, lab)
-    # So that neither way is tried on malformed lines alone, nor on lines without an effect.
+    # Otherwise nearly all drawn lines would be malformed or nearly none, or too few would have an effect.
     if not (500 < requests < 3500 and 50 < events):
         fail(f"{requests} of {LINES} drawn lines are requests, with {events} events")
     ended = len(ROWS) + len(ON_MANY)

@@ -22,7 +22,7 @@ def lab_of(room: Path, old: str, new: str) -> Path:
 
 
 def serving(lab: Path, connections: int, *journal: str) -> Server:
-    """Starts a server for so many connections, and returns it when it listens."""
+    """Starts a server for `connections` connections, and returns it when it listens."""
     server = Server(lambda port: ["serve", str(lab), str(port), str(connections), *journal], {})
     if not server.listens:
         fail(f"serving: it doesn't listen: {server.end()}")

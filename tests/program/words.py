@@ -10,7 +10,7 @@ from pathlib import Path
 from tests.common.limits import MOST
 from tests.common.preload import LIMIT, PROGRAM, TOP, Ended, built_in, fail, in_room
 
-# Command lines after the program's name; two spaces, or one at an end, have an empty word beside them.
+# Arguments in one line each. Two spaces in a row, or one at the beginning or the end, make an empty argument.
 NOT_UNDERSTOOD = f"""\
 a
 help
@@ -102,9 +102,9 @@ UNREAD_LAB = Ended(4, b"", b"read fault: lab\n")
 UNREAD_SCRIPT = Ended(4, b"", b"read fault: script\n")
 UNREAD_JOURNAL = Ended(4, b"", b"read fault: journal\n")
 BROKEN_JOURNAL = Ended(4, b"", b"journal fault\n")
-# Command lines in a folder where the files `a`, `check`, `help`, `version` and `7000` are the built-in lab, `b` is a
-# script, `long` one whose line 300 is none, `hash` has one byte and `empty` none; each form is taken for what it is,
-# which shows at the files.
+# Command lines, and how each ends. In their folder the files `a`, `check`, `help`, `version` and `7000` are the
+# built-in lab, and `b` is a script. `long` is a script whose line 300 is no line of a script, `hash` has one byte, and
+# `empty` none. The end shows which command was understood, and which words as files.
 TAKEN = [
     ("check a", Ended(0, SIZE, b"")),
     ("check ./a", Ended(0, SIZE, b"")),

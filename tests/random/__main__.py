@@ -7,7 +7,7 @@ So are the replies to a thousand events over large meshes, and the tables of `mm
 end in a maximal matching, within the bounds on moves and rounds.
 
 With a number, only the run of that seed is played, and its files are left in the working folder. With `ends`, only the
-runs under four daemons are played, from so many worlds.
+runs under four daemons are played, in as many worlds as WORLDS says.
 """
 import re
 import sys

@@ -52,7 +52,7 @@ def lab_of(links: list[Link], found: Registers) -> str:
 
 
 def drawn_lab(rng: Random, count: int) -> str:
-    """Returns the text of a random lab with so many nodes. Some nodes have a null pointer and m true. One network in
+    """Returns the text of a random lab with `count` nodes. Some nodes have a null pointer and m true. One network in
     five has all links, and the others at most two per node."""
     nodes = list(range(1, count + 1))
     every = complete(rng, nodes)

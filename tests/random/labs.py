@@ -68,7 +68,7 @@ FAMILIES: list[Callable[[Random, list[int]], list[Link]]] = [
 
 
 def identifiers(rng: Random, count: int) -> list[int]:
-    """Returns so many different random identifiers, in the order of a file."""
+    """Returns `count` different random identifiers, in the order in which the lab's file lists them."""
     kind = rng.randrange(4)
     if kind == 0:
         return list(range(1, count + 1))

@@ -17,7 +17,7 @@ HELLOS = ['{"do":"hello","key":"s-key","name":"student"}', '{"do":"hello","key":
 
 
 def mesh(count: int) -> str:
-    """Returns the text of a lab with a ring of so many nodes, in which each node is also linked to another one further
+    """Returns the text of a lab with a ring of `count` nodes, in which each node is also linked to another one further
     on. One student owns all nodes."""
     ids = range(1, count + 1)
     links = [[i, i % count + 1] for i in ids] + [[i, (i + count // 3) % count + 1] for i in ids]
@@ -40,7 +40,7 @@ class Meshing:
         self.model.answer(connection, line.encode())
 
     def after(self, start: int, steps: int) -> int:
-        """Returns the node that is so many steps after `start` in the ring."""
+        """Returns the node that is `steps` nodes after `start` in the ring."""
         return (start + steps - 1) % len(self.model.world.links) + 1
 
     def grant(self, start: int) -> Optional[Asked]:
@@ -96,7 +96,7 @@ class Meshing:
 
 
 def mesh_script(rng: Random, lab: Lab, events: int) -> bytes:
-    """Returns a script over a lab with so many events."""
+    """Returns a script of `events` events over a lab."""
     meshing = Meshing(rng, lab)
     for connection, line in enumerate(HELLOS, 1):
         meshing.ask(connection, line)

@@ -8,7 +8,7 @@ from tests.random.lines import odd, spelled
 
 Asked = dict[str, Any]
 GREATEST = 2**64 - 1
-# Lines that no script may have: with a wrong number, or without a request.
+# Lines that no script may have: the connection's number is wrong, or no request follows it.
 BAD_LINES = [
     b"", b"0 {}", b"01 {}", b"17 {}", b"1", b"1\t{}", b" 1 {}", b"{}", b"-1 {}", b"1 " + b" " * 4097, b"100 {}", b"x",
 ]
@@ -105,8 +105,7 @@ class Drawing:
 
 
 def drawn_script(rng: Random, lab: Lab, lines: int) -> bytes:
-    """Returns a random script over a lab with so many lines. Some end with a wrong line, or without the last
-    newline."""
+    """Returns a random script of `lines` lines over a lab. Some end with a wrong line, or without the last newline."""
     drawing = Drawing(rng, lab)
     connections = [rng.randint(1, lab.sessions) for _ in range(4)]
     text = b""

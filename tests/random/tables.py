@@ -32,7 +32,7 @@ student = [{ name = "ana", key = "a-key" }, { name = "ben", key = "b-key" }]
 
 
 def cycle(count: int) -> str:
-    """Returns the text of a lab with a cycle of so many nodes, of which ana owns the first half and ben the second."""
+    """Returns the text of a lab with a cycle of `count` nodes, of which ana owns the first half and ben the second."""
     links = [[1, count], *([i, i + 1] for i in range(1, count))]
     owners = ("ana" if 2 * i <= count else "ben" for i in range(1, count + 1))
     return PEOPLE + f"links = {links}\n" + "".join(f'[[node]]\nid = {i}\nowner = "{name}"\n' for i, name in enumerate(owners, 1))

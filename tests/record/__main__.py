@@ -120,7 +120,8 @@ def pauses(lab: Lab, run: Recording) -> list[tuple[str, dict[int, bytes], str]]:
     noise = b'3 2 > x\n3 2 < {"refuse":"malformed"}\n'
 
     def told(sessions: int, lines: int, *lacking: str) -> str:
-        """Returns the verdict on a record with so many more sessions and lines, in which these names lack lines."""
+        """Returns the verdict on a record that has `sessions` sessions and `lines` lines more than the short one. Lines
+        of the names in `lacking` are missing in it."""
         first = f"ok: {run.sessions + sessions} sessions, {run.lines + lines} lines, 2 events, not whole"
         return f"{first}\n{whole_line(lab, lacking=lacking)}"
 
@@ -157,7 +158,8 @@ def risen(run: Recording) -> list[tuple[str, dict[int, bytes], str]]:
     ahead = "seat 3, line %d: goes ahead"
 
     def told(sessions: int, lines: int, rest: str = f"\n{whole_line(run.lab)}") -> str:
-        """Returns the verdict on a record with so many more sessions and lines. `rest` is the verdict's end."""
+        """Returns the verdict on a record that has `sessions` sessions and `lines` lines more than the short one.
+        `rest` is the verdict's end."""
         return f"ok: {run.sessions + sessions} sessions, {run.lines + lines} lines, 2 events{rest}"
 
     cut, paused = f", not whole\n{whole_line(run.lab, cut=True)}", f", not whole\n{whole_line(run.lab)}"

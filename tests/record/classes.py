@@ -15,7 +15,7 @@ from tests.record.recording import whole_line
 
 SEATS = 4
 STUDENT = SEATS  # the first connection to the port gets the last seat
-# Its members aren't in the order of their keys, and the record keeps that order.
+# The members of this object aren't in the order of their keys. The record has to keep the order of the line.
 WRONG = b'{"do":"hello","name":"ana","key":"wrong"}\n'
 MOVE = seduction(0)
 OTHER = seduction(1, node=2)
@@ -123,7 +123,7 @@ def killed_and_resumed(room: Path) -> None:
     after = {seat: before.get(seat, b"") + b"%d 1 !\n%d 1 .\n" % (seat, seat) for seat in range(1, SEATS + 1)}
     after[1] += TESS.replace(b"1 0 ", b"1 1 ")
     wants(record, lab, after)
-    # Each seat's mark ends a session, and tess's bye another.
+    # Of the five sessions, four end with the mark of their seat, and one with the bye of tess.
     verified(lab, journal, record, b"ok: 5 sessions, 8 lines, 2 events, not whole\n")
 
 
@@ -187,7 +187,7 @@ def cut(lab: Path, journal: Path, record: Path) -> None:
     if len(text) > 1024 or b"".join(entries[:8]) != b"".join(ANA.splitlines(True)[:8]) or entries[-1] != b"%d 1 !\n" % STUDENT:
         fail(f"record: a seat's file that is full has {text!r}")
     found = sum(b" < " in entry for entry in entries)
-    # Nothing follows the mark, so tess's session alone has an end.
+    # Since nothing follows the mark, only the session of tess has an end.
     verified(lab, journal, record, b"ok: 1 sessions, %d lines, 2 events, not whole\n" % (found + 3))
 
 

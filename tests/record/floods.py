@@ -18,8 +18,8 @@ ENTRY = 2 * len(b"4 0 > ") + len(LONG) + len(MALFORMED)
 VISIT = 200  # the least number of bytes that the record of a visit has
 LINES = BUDGET // ENTRY + 50  # a number of lines that is more than a budget has room for
 BATCH = 25
-OUTSIDERS = 2600  # lines before which nobody greets
-AT_ONCE = 20  # the number of such lines in a connection, more than its budget has room for
+OUTSIDERS = 2600  # lines without a hello that come before anybody greets
+AT_ONCE = 20  # the number of such lines on one connection, for which its budget has no room
 DENIED = 50
 MOVE = seduction(0)
 MARKS = (b"!\n", b"-\n", b"+", b".\n")
@@ -60,7 +60,7 @@ def sessions_in(record: Path) -> list[Session]:
 
 
 def flood(caller: Caller, count: int) -> int:
-    """Sends so many long malformed lines on a connection. Returns how many were answered before the connection
+    """Sends `count` long malformed lines on a connection. Returns how many were answered before the connection
     ended."""
     done = 0
     while done < count:
@@ -89,7 +89,7 @@ def whole_visit(host: Host, name: str) -> None:
 
 
 def unknown_flood(host: Host, lines: int, at_once: int) -> int:
-    """Sends so many lines without a hello, over as many connections as that takes, `at_once` at the same time. Returns
+    """Sends `lines` lines without a hello, over as many connections as that takes, `at_once` at the same time. Returns
     the number of answered lines."""
     done = 0
     while done < lines:
@@ -107,7 +107,7 @@ def wants_budget(who: str, sessions: list[Session]) -> None:
 
 
 def wants_whole(name: str, found: list[Session], count: int) -> None:
-    """Checks that so many visits of a student who doesn't flood are recorded, each of them completely."""
+    """Checks that `count` sessions of a student who doesn't flood are recorded, each of them completely."""
     visits = [session for session in found if session.is_of(name)]
     if len(visits) != count or any((len(v.said), v.marks) != (6, [b".\n"]) for v in visits):
         fail(f"record: beside a flood {name}'s visits are recorded as {[(len(v.said), v.marks) for v in visits]}")

@@ -60,7 +60,7 @@ class Recording:
         self.texts[seat] += b"%d %d -\n" % (seat, self.seen[seat])
 
     def resume(self, seat: int, missed: int) -> None:
-        """Marks that so many lines weren't recorded in a seat. A hello or the session's end follows."""
+        """Marks that `missed` lines weren't recorded in a seat. A hello or the session's end follows."""
         self.texts[seat] += b"%d %d + %d\n" % (seat, self.seen[seat], missed)
 
     @property

@@ -168,7 +168,7 @@ def failed_sync_after_a_resume(room: Path) -> None:
     lab, journal = lab_of(room, 4), room / "journal"
     for torn in (b"", b"3 1 gr"):
         journal.write_bytes(FIRST + torn)
-        # The first sync is of the journal as it was found.
+        # The first sync is the one of the journal's old lines, so that the second fails.
         with Host(lab, 0, 0, journal, word="resume", variables=library.variables({"POWER_FAIL_AT": "2"})) as host:
             line, tess = resumed(host), let_in(host.desk, hello("tess"))[0]
             said = tess.ask(BREAK), tess.ask(BREAK)
@@ -273,7 +273,7 @@ def torn_tails(room: Path) -> None:
             fail(f"resume: after a tail of {len(tail)} bytes there are {kept(journal)}")
         if tail and (room / "journal.~1~").stat().st_mode & 0o777 != 0o640:
             fail("resume: what is kept may be read by others")
-    # The next free number.
+    # A copy gets the next number that is free.
     (room / "journal.~1~").write_bytes(b"another's")
     journal.write_bytes(FIRST + b"3")
     goes_on(lab, journal, b"resumed at place 2, configuration 1, 0 chosen\n", NO_COPY + b"resume: a torn line of 1 bytes is taken off\n", "a tail")
@@ -315,7 +315,7 @@ def other_labs(room: Path) -> None:
     refused(lab, journal, OTHER, "a copy that is no lab")
     copy.unlink()
     goes_on(lab, journal, line, NO_COPY, "no copy of the lab")
-    # The limit that is reached, and one that is passed.
+    # A journal with as many events as the lab allows is continued, and one with more isn't.
     journal.write_bytes(FIRST)
     goes_on(lab_of(room, 4, 2), journal, b"resumed at place 2, configuration 1, 0 chosen\n", NO_COPY, "a limit that is reached")
     refused(lab_of(room, 4, 1), journal, Ended(3, b"", NO_COPY + b"audit: line 2: over the limit of events\n"), "a limit that is passed")

@@ -32,8 +32,8 @@ node = [{ id = 1, owner = "ana" }, { id = 2, owners = ["ana", "ben"] }, { id = 3
 """
 NOTHING = "0 0 0 0"
 IDLE = f"{NOTHING} {NOTHING} 0 - - 0"
-PATH = "bounds 13 5 26\n"  # 3 nodes with two links, and as many as n²/4 is
-LESS = "bounds 11 5 22\n"  # with one link
+PATH = "bounds 13 5 26\n"  # the bounds for 3 nodes with two links
+LESS = "bounds 11 5 22\n"  # and with one link
 # A name, the written journal, and the lines that have to be printed.
 CASES = (
     ("nothing", "", f"student ana {IDLE}\nstudent ben {IDLE}\nnode 2 ana {NOTHING} ben {NOTHING}\n{PATH}run 0 0 unstable 0 0 0 0 0 0 0\nrounds 0\n"),

@@ -44,7 +44,7 @@ record 3 22 whole
 """
 WHOLE = "whole tess ana ben\n"
 REFUSED = "refused ana 0 0 0\nrefused ben 0 0 0\ndenials ana 1 1 1 0 1 1 1\ndenials ben 0 0 1 1 0 1 0\n"
-# What ana may do at her own node, so that the journal may refuse it.
+# A move of ana's own node, which no clause denies. It is refused only if the journal can't be written.
 MORE = b'1 1 > {"do":"move","node":1,"rule":"seduction","at":0}\n1 1 < %s\n'
 GUARD = b'{"clause":4,"deny":"guard","text":"the guard of this rule does not hold"}'
 # In a lab of one event all later moves and closes are refused, if no clause denies them.
@@ -143,7 +143,8 @@ def by_hand(room: Path, document: str) -> int:
         ("no memory for a move", text.replace(end, MORE % b'{"refuse":"memory"}' + end),
          wanted.replace("record 3 22", "record 3 23").replace("refused ana 0 0 0", "refused ana 0 1 0")),
         ("a full lab that isn't full", text.replace(end, MORE % b'{"refuse":"full"}' + end), "verify: seat 1, line 19: not the reply of the rules at place 1"),
-        # What was refused so changed nothing, so ana isn't known, and her next hello is granted.
+        # A hello that is refused with `memory` changes nothing. So the connection has no name, and the next hello is
+        # granted.
         ("an unheard hello", text.replace(b'{"ok":"hello","who":"ana"}', b'{"refuse":"memory"}').replace(
             b'{"clause":1,"deny":"greeted","text":"this connection has a name already"}', b'{"ok":"hello","who":"ana"}'),
          wanted.replace("denied ana 3 ", "denied ana 2 ").replace("denials ana 1 ", "denials ana 0 ")),

@@ -17,7 +17,7 @@ from tests.common.preload import fail
 from tests.common.second import agreed
 from tests.random.labs import drawn_lab
 
-EVENTS = 120  # the most events of a run, if its lab allows so many
+EVENTS = 120  # the most events of a run, unless its lab allows fewer
 
 
 class Run:
@@ -108,7 +108,7 @@ def drawn(room: Path, seed: int) -> int:
 
 
 def tried(room: Path, count: int) -> int:
-    """Checks the rounds of so many random runs. Returns how many rounds ended in them."""
+    """Checks the rounds of `count` random runs. Returns how many rounds ended in them."""
     rounds = [drawn(room, seed) for seed in range(1, count + 1)]
     if 3 * sum(ended > 1 for ended in rounds) < count:
         fail("fewer than a third of the drawn runs have two rounds")

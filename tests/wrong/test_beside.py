@@ -22,7 +22,7 @@ from tools.wrong.libraries import Tree
 TOP = Path(__file__).resolve().parents[2]
 MUCH = checks.MOST_HELD + checks.LEFT_FREE + 1
 LIMIT = 300.0
-# Leaves a line in a file and waits for another, but for once, if it is killed.
+# A command that appends a line to a file, and another at its end. The first time it kills itself between the two.
 KILLED_ONCE = 'echo begun >> log; [ -e once ] || { touch once; kill -9 $$; }; echo ended'
 
 

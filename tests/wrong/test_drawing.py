@@ -187,7 +187,7 @@ class Drawing(unittest.TestCase):
         drawn, both = draw(self.tree, ["low", "high"], 99, 1), threading.Barrier(2, timeout=60)
 
         def answers(_: Tree, crate: str, plants: list[list[Plant]], __: str, ___: Running) -> list[tuple[Plant, str]]:
-            both.wait()  # (it breaks if the crates are asked one after another)
+            both.wait()  # raises if the crates are asked one after another
             if crate == "low":
                 time.sleep(0.2)
             return [(plant[0], crate) for plant in plants]
