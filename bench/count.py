@@ -19,7 +19,7 @@ from bench.common import PROGRAM, TYPED, Words, built_in, instructions, require_
 
 @dataclass(frozen=True)
 class Row:
-    """A measurement: its lab, a function that returns the lines of so many turns, two lengths in turns, and the number
+    """A measurement: its lab, a function that returns the lines of a number of turns, two such numbers, and the number
     of lines that count as one."""
 
     name: str
@@ -68,7 +68,7 @@ class Counter:
         return [program, *(named.get(word, word) for word in row.words)]
 
     def write(self, row: Row, turns: int) -> int:
-        """Writes the lines that `row.text` returns for so many turns to the file that the programs read. Returns the
+        """Writes the lines that `row.text` returns for `turns` turns to the file that the programs read. Returns the
         number of lines."""
         lines = list(row.text(turns))
         self.text.write_text("".join(line + "\n" for line in lines), encoding="ascii")

@@ -111,8 +111,9 @@ def processes(folder: Path) -> dict[str, list[int]]:
 
 
 def made(room: Path, networks: int, each: int, door: str) -> tuple[list[Path], list[tuple[int, Slip]]]:
-    """Makes the labs of a class with so many networks, and `each` students in each, in the folder `room`. Returns their
-    files, and all slips, each with a number. `door` is the address of a door, or an empty text if there is none."""
+    """Makes the labs of a class with `networks` networks, and `each` students in each, in the folder `room`. Returns
+    their files, and all slips, each with a number. `door` is the address of a door, or an empty text if there is
+    none."""
     (room / "names.txt").write_text("".join(f"Student {number}\n" for number in range(networks * each)), encoding="ascii")
     words = ["--groups", str(networks), "--start", "hurt", *(["--door", door] if door else [])]
     subprocess.run([sys.executable, TOP / "class", "new", room / "big.toml", "--students", room / "names.txt", *words], check=True, stdout=subprocess.DEVNULL)
@@ -122,7 +123,7 @@ def made(room: Path, networks: int, each: int, door: str) -> tuple[list[Path], l
 
 
 def measure(desk: "subprocess.Popen[str]", folder: Path, seconds: float) -> None:
-    """Shakes the class in a folder every SHAKES seconds for so many seconds, by typing at its desk, which is the
+    """Shakes the class in a folder every SHAKES seconds for `seconds` seconds, by typing at its desk, which is the
     process `desk`. Prints the memory and processor time of the class's processes."""
     assert desk.stdin is not None
     every = processes(folder)
@@ -163,8 +164,9 @@ def main() -> None:
 
 
 def run_class(desk: "subprocess.Popen[str]", room: Path, slips: list[tuple[int, Slip]], seconds: float) -> None:
-    """Starts all bots, measures for so many seconds, ends the class, and prints how long hellos and moves took. `desk`
-    is the process of the class's desk, the folder `room` has the class, and each slip has the number of its student."""
+    """Starts all bots, measures for `seconds` seconds, ends the class, and prints how long hellos and moves took.
+    `desk` is the process of the class's desk, the folder `room` has the class, and each slip has the number of its
+    student."""
     begun = time.monotonic()
     while "\nwords: " not in (room / "prints").read_text(encoding="utf-8"):
         if desk.poll() is not None:

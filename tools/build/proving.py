@@ -37,14 +37,14 @@ def processors() -> int:
 
 def jobs_of(number: int) -> int:
     """Returns the number of processes that are reckoned for a proof by `rt ci` of a crate that is alone in its
-    repository, on so many processors: half of them, from 1 to MOST_JOBS. It is always 1 if RT_JOBS is set."""
+    repository, on `number` processors: half of them, from 1 to MOST_JOBS. It is always 1 if RT_JOBS is set."""
     return 1 if wanted_processes() else max(1, min(MOST_JOBS, number // 2))
 
 
 def at_once_of(number: int) -> int:
-    """Returns the number of crates that are proved side by side on so many processors. It is the number of proofs whose
-    processes (`jobs_of`) fill the processors, and one more if a proof has several, since it begins and ends as a single
-    process."""
+    """Returns the number of crates that are proved side by side on `number` processors. It is the number of proofs
+    whose processes (`jobs_of`) fill the processors, and one more if a proof has several, since it begins and ends as a
+    single process."""
     each = jobs_of(number)
     return -(-number // each) + (each > 1)
 

@@ -84,7 +84,7 @@ class Count:
 
 
 def begin(stages: Stages, processors: int) -> None:
-    """Installs missing packages if no part may be left out. Prints how long the check will take on so many
+    """Installs missing packages if no part may be left out. Prints how long the check will take on `processors`
     processors."""
     if is_gate():
         install([part for stage in stages for part in stage])

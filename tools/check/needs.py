@@ -113,7 +113,7 @@ def missing(parts: list[Part]) -> dict[str, Need]:
 
 
 def instruction(need: Need) -> str:
-    """Returns a text for the reader about what a need wants, with the missing Debian packages that meet it."""
+    """Returns a text that says what a need asks for, with the missing Debian packages that provide it."""
     lacking = [it for it in need.packages if not is_installed(it)] or [*need.packages]
     return f"{need.what} (Debian's {' '.join(lacking)})" if lacking else need.what
 

@@ -28,7 +28,7 @@ class Part:
     is_beside: bool = False  # whether it runs from the beginning on, on the processors that all other parts leave idle
 
     def minutes(self, processors: int) -> float:
-        """Returns the expected minutes of the part on so many processors."""
+        """Returns the expected minutes of the part on `processors` processors."""
         return max(self.least, self.work / min(self.width, processors))
 
     def over(self, crates: list[str], share: float) -> Part:
@@ -149,8 +149,8 @@ def wrong_beside() -> Part:
 
 
 def minutes_of(stages: list[list[Part]], processors: int) -> list[float]:
-    """Returns the expected minutes of each stage of parts, on so many processors. A part that runs beside counts only
-    for the time that the other parts of all stages don't leave idle."""
+    """Returns the expected minutes of each stage of parts, on `processors` processors. A part that runs beside counts
+    only for the time that the other parts of all stages don't leave idle."""
     takes = [minutes([part for part in stage if not part.is_beside], processors) for stage in stages]
     idle = sum(takes) * processors - sum(part.work for stage in stages for part in stage if not part.is_beside)
     for number, stage in enumerate(stages):
@@ -161,8 +161,8 @@ def minutes_of(stages: list[list[Part]], processors: int) -> list[float]:
 
 
 def minutes(parts: list[Part], processors: int) -> float:
-    """Returns the expected minutes of some parts on so many processors. Parts that keep all processors busy run one
-    after another, and the others side by side."""
+    """Returns the expected minutes of some parts on `processors` processors. Parts that keep all processors busy run
+    one after another, and the others side by side."""
     alone = [it.minutes(processors) for it in parts if it.width >= processors]
     beside = [it for it in parts if it.width < processors]
     shared = sum(it.width * it.minutes(processors) for it in beside) / processors

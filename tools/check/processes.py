@@ -100,7 +100,7 @@ def reap() -> None:
 
 
 def wait_until_gone(pids: Callable[[], Iterable[int]], seconds: float) -> bool:
-    """Waits until no process that `pids` returns is left below this one, at most so many seconds. Returns whether none
+    """Waits at most `seconds` seconds until no process that `pids` returns is left below this one. Returns whether none
     is left."""
     until = time.monotonic() + seconds
     while set(pids()) & set(below(os.getpid())):

@@ -89,7 +89,7 @@ def judge(edits: list[Edit], status: int, told: Told) -> Judged:
     named = {function for edit in edits for function in edit.functions()}
     faults = [f"an error of no goal: {line[:LONGEST]}" for line in told.errors]
     faults += judge_others(named, told)
-    # (where the text isn't even read, what the check lacks is no news)
+    # If the prover couldn't read the crate, it is no further fault that lines are missing in its output.
     if not told.errors or told.functions:
         faults += judge_counts(named, told)
     if status != 1 and not faults:

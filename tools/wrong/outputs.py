@@ -39,7 +39,8 @@ class Told:
     def add_function(self, name: str, said: str) -> None:
         """Adds the line of a function, which has `said` after the function's name."""
         self.functions.add(name)
-        # ("proved, may wait" is of one that waits for others, "proved if its callers give what it asks" of a closure)
+        # A function that may wait for others has "proved, may wait", and a closure "proved if its callers give what it
+        # asks".
         if re.match(r"(proved|assumed)\b", said):
             self.proved.add(name)
         found = OPEN.search(said)
@@ -55,7 +56,7 @@ class Told:
         if RESTS_ON_ANSWER.search(line):
             return
         if found and not LOST.search(found[3]):
-            # (the answers of a cycle of calls stand together, and each goal begins with its function's name)
+            # The goals of functions that call each other are listed together, and each begins with its function's name.
             self.add_goal(CYCLE.sub(found[2].partition("-")[0], found[1]).replace("/", "::"), found[2])
         else:
             self.errors.append(line)
