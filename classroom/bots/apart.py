@@ -150,9 +150,9 @@ def pass_listener(port: int, channel: int) -> None:
 
 def enter(world: World, folder: str, megabytes: int, channel: int) -> None:
     """Continues in a new process, the first one in new namespaces. When it ends, all other processes there end too.
-    `folder` is the program's folder, `megabytes` the size of the new root, and `channel` the descriptor of the socket
-    through which the listener at the port of `world` is sent. The calling process waits for the new one, and exits with
-    its status. Raises the `OSError` of a call that the system refuses."""
+    `folder` is the program's folder, and `megabytes` the size of the new root. A socket that listens at the port of
+    `world` is sent through the descriptor `channel`. The calling process waits for the new one, and exits with its
+    status. Raises the `OSError` of a call that the system refuses."""
     user, group = os.geteuid(), os.getegid()
     require_success(LIBC.unshare(NAMESPACES), "unshare")
     map_user(user, group)

@@ -63,8 +63,8 @@ class Limits:
 
 @dataclass(frozen=True)
 class Surroundings:
-    """The surroundings of a bot: its folder, which is empty at first, a file outside all folders for its output,
-    and, if it is kept apart, the other files that it sees and those that are hidden."""
+    """The surroundings of a bot: its folder, which is empty at first, and a file outside of it for its output. If the
+    bot is kept apart, they also include the other files that it sees, and those that are hidden from it."""
 
     folder: Path
     output: IO[bytes]

@@ -68,8 +68,8 @@ class Bot:
 
 
 def runs_itself(file: Path) -> bool:
-    """Returns whether a file can be run directly: it is executable, and if its name ends in .py, .java or .js, it
-    begins with `#!` or can't be read."""
+    """Returns whether a file can be run directly. It has to be executable. If its name ends in .py, .java or .js, it
+    also has to begin with `#!`, unless it can't be read."""
     if not os.access(file, os.X_OK):
         return False
     if file.suffix not in RUN_BY or not os.access(file, os.R_OK):

@@ -58,8 +58,8 @@ class Scale:
 
 
 def tick_distance(high: int, parts: int = 5) -> int:
-    """Returns the distance of the ticks on an axis from 0 to `high`: the first of 1, 2, 5, 10, 20, 50 and so on that
-    divides the axis into at most `parts` parts."""
+    """Returns the distance of the ticks on an axis from 0 to `high`. It is the first of 1, 2, 5, 10, 20, 50 and so on
+    that divides the axis into at most `parts` parts."""
     step = 1
     while True:
         for factor in (1, 2, 5):

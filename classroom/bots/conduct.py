@@ -32,8 +32,8 @@ def number_of(value: object) -> int:
 
 
 def most_open(nodes: int) -> int:
-    """Returns how many connections a bot with `nodes` nodes may have open at once: two for each node, and at least two
-    more than it has nodes."""
+    """Returns how many connections a bot with `nodes` nodes may have open at once. These are two for each node, but at
+    least `nodes + 2`."""
     return max(2 * nodes, nodes + 2)
 
 

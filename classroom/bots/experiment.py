@@ -99,8 +99,8 @@ def settings(words: argparse.Namespace) -> list[Setting]:
 
 
 def links_of(nodes: int) -> int:
-    """Returns the number of links of a random network with `nodes` nodes: three for each two nodes, but at least those
-    of a tree, and at most all that are possible."""
+    """Returns the number of links of a random network with `nodes` nodes. These are three for each two nodes, but at
+    least as many as in a tree, and at most all that are possible."""
     return max(nodes - 1, min(3 * nodes // 2, nodes * (nodes - 1) // 2))
 
 
@@ -195,9 +195,9 @@ class Progress:
 
 
 def table(rows: list[Row]) -> str:
-    """Returns the text of the result: for each family, daemon and number of nodes, the number of runs, and the median,
-    the maximum and the bound of moves and of rounds. For each family and daemon, one more line names the runs that came
-    closest to their bounds."""
+    """Returns the text of the result. For each family, daemon and number of nodes, a line has the number of runs, and
+    the median, maximum and bound of the moves and of the rounds. For each family and daemon, one more line names the
+    runs that came closest to their bounds."""
     lines = [f"{'family':10} {'daemon':14} {'nodes':>5} {'runs':>6}  moves: median, greatest, bound  rounds: median, greatest, bound"]
     groups: dict[tuple[str, str], list[Row]] = {}
     for row in rows:
@@ -245,8 +245,8 @@ def write_sorted(path: Path, rows: list[Row]) -> None:
 
 def merge(words: argparse.Namespace, asked: set[Key]) -> int:
     """Joins the table with those that `--merge` names, writes the joined table, prints the result and draws the chart.
-    `asked` identifies the runs of the arguments. Returns the exit status. Raises `Fault` if a file is missing or isn't
-    a table, if two tables have different numbers of the same run, or if a file can't be written."""
+    `asked` identifies the runs of the arguments. Returns the exit status. Raises `Fault` if a file is missing, isn't a
+    table or can't be written, or if two tables differ about the same run."""
     rows: dict[Key, Row] = {key(row): row for row in read_rows(Path(words.csv))}
     for file in map(Path, words.merge):
         if not file.exists():

@@ -1,10 +1,10 @@
 """A process of its own, the keeper, that runs a student's program, the bot, and keeps it within its limits. The first
 line of standard input is a plan, the JSON object with the values of `Plan`.
 
-The keeper ends the program and all that it started, in whatever session, if the program ends, uses too much memory or
-too much room for files, or consists of more than 64 processes. It also ends the program if standard input ends, as it
-does when the process that started the keeper is gone. Then it prints how the program ended: `ended STATUS` or `killed
-REASON`.
+The keeper ends the program and all processes that it started, also those in other sessions. It does so if the program
+ends, uses too much memory or room for files, or consists of more than 64 processes. It also ends the program if
+standard input ends, as it does when the process that started the keeper is gone. Then it prints how the program ended:
+`ended STATUS` or `killed REASON`.
 """
 from __future__ import annotations
 

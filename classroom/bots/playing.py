@@ -246,9 +246,9 @@ class Playing:
         return [row for row, owner in zip(self.rows, self.owners) if owner == who]
 
     def explain_denial(self, asked: dict[str, Any], told: dict[str, Any]) -> str:
-        """Returns a text about a denial: its clause, the node's registers, and the rule that would be granted there. If
-        it was denied as `not-owner`, `hidden` or `stale`, or there is no such node, the text is only about the
-        clause and the numbers of configurations."""
+        """Returns a text about a denial: its clause, the node's registers, and the rule that would be granted there.
+        After the denials `not-owner`, `hidden` and `stale`, and if there is no such node, it has only the clause and
+        the numbers of configurations."""
         what = " ".join(str(asked[key]) for key in ("do", "node", "rule", "with") if key in asked)
         text = f"{what} is denied as {told['deny']}, clause {told['clause']}: {told['text']}"
         if "at" in told:
@@ -264,8 +264,8 @@ class Playing:
         return f"{text}; {look['rule'] or 'nothing'} would be granted there"
 
     def explain_silence(self, who: str) -> str:
-        """Returns a semicolon and the reason why no line comes from the program of the student `who`, as far as its
-        connections and earlier lines show it."""
+        """Returns a semicolon and the reason why the program of the student `who` sends no line, as far as its
+        connections and earlier lines show the reason."""
         if self.relay.has_partial_line():
             return "; it sent a line without a newline at the end"
         if self.heard[who].greeted:
@@ -274,8 +274,8 @@ class Playing:
         return "; it connected, but no hello was granted" if strangers else f"; it never connected to port {self.relay.port}"
 
     def last_words(self, who: str) -> str:
-        """Returns a semicolon and a text about the program of the student `who`, which has fallen silent: when its last
-        line came, the line, and those of its nodes at which it never looked."""
+        """Returns a semicolon and a text about the program of the student `who`, which no longer sends lines. The text
+        has the time of its last line, the line, and the nodes at which it never looked."""
         heard = self.heard[who]
         ago = time.monotonic() - heard.last_at
         never = [node for node in self.lab.nodes_of(who) if node not in heard.conduct.seen]

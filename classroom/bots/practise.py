@@ -180,8 +180,8 @@ class Practice:
         return "".join(f"; {name}: {hint}" for name, hint in hints.items() if hint)
 
     def run(self) -> bool:
-        """Runs the class until it is stable, until nothing happens for the time limit, until no bot is left that could
-        move, or until it is interrupted. Returns whether it is stable."""
+        """Runs the class until it is stable. Ends earlier if nothing has happened for the time limit, if no bot is left
+        that could move, or if it is interrupted. Returns whether the class is stable."""
         playing, news = self.playing, self.playing.news
         while not playing.is_stable() and not self.stop:
             self.turn()

@@ -1,8 +1,8 @@
 """The cases for grading a bot, a student's program: suites that come with the release, and a teacher's own labs.
 
-A *case* is a lab that the bot plays, with a daemon, which decides when a step ends and who moves, a seed, and troubles
-during the run. A *plan* describes cases that differ only in daemon and seed. The *house* plays the nodes that aren't
-the bot's.
+A *case* is a lab that the bot plays, with a daemon, a seed, and troubles during the run. The daemon decides when a step
+ends and who moves. A *plan* describes cases that differ only in daemon and seed. The *house* plays the nodes that
+aren't the bot's.
 """
 from __future__ import annotations
 
@@ -172,9 +172,9 @@ def of_suite(name: str, how: list[Daemon] | None, seeds: int) -> list[Case]:
 
 
 def of_folder(folder: Path, how: list[Daemon] | None, seeds: int) -> tuple[list[Case], list[str]]:
-    """Returns the cases of the labs in a folder, with the seeds 1 to `seeds` and each daemon in `how`, and an error
-    line for each file that isn't a lab. If `how` is None, the daemons are those in USUAL. Raises `Fault` if no file is
-    a lab."""
+    """Returns the cases of the labs in a folder, with the seeds 1 to `seeds` and each daemon in `how`. Also returns an
+    error line for each file that isn't a lab. If `how` is None, the daemons are those in USUAL. Raises `Fault` if no
+    file is a lab."""
     try:
         files = sorted(each for each in folder.iterdir() if each.suffix == ".toml")
     except OSError as error:

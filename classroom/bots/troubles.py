@@ -1,10 +1,10 @@
 """The run of a case: a class that becomes stable, and the troubles during the run. A bot meets each trouble in real
 classes too.
 
-Each trouble is a function here. Most of them *hurt* a node afterwards, that is, set its registers so that it is
-privileged and the bot has to move it, and then run the class until it is stable again. All raise `Fails` if the bot
-does something wrong or is too late, and `Stopped` after an interrupt. The *number* is that of the present
-configuration, and a move is *stale* if it has an earlier one.
+Each trouble is a function here. Most of them *hurt* a node afterwards: they set its registers so that it is privileged,
+and the bot has to move it. Then they run the class until it is stable again. All raise `Fails` if the bot does
+something wrong or is too late, and `Stopped` after an interrupt. The *number* is that of the present configuration, and
+a move is *stale* if it has an earlier one.
 """
 from __future__ import annotations
 
@@ -206,8 +206,8 @@ def drop(attempt: Attempt) -> None:
 
 
 def link_nodes(attempt: Attempt, node: int, other: int) -> None:
-    """Links a node of the bot with the node `other`, which isn't its neighbour, and sets registers so that `other` is
-    the only node that points at it. The bot has to ask for the marriage."""
+    """Links a node of the bot with the node `other`, which isn't its neighbour. Sets registers so that `other` is the
+    only node that points at the bot's node. The bot has to ask for the marriage."""
     playing = attempt.playing
     playing.is_held = True
     playing.relink("link", node, other)
@@ -283,7 +283,7 @@ def taken(attempt: Attempt) -> None:
 
 
 def lost(attempt: Attempt) -> None:
-    """Loses the reply to a granted move of the bot, closes its connections, and stops listening for GONE seconds, like
+    """Drops the reply to a granted move of the bot and closes its connections. Doesn't listen for GONE seconds, like
     the server of a class that is resumed. Raises `Fault` if another program has taken the port meanwhile."""
     playing = attempt.playing
     playing.is_held = playing.loses = True
@@ -360,8 +360,8 @@ def until_looked(attempt: Attempt, node: int) -> None:
 
 def draw_registers(attempt: Attempt, node: int, known: set[tuple[str | None, int, bool]]) -> None:
     """Draws the registers of a node and its neighbours until their kind isn't in `known`, and adds it there. The kind
-    is the node's enabled rule as the proved program reports it, whether its p is null (0) or a higher (1) or lower (-1)
-    node, and its m. Gives up after TRIES draws."""
+    has three parts: the node's enabled rule as the proved program reports it, a number for its p, and its m. The number
+    is 0 for null, 1 for a higher node, and -1 for a lower one. Gives up after TRIES draws."""
     near = networks.neighbours([each.id for each in attempt.case.made.nodes], attempt.case.made.links)
     for _ in range(TRIES):
         for each in (*near[node], node):

@@ -114,9 +114,8 @@ class Answering:
         return reply
 
     def keep(self, connection: int, line: bytes, reply: dict[str, Any]) -> None:
-        """Adds a line to the script that repeats the run (`script`), if its `reply` shows that it was a granted hello,
-        a bye or an event. Does nothing if the script would become larger than MOST_SCRIPT. Also notes the place of the
-        last event."""
+        """Adds a line to `script`, which repeats the run, if its `reply` shows a granted hello, a bye or an event. Does
+        nothing if the script would become larger than MOST_SCRIPT. Also notes the place of the last event."""
         self.place = reply.get("place", self.place)
         if (reply.get("ok") in ("hello", "bye") or "place" in reply) and self.size + len(line) < MOST_SCRIPT:
             self.granted.append(b"%d %s\n" % (connection, line))

@@ -20,7 +20,7 @@ class Book:
         self.since = 0  # Moves since the last fault, link or cut.
 
     def add(self, event: Event) -> list[tuple[int, str, str]]:
-        """Updates the book by the next event. If the event is a close, returns the moves that it applied: for each the
+        """Updates the book by the next event. If the event is a close, returns the moves that it applied. Each has the
         node, the student to whom it was granted, and the rule."""
         word = event.kind
         if word == "grant":

@@ -1,5 +1,5 @@
-"""The limits of a door, the port at which students on other machines connect: for each address and for all together,
-connections, TLS handshakes, and bytes per second.
+"""The limits of a door, the port at which students on other machines connect. They bound the connections, the TLS
+handshakes and the bytes per second, of each address and of all together.
 
 The *origin* of a connection is the text by which it is counted: an IPv4 address, or the network of an IPv6 address.
 """

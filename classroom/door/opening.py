@@ -1,5 +1,6 @@
 """Opens a door for the runs of a class, and restarts its process if it ends too early. A *door* is a TLS port at which
-students on other machines connect, and has a folder with its data. *Slips* are files with the data of a student."""
+students on other machines connect. It has a folder with its data. A *slip* is a file with what a student needs to
+connect."""
 from __future__ import annotations
 
 import argparse

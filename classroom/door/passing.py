@@ -90,8 +90,8 @@ class Passing:
             return b""
 
     async def serve(self) -> None:
-        """Forwards the connection to its end: to a page if its first byte is that of an HTTP method, and otherwise to
-        the students' port of the network that the handshake named."""
+        """Forwards the connection until it ends. If its first byte is that of an HTTP method, the other end is a page.
+        Otherwise it is the students' port of the network that the handshake named."""
         first = await self.first_bytes()
         if not first:
             return

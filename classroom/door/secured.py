@@ -1,7 +1,7 @@
 """A TLS connection whose two directions end separately.
 
-asyncio's own TLS closes a connection as soon as the other end has announced that it sends nothing more, and drops
-the bytes that weren't sent yet. Here the other end gets all of them.
+asyncio's own TLS closes a connection as soon as the other end has announced that it sends nothing more. It drops the
+bytes that weren't sent yet. Here the other end gets all of them.
 """
 from __future__ import annotations
 

@@ -60,8 +60,8 @@ class Row:
         return max(self.place, self.latest)
 
     def after(self) -> str:
-        """Returns a text with the number of events before the row, or with the least and the greatest number if the
-        record doesn't have the exact one."""
+        """Returns a text with the number of events before the row. If the record doesn't have the exact number, the
+        text has the least and the greatest possible one."""
         return f"after {self.place}" + f" to {self.latest}" * (self.latest > self.place)
 
 
@@ -231,8 +231,8 @@ def guarded_rows(rows: list[Row]) -> list[tuple[int, str]]:
 
 
 def own_page(title: str, name: str, lab_file: Path, journal: Path, told: list[str], lines: list[Row]) -> str:
-    """Returns the page of a student's own run as HTML: the player, and beside it the given lines about the records, and
-    `lines`, the rows of the student's lines. Each denial is at its moment, with the part of the guard that failed."""
+    """Returns the page of a student's own run as HTML. Beside the player it has the lines `told` about the records, and
+    the rows `lines` with the student's lines. Each denial is at its moment, with the part of the guard that failed."""
     kept_layout.load(lab_file.parent)
     lab, frames = frames_of(lab_file, journal)
     happened = events(journal.read_text(encoding="ascii"))

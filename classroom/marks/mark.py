@@ -77,8 +77,8 @@ class Run:
 
     @property
     def network(self) -> str:
-        """Returns the name of the network: that of the lab with which the run was begun, if the journal is in the run's
-        folder, or else that of the lab's file."""
+        """Returns the name of the network. If the journal is in the run's folder, it is the name of the lab with which
+        the run was begun, and otherwise that of the lab's file."""
         if self.journal.name != "journal" or not (self.journal.parent / "lab.toml").is_file():
             return self.lab_file.stem
         found = folders.Record.read(self.journal.parent)

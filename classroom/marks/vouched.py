@@ -67,9 +67,9 @@ def has_ended(run: Path) -> bool:
 
 
 def entries_up_to(text: bytes, events: int) -> bytes:
-    """Returns the beginning of a seat's text: its complete entries up to the last one that belongs to the first
-    `events` events of the journal, by the number of events before it and the event that it granted. Later entries
-    belong to a run that is still going on. Searches from the end, because the numbers of events never fall."""
+    """Returns the complete entries at the beginning of a seat's text that belong to the first `events` events of the
+    journal. This is seen from the numbers of events before the entries, and by the events that they granted. Later
+    entries belong to a run that is still going on. Searches from the end, because the numbers of events never fall."""
     end = text.rfind(b"\n") + 1
     while end:
         start = text.rfind(b"\n", 0, end - 1) + 1
@@ -112,8 +112,8 @@ def is_open(seat: Path) -> bool:
 
 
 def mark_incomplete(into: Path) -> None:
-    """Marks the copy of a record as one that may lack entries: appends a session that was cut off to a seat, if
-    possible to one without an open session."""
+    """Marks the copy of a record as one in which entries may be missing. For this it appends a session that was cut off
+    to a seat, if possible to one without an open session."""
     events = (into / "journal").read_bytes().count(b"\n")
     for file in sorted(seats(into), key=is_open)[:1]:
         seat = file.name.partition(".")[0]

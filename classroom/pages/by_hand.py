@@ -176,8 +176,8 @@ class PlayRequest(PageRequest):
 
 
 def last_word(seat: Seat) -> str:
-    """Returns why a seat's updates end when the page's server stops: a standard text, or the reason of the class's
-    server if that has closed the connection."""
+    """Returns the reason why a seat's updates end when the page's server stops. If the class's server has closed the
+    connection, it is that server's reason, and otherwise a standard text."""
     try:
         seat.present()
     except (Closed, Denied) as error:

@@ -67,8 +67,8 @@ class Frames:
         self.before = state.copy()
 
     def registers(self, before: State, state: State) -> list[list[int]]:
-        """Returns the nodes whose registers have changed: for each its index, the index of the node that it points at,
-        or -1, and m as 0 or 1."""
+        """Returns three numbers for each node whose registers have changed: its index, the index of the node that it
+        points at or -1, and m as 0 or 1."""
         if (before.pointers, before.ms) == (state.pointers, state.ms):
             return []
         return [
@@ -104,8 +104,8 @@ class Frames:
         return self.index[link]
 
     def changed_open(self, links: list[OpenLink]) -> list[list[int]]:
-        """Returns the changes of open links since the last call, as runs of consecutive indices with the same witness:
-        the first link, their number, the witness (-1 for none) and its rule."""
+        """Returns the changes of open links since the last call. Consecutive links with the same witness are one row:
+        the first link's index, the number of links, the witness (-1 for none) and its rule."""
         now = {self.index_of((a, b)): (self.order[node], RULES.index(rule)) for a, b, node, rule in links}
         changed = sorted(link for link in now.keys() | self.open.keys() if now.get(link) != self.open.get(link))
         runs: list[list[int]] = []

@@ -92,8 +92,8 @@ class Replay:
             is_first = False
 
     def part(self, events: list[Event], is_first: bool) -> tuple[Script, list[Event]]:
-        """Returns a script with the next of these events, as many as fit into it: all, or those up to an event that
-        made a configuration. Also returns the remaining events. Raises `Fault` if too many events come without a new
+        """Returns a script with as many of these events as fit into it, and the remaining events. The script has all
+        events, or those up to an event that made a configuration. Raises `Fault` if too many events come without a new
         configuration."""
         script, fits, kept, named = Script(), 0, 0, set[int]()
         for line in HELLOS:
@@ -177,8 +177,8 @@ def another(line: str, reply: str) -> Fault:
 
 
 def report(lab: labs.Lab, lines: list[list[str]]) -> dict[str, Any]:
-    """Returns the report after the events in these lines of a lab's journal, each split into its words: the place, the
-    number of the configuration, and the event. Raises `Fault` if an event isn't granted again."""
+    """Returns the report after the events in these lines of a lab's journal. Each line is split into its words: the
+    place, the number of the configuration, and the event. Raises `Fault` if an event isn't granted again."""
     nodes = [labs.Node(node.id, [STUDENT], node.p, node.m) for node in lab.nodes]
     script = [*HELLOS, *(request(at, words) for _, at, *words in lines), REPORT]
     replies = all_of(alone(nodes, lab.links, max(1, len(lines))), script)

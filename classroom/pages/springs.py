@@ -1,9 +1,9 @@
 """Layouts in which the distance of two nodes corresponds to the length of the shortest path between them.
 
 They are computed by stress majorization (Gansner, Koren and North, 'Graph drawing by stress majorization', 2004),
-beginning with classical scaling. In a large network a node is pulled by its neighbours and by some pivots, which
-stand for the nodes around them (Ortmann, Klimenta and Brandes, 'A sparse stress model', 2016). Nothing is random:
-the same network always has the same layout. In the functions, `far` has the distances between all nodes, as `distances`
+beginning with classical scaling. In a large network a node is pulled by its neighbours and by some *pivots*. A pivot
+represents the nodes around it (Ortmann, Klimenta and Brandes, 'A sparse stress model', 2016). Nothing is random: the
+same network always has the same layout. In the functions, `far` has the distances between all nodes, as `distances`
 returns them.
 """
 from __future__ import annotations
@@ -194,8 +194,8 @@ def cross(a: Point, b: Point, c: Point, d: Point) -> bool:
 
 
 def side(a: Point, b: Point, c: Point) -> float:
-    """Returns a positive number if c is on one side of the line from a to b, a negative one if it is on the other side,
-    and 0 if it is on the line."""
+    """Returns 0 if c is on the line from a to b, a positive number for each point c on one side of it, and a negative
+    one on the other side."""
     return (b[0] - a[0]) * (c[1] - a[1]) - (b[1] - a[1]) * (c[0] - a[0])
 
 

@@ -1,5 +1,6 @@
-"""Lines that are typed at the desk of a class of several networks, such as `2: close` or `end maths-2`: the networks
-that a line is for, and the command for them. The *desk* is the terminal or program at which the teacher types."""
+"""Lines that are typed at the desk of a class of several networks, such as `2: close` or `end maths-2`. Each is split
+into the networks that it is for, and the command for them. The *desk* is the terminal or program at which the teacher
+types."""
 from __future__ import annotations
 
 import re

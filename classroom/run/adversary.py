@@ -80,8 +80,8 @@ class Adversary:
         return [first, *(others if len(others) < FIRST else self.chance.sample(others, FIRST - 1))]
 
     def value_of(self, bench: Bench, report: dict[str, Any], nodes: list[int], steps: int) -> int:
-        """Returns the value of moving these nodes now, and then one node in each step by the schedule, until no node
-        is privileged, or for `steps` steps in all. The value is the sum of the number of moves and the number of
+        """Moves these nodes now, and then one node in each step by the schedule, until no node is privileged or `steps`
+        steps are done. Returns the value of that. The value is the sum of the number of moves and the number of
         privileged nodes after them. `report` is the bench's report of the configuration before the moves. Undoes all
         moves afterwards, and sets the number of the configuration in `report` to the present one."""
         after, moves, moved = bench.step(report, nodes, self.partner_of), len(nodes), {*nodes}

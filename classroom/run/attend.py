@@ -133,8 +133,8 @@ class DiskRoom:
         return [line] if line else [AGAIN_ROOM] if before == "full" else []
 
     def limit_news(self) -> list[str]:
-        """Returns a line if the limit on the size of files leaves little room for the journal or none, and if that is
-        new since the last check."""
+        """Returns a line if the limit on the size of files leaves little room for the journal, or none, and the last
+        check found something else."""
         limit = limit_of(self.server) if self.server is not None else None
         journal = self.folder / "journal"
         left = LITTLE if limit is None or not journal.exists() else limit - journal.stat().st_size

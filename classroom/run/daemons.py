@@ -108,8 +108,8 @@ def movers(how: Daemon, privileged: Sequence[int], chance: random.Random, search
 
 def in_time(how: Daemon, nodes: Sequence[int], chance: random.Random) -> list[int]:
     """Simulates one step under a timed daemon. Each node asks after a random time, one second on average. Returns the
-    nodes that have asked when the step is closed: under `every`, at the first tick after a request; under `when-idle`,
-    once no node has asked for `how.value` seconds."""
+    nodes that have asked when the step is closed. Under `every`, that is at the first tick after a request. Under
+    `when-idle`, it is when no node has asked for `how.value` seconds."""
     asks = sorted((chance.expovariate(1.0), node) for node in nodes)
     first = end = asks[0][0]
     if how.kind == "every" and how.value:

@@ -57,8 +57,8 @@ def denial_words(word: str) -> str:
 
 
 def together(what: str, who: list[str]) -> list[str]:
-    """Returns the lines that say `what` (`connected` or `gone`) of the names in `who`: one line for each name, or one
-    line for all if they are more than FEW."""
+    """Returns the lines that say `what` (`connected` or `gone`) of the names in `who`. There is one line for each name,
+    or one for all if they are more than FEW."""
     if len(who) <= FEW:
         return [f"{what}: {each}" for each in who]
     return [f"{what}: {plural(len(who), 'student')}: {'; '.join(who)}"]
@@ -180,8 +180,8 @@ class Heard:
         return together("connected", come) + together("gone", gone)
 
     def note_if_news(self, key: tuple[str, str], count: int, least: int) -> bool:
-        """Returns whether the line `key` with a count is to be printed: the count is at least `least`, and at least
-        twice the last one that was printed. If so, notes that it was printed."""
+        """Returns whether the line `key` with a count is to be printed. The count has to be at least `least`, and at
+        least twice the last one that was printed. If so, notes that it was printed."""
         if count < max(least, 2 * self.told[key]):
             return False
         self.told[key] = count

@@ -87,8 +87,8 @@ class Member:
         threading.Thread(target=self.follow, args=[self.child, hear, ended], daemon=True).start()
 
     def resume_words(self, *but: str) -> list[str]:
-        """Returns the arguments for a run that continues: those of the network without its port and folder, without
-        `--serve` and `--beside`, and without the options in `but`, each with its value."""
+        """Returns the arguments for a run that continues. They are those of the network without its port, its folder,
+        `--serve` and `--beside`. The options in `but` are also left out, each with its value."""
         words = list(self.more)
         for word in ("--port", "--into", *but):
             if word in words:
@@ -173,8 +173,8 @@ class Member:
             self.child.send_signal(signal.SIGUSR1)
 
     def page(self, acts: bool) -> str:
-        """Returns the address of the network's page: to act at on this machine if `acts` is set, and otherwise to look
-        at, through the door if there is one. It is empty if there is no such page."""
+        """Returns the address of the network's page. If `acts` is set, it is the one to act at on this machine.
+        Otherwise it is the one to look at, through the door if there is one. It is empty if there is no such page."""
         return self.facts.get("act", "") if acts else self.facts.get("look_from", self.facts.get("page", ""))
 
     def shown(self, acts: bool = False) -> NetworkState:

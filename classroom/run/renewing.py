@@ -24,9 +24,9 @@ PATIENCE = 60.0  # seconds that a killed process has to disappear
 
 
 def renew(folder: Path, lab: labs.Lab, it: server.Server, desk: Desk, name: str) -> None:
-    """Changes the key of the student `name` in the lab and the slips, kills the server, and replaces the values of `it`
-    by those of a new server. The caller has to connect to the desk again. Raises `ValueError` if there is no such
-    student, and `Fault` if the class can't continue."""
+    """Changes the key of the student `name` in the lab and the slips, and kills the server `it`. Starts a new one,
+    whose values replace those in `it`. The caller has to connect to the desk again. Raises `ValueError` if there is no
+    such student, and `Fault` if the class can't continue."""
     if name not in lab.without_house().students:
         raise ValueError(f"no student {name}; there are {', '.join(lab.without_house().students)}")
     kept = Record.read(folder)

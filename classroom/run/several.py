@@ -231,8 +231,8 @@ class Several:
         return any(member.status in (STARTS, RUNS) or member.status == DOWN and can_be_told for member in self.members)
 
     def attend(self) -> int:
-        """Runs the desk until each network has ended, or is down and can't be resumed by a line or by the page, or
-        until another process takes the desks. Returns the exit status: the highest of the networks' processes, or
+        """Runs the desk until each network has ended, or is down and can't be resumed from the desk or its page. Ends
+        earlier if another process takes the desks. Returns the exit status: the highest of the networks' processes, or
         FAILED if another process takes the desks."""
         while self.goes_on() and not self.is_left:
             try:

@@ -1,6 +1,6 @@
 """`./class check`: prints the verdict of `mml check` on a lab, the line of an error, and warnings. A *lab* is the TOML
-file that defines a network with its students and their keys, and *keys* in the functions about the file's format are
-those of TOML."""
+file that defines a network with its students and their keys. In the functions about the file's format, *keys* are those
+of TOML."""
 from __future__ import annotations
 
 import argparse
@@ -34,8 +34,8 @@ OTHERS = 128  # how many characters a key is taken to be drawn from if one of it
 
 
 def refused(path: Path, error: str) -> Iterator[str]:
-    """Yields the lines to print about a lab's file that the program refuses with the text `error`: this error, the line
-    in the file at which it is, and suggestions for unknown keys."""
+    """Yields the lines to print about a lab's file that the program refuses with the text `error`. They have this
+    error, the line in the file at which it is, and suggestions for unknown keys."""
     text = path.read_bytes().decode("utf-8-sig", errors="replace")
     yield f"{path}: {error}"
     line, what = place_of_error(text, error)
@@ -47,8 +47,8 @@ def refused(path: Path, error: str) -> Iterator[str]:
 
 
 def place_of_error(text: str, error: str) -> tuple[int | None, str]:
-    """Returns the number of the line that the program's error about a lab's text refers to, or None, and a text to
-    print after the number: the message of the TOML reader, or the identifier of a node."""
+    """Returns the number of the line that the program's error about a lab's text refers to, or None. Also returns a
+    text to print after the number: the message of the TOML reader, or the identifier of a node."""
     if error == "lab: not a TOML document":
         try:
             tomllib.loads(text)
@@ -83,8 +83,8 @@ def identifier(text: str, table: positions.Table) -> str:
 
 
 def line_of_key(text: str, key: str) -> tuple[int | None, str]:
-    """Returns the number of the line with the key that an error names, such as `teacher.name`, if exactly one table of
-    that name has it, and otherwise None. Also returns an empty text, as `place_of_error` does."""
+    """Returns the number of the line with the key that an error names, such as `teacher.name`. The number is None
+    unless exactly one table of that name has the key. Also returns an empty text, as `place_of_error` does."""
     table, _, word = key.rpartition(".")
     lines = [each.keys[word] for each in positions.tables(text) if each.name == table and word in each.keys]
     return (lines[0], "") if len(lines) == 1 else (None, "")

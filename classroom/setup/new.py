@@ -197,8 +197,8 @@ def next_steps(words: argparse.Namespace, made: list[Made], merge: Path) -> str:
 
 
 def tell_seats(made: labs.Lab, everybody: int, words: argparse.Namespace) -> None:
-    """Prints a note if the students of a lab can't all have a seat at once, with the number of labs that would be
-    enough for `everybody`, the number of all students."""
+    """Prints a note if the students of a lab can't all have a seat at once. The note has the number of labs that would
+    be enough for `everybody`, the number of all students."""
     students = len(made.without_house().students)
     if made.sessions < students + 1 and words.groups_by:
         print(f"note: {made.sessions} sessions for {students} students and a teacher: with more --groups all have a seat")

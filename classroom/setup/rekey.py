@@ -47,9 +47,9 @@ def changed(path: Path, name: str, key: str) -> str:
 
 
 def files_of(word: str) -> tuple[list[Path], Path, Record | None]:
-    """Returns three values about the lab that `word` names, by its file or the folder of a run: all files with a copy
-    of the lab, the file beside which its slips are, and the record of the run. The record is None if `word` names a
-    lab's file or the run has none. Raises `Fault` if the folder isn't that of a run."""
+    """Returns three values about the lab that `word` names, by its file or the folder of a run. They are all files with
+    a copy of the lab, the file beside which its slips are, and the record of the run. The record is None if `word`
+    names a lab's file or the run has none. Raises `Fault` if the folder isn't that of a run."""
     path = Path(word)
     if not path.is_dir():
         return [path], path, None

@@ -17,9 +17,9 @@ FIRST_PORT, FIRST_PAGE = 4711, 4790
 
 @dataclass(frozen=True)
 class Way:
-    """The way into a network, which is the same on all its slips: its name and room, the ports of its server and of its
-    page to play, and a door with its fingerprint, or else an account for ssh. A *door* is a TLS port for students on
-    other machines."""
+    """The way into a network, which is the same on all its slips. It has the network's name and room, the ports of its
+    server and of its page to play, and a door with its fingerprint or an account for ssh. A *door* is a TLS port for
+    students on other machines."""
 
     port: int
     network: str
