@@ -2,10 +2,10 @@
 
     python3 -m tests.faults
 
-For each use of the program there are runs in which the first call of a kind has an effect, then runs in which the
-second call has it, and so on, until a run has no such call. The call fails, is interrupted by a signal, does nothing,
-or transfers only one byte. The output, the status and the error line are those of `docs/LAB.md`: an interrupted call
-changes nothing, and a call without memory is reported as out of memory, except for a line of the journal. The replies
+Each use of the program is run several times. In the first run the first call of a kind has an effect, in the next one
+the second call, and so on, until a run has no such call. The call fails, is interrupted by a signal, does nothing, or
+transfers only one byte. The output, the status and the error line are those of `docs/LAB.md`. An interrupted call
+changes nothing. A call without memory is reported as out of memory, except for a write of the journal. The replies
 before the failure are those of a plain run, and so is the journal, whose complete lines pass the audit. A server that
 is ended by a signal leaves the same.
 """

@@ -337,8 +337,9 @@ class Silent:
 
 
 def resting(server: Program) -> tuple[int, int]:
-    """Returns the number of threads and open files of a server that has only its two honest clients: the main
-    thread and two more, the standard streams, and two files for each. A host also has those for accepting others."""
+    """Returns the number of threads and open files of a server that has only its two honest clients. It has the main
+    thread and one for each client, the standard streams, and two files for each client. A host also has those for
+    accepting others."""
     return (threads(server), handles(server)) if isinstance(server, Host) else (3, 7)
 
 

@@ -6,11 +6,12 @@
     python3 -m tests.memory classes   its words `host` and `resume` alone
     python3 -m tests.memory tests     the tests inside the crates alone
 
-For each use there are runs in which the first request for memory is refused, then the second one, and so on, until a
-run meets no refusal. Each run ends with status 5 and the line `out of memory`, and changes nothing, or it continues.
-Then it answers some lines by `memory`, and all other lines as a plain run without those lines. Its journal is that of
-the plain run, and passes the audit. Each line is twice in the script, so that a refused line is asked again. Then the
-tests named `refusals_..` are run under the same library, in the programs that `rt ci` leaves.
+Each use is run several times. In the first run the first request for memory is refused, in the next one the second
+request, and so on, until a run meets no refusal. Each run ends with status 5 and the line `out of memory`, and changes
+nothing, or it continues. Then it answers some lines by `memory`, and all other lines as a plain run without those
+lines. Its journal is that of the plain run, and passes the audit. Each line is twice in the script, so that a refused
+line is asked again. Then the tests named `refusals_..` are run under the same library, in the programs that `rt ci`
+leaves.
 """
 import subprocess
 import sys

@@ -208,7 +208,7 @@ def alone(host: Host) -> float:
 
 
 def waits_little(taken: list[float], quiet: float, most: float = 2.0) -> None:
-    """Checks that most of the times in `taken` are less than `most` seconds, or on a slow machine than a multiple of
+    """Checks that most of the times in `taken` are below `most` seconds. On a slow machine the limit is a multiple of
     `quiet`, the time without outsiders."""
     if sorted(taken)[len(taken) // 2] > most + 20 * quiet:
         fail(f"outsiders: honest clients wait for a seat: {taken} seconds, alone {quiet}")
@@ -316,9 +316,9 @@ def nobody_behind(room: Path) -> None:
 
 
 def guesses(host: Host, quiet: float) -> tuple[int, int, float]:
-    """While clients guess keys, fifteen at the students' port and then fourteen at the desk too, honest hellos at
-    both ports are answered within a tenth of a second. Returns the number of denied guesses, the number of clients
-    with another answer, and the seconds."""
+    """Honest hellos at both ports are answered within a tenth of a second while clients guess keys. Fifteen clients
+    guess at the students' port, and then fourteen also at the desk. Returns the number of denied guesses, the number of
+    clients with another answer, and the seconds."""
     stop, denied, others = threading.Event(), [0] * 29, [0] * 29
 
     def guess(at: int) -> None:
@@ -514,8 +514,8 @@ def limits_of_files(room: Path) -> None:
 
 
 def limited(kilobytes: int, limit: str = "-s") -> list[str]:
-    """Returns the words to put before a call, so that the program has this limit in kilobytes, by default on its stack,
-    and 64 MB of addresses in total."""
+    """Returns the words to put before a command, so that the program has this limit in kilobytes, by default on its
+    stack. Its addresses are limited to 64 MB in total."""
     return ["bash", "-c", f'ulimit {limit} {kilobytes} && ulimit -v 65536 && exec "$@"', "bash"]
 
 

@@ -94,8 +94,8 @@ def ends_all(lab: Path, piece: Piece, parts: list[bytes], variables: Mapping[str
 
 
 def cut_at(library: Preloaded, at: int, is_each: bool) -> dict[str, str]:
-    """Returns the environment of a host whose reply to a bye is written in two pieces, cut at a byte, or byte by byte
-    if `is_each` is set."""
+    """Returns the environment of a host whose reply to a bye is written in two pieces, of which the first has `at`
+    bytes. If `is_each` is set, the reply is written byte by byte."""
     return library.variables({"CUT": str(at), **({"CUT_EACH": "1"} if is_each else {})})
 
 

@@ -16,8 +16,8 @@ FAULTS = 5000
 
 
 def scripts(room: Path) -> list[tuple[Path, Path]]:
-    """Returns each script beside which its expected output is kept, with its lab: the lab file with the script's
-    name, without `-run`, or the built-in lab if there is no such file."""
+    """Returns each script beside which its expected output is kept, with its lab. The lab is the file with the script's
+    name without `-run`, or the built-in lab if there is no such file."""
     plain = built_in(room)
     found = []
     for script in sorted([*(TOP / "examples").glob("*.script"), *(TOP / "tests/scripts").glob("*.script")]):

@@ -89,8 +89,8 @@ class Tale:
 
 
 def whole_tale() -> Tale:
-    """Returns the whole tale: the teacher's report, the moves of all students but the last on all connections in
-    turn, the close, and looks at the nodes."""
+    """Returns the lines of the whole run. First come the teacher's report, and the moves of all students but the last,
+    on all connections in turn. Then come the close, and looks at the nodes."""
     tale = Tale()
     for has_moved in (False, True):
         tale.say(SESSIONS, TESS, WELCOME)

@@ -45,8 +45,8 @@ TESS = b"""\
 
 
 def verified(lab: Path, journal: Path, record: Path, line: bytes) -> None:
-    """Checks the output of `verify` for a record: its first line, the line with everybody whose lines are all recorded
-    (nobody if the record isn't complete), and the number of earlier events."""
+    """Checks the output of `verify` for a record: its first line, the line with those whose lines are all recorded, and
+    the number of earlier events. If the record isn't complete, the second line names nobody."""
     begun = int((record / "begun").read_bytes())
     line += f"{whole_line(read_lab(lab.read_bytes()), b'not whole' in line, begun=begun)}\n".encode("ascii")
     call: list[str | Path] = [HOST, "verify", lab, journal, record]

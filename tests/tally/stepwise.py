@@ -1,5 +1,5 @@
-"""Random runs that continue step by step, with faults, links and cuts: the rounds that `tally` prints are those of the
-plain model, and those that `classroom` counts along the configurations."""
+"""Random runs that continue step by step, with faults, links and cuts. The rounds that `tally` prints have to be those
+of the plain model, and those that `classroom` counts along the configurations."""
 from __future__ import annotations
 
 from pathlib import Path
