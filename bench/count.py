@@ -58,9 +58,8 @@ class Counter:
         self.lab, self.text = folder / "lab", folder / "text"
 
     def call(self, row: Row, index: int) -> Words:
-        """Returns the command line of one of the two programs for a row: of this program for index 0, and of the one
-        that is written by hand for index 1. For a piped row this program takes no arguments and uses its built-in
-        lab."""
+        """Returns the command line of a program for a row. With index 0 it is this project's program, and with index 1
+        the program that is written by hand. For a piped row the first takes no arguments and uses its built-in lab."""
         program = self.programs[index]
         if row.words == PIPED:
             return [program] if index == 0 else [program, "script", self.lab, "/dev/stdin"]

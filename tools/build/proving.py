@@ -2,9 +2,9 @@
 
 A first run over all crates takes over the proofs that this machine has made before. It is stopped when it begins to
 prove something. Each remaining crate is then proved by a run of its own, which uses the proofs of the runs before. The
-reason is that `rt ci` uses several processes for a crate that is alone in its repository, but mostly one process
-otherwise, and the crates above have to wait. A crate on the longest chain of waiting crates, or on one that is nearly
-as long, gets all processors, and is proved before the others.
+reason is that `rt ci` uses several processes for a crate that is alone in its repository. Otherwise it mostly uses one,
+and the crates above have to wait. A crate on the longest chain of waiting crates, or on one that is nearly as long,
+gets all processors, and is proved before the others.
 """
 from __future__ import annotations
 
@@ -36,15 +36,16 @@ def processors() -> int:
 
 
 def jobs_of(number: int) -> int:
-    """Returns the number of processes that are reckoned for a proof by `rt ci` of a crate that is alone in its
-    repository, on `number` processors: half of them, from 1 to MOST_JOBS. It is always 1 if RT_JOBS is set."""
+    """Returns the number of processes that `rt ci` is expected to use for a proof of a crate that is alone in its
+    repository. This is half of the `number` processors, but at least 1 and at most MOST_JOBS. It is always 1 if RT_JOBS
+    is set."""
     return 1 if wanted_processes() else max(1, min(MOST_JOBS, number // 2))
 
 
 def at_once_of(number: int) -> int:
     """Returns the number of crates that are proved side by side on `number` processors. It is the number of proofs
-    whose processes (`jobs_of`) fill the processors, and one more if a proof has several, since it begins and ends as a
-    single process."""
+    whose processes (`jobs_of`) occupy all processors. If a proof has several processes, it is one more, since such a
+    proof begins and ends with a single one."""
     each = jobs_of(number)
     return -(-number // each) + (each > 1)
 

@@ -70,8 +70,8 @@ def chain(spans: Spans, crate: str) -> list[str]:
 
 
 def lines_of(spans: Spans, crate: str) -> list[str]:
-    """Returns the lines of the table of the chain to a crate: how long each proof waited, how long it took, when it
-    ended, and its processor time."""
+    """Returns the lines of the table of the chain to a crate. Each has how long a proof waited, how long it took, when
+    it ended, and its processor time."""
     crates = chain(spans, crate)
     lines = [f"the chain to {crate}, in seconds{'':12}waits   takes    ends processor"]
     before = 0.0

@@ -54,8 +54,8 @@ class Count:
 
     def with_needs(self, parts: list[Part]) -> list[Part]:
         """Returns the parts whose needs are met. Prints a part with an unmet need as failed if no part may be left out
-        or the need is a must, and otherwise notes it as left out. A need of only some tests of a part (`likes`) is
-        handled in the same way, but such a part is returned."""
+        or `is_a_must` holds for the need. Otherwise notes the part as left out. A need of only some tests of a part
+        (`likes`) is handled in the same way, but such a part is returned."""
         lacks = missing(parts)
         for name, need in lacks.items():
             names = [it.name for it in parts if name in it.needs + it.likes]
@@ -118,9 +118,9 @@ def forget_records() -> None:
 
 
 def check(stages: Stages, left_out: list[str], room: Path) -> int:
-    """Runs the stages with temporary files in the folder `room`. Returns the exit status: 1 if a test failed or none
-    ran, 128 plus a signal's number if a signal ended the check, and otherwise 0. `left_out` has texts about the parts
-    that the command line leaves out. At the end no process and no file is left."""
+    """Runs the stages with temporary files in the folder `room`. Returns the exit status. It is 1 if a test failed or
+    none ran, 128 plus a signal's number if a signal ended the check, and otherwise 0. `left_out` has texts about the
+    parts that the command line leaves out. At the end no process and no file is left."""
     processors = len(os.sched_getaffinity(0))
     adopt_orphans()
     crew, count = Crew(room, processors), Count(left_out)

@@ -58,8 +58,8 @@ def tell_chain(names: list[str], is_table: bool) -> int:
 
 
 def unknown(word: str | None, names: list[str]) -> str:
-    """Returns an error text about the first of these names that isn't known: that of a part if the subcommand `word` is
-    `quick`, and otherwise that of a crate. Returns an empty text if all are known."""
+    """Returns an error text about the first of these names that isn't known, or an empty text if all are. With the
+    subcommand `quick` they have to be names of parts, and otherwise names of crates."""
     known = [it.name for it in QUICK] if word == "quick" else [*uses()] if names else []
     wrong = [it for it in names if it not in known]
     return f"there is no {'part' if word == 'quick' else 'crate'} {wrong[0]}; there are: {', '.join(known)}" if wrong else ""

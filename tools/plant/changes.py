@@ -33,8 +33,8 @@ def is_balanced(text: str) -> bool:
 
 
 def exchanges(line: str) -> Iterator[str]:
-    """Yields all lines that one replacement of EXCHANGED makes of a line: of an operator, a truth value or a method
-    such as `is_some` by its opposite or a similar one."""
+    """Yields all lines that one replacement of EXCHANGED makes of a line. It replaces an operator, a truth value or a
+    method such as `is_some` by its opposite or a similar one."""
     code = code_of(line)
     for old, new in EXCHANGED:
         for found in re.finditer(re.escape(old), code):

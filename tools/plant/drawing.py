@@ -28,8 +28,8 @@ AT = re.compile(r"(?:\./)?(src/\S+?):(\d+):\d+: error")
 
 
 def candidates(body: Body, lines: list[str], variants: dict[str, list[str]]) -> list[tuple[str, str]]:
-    """Returns the possible changes of a body in a file with these lines: a line that occurs once in the file, and its
-    replacement, which is empty or doesn't occur there. So several bodies of a file can be changed at once."""
+    """Returns the possible changes of a body in a file with these lines. Each is a line that occurs once in the file,
+    and its replacement, which is empty or doesn't occur there. So several bodies of a file can be changed at once."""
     text = "\n".join(lines)
     once = [line for line in lines[body.first : body.end] if line.strip() and text.count(line) == 1]
     return [(line, changed) for line in once for changed in changes_of(line, variants) if not changed or changed not in text]

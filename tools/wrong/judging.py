@@ -69,8 +69,8 @@ def is_closure(function: str) -> bool:
 
 
 def judge_counts(named: set[str], told: Told) -> list[str]:
-    """Returns error texts about the counts in a check's output: the check must have ended, its counts must match its
-    lines, and each function in `named` must have a line."""
+    """Returns error texts about the counts in a check's output. The check must have ended, and its counts must match
+    its lines. Each function in `named` must have a line."""
     if told.ending is None:
         return [f"the check came to no end: {told.last[:LONGEST]}"]
     asked, proved = told.ending
