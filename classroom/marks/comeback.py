@@ -93,8 +93,8 @@ class Recount(Replay):
         return takes
 
     def counts(self) -> list[int]:
-        """Plays the whole journal, and so counts its recoveries. Returns the places of the closes after which no node
-        was privileged."""
+        """Takes all events of the journal in turn, and counts its recoveries. Returns the places of the closes after
+        which no node was privileged."""
         for _ in self.replies():
             pass
         return self.rests

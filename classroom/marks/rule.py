@@ -329,7 +329,8 @@ def comparison(sign: str, left: Expression, right: Expression) -> Expression:
     """Returns the expression that compares two values by this sign. `==` and `!=` take two values of one kind, and the
     other signs two numbers."""
     def holds(one: Known, other: Known) -> bool:
-        """Returns whether the comparison of two values holds. Raises `Wrong` if they can't be compared by this sign."""
+        """Returns whether the comparison of two values by `sign` is true. Raises `Wrong` if they can't be compared
+        so."""
         if sign in ("==", "!="):
             if isinstance(one, bool) != isinstance(other, bool) or isinstance(one, str) != isinstance(other, str):
                 raise Wrong(f"{shown(one)} and {shown(other)} can't be compared")

@@ -43,7 +43,7 @@ class Vouched:
 
     @property
     def journal(self) -> Path:
-        """Returns the path of the copy of the journal, up to the end of the record."""
+        """Returns the path of the copy of the journal. The copy ends where the record ends."""
         return self.copy / "journal"
 
     @property

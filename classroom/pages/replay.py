@@ -75,8 +75,9 @@ class Replay:
         self.now = (0, 0)  # the place and number after the last event that was answered
 
     def ask(self, script: Script, event: Event | None, named: set[int]) -> None:
-        """Appends further requests to the script after an event, or at the beginning if it is None. `named` has the
-        nodes of all events since the last configuration was made, including this event. Here it does nothing."""
+        """Does nothing. A subclass can append further requests to the script here, after an event, or at the beginning
+        if `event` is None. `named` has the nodes of all events since the last configuration was made, including this
+        event."""
 
     def note_reply(self, event: Event, reply: dict[str, Any]) -> None:
         """Handles the reply to an event. Here it does nothing."""

@@ -198,8 +198,8 @@ class Heard:
         return [(name, word, at.total()) for (name, word), at in self.vain.items() if at.total()]
 
     def in_vain(self) -> list[str]:
-        """Returns lines about students who were denied since the last step. A student gets a line after VAIN denials by
-        one word, and whenever their number has doubled."""
+        """Returns lines about students who were denied since the last step. A student gets a line after VAIN denials of
+        one kind, and whenever their number has doubled."""
         return [f"{name}: {denial_words(word)} {plural(count, 'time')} since the last step"
                 for name, word, count in self.denied() if self.note_if_news((name, word), count, VAIN)]
 

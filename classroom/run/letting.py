@@ -87,8 +87,8 @@ def place_of(folder: str | None, lab: Path) -> Place | None:
 
 def page_for_all(folder: str | None, lab: Path, port: int, looks: str) -> str:
     """Makes the door forward requests for the page for all networks of a class, which this process serves at `port`.
-    Returns the address of the page through the door, or an empty text without a door. `looks` is the token of the
-    page, and the slips of the lab in the file `lab` name the address of the door."""
+    Returns the address of the page through the door, or an empty text without a door. `looks` is the token of the page.
+    The door's address is that in the slips of the lab in the file `lab`."""
     place = place_of(folder, lab)
     if folder is None or place is None:
         return ""

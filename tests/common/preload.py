@@ -97,8 +97,8 @@ class Story:
         return b"".join(line for index, line in enumerate(self.lines) if index not in without)
 
     def plain(self, without: frozenset[int]) -> tuple[list[bytes], bytes]:
-        """Returns the replies of a run without the lines with these numbers, with an empty reply for each of them, and
-        its journal."""
+        """Runs the script without the lines with these numbers. Returns the replies, with an empty one in place of each
+        missing line's, and the journal."""
         if without not in self.known:
             script, journal = self.room / "plain.script", self.room / "plain.journal"
             script.write_bytes(self.script(without))

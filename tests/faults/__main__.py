@@ -36,7 +36,7 @@ class Kind:
 
     @property
     def is_harmless(self) -> bool:
-        """Returns whether a run must go on as without the effect."""
+        """Returns whether a run with the effect has to be like a run without it."""
         return self.is_short or self.error == EINTR
 
     def fault(self, line: str, out: bytes = b"") -> Ended:

@@ -50,7 +50,7 @@ class Asker:
         self.thread.start()
 
     def ask(self) -> None:
-        """Sends requests to the end."""
+        """Sends requests until the connection ends."""
         while not self.said or self.said[-1][1] not in (OVER, b""):
             begun = time.monotonic()
             self.said.append((begun, self.caller.ask(look("ben"))))

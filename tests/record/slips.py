@@ -97,7 +97,8 @@ def replied(reply: bytes, is_granted: bool) -> Callable[[Drawn, Told], Iterator[
 
 
 def of_other_owner(drawn: Drawn, it: Told) -> Iterator[Hurt]:
-    """Yields a seat in which the first line after a hello, a move at a shared node, is another owner's."""
+    """Yields the text of a seat with the hello of another owner, if the first line after that hello is a move at a
+    shared node."""
     before = drawn.before(it)[-2:]
     is_first = len(before) == 1 or len(before) == 2 and before[0].entry.mark == b"."
     if not is_first or it.found is None or it.found.event is None or it.found.event.do != "move":
