@@ -79,8 +79,8 @@ pub fn rounds_are_reached()
         (¬ IsStable (configuration (world_of (halves_world n) es))) }
 {}
 
-/// The bound on moves is 3n + 2k for n nodes, if k is n²/4, rounded down. A run reaches it for each even n from 4 on
-/// that a lab may have, and applies one move less for each odd n from 5 on. The run is a legal list of grants and
+/// The bound on moves is 3n + 2k for n nodes, if k is n²/4, rounded down. For each even n from 4 on that a lab may
+/// have, a run reaches it. For each odd n from 5 on, a run applies one move less. The run is a legal list of grants and
 /// closes in the dense network (`crowd_world`), in which one student owns each node.
 pub fn moves_are_reached()
     ensures world { (n : ℕ) → 4 ≤ n → n ≤ MAX_NODES →
