@@ -16,8 +16,9 @@ pub record IsScriptLine (sessions : ℕ) (s : RequestLine) : Type 0 where
   pub request : IsWithinLimit MAX_REQUEST s.request
   pub whole : length (script_line s) ≤ MAX_SCRIPT_LINE
 
--- a line first that is no script line, with no more after it than one read brought in; or more bytes than a script line
--- may have, by no more than one read
+-- Either the bytes begin with a line that is no script line, and after it there are fewer than one read may bring. Or
+-- they begin with more bytes than a script line may have, without a newline, and exceed that number by at most the
+-- bytes of one read
 abbrev pub IsBad : ℕ → List ℕ → Type 0
 IsBad sessions held =
     ((line more : List ℕ) × (held ≡ ended line ++ more) × IsWithinLimit MAX_SCRIPT_LINE line

@@ -41,9 +41,10 @@ Finished Leaves hall lab input left wrote wrote' =
     (held : List ℕ) × (a : AllAnswered lab input (prepend_known held left) wrote wrote') × (hall.lab ≡ lab) × (hall.state ≡ a.transcript.end)
     × Leaves hall.sink a.transcript.end × IsWithinLimit MAX_SCRIPT_LINE held × IsAtEnd left
 
--- what was answered when an error came, and the sink that was dropped with the hall. The input after it is what was
--- held, and then what the reader has left: after a failed read the front of a script line, after a failed write no more
--- than one read brought in, or what is no script line
+-- What was answered when an error came, and the sink that was dropped with the hall. `held` are the bytes that were
+-- read and not answered. After a failed read, they have no newline, and aren't too many for a script line. After a
+-- failed write, they are fewer than one read may bring, or `IsBad` holds of them. For a bad line, `IsBad` holds. If
+-- memory ran out, nothing was read or written
 abbrev pub Stopped : {S : Type 0} → (S → State → Type 0) → ScriptFault → LabValue → Option (List ℕ) → Option (List ℕ) → Option (List ℕ)
     → Option (List ℕ) → Type 0
 Stopped {S} Leaves fault.Read lab input left wrote wrote' =
