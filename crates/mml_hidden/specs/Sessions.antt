@@ -17,8 +17,8 @@ seen_at r w = take (length w.seen - length (places_in r)) w.seen
 abbrev pub IsUnhindered : Reply → Type 0
 IsUnhindered r = (r ≢ Refuse refused.Memory) × (r ≢ Refuse refused.Journal)
 
--- a line that is student s's or nobody's yet, with its two replies: the worlds in which these were made are alike for
--- her, and neither is the refusal for memory or for the journal
+-- A line on a connection that is known as student s's, or as nobody's yet, with its two replies. The worlds in which
+-- these were made are alike for her, and neither reply is the refusal for memory or for the journal
 pub record IsToldAlike (lab other : LabValue) (s : ℕ) (known : Option Who) (r q : Reply) (one two : WindowValue) : Type 0 where
   pub hers : is_hers s known ≡ true
   pub worlds : Alike lab.roster s (world_in lab (seen_at r one)) (world_in other (seen_at q two))

@@ -51,10 +51,10 @@ pub fn hidden_values_change_no_reply_line()
         (world_left ids r limit is_halted v (who.Student s) c) }
 {}
 
-/// Take states of two twin labs, which differ at most in the links and registers at the beginning. If the states are
-/// alike for a student, a line gets the same reply line in both if its connection is known as hers, or as nobody's yet.
-/// The states afterwards are alike again. The same mishap (memory that ran out or a failed write) must befall both
-/// turns.
+/// Take states of two twin labs, which differ at most in the links and registers at the beginning. Let the states be
+/// alike for a student, and let a line's connection be known as hers, or as nobody's yet. Then the line gets the same
+/// reply line in both. The states afterwards are alike again. The same mishap (memory that ran out or a failed write)
+/// must befall both turns.
 pub fn hidden_values_change_no_turn()
     ensures line { (lab other : LabValue) (s : ℕ) (st su : State) (mishap : Mishap) (k : ℕ)
         (line : List ℕ) → AreTwins lab other → StatesAlike lab s st su →
