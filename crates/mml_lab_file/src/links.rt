@@ -21,9 +21,9 @@ use mml_ids::{IdTable, NodeSet, Rank};
 use mml_lab::LabFault;
 use std::alloc::Global;
 
-/// Returns the set of neighbours of each node, by rank. Returns the first error of the links: that of the first end
-/// that isn't a node; if all ends are nodes, that of the first loop; and otherwise that of the first link that occurs
-/// twice.
+/// Returns the set of neighbours of each node, by rank. Returns the first error of the links. That is the error of the
+/// first end that isn't a node. If all ends are nodes, it is that of the first loop, and otherwise that of the first
+/// link that occurs twice.
 #[tactic(auto, unfolding(crate::specs::Reading::linked))]
 pub(crate) fn neighbours(
     alloc: Global,
