@@ -22,8 +22,8 @@ ghost use Rattle.mml_window.specs.Logs.{IsLogFrom};
 ghost use Rattle.mml_window.specs.Windows.{WindowValue};
 ghost use Rattle.mml_laws.specs.Ends.{GrantsNoStep};
 
-/// Take a house (one run of a lab) that is neither full nor halted, in which no move of a student and no close would be
-/// granted any more. Then no node is privileged. The pairs in its report are a maximal matching.
+/// Take a house (one run of a lab) that is neither full nor halted. Let it be over: no move of a student and no close
+/// would be granted any more. Then no node is privileged. The pairs in its report are a maximal matching.
 pub fn a_house_that_is_over_is_stable<S>()
     ensures { (bytes : List ℕ) (lab : LabValue) (first : ℕ)
         (contents : S → Option (List ℕ)) (windows : List WindowValue) (log : Log S) →
