@@ -203,10 +203,10 @@ impl<'a, Rt: Clock + Wait + Eprint> Port<'a, Rt> {
         }
     }
 
-    // Returns the next newcomer to serve, if there is a seat for it. Otherwise returns `None`, after two steps: the
-    // crowd sends a guest away, if one must leave, and the first newcomer is turned away if it has waited for half a
-    // second. Notes in the crowd whether a newcomer waits for a seat. Returns `None` also if there are no newcomers, or
-    // the clock fails.
+    // Returns the next newcomer to serve, if there is a seat for it. Otherwise returns `None`. Before that, the crowd
+    // sends a guest away if one must leave, and the first newcomer is turned away if it has waited for half a second.
+    // Notes in the crowd whether a newcomer waits for a seat. Returns `None` also if there are no newcomers, or the
+    // clock fails.
     fn admit_next(&mut self) -> Option<SocketAccepted<'a, Rt>> {
         let Some(first) = self.waiting.front() else {
             self.wanted_since = None;
