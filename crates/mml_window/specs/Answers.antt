@@ -62,8 +62,8 @@ abbrev pub AnswersAt : LabValue → World → WindowValue → Who → Command �
 AnswersAt lab w old who command answer new =
     (l : List Event) × IsPrefix old.seen l × (is_legal_in lab l ≡ true) × (world_in lab l ≡ w) × Says lab l old.places who command answer new
 
--- A book of the lab decides the act, and the list at which the answer is decided leaves the world of that very book: no
--- event that it has was left out. What the window has then seen leaves the world of the book as it is afterwards
+-- A book of the lab decides the act. The list at which the answer is decided leaves the world of this book, so none of
+-- the book's events was left out. What the window has seen afterwards leaves the world of the book afterwards
 pub record AnswersAtPresent {S : Type 0} (lab : LabValue) (contents : S → Option (List ℕ)) (failures : S → ℕ) (old : WindowValue) (who : Who)
     (command : Command) (answer : Answer) (new : WindowValue) : Type 0 where
   pub before : BookValue S
