@@ -197,7 +197,7 @@ class Parser:
         return inner if count == 0 else negation(inner, count % 2 == 1)
 
     def compared(self) -> Expression:
-        """Reads `A < B`, or a sum."""
+        """Reads a comparison such as `A < B`, or a sum."""
         left = self.summed()
         sign = self.take("<", "<=", ">", ">=", "==", "!=")
         found = comparison(sign, left, self.summed()) if sign else left

@@ -26,7 +26,7 @@ RUN = "port 4711, for 15 students at once; folder runs/2027-01-02T0304-maths\n"
 
 
 class Printed(unittest.TestCase):
-    """A page beside outputs."""
+    """The comparison of a page's blocks with kept outputs."""
 
     def page(self, command: str, output: str) -> str | None:
         """Returns the page that shows another output of a command than this one, or None."""
