@@ -22,6 +22,7 @@ from classroom.core.record import CUT, ENDED, begun, json_object, kept, seats
 from classroom.core.statuses import LAB
 
 LAST_BYTES = 1 << 20  # how many of the last bytes of a server's output are read
+BEGUN_AFTER = "begun after "  # how the last line of `verify` begins, before the number of events
 UNENDED = "its server is running or was killed, so its last entries may be missing, through no fault of a student"
 
 
@@ -151,8 +152,16 @@ def vouch(record: Path, into: Path, journal: bytes, is_whole: bool, lives: bool)
     if answer.status and not is_whole:
         mark_incomplete(into)
         answer = verified(into)
-    line = (answer.output or answer.error).strip().partition("\n")[0]
+    line = verdict(answer)
     return Vouched(record, into, answer.status, line if is_whole else f"{line}: {UNENDED}", is_whole, not is_whole and lives)
+
+
+def verdict(answer: Answer) -> str:
+    """Returns the verdict in an answer of the command `verify`: the first line of its output, or its error line. If
+    events came before the record, adds `verify`'s last line, which has their number."""
+    first, *rest = (answer.output or answer.error).strip().split("\n")
+    is_later = answer.status == 0 and rest and not rest[-1].startswith(f"{BEGUN_AFTER}0 ")
+    return f"{first}, {rest[-1]}" if is_later else first
 
 
 def has_lab_of(run: Path, copy: Path) -> bool:

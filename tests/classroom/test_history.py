@@ -313,7 +313,7 @@ class Verified(Disputed):
             again.until("^connected: gus$")
         self.ended(again)
         told = self.history(folder)
-        self.assertRegex(told, r"^.*/record\.~1~: ok: \d+ sessions, \d+ lines, 3 events\n.*/record: ok: \d+ sessions, \d+ lines, 3 events\n")
+        self.assertRegex(told, r"^.*/record\.~1~: ok: \d+ sessions, \d+ lines, 3 events\n.*/record: ok: \d+ sessions, \d+ lines, 3 events, begun after 3 events\n")
         self.assertEqual((told.count(GUARD), told.count(UNKNOWN), told.count("***")), (2, 2, 5))
         for hidden in (key, KEYS["gus"]):
             self.assertNotIn(hidden, told)
@@ -332,6 +332,16 @@ class Verified(Disputed):
         self.assertIn("the run is ended", going.lines)
         self.assertRegex((going.folder / "marks.txt").read_text(encoding="utf-8"), r"(?m)^record: ok: .*, not whole$")
         self.assertEqual(self.whole(going.folder), 0)
+
+    def test_a_record_that_claims_to_have_begun_at_the_end(self) -> None:
+        folder = self.ended(self.disputed())
+        record = folder / "record"
+        (record / "begun").write_text("3\n", encoding="ascii")
+        for seat in record.glob("*.record"):
+            seat.write_bytes(b"")
+        wanted = "record: ok: 0 sessions, 0 lines, 3 events, begun after 3 events\n"
+        self.assertTrue(self.history(folder).startswith(f"{folder}/{wanted}"))
+        self.assertIn(f"\n{wanted}", words("mark", folder).stdout)
 
     def test_where_a_record_begins(self) -> None:
         for text, number in (("3\n", 3), ("0", 0), ("", None), ("x\n", None), ("-1\n", None)):
