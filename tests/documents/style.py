@@ -104,9 +104,8 @@ def limits() -> dict[str, int]:
 
 
 def is_read(page: str) -> bool:
-    """Returns whether a file is a page whose sentences count. The changelog isn't, since what it says of older versions
-    isn't changed."""
-    return page.endswith(".md") and page != "CHANGELOG.md"
+    """Returns whether a file is a page, so that its sentences count."""
+    return page.endswith(".md")
 
 
 def wrong_in(page: str) -> list[str]:
