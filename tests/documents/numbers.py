@@ -108,12 +108,12 @@ def greatest() -> Iterator[tuple[str, str]]:
     yield PROTOCOL, f"a request line of at most {most['line']} bytes"
     yield PROTOCOL, f"a script line has at most {len(str(most['sessions'])) + len(' ') + most['line']} bytes"
     yield PROTOCOL, f"On a socket, request lines have at most {most['line']} bytes"
-    for what, seconds in (("at the students' port, its `hello` isn't granted within", "greeting"),
+    for what, seconds in (("at the students' port, the connection's `hello` isn't granted within", "greeting"),
                           ("at the desk, the teacher's `hello` isn't granted within", "desk-greeting"),
                           ("the client accepts no byte of a reply for", "write")):
         yield PROTOCOL, f"\n| {what} {WORDS[most[seconds]]} seconds |"
-    yield PROTOCOL, f"\n| at the students' port, it sends no line for {WORDS[most['next-line'] // 60]} minutes |"
-    yield PROTOCOL, f"\n| it sends a line of more than {most['line']} bytes |"
+    yield PROTOCOL, f"\n| at the students' port, the client sends no line for {WORDS[most['next-line'] // 60]} minutes |"
+    yield PROTOCOL, f"\n| the client sends a line of more than {most['line']} bytes |"
     yield STUDENT, f"no correct hello within {WORDS[most['greeting']]} seconds, or no line for {WORDS[most['next-line'] // 60]} minutes"
     yield STUDENT, f"a line of more than {most['line']} bytes"
 
