@@ -124,7 +124,7 @@ def guesses() -> Iterator[tuple[str, str]]:
     wait = only(r"^const DENIAL_INTERVAL: u64 = (\d+);", "crates/mml_ports/src/state.rt")
     a_day = 86400 * 1000 / int(wait)
     yield SECURITY, f"{WORDS[keys.WORDS_EACH]} words, each from a list of {len(set(KEY_WORDS))}, and {WORDS[keys.DIGITS]} digits"
-    yield SECURITY, f"which are {keys.bits_of(keys.WORDS_EACH, keys.DIGITS):.1f} bits"
+    yield SECURITY, f"about {count / 1e12:.1f} million million ({keys.bits_of(keys.WORDS_EACH, keys.DIGITS):.1f} bits)"
     yield SECURITY, f"at most one wrong key in {wait} milliseconds over all connections. That makes {a_day / 1e6:.1f} million wrong keys in a day"
     yield SECURITY, f"a probability of about 1 in {round(count / a_day, -4):,.0f}"
 
