@@ -111,9 +111,9 @@ class Seat:
             return {"refuse": refused.word}
 
     def present(self) -> dict[str, Any]:
-        """Returns the values that the page shows now. Returns the same object as before if nothing has changed, or if
-        the nodes can't be read in one configuration at the moment. Raises `Closed` once the server has closed the
-        connection, and `Denied` if a look is denied."""
+        """Returns the values that the page shows now. Returns the same object as before if nothing has changed, if the
+        nodes can't be read in one configuration at the moment, or if a look is refused. Raises `Closed` once the server
+        has closed the connection, and `Denied` if a look is denied."""
         try:
             looks = self.ask_server(lambda: self.client.snapshot(self.nodes))
         except (Moving, Refused):

@@ -21,8 +21,8 @@ def closing(word: str) -> Closing:
 
 
 def kept(folder: Path, record: Record) -> Closing:
-    """Returns the daemon of a continuing run, from the record in its folder. Raises `Fault` if the word in the record
-    names no daemon."""
+    """Returns the daemon of a continuing run. `record` has the values of the file `run.json` in the run's folder.
+    Raises `Fault` if its value `close` names no daemon."""
     try:
         return closing(record.close)
     except ValueError as error:

@@ -42,7 +42,7 @@ def fits(value: Any, schema: Schema, top: Schema) -> bool:
 
 
 def object_fits(value: dict[str, Any], schema: Schema, top: Schema) -> bool:
-    """Returns whether an object has the required keys, and valid values."""
+    """Returns whether an object has the required keys, valid values, and no other keys if the schema forbids them."""
     known: Schema = schema.get("properties", {})
     if not value.keys() >= set(schema.get("required", [])) or schema.get("additionalProperties") is False and value.keys() - known.keys():
         return False

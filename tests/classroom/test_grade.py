@@ -274,7 +274,9 @@ class Calls(InRoom):
         return whys
 
     def test_a_second_interrupt_ends_it_whatever_it_waits_for(self) -> None:
-        """Earlier results are kept. The grade waits for programs that never answer."""
+        """The grade waits for 12 processes of `mml answer`. The test stops these processes, so that they never answer.
+        The first interrupt doesn't end the grade, and the second does. The results of the first bot's 12 cases are
+        kept."""
         table = self.room / "cases.json"
         rooms = self.room / "rooms"
         rooms.mkdir()

@@ -27,7 +27,8 @@ def nodes(ids: Iterable[int]) -> str:
 
 
 def sizes() -> list[Row]:
-    """Returns rows with different numbers of nodes and students, with the greatest limits of a run."""
+    """Returns rows with different numbers of nodes and students. Their `events` and `sessions` are the greatest allowed
+    numbers."""
     ids = range(60000, 60257)
     wanted = {
         (1, 1): "ok: 1 nodes, 0 links, 1 students",
@@ -47,7 +48,7 @@ def sizes() -> list[Row]:
 
 
 def loose() -> Row:
-    """Returns the row with the greatest numbers of nodes, students and events, and no links."""
+    """Returns the row of a lab without links. Its nodes, students, events and sessions are as many as allowed."""
     people = tuple(student(number) for number in range(256))
     ids = range(60000, 60256)
     marks = "." * 256

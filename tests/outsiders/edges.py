@@ -19,7 +19,7 @@ SHORT, PAUSE = 0.005, 0.1
 
 
 def padded(line: bytes, size: int) -> bytes:
-    """Returns a request that is filled with spaces to this number of bytes before its newline."""
+    """Returns a request with spaces inserted before its last brace, so that it has `size` bytes without its newline."""
     return line[:-2] + b" " * (size + 1 - len(line)) + line[-2:]
 
 

@@ -115,7 +115,8 @@ def whole_tale() -> Tale:
 
 
 def scripted(room: Path, lab: Path) -> None:
-    """Plays the tale as a script, and audits its journal. Then checks a line on a connection that is too many."""
+    """Plays the whole run as a script, and audits its journal. Then checks that a line is bad if the number of its
+    connection is greater than `SESSIONS`."""
     tale = whole_tale()
     script, journal = room / "greatest.script", room / "greatest.journal"
     script.write_text("".join(tale.script), encoding="ascii")

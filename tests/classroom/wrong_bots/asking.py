@@ -50,7 +50,7 @@ class StopsAtChosen(Bot):
 
 
 class RepeatsTheLine(Bot):
-    """Sends a move that was stale again and again, for a while."""
+    """Sends a denied move ten more times, without a new look."""
 
     def denied(self, denied: Denied, look: Look, rule: Rule) -> bool:
         for _ in range(10):

@@ -27,7 +27,7 @@ class EndsWhenStable(Bot):
 
 
 class EndsAfterThreeSeconds(Bot):
-    """Ends when nothing was new for three seconds."""
+    """Ends when there was no new configuration for three seconds."""
 
     def loop(self) -> None:
         newest, since = -1, time.monotonic()
