@@ -1,4 +1,4 @@
-//! One list of events under a lock, and windows that see what is published without taking the lock.
+//! One list of events under a lock, and windows, which see the published events and don't take the lock.
 //!
 //! A house is one run of a lab that threads share: its list of granted events, the board after them, and their journal.
 //! The book has the events, the board and the journal of a house, and the desk is the book with its lock. A window is
