@@ -1,6 +1,8 @@
 //! Tests with pseudo-random events, legal or not, over a cycle of 64 nodes and one of 256. On the board, the same
 //! events must be legal as in the plain model, which has the same rules in Python (`model/`). An error means that
 //! memory ran out.
+//!
+//! The first board of a lab is the one at the beginning of a run.
 use mml_board::{Board, Event};
 use mml_fakes::Numbers;
 use mml_fakes::cycles::cycle;

@@ -1,4 +1,6 @@
 //! Tests of the lines of replies, over a lab of two nodes far apart. An error means that memory ran out.
+//!
+//! The first board of a lab is the one at the beginning of a run.
 ghost use Rattle.mml_codec.specs.Replies.{IsAbout};
 
 use mml_board::Board;

@@ -1,7 +1,8 @@
 //! Tests of requests to a hall, and of its first board. An error means that memory ran out, or is that of a lab file.
 //!
 //! A hall is the server of one thread, which answers scripts. A world is a network with its registers, its chosen
-//! moves, the number of its configuration, and the number of events so far.
+//! moves, the number of its configuration, and the number of events so far. The first board of a lab or of a hall is
+//! the one at the beginning of a run.
 use mml_board::Board;
 use mml_codec::{REPLY_ROOM, tell_reply};
 use mml_fakes::labs::{PAIR, boxed_board, boxed_lab, greatest};
