@@ -570,7 +570,7 @@ def wrong(line: str) -> str | None:
 
 
 def mend(line: str, error: json.JSONDecodeError) -> str:
-    """Returns a correction of a line that isn't JSON, in parentheses, or an empty text if none is known."""
+    """Returns a hint how to correct a line that isn't JSON, in parentheses, or an empty text if no hint is known."""
     rest, before = line[error.pos:], line[:error.pos].rstrip()
     word = (re.match(r"\w*", rest) or [""])[0]
     rows = (

@@ -58,7 +58,8 @@ class Vouched:
 
 
 def has_ended(run: Path) -> bool:
-    """Returns whether the server of the run in a folder ended as it should, which it prints at its end. Also returns
+    """Returns whether the server of the run in a folder ended as it should: it then printed a line `done: ..`.
+    If the run was resumed, the folder's output is that of several servers, and only the last one counts. Also returns
     True if the folder has no output of a server."""
     output = run / "server.txt"
     if not output.is_file():

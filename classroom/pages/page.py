@@ -104,8 +104,9 @@ class Frames:
         return self.index[link]
 
     def changed_open(self, links: list[OpenLink]) -> list[list[int]]:
-        """Returns the changes of open links since the last call. Consecutive links with the same witness are one row:
-        the first link's index, the number of links, the witness (-1 for none) and its rule."""
+        """Returns the changes of open links since the last call. Links with consecutive indices, the same witness and
+        the same rule are one row: the first link's index, the number of links, the witness and its rule. A link that
+        is no longer open has -1 in place of a witness."""
         now = {self.index_of((a, b)): (self.order[node], RULES.index(rule)) for a, b, node, rule in links}
         changed = sorted(link for link in now.keys() | self.open.keys() if now.get(link) != self.open.get(link))
         runs: list[list[int]] = []

@@ -71,8 +71,8 @@ class Replay:
         self.lab, self.events = lab, events
         self.links = {labs.ordered(link) for link in lab.links}
         self.registers = {node.id: (node.p, node.m) for node in lab.nodes}
-        self.place = self.number = 0  # the place and number at which the current part begins
-        self.now = (0, 0)  # the place and number after the last event that was answered
+        self.place = self.number = 0  # the place, and the configuration's number, at which the current part begins
+        self.now = (0, 0)  # the same after the last event that was answered
 
     def ask(self, script: Script, event: Event | None, named: set[int]) -> None:
         """Does nothing. A subclass can append further requests to the script here, after an event, or at the beginning
@@ -125,8 +125,8 @@ class Replay:
         script.ask(request(event.at - self.number, event.words), lambda reply: self.take_event(event, reply))
 
     def take_event(self, event: Event, reply: dict[str, Any]) -> None:
-        """Checks the place in the reply to an event, and updates the links, the place and the number at which the next
-        part begins. Raises `Fault` if the place is wrong."""
+        """Checks the place in the reply to an event, and passes the reply to `note_reply`. Updates the links, and the
+        place and the configuration's number after the event. Raises `Fault` if the place is wrong."""
         place = reply["place"] + self.place
         if place != event.place:
             raise Fault(f"the program's reply to event {event.place} of the journal names event {place}", 4)

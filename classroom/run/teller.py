@@ -12,8 +12,9 @@ from classroom.core.printable import printable
 
 
 def is_private(typed: bool) -> bool:
-    """Returns whether only the teacher reads what is printed: on a terminal, in the system's journal, or by a program
-    that types too, as `typed` says. A file may have other readers."""
+    """Returns whether only the teacher reads what is printed. This holds for a terminal and for the system's journal,
+    but not for a file. It also holds for a pipe if `typed` says that a program types the commands: then this program
+    reads what is printed."""
     try:
         mode = os.fstat(sys.stdout.fileno()).st_mode
         return sys.stdout.isatty() or stat.S_ISSOCK(mode) or typed and not stat.S_ISREG(mode)

@@ -21,7 +21,7 @@ SECONDS = {"a": 10.0, "b": 100.0, "c": 50.0, "d": 20.0, "e": 5.0}
 
 
 class Estimates(unittest.TestCase):
-    """The order of proofs, and how long the rest takes."""
+    """The order in which crates are proved, and the estimate of how long the remaining proofs take."""
 
     def test_order(self) -> None:
         """A crate is proved after those below it. The crate with the longest chain above it comes first."""
@@ -52,8 +52,8 @@ class Estimates(unittest.TestCase):
         self.assertEqual(progress.line(0.0), "5 of 5 crates proved, 2 of them earlier")
 
     def test_shares(self) -> None:
-        """The crates and the processes of each fill the processors. One more proof runs, since each proof is a
-        single process at its ends."""
+        """As many proofs run side by side as are needed to occupy all processors with their processes. If a proof has
+        several processes, one more proof runs, since such a proof begins and ends with a single process."""
         with unittest.mock.patch.dict(os.environ, {"RT_JOBS": ""}):
             shares = [(number, jobs_of(number), at_once_of(number)) for number in (1, 2, 4, 6, 8, 16)]
         self.assertEqual(shares, [(1, 1, 1), (2, 1, 2), (4, 2, 3), (6, 3, 3), (8, 4, 3), (16, 4, 5)])
@@ -61,7 +61,8 @@ class Estimates(unittest.TestCase):
             self.assertEqual((processors(), jobs_of(3), at_once_of(3)), (3, 1, 3))
 
     def test_another_pace(self) -> None:
-        """If the machine takes twice as long as the table says, the rest is expected to take twice as long too."""
+        """If the machine takes twice as long as the table says, the remaining proofs are expected to take twice as long
+        too."""
         seconds = {crate: 100 * it for crate, it in SECONDS.items()}
         progress = Progress(USES, seconds, 1)
         progress.begun = {"b": 0.0}

@@ -70,7 +70,8 @@ def edited_run(room: Path) -> tuple[Path, Path]:
 
 
 def largest_run(room: Path) -> tuple[Path, Path]:
-    """Writes a run of 1,000 events over a complete graph of 256 nodes. Returns the lab and the journal."""
+    """Writes a run of the largest lab, a complete graph of 256 nodes. Its 1,000 events are moves, releases of most of
+    these moves, nineteen faults and a close. Returns the lab and the journal."""
     lab, script = room / "largest.toml", room / "largest.script"
     lab.write_text(lab_text(256, [(a, b) for a in range(1, 257) for b in range(a + 1, 257)], 1000))
     lines = ['1 {"do":"hello","name":"ana","key":"a-key"}', '2 {"do":"hello","name":"tess","key":"chalk"}']

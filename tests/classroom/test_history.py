@@ -52,7 +52,7 @@ DENIED = f"""\
 
 
 class Raw:
-    """A connection that sends and returns lines as bytes."""
+    """A connection that sends any bytes as a line, even if they aren't a request."""
 
     def __init__(self, port: int, name: str = "", key: str = "") -> None:
         """Connects to a port, and says hello if there is a name."""

@@ -44,8 +44,9 @@ class Shapes(unittest.TestCase):
     """The shape of a network is recognised from its links alone, and is visible."""
 
     def shape(self, word: str, size: int = 15, seed: int = 0) -> tuple[str, Layout, list[int]]:
-        """Returns the kind of the shape of a family's network, its layout, and its nodes in the family's order. With a
-        seed, its nodes have random identifiers."""
+        """Makes a network of the family `word`, and lays it out. Returns the kind of shape that was recognised, the
+        layout, and the nodes in the order in which the family lists them. With a seed, the nodes have random
+        identifiers."""
         nodes, links = network(word, size)
         if seed:
             nodes, links = renamed(nodes, links, seed)

@@ -1,10 +1,11 @@
 """Measures the processor time of a check: for each part, and for the checks of `rattle` by crate and kind.
 
 The system counts the time of each part, with all processes that the part waited for. The time of each check (a process
-`rattle --crate-name C`, with those that it started) is read twice a second, and counted for its crate. Its kind is
-`wrong` below the part of that name or in a folder of an edit, `tests` if it has the option --test, and otherwise
-`proof`. The remaining time is `the rest`: links, programs that `rt ci` ran, the rt command itself, and the last half
-second of each check.
+`rattle --crate-name C`, with those that it started) is read twice a second, and counted for its crate. There are three
+kinds of checks. A check is of the kind `wrong` if the part `wrong` started it, or if it runs in a folder `rt-edit-..`,
+in which `rt` tries an edit. Any other check is of the kind `tests` if it has the option --test, and otherwise of
+the kind `proof`. The remaining time is `the rest`: linking, programs that `rt ci` ran, the rt command itself, and the
+last half second of each check.
 """
 from __future__ import annotations
 
