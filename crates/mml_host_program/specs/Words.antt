@@ -5,6 +5,6 @@ use Rattle.std.specs.Prelude.{◌≡◌, ◌≤◌, ◌^◌, ◌-◌, ℕ, List,
 abbrev pub Names : List ℕ → ℕ → Type 0
 Names text port = (port ≤ 2 ^ 16 - 1) × (text ≡ decimal port)
 
--- the text isn't a port in decimal, nor 0
+-- the text is neither a port in decimal nor 0
 abbrev pub NamesNone : List ℕ → Type 0
 NamesNone text = (port : ℕ) → Names text port → ⊥

@@ -22,7 +22,8 @@ pub record ServesBoth {K C R W : Type 0} (t : Terms K C R W) (to_desk to_come : 
   pub came_to_desk : Attends to_desk [] (flat_map (came_to t.shows) at_desk)
   pub came : Attends to_come [] (flat_map (came_to t.shows) others)
 
--- both ports were served, and the house left no log; `Holds` is true of the seat of the desk, and of all windows
+-- both ports were served, and the record of the desk's seat and all windows are related by `Holds`. A house that leaves
+-- no log ends like this
 pub record EndsUnlogged {K C R W : Type 0} (t : Terms K C R W) (to_desk to_come : Option (List (R × W)))
     (Holds : List (SeatRecord K C) → List WindowValue → Type 0) : Type 0 where
   pub at_desk : List (SeatRecord K C)

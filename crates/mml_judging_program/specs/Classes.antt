@@ -1,4 +1,4 @@
--- What is written of a class: of its journal, and of the record beside it.
+-- What the programs print about a class: about its journal, and about its record.
 use Rattle.std.specs.Prelude.{◌≡◌, ◌<◌, ◌++◌, ℕ, true, false, List, length, take, Option, Err, MatchBool}
 use Rattle.std.specs.Io.KnownBytes.{Appends}
 use Rattle.mml_lab.specs.Labs.{LabValue}
@@ -33,7 +33,7 @@ pub record IsRefused (lab : LabValue) (bytes start : List ℕ) (texts : ℕ → 
   pub journal : IsJournalOf lab events bytes
   pub refused : IsClassRefused lab events start texts why
 
--- why there is nothing to write: the journal doesn't pass the audit, or the texts are no record beside it; of memory nothing is said
+-- why there is nothing to write: the journal doesn't pass the audit, or the texts are no record of its class. If memory ran out, nothing is stated
 abbrev pub IsUntold : LabValue → List ℕ → List ℕ → (ℕ → List ℕ) → ClassError → Type 0
 IsUntold lab bytes start texts (error.Audit why) = MatchBool (is_audit_memory why) (Unit {0}) (audited lab bytes ≡ Err why)
 IsUntold lab bytes start texts (error.Record why) = IsRefused lab bytes start texts why

@@ -1,4 +1,4 @@
--- The tally that a program prints of a journal.
+-- The tally of a journal, as `tally` prints it.
 use Rattle.std.specs.Prelude.{◌≡◌, ◌++◌, List, ℕ, Err, MatchBool}
 use Rattle.mml_lab.specs.Labs.{LabValue}
 use Rattle.mml_board.specs.{declared.event.Event.Event, Lists.world_in}
@@ -14,7 +14,7 @@ pub record IsTally (lab : LabValue) (bytes text : List ℕ) : Type 0 where
   pub journal : IsJournalOf lab events bytes
   pub told : text ≡ tally_text lab (world_in lab events) events ++ rounds_line lab events
 
--- why there is no tally to write: the journal doesn't pass the audit; of memory nothing is said
+-- why there is no tally to write: the journal doesn't pass the audit. If memory ran out, nothing is stated
 abbrev pub HasNoTally : LabValue → List ℕ → ClassError → Type 0
 HasNoTally lab bytes (error.Audit why) = MatchBool (is_audit_memory why) (Unit {0}) (audited lab bytes ≡ Err why)
 HasNoTally lab bytes (error.Record why) = ⊥

@@ -1,4 +1,4 @@
--- The lines that are printed of a record.
+-- The lines that `verify` prints about a record.
 use Rattle.std.specs.{Prelude.ℕ, Prelude.Bool, Prelude.true, Prelude.false, Prelude.List, Prelude.[], Prelude.◌∷◌, Prelude.◌++◌, Prelude.codes, Prelude.decimal, List.concat}
 use Rattle.mml_lab.specs.Labs.{LabValue}
 use Rattle.mml_tally.specs.{declared.record_text.Findings.Findings, Lacking.recorded_line}

@@ -1,8 +1,8 @@
 //! What holds for a house (one run of a lab) holds for a class. Each law is the contract of a function that does
 //! nothing.
 //!
-//! A class is a house whose connections come and go. A seat serves one connection after another, each through the
-//! seat's window. A window is one session's view of the published events and board.
+//! A class is a house whose connections come and go. A seat serves one connection after another. Each of them asks
+//! through the seat's window, which is a view of the published events and board.
 ghost use Rattle.std.specs.Prelude.{◌≡◌, ◌<◌, ◌≤◌, ◌++◌, ℕ, List, length, Option, Some};
 ghost use Rattle.std.specs.List.{AllByRecursion, AllZip};
 ghost use Rattle.mml_lab.specs.Labs.{LabValue};
