@@ -99,6 +99,10 @@ class Run:
         asked = self.asked
         return [None if asked is None else asked.denied.get(name, Counter())[clause] for clause in DENIED]
 
+    def by_column(self, name: str) -> dict[str, int | None]:
+        """Returns the numbers that `denied` returns, by their columns."""
+        return dict(zip(DENIED, self.denied(name)))
+
     def table(self, rule: Rule | None = None) -> dict[str, Any]:
         """Returns the run as an object of `--json`. If a rule is given, each student also has the rule's results."""
         asked = self.asked
@@ -107,8 +111,8 @@ class Run:
                 "granted": {rule: marks.granted[rule] for rule in RULES},
                 "applied": {rule: marks.applied[rule] for rule in RULES},
                 "steps": marks.steps, "first": marks.first, "last": marks.last, "shared": marks.shared,
-                **dict(zip(DENIED, self.denied(name))), "whole": self.is_whole(name),
-                **{named: denied for named, denied in zip(CLAUSES.values(), self.denied(name))},
+                **self.by_column(name), "whole": self.is_whole(name),
+                **{named: self.by_column(name)[clause] for clause, named in CLAUSES.items()},
                 "nodes": len(self.lab.nodes_of(name)), "network": self.network,
                 **({"rule": dict(zip(rule.names, rule.values(self.values(name))))} if rule else {}),
             }

@@ -30,6 +30,7 @@ from classroom.run.taking import greet
 from classroom.run.teller import Teller
 from classroom.run.typed import FORMS, NOW, Terminal, Typed, parse_command
 from tests.classroom.help import CYCLE, EXAMPLES, KEYS, LIMIT, Cycle, Going, InRoom, InTerminal, a_port, stop, words
+from tests.common.limits import MOST
 
 ROOM_AGAIN = "the disk has room again. If a line couldn't be written, the journal is halted and moves are refused as `journal`"
 
@@ -150,7 +151,8 @@ class Words(Cycle):
         self.assertEqual(process.wait(LIMIT), 0, told)
         self.assertIn("not understood: there is no network 9; there are 1 lab-1, 2 lab-2\n", told)
         self.assertFalse(any(line.startswith("lab-1: configuration 1: ") for line in told))
-        self.assertEqual([bool(re.match(r"\d  lab-\d +28\d\d\d +3 +15 +http://127.0.0.1:282\d\d/", line)) for line in told if line[:1].isdigit()], [True, True])
+        row = rf"\d  lab-\d +28\d\d\d +3 +{MOST['sessions'] - 1} +http://127.0.0.1:282\d\d/"
+        self.assertEqual([bool(re.match(row, line)) for line in told if line[:1].isdigit()], [True, True])
 
 
 class InATerminal(Cycle):

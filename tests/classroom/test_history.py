@@ -226,15 +226,16 @@ class Told(Disputed):
 class Verified(Disputed):
     """Records that were changed, and the verdicts on them."""
 
-    def denied(self, folder: Path) -> list[int | None]:
-        """Returns how many lines of gus `./class mark` counts as denied: by clause, and malformed ones."""
+    def denied(self, folder: Path) -> tuple[dict[str, int | None], bool]:
+        """Returns how many lines of gus `./class mark` counts as denied, by clause, and as malformed, without the
+        columns that are zero; and whether the record is complete."""
         run = json.loads(words("mark", folder, "--json").stdout)["runs"][0]
         gus = run["students"]["gus"]
-        return [*(gus[column] for column in COLUMNS), run["whole"]]
+        return {column: gus[column] for column in COLUMNS if gus[column] != 0}, run["whole"]
 
     def test_marks_say_what_the_record_is(self) -> None:
         folder = self.ended(self.disputed())
-        self.assertEqual(self.denied(folder), [0, 1, 0, 1, 1, True])
+        self.assertEqual(self.denied(folder), ({"clause2": 1, "clause4": 1, "malformed": 1}, True))
         seat, record = self.seat(folder), folder / "record"
         before = seat.read_bytes()
         number = seat.name.partition(".")[0]
@@ -243,13 +244,13 @@ class Verified(Disputed):
         done = words("mark", folder)
         self.assertEqual(done.returncode, 0)
         self.assertRegex(done.stdout, r"(?m)^record: ok: \d+ sessions, \d+ lines, 3 events, not whole$")
-        self.assertEqual(self.denied(folder), [0, 1, 0, 1, 1, False])
+        self.assertEqual(self.denied(folder), ({"clause2": 1, "clause4": 1, "malformed": 1}, False))
         seat.write_bytes(before.replace(b'"clause":4,"deny":"guard"', b'"clause":3,"deny":"guard"'))
         for form in ("--csv", "--json", "--total"):
             done = words("mark", folder, form)
             self.assertEqual(done.returncode, 5)
             self.assertRegex(done.stderr, rf"record: verify: seat {number}, line \d+: not the reply of the rules at place 3\n$")
-        self.assertEqual(self.denied(folder), [None] * 5 + [False])
+        self.assertEqual(self.denied(folder), (dict.fromkeys(COLUMNS), False))
         done = words("history", folder, "gus")
         self.assertEqual((done.returncode, done.stdout), (3, ""))
         self.assertIn("not the reply of the rules at place 3", done.stderr)
@@ -258,7 +259,7 @@ class Verified(Disputed):
         self.assertEqual(done.returncode, 0)
         self.assertIn("\nno record, so requests and denials aren't known\n", done.stdout)
         self.assertEqual(json.loads(words("mark", folder, "--json").stdout)["runs"][0]["records"], ["no record, so requests and denials aren't known"])
-        self.assertEqual(self.denied(folder), [None] * 5 + [False])
+        self.assertEqual(self.denied(folder), (dict.fromkeys(COLUMNS), False))
         self.assertEqual(words("history", folder, "gus").returncode, 1)
 
     def test_a_grant_that_is_lacking_is_found_after_the_end_alone(self) -> None:
@@ -318,7 +319,7 @@ class Verified(Disputed):
         for hidden in (key, KEYS["gus"]):
             self.assertNotIn(hidden, told)
         self.assertIn("record.~1~: ok: ", (folder / "marks.txt").read_text(encoding="utf-8"))
-        self.assertEqual(self.denied(folder), [0, 1, 0, 2, 1, True])
+        self.assertEqual(self.denied(folder), ({"clause2": 1, "clause4": 2, "malformed": 1}, True))
 
     def test_a_disk_that_takes_no_more_of_the_record(self) -> None:
         going = Going(self, CYCLE, "--close", "by-hand", before=("bash", "-c", 'trap "" XFSZ; ulimit -f 64; exec "$@"', "bash"))

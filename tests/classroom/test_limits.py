@@ -20,6 +20,7 @@ from tests.classroom.help import InRoom, words
 from tests.common.limits import LIMITS, MOST, TEXT
 
 BEGIN = "mml_host is of another version, which prints "
+SESSIONS = f"sessions {MOST['sessions']} count"  # a line that the program prints
 
 
 class Reads(unittest.TestCase):
@@ -53,12 +54,12 @@ class Reads(unittest.TestCase):
     def test_a_strange_number(self) -> None:
         for number in ("", "0", "-16", "+16", "016", "16.0", "1e2", "16 ", "0x10", "sixteen", "١٦", "16_000", "9" * 20):
             line = f"sessions {number} count"
-            self.refuses(TEXT.replace("sessions 16 count", line), f"the limit {line!r}")
+            self.refuses(TEXT.replace(SESSIONS, line), f"the limit {line!r}")
 
     def test_a_strange_line(self) -> None:
         for line in ("", " ", "sessions", "sessions 16", "sessions 16 seconds", "sessions 16 count more", "Sessions 16 count", "sessions  16 count",
                      "sessions 16 count\r", "nodes 256 count"):
-            self.refuses(TEXT.replace("sessions 16 count", line), f"the limit {line!r}")
+            self.refuses(TEXT.replace(SESSIONS, line), f"the limit {line!r}")
 
 
 class Asks(InRoom):

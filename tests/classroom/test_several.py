@@ -17,6 +17,7 @@ from classroom.run.addressed import addressed
 from classroom.run.network_table import now_table, start_table
 from tests.classroom.help import LIMIT, wait_until, words
 from tests.classroom.several import Classes, GoingClass
+from tests.common.limits import MOST
 
 NAMES = ["maths-1", "maths-2", "close"]
 
@@ -95,9 +96,9 @@ class OneDesk(Classes):
 
     def table(self, desk: GoingClass) -> None:
         """Checks the table at the start, and that no line of a network comes before it."""
-        rows = [line.split() for line in desk.lines if re.match(r"\d  ", line)]
-        self.assertEqual(rows, [["1", "maths-1", "A", "104", str(desk.record("maths-1").port), "4", "15"],
-                                ["2", "maths-2", "B", "7", str(desk.record("maths-2").port), "4", "15"]])
+        rows, seats = [line.split() for line in desk.lines if re.match(r"\d  ", line)], str(MOST["sessions"] - 1)
+        self.assertEqual(rows, [["1", "maths-1", "A", "104", str(desk.record("maths-1").port), "4", seats],
+                                ["2", "maths-2", "B", "7", str(desk.record("maths-2").port), "4", seats]])
         self.assertLess(len(desk.lines), 10, desk.lines)
 
     def taken_as_a_whole(self, desk: GoingClass) -> None:

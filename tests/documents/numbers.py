@@ -93,6 +93,7 @@ def greatest() -> Iterator[tuple[str, str]]:
     """Yields the promises about the limits of labs, files, lines and connections, each as a page and a text."""
     most = limits.MOST
     yield TEACHER, f"A lab has {most['sessions']} seats, one of them yours"
+    yield TEACHER, f"\n1  school-1  A     4711  11        {most['sessions'] - 1}     http"
     yield LAB, f"for example `sessions {most['sessions']} count`"
     yield LAB, f"A lab or a script may have at most {most['lab']:,} bytes."
     for key, kind, what in (("events", "integer", f"1 to {most['events']} |"), ("sessions", "integer", f"1 to {most['sessions']} |"),

@@ -45,8 +45,7 @@ fn arrivals_of<'a>(alloc: Global, scripts: &[&'a str]) -> Result<IntoIter<Ends<'
     Ok(coming.into_iter())
 }
 
-/// Returns the lab file of the path of three with sixteen sessions, the most that a lab may have, in which ben and ana
-/// own node 2.
+/// Returns the lab file of the path of three with sixteen sessions, in which ben and ana own node 2.
 fn document_of_sixteen(alloc: Global) -> Result<String, AllocError> {
     let file = PATH_OF_THREE.replacen(alloc, "sessions = 4", "sessions = 16", 1)?;
     file.replacen(alloc, "owner = \"ben\"", "owners = [\"ben\", \"ana\"]", 1)
