@@ -1,6 +1,6 @@
 //! Lab files that several tests share, and labs and boards that are read from them.
 use mml_board::Board;
-use mml_lab::Lab;
+use mml_lab::{Lab, MAX_EVENTS, MAX_SESSIONS};
 use mml_lab_file::read_lab;
 use std::alloc::{AllocError, Global};
 use std::test::Fail;
@@ -66,7 +66,8 @@ pub const FAR_APART: &str = lab!(
 /// 256 nodes with the greatest identifiers. Each node is linked to all others and owned by two students. Returns an
 /// error if memory runs out.
 pub fn greatest(alloc: Global) -> Result<String, AllocError> {
-    let mut text = String::from_str(alloc, "events = 100000\nsessions = 16\nlinks = [\n")?;
+    let mut text = String::new(alloc);
+    write!(text, "events = {MAX_EVENTS}\nsessions = {MAX_SESSIONS}\nlinks = [\n")?;
     for a in 65280..65536u64 {
         for b in 65280..a {
             write!(text, "[{a},{b}],")?;
