@@ -6,15 +6,13 @@ import re
 from collections.abc import Iterable
 from itertools import islice
 
+from classroom.client import KEYS, RULES
 from classroom.core.printable import printable
 
 HIDDEN = '"***"'
 ESCAPE = "\\"
 TEXT = re.compile(r'"(?:[^"\\]|\\.)*"', re.DOTALL)
-WORDS = frozenset((
-    "do", "name", "key", "node", "at", "rule", "with", "p", "m", "a", "b", "hello", "bye", "see", "look", "move", "close",
-    "fault", "link", "cut", "release", "report", "update", "marriage", "seduction", "abandonment",
-))
+WORDS = frozenset(("do", "with", *RULES, *KEYS, *(key for keys in KEYS.values() for key in keys)))  # of requests
 
 
 class Hider:

@@ -436,7 +436,7 @@ function toldEvent(data, row) {
   if (row.kind === "grant") return `${words[2]} ${words[1]}: ${words.slice(3).join(" with ")}`;
   if (row.kind === "close") return "the step is applied";
   if (row.kind === "fault") return `⚡ fault at ${words[1]}: p ${words[2]}, m ${words[3]}`;
-  if (data.edits.includes(row.kind)) return `⚡ ${row.kind} ${words[1]}–${words[2]}`;
+  if (data.edits.includes(row.kind)) return `⚡ ${row.kind} ${words.slice(1).join("–")}`;
   return row.text;
 }
 

@@ -9,7 +9,6 @@ from classroom.core.journal import Event
 
 MOST_MOVES = 6  # the most moves of a step that are printed one by one
 MOST_NODES = 6  # the most nodes that are named
-KINDS = {"fault": "fault", "link": "link", "cut": "cut"}
 
 
 def moves(moved: Sequence[tuple[int, str, str]]) -> str:
@@ -32,7 +31,7 @@ def edit(event: Event) -> str:
 def edits(events: Sequence[Event]) -> str:
     """Returns one text for several events of one kind, with their number."""
     nodes = sorted({node for event in events for node in event.nodes})
-    return f"{plural(len(events), KINDS[events[0].kind])} at {named(nodes)}"
+    return f"{plural(len(events), events[0].kind)} at {named(nodes)}"
 
 
 def named(nodes: Sequence[int]) -> str:
