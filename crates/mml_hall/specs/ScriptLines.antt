@@ -25,6 +25,10 @@ IsBad sessions held =
     × ((s : RequestLine) → IsScriptLine sessions s → line ≢ script_line s) × (length more < READ_SIZE))
     ⊎ (IsTooLong MAX_SCRIPT_LINE held × (length held ≤ MAX_SCRIPT_LINE + READ_SIZE))
 
+-- the request on that connection
+abbrev pub request_on : ℕ → List ℕ → RequestLine
+request_on n request = record { connection = n; request = request }
+
 -- the script line that contracts see, by the fields
 abbrev pub line_of : ScriptLine → RequestLine
-line_of s = record { connection = s.connection; request = s.request.now }
+line_of s = request_on s.connection s.request.now
