@@ -4,7 +4,7 @@ ghost use Rattle.std.specs.Int.NonZero.{non_zero_u8_get, non_zero_u16_get};
 ghost use Rattle.mml_lab.specs.declared.TheConstants.{MAX_SESSIONS};
 ghost use Rattle.mml_serving.specs.Numbers.{Reads};
 
-use itoa::Buffer;
+use mml_journal::number_of as decimal_number_of;
 use mml_lab::MAX_SESSIONS;
 use std::num::{NonZeroU8, NonZeroU16};
 
@@ -31,9 +31,9 @@ pub fn read_connections(text: &str) -> Option<NonZeroU8>
 fn number_of(text: &str, most: u64) -> Option<u64>
     ensures { Reads (λ n. n) most text.now result }
 {
-    let number = text.parse::<u64>().ok()?;
-    let mut digits = Buffer::new();
-    if 0 < number && number <= most && digits.format(number) == text {
+    let spelled = decimal_number_of(text.as_bytes())?;
+    let number = spelled?;
+    if 0 < number && number <= most {
         Some(number)
     } else {
         None
