@@ -1,4 +1,3 @@
 pub mod GrantingLemmas
-pub mod BegunLemmas
 pub mod UnionLemmas
 pub mod ClassLemmas

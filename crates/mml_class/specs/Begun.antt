@@ -1,23 +1,10 @@
 -- How many events came before a record, as its file says it.
-use Rattle.std.specs.Prelude.{ℕ, ◌+◌, ◌-◌, ◌*◌, ◌==◌, ◌&&◌, nat_lt, nat_le, Bool, List, [], ◌∷◌, length, take, slice_index, Option, None, Some, if◌then◌else◌}
-use Rattle.std.specs.List.{list_all}
+use Rattle.std.specs.Prelude.{ℕ, ◌-◌, ◌==◌, nat_le, List, length, take, slice_index, Option, None, if◌then◌else◌}
+use Rattle.mml_journal.specs.Words.{padded_number_of}
 
--- the byte is that of a decimal digit
-abbrev pub is_digit : ℕ → Bool
-is_digit b = nat_le 48 b && nat_le b 57
-
--- the number that digits spell after those of the number n
-abbrev pub value_from : ℕ → List ℕ → ℕ
-value_from n [] = n
-value_from n (b ∷ bs) = value_from (n * 10 + (b - 48)) bs
-
--- there are 1 to 19 bytes, each that of a digit
-abbrev pub are_digits : List ℕ → Bool
-are_digits bs = nat_lt 0 (length bs) && (nat_le (length bs) 19 && list_all is_digit bs)
-
--- the number that 1 to 19 decimal digits spell; none for other bytes
+-- the number that 1 to 19 decimal digits spell, zeros first included; none for other bytes
 abbrev pub decimal_in : List ℕ → Option ℕ
-decimal_in bs = if are_digits bs then Some (value_from 0 bs) else None
+decimal_in bs = if nat_le (length bs) 19 then padded_number_of bs else None
 
 -- the bytes without the newline at their end, if they have one
 abbrev pub unended : List ℕ → List ℕ
