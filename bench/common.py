@@ -9,7 +9,7 @@ from pathlib import Path
 from typing import NoReturn, Union
 
 TOP = Path(__file__).resolve().parents[1]
-PROGRAM = Path(os.environ.get("MML_PROGRAM") or TOP / "crates/mml_server/out/mml_server")
+PROGRAM = Path(os.environ.get("MML_PROGRAM") or TOP / "crates/mml_host/out/mml_host")
 HOST = Path(os.environ.get("MML_HOST") or TOP / "crates/mml_host/out/mml_host")
 TYPED = Path(os.environ.get("MML_TYPED") or TOP / "bench/typed/out/typed")
 BUILT_IN = TOP / "crates/mml_program/src/built_in.rt"

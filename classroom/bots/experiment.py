@@ -28,10 +28,9 @@ from classroom.bots import chart, parts
 from classroom.bots.measuring import SIZED, Row, Setting, drawn, runs
 from classroom.core import lab as labs
 from classroom.core import bounds, limits, networks
-from classroom.core.answering import answerer
 from classroom.core.bounds import MOVES
 from classroom.core.counts import positive
-from classroom.core.program import Fault
+from classroom.core.program import Fault, host
 from classroom.core.statuses import FAILED, WARNED
 from classroom.pages import colours
 from classroom.run.daemons import Daemon, daemons
@@ -300,7 +299,7 @@ def experiment(words: argparse.Namespace) -> int:
     """Measures the runs that the table lacks, prints the results of all runs, and draws the chart; or joins tables if
     the arguments have `--merge`. Returns the exit status. Raises `Fault` if the arguments can't be used, or if a file
     can't be read or written."""
-    answerer()
+    host()
     every, path = settings(words), Path(words.csv)
     seeds = range(words.seed, words.seed + words.runs)
     order = [key_of(it, seed) for it in every for seed in seeds]

@@ -23,12 +23,11 @@ from classroom.bots.bots import Bot, namespaces_refusal
 from classroom.bots.playing import OWN_RULE
 from classroom.bots.suites import Case
 from classroom.bots.trial import Result, try_bot
-from classroom.core.answering import answerer
 from classroom.core.counts import positive, seconds
 from classroom.core.folders import new_folder
 from classroom.core.printable import printable
 from classroom.core.processes import end_at_once, end_strays, reap_orphans, run
-from classroom.core.program import Fault, program
+from classroom.core.program import Fault, host, program
 from classroom.core.statuses import FAILED, WARNED
 from classroom.run.daemons import daemons
 
@@ -219,7 +218,7 @@ def grade(words: argparse.Namespace) -> int:
     """Tries each bot in each case, prints the results, and writes them to the files that the options name. With
     `--merge` tries nothing, and joins the results of parts. Returns the exit status. Raises `Fault` if the options
     can't be used."""
-    program(), answerer()
+    program(), host()
     bots = numbered([Bot.of(word) for word in words.bots])
     faults: list[str] = []
     if words.labs:

@@ -24,11 +24,10 @@ from classroom.bots.suites import HOUSE, TEACHER, key
 from classroom.client import RULES
 from classroom.core import lab as labs
 from classroom.core import bounds, limits, networks
-from classroom.core.answering import answerer
 from classroom.core.counts import plural, positive, seconds
 from classroom.core.folders import new_folder
 from classroom.core.processes import reap_orphans
-from classroom.core.program import TOP, Fault, call, first_free, program
+from classroom.core.program import TOP, Fault, call, first_free, host, program
 from classroom.core.rounds import Recovery
 from classroom.core.statuses import WARNED
 from classroom.pages import by_hand
@@ -223,7 +222,7 @@ def write_run(playing: Playing, folder: Path, tell: Callable[[str], None]) -> No
 def practise(words: argparse.Namespace) -> int:
     """Runs a class in which the student's bots, or the student's own program or page, play some nodes. Returns the exit
     status. Raises `Fault` if the arguments can't be used or a file can't be written."""
-    program(), answerer()
+    program(), host()
     if words.page and words.bots:
         raise Fault("--page is for playing by hand: leave the BOT out")
     reap_orphans()

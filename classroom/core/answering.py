@@ -1,42 +1,30 @@
 """Many short runs without a server: `mml answer` answers each line of a script as it comes.
 
 A *lab* is a network with its students. A *script* is a list of request lines, each after the number of its connection,
-and replies have the same numbers. *The program* is the host's program, whose command `answer` replies to a script over
-a lab.
+and replies have the same numbers. The command `answer` of the program replies to a script over a lab.
 """
 from __future__ import annotations
 
 import json
 import os
 import subprocess
-from pathlib import Path
 from types import TracebackType
 from typing import Any
 
 from classroom.client import Denied, Refused, reply_of
 from classroom.core import lab as labs
 from classroom.core.processes import begin
-from classroom.core.program import Fault, host, is_clone
+from classroom.core.program import Fault, host
 
 AT_ONCE = 16_000  # bytes of lines that are sent before their replies are read; a pipe takes more
 MOST_SCRIPT = 1_000_000  # bytes of a script that is kept, fewer than those of the largest script
 SOME = 24  # lines, at most, that are sent before their replies are read
 
 
-def answerer() -> Path:
-    """Returns the path of the host's program, which has the command `answer`. Raises `Fault` if the program isn't
-    built."""
-    found = host()
-    if found is None:
-        how = "`./mml build` builds it (with the toolchain's rt on the path)" if is_clone() else "this release has none"
-        raise Fault(f"mml_host isn't built: {how}")
-    return found
-
-
 def started(lab: labs.Lab) -> subprocess.Popen[bytes]:
     """Starts the program over a lab, and returns its process. The lab's file has no name, so that a student's program
     can't find it. Raises `Fault` if the program isn't built."""
-    program = answerer()
+    program = host()
     file = os.memfd_create("lab")
     try:
         with open(file, "wb", closefd=False) as it:

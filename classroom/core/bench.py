@@ -1,4 +1,4 @@
-"""The host's program over one network, which serves several runs one after another. Each run begins by setting all
+"""The program over one network, which serves several runs one after another. Each run begins by setting all
 registers.
 
 A *lab* is a network with its students. A node's enabled *rule* is the move that it can make, and the *report* is the

@@ -1,4 +1,4 @@
-"""The most moves, rounds and events of a run, which are proved bounds, as the host's program prints them
+"""The most moves, rounds and events of a run, which are proved bounds, as the program prints them
 (docs/JOURNAL.md: the line `bounds`)."""
 from __future__ import annotations
 
@@ -17,10 +17,10 @@ NAME = "teacher", "teacher"
 @functools.cache
 def of(nodes: int, links: int) -> Bounds:
     """Returns the bounds for a network with this number of nodes and links, which are the same for all such networks.
-    Raises `Fault` if the host's program isn't built or prints no bounds."""
+    Raises `Fault` if the program isn't built or prints no bounds."""
     found = tally.of_texts(labs.text(some(nodes, links)), "").bounds
     if not found.moves:
-        raise Fault("mml_host is of an older version, which prints no bounds: build it again", 4)
+        raise Fault("mml is of an older version, which prints no bounds: build it again", 4)
     return found
 
 
@@ -32,10 +32,11 @@ def some(nodes: int, links: int) -> labs.Lab:
 
 
 def told(nodes: int, links: int) -> Bounds | None:
-    """Returns the bounds for a network with this number of nodes and links, or None if the host's program isn't built
+    """Returns the bounds for a network with this number of nodes and links, or None if the program isn't built
     or doesn't print them. A run continues without the bounds."""
     try:
-        return of(nodes, links) if host() else None
+        host()
+        return of(nodes, links)
     except (Fault, OSError):
         return None
 

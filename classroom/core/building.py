@@ -1,4 +1,4 @@
-"""Builds the programs of a clone before a subcommand runs. `./mml build` prints how long that takes, and its
+"""Builds the program of a clone before a subcommand runs. `./mml build` prints how long that takes, and its
 progress."""
 from __future__ import annotations
 
@@ -10,18 +10,17 @@ from types import FrameType
 
 from classroom.core.program import TOP, Fault, built, is_clone
 
-NAMED_BY = {"mml_server": "MML_PROGRAM", "mml_host": "MML_HOST"}  # the environment variable that names another program
+NAMING = ("MML_PROGRAM", "MML_HOST")  # environment variables that name another program
 SIGNALS = (signal.SIGINT, signal.SIGTERM, signal.SIGHUP)
 POLL = 0.1
 PATIENCE = 2.0  # seconds in which the build may end by itself after a signal, since a terminal's Ctrl-C reaches the build too
 STDERR = 2  # the build's output goes to standard error, since standard output has only results
 
 
-def lacks_programs() -> bool:
-    """Returns whether this is a clone in which one of the two programs hasn't been built yet, and no environment
-    variable names another one."""
-    wanted = [crate for crate, variable in NAMED_BY.items() if not os.environ.get(variable)]
-    return is_clone() and not all(os.access(built(crate), os.X_OK) for crate in wanted if (TOP / "crates" / crate).is_dir())
+def lacks_program() -> bool:
+    """Returns whether this is a clone in which the program hasn't been built yet, and the environment doesn't name
+    other programs for all commands."""
+    return is_clone() and not all(map(os.environ.get, NAMING)) and not os.access(built(), os.X_OK)
 
 
 class Signals:
@@ -64,6 +63,6 @@ def build() -> int:
 
 
 def set_up() -> None:
-    """Builds the programs if this is a clone that lacks one. Raises `Fault` if the build fails."""
-    if lacks_programs() and build() != 0:
-        raise Fault("a program isn't built, so nothing was done")
+    """Builds the program if this is a clone that lacks it. Raises `Fault` if the build fails."""
+    if lacks_program() and build() != 0:
+        raise Fault("the program isn't built, so nothing was done")

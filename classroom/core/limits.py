@@ -1,4 +1,4 @@
-"""The limits of labs, lines, files and connections, as the host's program prints them (`mml limits`)."""
+"""The limits of labs, lines, files and connections, as the program prints them (`mml limits`)."""
 from __future__ import annotations
 
 import re
@@ -21,7 +21,7 @@ UNIT_OF = {name: unit for unit, names in UNITS.items() for name in names}
 
 @dataclass(frozen=True)
 class Limits:
-    """The limits, each under the name that the host's program prints, with `_` for `-`. The units are those of
+    """The limits, each under the name that the program prints, with `_` for `-`. The units are those of
     UNITS."""
 
     nodes: int
@@ -66,13 +66,13 @@ def parsed(text: str) -> Limits:
 
 
 def another(what: str) -> Fault:
-    """Returns the fault to raise if the host's program is of another version. `what` is what that version prints."""
-    return Fault(f"mml_host is of another version, which prints {what}: build it again", FAILED)
+    """Returns the fault to raise if the program is of another version. `what` is what that version prints."""
+    return Fault(f"mml is of another version, which prints {what}: build it again", FAILED)
 
 
 @cache
 def allowed() -> Limits:
-    """Returns the limits. Calls the host's program at the first call only. Raises `Fault` if the program isn't built or
+    """Returns the limits. Calls the program at the first call only. Raises `Fault` if the program isn't built or
     prints something else."""
     answer = host_call("limits")
     if answer.status != 0:
@@ -81,9 +81,10 @@ def allowed() -> Limits:
 
 
 def known() -> Limits | None:
-    """Returns the limits, or None if the host's program isn't built or doesn't print them. A run continues without the
+    """Returns the limits, or None if the program isn't built or doesn't print them. A run continues without the
     limits."""
     try:
-        return allowed() if host() else None
+        host()
+        return allowed()
     except (Fault, OSError):
         return None

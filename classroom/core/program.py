@@ -1,4 +1,4 @@
-"""The proved program (`mml`) and the host's program (`mml_host`): their paths, and their answers to calls."""
+"""The proved program: its path, and its answers to calls."""
 from __future__ import annotations
 
 import os
@@ -48,15 +48,14 @@ def is_clone() -> bool:
     return (TOP / "crates").is_dir()
 
 
-def built(crate: str) -> Path:
-    """Returns the path at which a crate's program is when it is built, in a clone or in a release. Raises `Fault` if
-    the release needs a newer C library."""
-    here = TOP / "crates" / crate
-    if here.is_dir():
-        return here / "out" / crate
+def built() -> Path:
+    """Returns the path at which the program is when it is built, in a clone or in a release. Raises `Fault` if the
+    release needs a newer C library."""
+    if is_clone():
+        return TOP / "crates/mml_host/out/mml_host"
     if refusal := old_library():
         raise Fault(refusal, FAILED)
-    return TOP / "bin" / crate.replace("mml_server", "mml")
+    return TOP / "bin/mml"
 
 
 @cache
@@ -85,20 +84,20 @@ def numbers(version: str) -> list[int]:
     return [int(number) for number in re.findall("[0-9]+", version)]
 
 
-def program() -> Path:
-    """Returns the path of the built proved program, or of the one that the environment variable MML_PROGRAM names.
-    Raises `Fault` if it isn't built."""
-    path = Path(os.environ.get("MML_PROGRAM") or built("mml_server"))
+def program(variable: str = "MML_PROGRAM") -> Path:
+    """Returns the path of the program, or of the one that an environment variable names. Raises `Fault` if it isn't
+    built, or if a release needs a newer C library."""
+    path = Path(os.environ.get(variable) or built())
     if not os.access(path, os.X_OK) or path.is_dir():
-        raise Fault("mml isn't built: `./mml build` builds it (with the toolchain's rt on the path)")
+        raise Fault("mml isn't built: `./mml build` builds it (with the toolchain's rt on the path)" if is_clone() else
+                    "this release has no bin/mml, or it isn't executable: unpack the archive again")
     return path
 
 
-def host() -> Path | None:
-    """Returns the path of the host's program, or of the one that the environment variable MML_HOST names. Returns None
-    if it isn't built. Raises `Fault` if a release needs a newer C library."""
-    path = Path(os.environ.get("MML_HOST") or built("mml_host"))
-    return path if os.access(path, os.X_OK) and not path.is_dir() else None
+def host() -> Path:
+    """Returns the path of the program for the commands `host`, `resume`, `verify`, `tally`, `answer` and `limits`, for
+    which the environment variable MML_HOST can name another one. Raises `Fault` like `program`."""
+    return program("MML_HOST")
 
 
 def first_free(port: int, opened: Callable[[int], Opened | None], what: str = "") -> Opened:
@@ -120,12 +119,9 @@ def call(*words: str | Path) -> Answer:
 
 
 def host_call(*words: str | Path, files: tuple[int, ...] = ()) -> Answer:
-    """Runs the host's program with these arguments to its end. Returns its output and exit status. The program inherits
-    the open files with these descriptors. Raises `Fault` if it isn't built."""
-    path = host()
-    if path is None:
-        raise Fault("mml_host isn't built: `./mml build` builds it (with the toolchain's rt on the path)")
-    return answer_of(path, *words, files=files)
+    """Runs the program that `host` returns with these arguments to its end. Returns its output and exit status. The
+    program inherits the open files with these descriptors. Raises `Fault` if it isn't built."""
+    return answer_of(host(), *words, files=files)
 
 
 def answer_of(path: Path, *words: str | Path, files: tuple[int, ...] = ()) -> Answer:

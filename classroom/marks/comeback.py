@@ -107,7 +107,7 @@ def told(lab: labs.Lab, events: list[Event]) -> str:
     journal = "".join(f"{event.place} {event.at} {' '.join(event.words)}\n" for event in events)
     found = tallies.of_texts(labs.text(lab), journal)
     if found.rounds is None:
-        raise Fault("mml_host is of an older version, which counts no rounds: build it again", 4)
+        raise Fault("mml is of an older version, which counts no rounds: build it again", 4)
     again = " again" if found.faults or found.links or found.cuts else ""
     return f"stable{again} after {counts_told(*found.since, found.rounds, found.bounds)}"
 

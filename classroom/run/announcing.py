@@ -168,7 +168,7 @@ class Announcer:
         self.tell(f"nothing more is granted: {what}")
 
     def why_full(self) -> str:
-        """Returns the remedy if all events of the lab are used, as the end of a line. Without the host's program the
+        """Returns the remedy if all events of the lab are used, as the end of a line. Without the program the
         text doesn't say how many a lab may have."""
         known = limits.known()
         if known and self.lab.events >= known.events:

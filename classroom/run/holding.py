@@ -2,7 +2,7 @@
 continues a run.
 
 The *desk* is the teacher's connection to the server. `run.json` in the folder of a run is its *record*, by which other
-processes find it. A server is *hosted* if it is `mml_host`, which has a port for the desk and ends after the teacher's
+processes find it. A server is *hosted* if it is `mml host`, which has a port for the desk and ends after the teacher's
 bye. An exit status of None means that the run continues without this process.
 """
 from __future__ import annotations

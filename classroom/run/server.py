@@ -15,7 +15,7 @@ from pathlib import Path
 
 from classroom.core import record
 from classroom.core.folders import Process, Record
-from classroom.core.program import LISTENING, Fault, first_free, host, is_clone, plain, program
+from classroom.core.program import LISTENING, Fault, first_free, host, plain, program
 from classroom.run.knocking import Knock
 
 AGAIN = 0.01  # seconds between two looks at what a server has printed
@@ -106,11 +106,10 @@ def first_line(process: subprocess.Popen[bytes], output: Path, before: int, wait
 
 
 def require_built(by_number: bool) -> None:
-    """Raises `Fault` if the server isn't built: `mml serve` if `by_number` is set, and otherwise the host."""
+    """Raises `Fault` if the program isn't built. A server that counts its connections (`by_number`) needs no host."""
     program()
-    if not by_number and host() is None:
-        how = "`./mml build` builds it (with the toolchain's rt on the path)" if is_clone() else "this release has none"
-        raise Fault(f"mml_host isn't built: {how}; --serve uses a server that accepts as many connections in all as the lab has sessions")
+    if not by_number:
+        host()
 
 
 @dataclass

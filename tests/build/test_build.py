@@ -72,10 +72,10 @@ class Estimates(unittest.TestCase):
         self.assertGreater(progress.left(2_000_000.0), 2 * 7_500)
 
     def test_the_table(self) -> None:
-        """Each crate of both programs has its time."""
-        crates = needed(["mml_server", "mml_host"])
+        """Each crate of the program has its time."""
+        crates = needed(["mml_host"])
         self.assertTrue(set(crates) < set(lines()))
-        self.assertLess(set(needed(["mml_server"])), set(crates))
+        self.assertNotIn("mml_server", crates)
         self.assertGreater(min(expected(crates).values()), 0)
 
 
@@ -85,7 +85,7 @@ class Builds(InClone):
     def test_what_is_proved(self) -> None:
         """`rt ci` is called in a repository that has the sources of what is needed, and nothing else."""
         for path in ("low/src/.lib.rt.swp", "low/out/incremental/kept", "low/wrong/bad.edit", "low/must-fail/bad.edit", "low/README.md",
-                     "low/specs/Lib.antt", "low/proofs/f/Proof.antt", "mml_server/stdin", "mml_server/data/lab.toml"):
+                     "low/specs/Lib.antt", "low/proofs/f/Proof.antt", "mml_host/stdin", "mml_host/data/lab.toml"):
             file = self.clone / "crates" / path
             file.parent.mkdir(parents=True, exist_ok=True)
             file.touch()
@@ -95,7 +95,7 @@ class Builds(InClone):
         self.assertEqual(files, {
             ".git", "HANDLES", "crates", "crates.txt", "crates/low/src/lib.rt", "crates/low/specs", "crates/low/specs/Lib.antt",
             "crates/low/proofs", "crates/low/proofs/f", "crates/low/proofs/f/Proof.antt", "crates/left/src/lib.rt",
-            "crates/mml_server/src/lib.rt", "crates/mml_server/stdin", "crates/mml_server/data", "crates/mml_server/data/lab.toml",
+            "crates/right/src/lib.rt", "crates/mml_host/src/lib.rt", "crates/mml_host/stdin", "crates/mml_host/data", "crates/mml_host/data/lab.toml",
         })
         self.assertEqual((self.room / "words").read_text(encoding="utf-8"), "ci")
         self.assertTrue((self.clone / "crates/low/out/incremental/kept").exists())
@@ -103,11 +103,11 @@ class Builds(InClone):
 
     def test_processors(self) -> None:
         """The proof that the longest chain waits for is given all processors, and one beside it half of them."""
-        (self.clone / "tools/build/seconds.txt").write_text("low 1\nleft 9\nright 1\nmml_server 1\nmml_host 1\n", encoding="utf-8")
+        (self.clone / "tools/build/seconds.txt").write_text("low 1\nleft 9\nright 1\nmml_host 1\n", encoding="utf-8")
         self.assertEqual(self.call("./mml", "build", RT_JOBS="2").returncode, 0)
         number = len(os.sched_getaffinity(0))
         told = [line.split() for line in (self.room / "processors").read_text(encoding="utf-8").splitlines()]
-        self.assertEqual(told[0], ["mml_host", "5", str(number)])
+        self.assertEqual(told[0], ["mml_host", "4", str(number)])
         each = {crate: int(processors) for crate, _, processors in told[1:]}
         self.assertEqual((each["low"], each["left"], each["right"]), (2 * number, 2 * number, number))
 
@@ -140,10 +140,10 @@ class Builds(InClone):
         """Prints the expected time first, and the progress after each crate."""
         done = self.call("./mml", "build", RT_JOBS="3")
         self.assertEqual(done.returncode, 0, done.stderr)
-        self.assertRegex(done.stderr, r"^mml: building mml_server and mml_host, after proving 5 crates; .*\n"
+        self.assertRegex(done.stderr, r"^mml: building mml_host, after proving 4 crates; .*\n"
                                       r"mml: if nothing is proved yet, that takes (some \d+ minutes|about a minute) on 3 processors, .*\n")
-        self.assertRegex(done.stderr, r"\nmml: \d of 5 crates proved; (some \d+ minutes|about a minute) left\n")
-        self.assertTrue(done.stderr.endswith("\nmml: 5 of 5 crates proved\n"), done.stderr)
+        self.assertRegex(done.stderr, r"\nmml: \d of 4 crates proved; (some \d+ minutes|about a minute) left\n")
+        self.assertTrue(done.stderr.endswith("\nmml: 4 of 4 crates proved\n"), done.stderr)
 
     def test_one_line(self) -> None:
         """On a terminal the progress is one line, which is written over."""
@@ -155,17 +155,17 @@ class Builds(InClone):
         self.addCleanup(os.close, ours)
         self.addCleanup(going.kill)
         said = b""
-        while b"2 of 5 crates proved" not in said:
+        while b"2 of 4 crates proved" not in said:
             said += os.read(ours, 1000)
         self.waits(self.pids)
         self.set("waits", "")
         os.kill(self.pids()[1], signal.SIGKILL)
-        while b"5 of 5 crates proved" not in said:
+        while b"4 of 4 crates proved" not in said:
             said += os.read(ours, 1000)
         self.assertEqual(going.wait(LIMIT), 0)
         shown = said.decode().replace("\r\n", "\n").rpartition("without proofs\n")[2].split("\r")
         self.assertGreater(len(shown), 2, said)
-        self.assertTrue(all(re.match(r"mml: \d of 5 crates proved", line) for line in shown[1:]), shown)
+        self.assertTrue(all(re.match(r"mml: \d of 4 crates proved", line) for line in shown[1:]), shown)
         self.assertFalse(any("\n" in line for line in shown[:-1]), shown)
 
     def test_side_by_side(self) -> None:
@@ -174,31 +174,28 @@ class Builds(InClone):
         done = self.call("./mml", "build", RT_JOBS="2")
         self.assertEqual(done.returncode, 0, done.stderr)
         runs = (self.room / "runs").read_text(encoding="utf-8").splitlines()
-        self.assertEqual(runs[:2], ["low left right mml_server mml_host", "low"])
+        self.assertEqual(runs[:2], ["low left right mml_host", "low"])
         self.assertEqual(sorted(runs[2:4]), ["low left", "low right"])
-        self.assertEqual(sorted(runs[4:]), ["low left mml_server", "low left right mml_host"])
+        self.assertEqual(runs[4:], ["low left right mml_host"])
 
     def test_nothing_is_kept(self) -> None:
         """If the machine keeps nothing, a single run proves everything."""
         self.set("lacks", "the store cannot be used, so nothing is kept: the next run, and the merge, prove all again")
         done = self.call("./mml", "build")
         self.assertEqual(done.returncode, 0, done.stderr)
-        self.assertTrue(done.stderr.endswith("\nmml: 5 of 5 crates proved\n"), done.stderr)
-        every = "low left right mml_server mml_host"
+        self.assertTrue(done.stderr.endswith("\nmml: 4 of 4 crates proved\n"), done.stderr)
+        every = "low left right mml_host"
         self.assertEqual((self.room / "runs").read_text(encoding="utf-8").splitlines(), [every, "low", every])
         self.assertEqual(self.call("./mml").stdout, "new\n")
 
     def test_a_second_clone(self) -> None:
-        """Crates that this machine has proved are taken: the host's build proves only what the server's didn't,
-        and a second clone proves nothing."""
-        self.call("./mml")
-        done = self.call("./mml", "build")
-        self.assertTrue(done.stderr.endswith("\nmml: 4 of 4 crates proved, 2 of them earlier\n"), done.stderr)
+        """Crates that this machine has proved are taken: a second clone proves nothing."""
+        self.call("./mml", "build")
         second = self.room / "second"
         shutil.copytree(self.clone, second, ignore=shutil.ignore_patterns("out"))
         done = self.call(second / "mml", "build")
         self.assertEqual(done.returncode, 0, done.stderr)
-        self.assertTrue(done.stderr.endswith("\nmml: 5 of 5 crates proved, 5 of them earlier\n"), done.stderr)
+        self.assertTrue(done.stderr.endswith("\nmml: 4 of 4 crates proved, 4 of them earlier\n"), done.stderr)
         self.assertTrue((second / "crates/mml_host/out/mml_host").exists())
 
     def test_interrupted(self) -> None:
@@ -216,7 +213,7 @@ class Builds(InClone):
         self.set("waits", "")
         done = self.call("./mml", "build")
         self.assertEqual(done.returncode, 0, done.stderr)
-        self.assertTrue(done.stderr.endswith("\nmml: 5 of 5 crates proved, 2 of them earlier\n"), done.stderr)
+        self.assertTrue(done.stderr.endswith("\nmml: 4 of 4 crates proved, 2 of them earlier\n"), done.stderr)
 
     def test_killed(self) -> None:
         """If the build is killed, `rt` is ended, and the next call cleans up."""
@@ -244,7 +241,7 @@ class Builds(InClone):
         self.assertIn("src/lib.rt:1:1: error: a goal is open\nrt: left NOT PROVED\n", done.stderr)
         self.assertTrue(done.stderr.endswith(f"mml: the build failed, see {log}; if there was an older program, it is kept\n"), done.stderr)
         self.assertIn("0 passed, 1 failed", log.read_text(encoding="utf-8"))
-        self.assertEqual(self.program("mml_server").read_text(encoding="utf-8"), "#!/bin/sh\necho new\n")
+        self.assertEqual(self.program("mml_host").read_text(encoding="utf-8"), "#!/bin/sh\necho new\n")
         self.assertEqual([*self.temporary.iterdir()], [])
         self.set("fails", "")
         self.assertEqual(self.call("./mml", "build").returncode, 0)

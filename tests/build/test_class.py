@@ -1,4 +1,4 @@
-"""Commands of `./class` in a clone whose programs aren't built. They build the programs, and leave nothing half
+"""Commands of `./class` in a clone whose program isn't built. They build the program, and leave nothing half
 done."""
 from __future__ import annotations
 
@@ -43,8 +43,8 @@ class SetsUp(InClone):
         done = self.new()
         self.assertEqual(done.returncode, 0, done.stderr)
         self.assertTrue(done.stdout.startswith("maths.toml: 4 nodes, 4 students; slips: "), done.stdout)
-        self.assertRegex(done.stderr, r"^mml: building mml_server and mml_host, after proving 5 crates; .*\nmml: if nothing is proved yet, that takes ")
-        self.assertIn("\nmml: 5 of 5 crates proved\n", done.stderr)
+        self.assertRegex(done.stderr, r"^mml: building mml_host, after proving 4 crates; .*\nmml: if nothing is proved yet, that takes ")
+        self.assertIn("\nmml: 4 of 4 crates proved\n", done.stderr)
         self.assertEqual(self.made(), sorted(FIRST))
         for name in set(FIRST) - {"maths-slips"}:
             (self.clone / name).unlink()
@@ -59,7 +59,7 @@ class SetsUp(InClone):
         self.assertFalse((self.room / "words").exists())
 
     def test_each_word(self) -> None:
-        """Each command builds the programs first. If that fails, it does nothing."""
+        """Each command builds the program first. If that fails, it does nothing."""
         self.set("fails", "low")
         before = sorted(self.clone.rglob("*"))
         for words in (("new", *WORDS), ("check", "it.toml"), ("run", "it.toml"), ("attach", "it"), ("slips", "it.toml"), ("key", "it.toml", "ana"),
@@ -67,7 +67,7 @@ class SetsUp(InClone):
             done = self.call("./class", *words)
             self.assertEqual((done.returncode, done.stdout), (1, ""), words)
             self.assertIn("\nmml: the build failed, see ", done.stderr, words)
-            self.assertTrue(done.stderr.endswith("class: a program isn't built, so nothing was done\n"), done.stderr)
+            self.assertTrue(done.stderr.endswith("class: the program isn't built, so nothing was done\n"), done.stderr)
             (self.clone / "crates/mml_host/build.log").unlink()
         self.assertEqual(sorted(self.clone.rglob("*")), before)
 
@@ -90,7 +90,7 @@ class SetsUp(InClone):
         self.set("waits", "")
         done = self.new()
         self.assertEqual(done.returncode, 0, done.stderr)
-        self.assertIn("\nmml: 5 of 5 crates proved, 2 of them earlier\n", done.stderr)
+        self.assertIn("\nmml: 4 of 4 crates proved, 2 of them earlier\n", done.stderr)
         self.assertEqual(self.made(), sorted(FIRST))
 
     def test_named_programs(self) -> None:

@@ -7,7 +7,7 @@ import subprocess
 from pathlib import Path
 
 TOP = Path(__file__).resolve().parents[2]
-PROGRAM = Path(os.environ.get("MML_PROGRAM") or TOP / "crates" / "mml_server" / "out" / "mml_server")
+PROGRAM = Path(os.environ.get("MML_PROGRAM") or TOP / "crates/mml_host/out/mml_host")
 EXAMPLES = TOP / "examples"
 BUILT_IN = EXAMPLES / "built-in.toml"
 STUDENTS = (("ana", "a-key"), ("ben", "b-key"))

@@ -1,4 +1,4 @@
-"""The limits that `./class` reads from the host's program, and what it does without them."""
+"""The limits that `./class` reads from the program, and what it does without them."""
 from __future__ import annotations
 
 import os
@@ -19,7 +19,7 @@ from classroom.run.announcing import Announcer
 from tests.classroom.help import InRoom, words
 from tests.common.limits import LIMITS, MOST, TEXT
 
-BEGIN = "mml_host is of another version, which prints "
+BEGIN = "mml is of another version, which prints "
 SESSIONS = f"sessions {MOST['sessions']} count"  # a line that the program prints
 
 
@@ -90,7 +90,7 @@ class Asks(InRoom):
 
     def test_no_limits(self) -> None:
         """If a program is missing, prints nothing or fails, no limit is known."""
-        for path, what in ((str(self.room / "none"), "mml_host isn't built: "), (self.program("silent", ""), f"{BEGIN}no limit nodes: "),
+        for path, what in ((str(self.room / "none"), "mml isn't built: "), (self.program("silent", ""), f"{BEGIN}no limit nodes: "),
                            (self.program("failing", TEXT, 1), f"{BEGIN}no limits: ")):
             with unittest.mock.patch.dict(os.environ, {"MML_HOST": path}):
                 self.assertIsNone(limits.known())

@@ -92,14 +92,13 @@ class Run(Cycle):
         self.assertFalse((self.room / "runs").exists())
 
     def test_no_host_built(self) -> None:
-        """Without a host, a run fails with a message about how to build one. With `--serve` it needs none."""
+        """Without a host's program, a run fails with a message about how to build one. With `--serve` it needs none."""
         none = str(self.room / "none")
         asked: tuple[list[str | Path], ...] = (["run", CYCLE], ["demo"])
         for given in asked:
             done = words(*given, "--into", self.room / "runs", MML_HOST=none)
             self.assertEqual(done.returncode, 1)
-            self.assertIn("mml_host isn't built: `./mml build` builds it", done.stderr)
-            self.assertIn("--serve", done.stderr)
+            self.assertIn("mml isn't built: `./mml build` builds it", done.stderr)
         self.assertFalse((self.room / "runs").exists())
         going = Going(self, CYCLE, "--close", "by-hand", "--serve", MML_HOST=none)
         self.assertTrue(any("connections in all" in line for line in going.lines), going.lines)
@@ -108,7 +107,7 @@ class Run(Cycle):
         going.type("close")
         going.until("^configuration 1: 4 \\(gus\\) update")
         self.assertEqual(going.ended(), 1, going.lines)
-        self.assertTrue(any("mml_host isn't built" in line for line in going.lines), going.lines)
+        self.assertTrue(any("mml isn't built" in line for line in going.lines), going.lines)
         self.assertTrue((going.folder / "run.html").is_file())
         self.assertIn("2 events, configuration 1", words("mark", going.folder).stdout)
 

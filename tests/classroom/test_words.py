@@ -75,7 +75,7 @@ class Version(InRoom):
 
 
 class Release(InRoom):
-    """The subcommands of a release whose programs can't be started."""
+    """The subcommands of a release whose program can't be started."""
 
     def test_a_c_library_that_is_too_old(self) -> None:
         """Each subcommand that starts a program prints a line about it, like `mml`. The others work."""
@@ -83,8 +83,7 @@ class Release(InRoom):
             shutil.copy(TOP / name, self.room)
         shutil.copytree(TOP / "classroom", self.room / "classroom", ignore=shutil.ignore_patterns("__pycache__"))
         (self.room / "bin").mkdir()
-        for name in ("mml", "mml_host"):
-            self.file(f"bin/{name}", "#!/bin/sh\necho started\nexit 1\n").chmod(0o755)
+        self.file("bin/mml", "#!/bin/sh\necho started\nexit 1\n").chmod(0o755)
         (self.room / "examples").mkdir()
         lab = Path(shutil.copy(TOP / "examples/cycle.toml", self.room / "examples"))
         asked: tuple[list[str | Path], ...] = (["run", lab], ["demo"], ["check", lab], ["mark", lab, lab], ["practise"])

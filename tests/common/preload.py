@@ -20,7 +20,7 @@ from tests.common.lines import refusal_of
 
 HERE = Path(__file__).resolve().parent
 TOP = HERE.parent.parent
-PROGRAM = Path(os.environ.get("MML_PROGRAM") or TOP / "crates/mml_server/out/mml_server")
+PROGRAM = Path(os.environ.get("MML_PROGRAM") or TOP / "crates/mml_host/out/mml_host")
 LIMIT = 300.0
 # Replies to lines without an effect, whatever was asked.
 REFUSED = (refusal_of("memory"), refusal_of("journal"))

@@ -39,7 +39,7 @@ RUN_BY = {("docs/OPERATE.md", "sh"): "tests/pages/operate", ("docs/STUDENT.md", 
 RUN_BEFORE = {
     "tar ": ("tests/release/run", "tar -xzf $release.tar.gz"),
     "./try": ("tests/program/launchers", '"$work/try") < examples/first-look.script'),
-    "./mml build": ("tests/program/launchers", '"both" build'),
+    "./mml build": ("tests/program/launchers", '"the build, once more" build'),
     "./check": ("tests/check/test_check.py", 'self.check("quick")'),
 }
 MARKS = ("sh not run", "text")

@@ -27,11 +27,11 @@ FOLDERS = {
     "mml_recording": ["record"],
     "mml_resuming": ["resume"],
     "mml_program": ["program"],
-    "mml_server": ["program", "hostile"],
+    "mml_server": ["program"],
     "mml_judging_program": ["tally", "record"],
     "mml_ports": ["host", "outsiders"],
     "mml_host_program": ["host", "resume"],
-    "mml_host": ["host", "hostile"],
+    "mml_host": ["program", "host", "hostile"],
 }
 COLUMNS, WIDTH, HEIGHT, GAP, MARGIN = 4, 232, 44, 8, 16
 STYLE = """

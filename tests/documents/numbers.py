@@ -133,13 +133,12 @@ def guesses() -> Iterator[tuple[str, str]]:
 def times() -> Iterator[tuple[str, tuple[str, ...]]]:
     """Yields for each time of a check or a build its page and the texts of which the page has to contain one."""
     proofs, quick = minutes_of([[PROOFS, wrong_beside()], QUICK], PROCESSORS)
-    both = needed(["mml_server", "mml_host"])
-    build = progress_of(both, PROCESSORS).left(0.0) / 60
+    build = progress_of(needed(["mml_host"]), PROCESSORS).left(0.0) / 60
     for command, minutes in (("| `./check` | proves, builds and tests everything | {} |", proofs + quick),
-                             ("| `./class demo` | builds the programs if they aren't built yet, and runs a class with four bots | "
-                              "ten seconds\\* if they are built, otherwise {} |", build),
-                             ("| `./check quick` | runs the tests that need no proof, with the programs that are built | {} |", quick),
-                             ("| `./mml build` | proves and builds the programs | {} |", build)):
+                             ("| `./class demo` | builds the program if it isn't built yet, and runs a class with four bots | "
+                              "ten seconds\\* if it is built, otherwise {} |", build),
+                             ("| `./check quick` | runs the tests that need no proof, with the program that is built | {} |", quick),
+                             ("| `./mml build` | proves and builds the program | {} |", build)):
         yield README, tuple(command.format(said) for said, (least, most) in ROUNDED.items() if least <= minutes <= most)
 
 

@@ -1,9 +1,11 @@
 """Proves and builds programs of this clone.
 
-    python3 -B -m tools.build PROGRAM..     is called by ./mml if a program isn't built from its present sources
+    python3 -B -m tools.build PROGRAM..             builds these programs, except those that are built from their present sources
+    python3 -B -m tools.build --built PROGRAM..     prints the paths of these programs if all are built, and builds nothing
 
 Proofs run on all processors, and proofs that this machine has made before are used again. The status is 0 if all these
-programs are built, and 1 if not. After a signal the build ends by that signal, and the finished proofs are kept.
+programs are built, 1 if not, and 127 if the toolchain that builds them is missing. After a signal the build ends by that
+signal, and the finished proofs are kept.
 """
 from __future__ import annotations
 
@@ -20,10 +22,12 @@ from tools.build.place import room
 from tools.build.progress import Progress, duration_text
 from tools.build.proving import Proving, at_once_of, jobs_of, processors
 from tools.build.running import Screen, Stopped, end_with_parent, raise_on_signals
+from tools.build.sources import is_built, program_of, sum_of_sources, write_record
 
 WRONG = re.compile(r"error|: (not proved|no proof)|NOT PROVED|run rt fmt|^rt: (FAILED|note|the disk)")
 MOST_SHOWN = 5  # the most lines that are shown of a failure
 ALONE = 0.2  # the share of a proof that runs in one process, however many processors there are
+NO_TOOLCHAIN = 127  # the status of a shell that doesn't find a command
 
 
 def say(line: str) -> None:
@@ -56,7 +60,7 @@ def tell_failure(log: Path, programs: list[str]) -> None:
     say(f"the build failed, see {kept}; if there was an older program, it is kept")
 
 
-def build(programs: list[str]) -> int:
+def prove(programs: list[str]) -> int:
     """Proves and builds programs, and prints the progress. Returns the exit status: 0 if all are built, and 1 if
     not."""
     crates = needed(programs)
@@ -71,21 +75,51 @@ def build(programs: list[str]) -> int:
         if failed:
             tell_failure(failed, programs)
             return 1
-    made = [TOP / "crates" / it / "out" / it for it in programs]
-    for program, file in zip(programs, made):
+    for program in programs:
         (TOP / "crates" / program / "build.log").unlink(missing_ok=True)
-        if not file.exists() or file.stat().st_mtime < began - 1:
+        if not program_of(program).exists() or program_of(program).stat().st_mtime < began - 1:
             say(f"the build failed: it made no {program}")
             return 1
     return 0
 
 
-def main(programs: list[str]) -> int:
-    """Builds programs, and returns the exit status. A signal stops the build and then ends this process."""
+def build(programs: list[str]) -> int:
+    """Builds those of these programs that aren't built from their present sources. Returns the exit status."""
+    sums = {it: sum_of_sources(it) for it in programs}
+    lacking = [it for it in programs if not is_built(it, sums[it])]
+    if not lacking:
+        return 0
+    if shutil.which("rt") is None:
+        say("the program has to be built, and the toolchain's command rt is not on the path")
+        say("a release runs without it, on x86_64 Linux with Bash, and Python 3.11 for ./class (docs/OPERATE.md); "
+            "./release makes one in a clone where rt is, once ./mml build has built the program there (docs/MAINTAINING.md)")
+        return NO_TOOLCHAIN
+    status = prove(lacking)
+    if status == 0:
+        for program in lacking:
+            write_record(program, sums[program])
+    return status
+
+
+def tell_built(programs: list[str]) -> int:
+    """Prints the path of each program that is built from its present sources. Returns the exit status: 1 if one isn't
+    built."""
+    for program in programs:
+        if not is_built(program, sum_of_sources(program)):
+            say(f"{program} isn't built from these sources")
+            return 1
+        print(program_of(program))
+    return 0
+
+
+def main(words: list[str]) -> int:
+    """Does what these words ask for, and returns the exit status. A signal stops a build and then ends this process."""
+    if words[:1] == ["--built"]:
+        return tell_built(words[1:])
     end_with_parent()
     raise_on_signals()
     try:
-        return build(programs)
+        return build(words)
     except Stopped as stopped:
         say("stopped; what is proved is kept, and the next build continues from there")
         signal.signal(stopped.number, signal.SIG_DFL)

@@ -50,14 +50,19 @@ def installed(*packages: str) -> Callable[[], bool]:
 
 @cache
 def is_built() -> bool:
-    """Returns whether both programs are built from these sources."""
-    calls = (("./mml", "--built"), ("./mml", "host", "--built"))
-    return all(subprocess.run(it, cwd=TOP, capture_output=True, check=False).returncode == 0 for it in calls)
+    """Returns whether the program is built from these sources."""
+    call = ("python3", "-B", "-m", "tools.build", "--built", "mml_host")
+    return subprocess.run(call, cwd=TOP, capture_output=True, check=False).returncode == 0
 
 
 def is_built_or_named() -> bool:
-    """Returns whether both programs are built from these sources, or the environment names others."""
+    """Returns whether the program is built from these sources, or the environment names others."""
     return bool(os.environ.get("MML_PROGRAM") and os.environ.get("MML_HOST")) or is_built()
+
+
+def has_server() -> bool:
+    """Returns whether the smaller program, which only the proofs of all crates build, is there."""
+    return os.access(TOP / "crates/mml_server/out/mml_server", os.X_OK)
 
 
 def has_tests() -> bool:
@@ -76,8 +81,9 @@ TYPES = ("mypy", "flake8", "python3-selenium")
 RELEASE = ("python3", "stunnel4", "openssl", "openssh-client", "systemd")
 NEEDS = {
     "rt": Need("the command rt of the Rattle toolchain on the path (README.md)", on_path("rt")),
-    "programs": Need("both programs, built from these sources: ./mml build", is_built_or_named, is_a_must=True),
-    "built": Need("both programs in their places, built from these sources: ./mml build", is_built, is_a_must=True),
+    "programs": Need("the program, built from these sources: ./mml build", is_built_or_named, is_a_must=True),
+    "built": Need("the program in its place, built from these sources: ./mml build", is_built, is_a_must=True),
+    "server": Need("the smaller program mml_server, as ./check proofs leaves it", has_server),
     "tests": Need("the tests inside the crates, as ./check proofs leaves them", has_tests),
     "git": Need("the command git", on_path("git"), ("git",)),
     "python3": Need("Debian's own Python", on_path("/usr/bin/python3"), ("python3",)),

@@ -92,6 +92,7 @@ QUICK = [
     Part("calls", module("program"), 0.2, 0.3, 1, BUILT),
     Part("refusals", module("memory", "tests"), 0.2, 0.2, 1, ("tests", "rt")),
     Part("program", ("bash", "tests/program/run"), 0.1, 0.2, 0.5, BUILT),
+    Part("server", ("env", "MML_PROGRAM=crates/mml_server/out/mml_server", *module("program.words")), 0.1, 0.2, 1, (*BUILT, "server")),
     Part("faults", module("faults"), 0.1, 0.2, 0.5, (*BUILT, "rt")),
     Part("audits", module("program.audits"), 0.2, 0.2, 1, BUILT),
     Part("labs", module("labs"), 0.1, 0.1, 1, BUILT),

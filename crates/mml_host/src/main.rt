@@ -1,33 +1,39 @@
-//! The host: it serves a class at two ports until the teacher says bye at the desk, judges what a class left, answers
-//! a script as its lines come, and prints the limits.
+//! The program for people. It checks labs, answers scripts, serves connections and classes, judges what a run left, and
+//! prints the limits.
 #![tactic(auto)]
 
 use mml_host_program::{JournalEye, is_for_limits, is_of_class, print_limits};
-use mml_program::begin_program;
+use mml_judging_program::is_for_judging;
+use mml_program::{begin_program, run_words};
 use std::fmt::Display;
 use std::process::ExitCode;
 
-// Does what the word after the program's name asks for: serves a class, prints the limits, judges what a class left, or
-// answers a script.
-// Returns the exit status: 0, or that of the error, whose line is printed.
+// Does what the word after the program's name asks for, or answers the script on standard input if there is no word.
+// Returns the exit status: 0, or that of the error, whose line is printed on standard error.
 fn main(rt: HostRuntime) -> ExitCode {
     let words = match begin_program(&rt) {
         Ok(words) => words,
         Err(fault) => return print_error(&rt, &fault, fault.status()),
     };
-    if is_of_class(words.as_slice()) {
+    let words = words.as_slice();
+    if is_of_class(words) {
         let eye = JournalEye { rt: &rt };
-        match mml_host_program::run(&rt, &eye, words.as_slice()) {
+        match mml_host_program::run(&rt, &eye, words) {
             Ok(()) => ExitCode::SUCCESS,
             Err(fault) => print_error(&rt, &fault, fault.status()),
         }
-    } else if is_for_limits(words.as_slice()) {
+    } else if is_for_limits(words) {
         match print_limits(&rt) {
             Ok(()) => ExitCode::SUCCESS,
             Err(fault) => print_error(&rt, &fault, fault.status()),
         }
+    } else if is_for_judging(words) {
+        match mml_judging_program::run(&rt, words) {
+            Ok(()) => ExitCode::SUCCESS,
+            Err(fault) => print_error(&rt, &fault, fault.status()),
+        }
     } else {
-        match mml_judging_program::run(&rt, words.as_slice()) {
+        match run_words(&rt, words) {
             Ok(()) => ExitCode::SUCCESS,
             Err(fault) => print_error(&rt, &fault, fault.status()),
         }

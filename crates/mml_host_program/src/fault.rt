@@ -14,7 +14,7 @@ use thiserror::Error;
 /// Why the host ended before its work was done.
 #[derive(Debug, Drop, Error)]
 pub enum Fault {
-    /// An error that `mml_server` reports too, in the same words: of the command line, lab, journal, output or memory.
+    /// An error that commands of `mml_program` have too: of the command line, lab, journal, output or memory.
     #[error("{0}")]
     Common(ProgramFault),
     /// The host can't listen on a port.
@@ -45,8 +45,8 @@ pub enum Fault {
 
 impl Fault {
     /// Returns the exit status of the error: 2 if the lab is another one; 4 if a port or the record failed, or the
-    /// places don't fit the events; 5 if a window, files or threads are missing. An error that `mml_server` has too has
-    /// the same status as there.
+    /// places don't fit the events; 5 if a window, files or threads are missing. An error of `mml_program` has the
+    /// same status as there.
     pub fn status(&self) -> u8 {
         match self {
             Fault::Common(fault) => fault.status(),
@@ -62,7 +62,7 @@ impl From<ProgramFault> for Fault {
 
     ghost from_gives = { λ fault e. e ≡ Common fault };
 
-    // Wraps an error that `mml_server` has too.
+    // Wraps an error of `mml_program`.
     fn from(fault: ProgramFault) -> Fault {
         Fault::Common(fault)
     }
@@ -96,7 +96,7 @@ pub(crate) fn of_record(fault: FileFault) -> Fault
 }
 
 impl From<Memory> for Fault {
-    // Turns memory that ran out into the same error as in `mml_server`.
+    // Turns memory that ran out into the same error as in `mml_program`.
     fn from(_memory: Memory) -> Fault
         ensures { result ≡ Fault.Common ProgramFault.Memory }
     {

@@ -1,4 +1,4 @@
-//! The subcommands of `mml_host` that serve a class, with their error lines and exit statuses, and the table of limits.
+//! The commands that serve a class, with their error lines and exit statuses, and the table of limits.
 #![tactic(auto)]
 
 mod beginning;

@@ -77,7 +77,7 @@ IsOfClass (error.Record why) f = IsOfRecord why f
 IsOfClass error.Memory f = f ≡ fault.Common common.Memory
 IsOfClass error.Write f = f ≡ fault.Common common.Write
 
--- the exit status of an error: 3 if the record is refused, 4 if it can't be read, and else as in `mml_server`
+-- the exit status of an error: 3 if the record is refused, 4 if it can't be read, and else as in `mml_program`
 abbrev pub exit_status : Fault → ℕ
 exit_status (fault.Common why) = status_of why
 exit_status (fault.Record why) = 3

@@ -10,8 +10,7 @@ use thiserror::Error;
 /// Why a subcommand ended before its work was done.
 #[derive(Debug, Drop, Error)]
 pub enum Fault {
-    /// An error that `mml_server` reports too, in the same words: of the command line, lab, journal, script, output or
-    /// memory.
+    /// An error that commands of `mml_program` have too: of the command line, lab, journal, script, output or memory.
     #[error("{0}")]
     Common(ProgramFault),
     /// The record isn't one of this lab and this journal.
@@ -23,8 +22,8 @@ pub enum Fault {
 }
 
 impl Fault {
-    /// Returns the exit status of the error: 3 if the record is refused, and 4 if it can't be read. An error that
-    /// `mml_server` has too has the same status as there.
+    /// Returns the exit status of the error: 3 if the record is refused, and 4 if it can't be read. An error
+    /// of `mml_program` has the same status as there.
     pub fn status(&self) -> u8
         ensures { result ≡ exit_status self.now }
     {
@@ -41,14 +40,14 @@ impl From<ProgramFault> for Fault {
 
     ghost from_gives = { λ fault e. e ≡ Common fault };
 
-    // Wraps an error that `mml_server` has too.
+    // Wraps an error of `mml_program`.
     fn from(fault: ProgramFault) -> Fault {
         Fault::Common(fault)
     }
 }
 
 impl From<Memory> for Fault {
-    // Turns memory that ran out into the same error as in `mml_server`.
+    // Turns memory that ran out into the same error as in `mml_program`.
     fn from(_memory: Memory) -> Fault
         ensures { result ≡ Fault.Common ProgramFault.Memory }
     {

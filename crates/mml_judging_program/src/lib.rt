@@ -1,5 +1,5 @@
-//! The subcommands of `mml_host` that serve no connections: `verify` and `tally` check the record and the journal of a
-//! class, and `answer` answers a script line by line.
+//! Commands that serve no connections: `verify` and `tally` check the record and the journal of a class, and `answer`
+//! answers a script line by line.
 #![tactic(auto)]
 
 mod answering;
@@ -22,4 +22,4 @@ pub use recorded::tally_class;
 pub use tally::write_tally;
 pub use task::run;
 pub use verifying::verify_class;
-pub use words::{TallyTask, Task, VerifyTask, read_words};
+pub use words::{TallyTask, Task, VerifyTask, is_for_judging, read_words};

@@ -36,6 +36,17 @@ pub struct TallyTask<'a> {
     pub journal: &'a str,
 }
 
+/// Returns whether the words ask for a subcommand of this crate: `answer`, `verify` or `tally`. The first word is the
+/// program's name.
+pub fn is_for_judging(words: &[String]) -> bool {
+    match words.get(1) {
+        Some(word) => {
+            word.as_str() == "answer" || word.as_str() == "verify" || word.as_str() == "tally"
+        }
+        None => false,
+    }
+}
+
 /// Returns the task that these words ask for; the first word is the program's name. Returns `CommandLine` if they don't
 /// fit any task, and `Memory` if memory runs out.
 pub fn read_words<'a>(alloc: Global, words: &'a [String]) -> Result<Task<'a>, ProgramFault> {

@@ -1,4 +1,4 @@
-//! The body of the program `mml_server`: its command line, its subcommands, its error lines and its exit statuses.
+//! The commands that `mml_server` has, and that `mml_host` has too, with their error lines and exit statuses.
 #![tactic(auto)]
 
 mod built_in;
@@ -16,7 +16,7 @@ pub use files::{
 };
 pub use lab_refusal::{AuditRefusal, LabRefusal};
 pub use script_answering::{answer_script, write_audit, write_pieces, write_size};
-pub use task::{begin_program, command_words, lab_in, lab_of, run};
+pub use task::{begin_program, command_words, lab_in, lab_of, run, run_words};
 pub use words::{
     ScriptTask, ServeTask, Task, match_words, read_words, subcommand_of, with_optional,
 };

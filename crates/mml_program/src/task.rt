@@ -27,10 +27,7 @@ use std::sync::Wait;
 use std::thread::Threads;
 use std::{env, io};
 
-/// Does what the command line asks for. Returns the error that ended the work, if one did. The order of the steps
-/// protects an existing journal. First the lab is read, then the journal's file is opened, and then the script is read
-/// or the port taken. Only then a new journal is begun, and the earlier bytes are kept under another name. If a step
-/// before that fails, the file stays as it was.
+/// Does what the command line asks for. Returns the error that ended the work, if one did.
 pub fn run<
     R: Env
         + Files<File = File>
@@ -43,7 +40,24 @@ pub fn run<
         + AllocGlobal,
 >(rt: &R) -> Result<(), Fault> {
     let words = begin_program(rt)?;
-    match read_words(rt.alloc(), words.as_slice())? {
+    run_words(rt, words.as_slice())
+}
+
+/// Does what these words ask for; the first word is the program's name. Returns the error that ended the work, if one
+/// did. The order of the steps protects an existing journal. First the lab is read, then the journal's file is opened,
+/// and then the script is read or the port taken. Only then a new journal is begun, and the earlier bytes are kept under
+/// another name. If a step before that fails, the file stays as it was.
+pub fn run_words<
+    R: Files<File = File>
+        + Net<Listener = TcpListener, Stream = TcpStream>
+        + Threads
+        + Wait
+        + Sync
+        + Input
+        + Print
+        + AllocGlobal,
+>(rt: &R, words: &[String]) -> Result<(), Fault> {
+    match read_words(rt.alloc(), words)? {
         Task::BuiltIn => answer_input(rt),
         Task::Check { lab } => check_file(rt, lab),
         Task::Script(task) => script_file(rt, task),

@@ -1,4 +1,5 @@
-//! The program: it checks lab files, answers scripts and serves connections over them, and audits journals.
+//! A smaller program than the one that people run: it checks lab files, answers scripts and serves connections over them,
+//! and audits journals.
 #![tactic(auto)]
 
 use std::process::ExitCode;
