@@ -4,7 +4,7 @@
 
 use mml_host_program::{JournalEye, is_for_limits, is_of_class, print_limits};
 use mml_judging_program::is_for_judging;
-use mml_program::{begin_program, run_words};
+use mml_program::{begin_program, read_words, run_task};
 use std::fmt::Display;
 use std::process::ExitCode;
 
@@ -33,7 +33,11 @@ fn main(rt: HostRuntime) -> ExitCode {
             Err(fault) => print_error(&rt, &fault, fault.status()),
         }
     } else {
-        match run_words(&rt, words) {
+        let task = match read_words(rt.alloc(), words) {
+            Ok(task) => task,
+            Err(fault) => return print_error(&rt, &fault, fault.status()),
+        };
+        match run_task(&rt, task) {
             Ok(()) => ExitCode::SUCCESS,
             Err(fault) => print_error(&rt, &fault, fault.status()),
         }

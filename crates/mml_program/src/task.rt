@@ -40,14 +40,14 @@ pub fn run<
         + AllocGlobal,
 >(rt: &R) -> Result<(), Fault> {
     let words = begin_program(rt)?;
-    run_words(rt, words.as_slice())
+    run_task(rt, read_words(rt.alloc(), words.as_slice())?)
 }
 
-/// Does what these words ask for; the first word is the program's name. Returns the error that ended the work, if one
-/// did. The order of the steps protects an existing journal. First the lab is read, then the journal's file is opened,
-/// and then the script is read or the port taken. Only then a new journal is begun, and the earlier bytes are kept under
-/// another name. If a step before that fails, the file stays as it was.
-pub fn run_words<
+/// Does what a task asks for. Returns the error that ended the work, if one did. The order of the steps protects an
+/// existing journal. First the lab is read, then the journal's file is opened, and then the script is read or the port
+/// taken. Only then a new journal is begun, and the earlier bytes are kept under another name. If a step before that
+/// fails, the file stays as it was.
+pub fn run_task<
     R: Files<File = File>
         + Net<Listener = TcpListener, Stream = TcpStream>
         + Threads
@@ -56,8 +56,8 @@ pub fn run_words<
         + Input
         + Print
         + AllocGlobal,
->(rt: &R, words: &[String]) -> Result<(), Fault> {
-    match read_words(rt.alloc(), words)? {
+>(rt: &R, task: Task<'_>) -> Result<(), Fault> {
+    match task {
         Task::BuiltIn => answer_input(rt),
         Task::Check { lab } => check_file(rt, lab),
         Task::Script(task) => script_file(rt, task),
