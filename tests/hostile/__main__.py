@@ -349,7 +349,7 @@ def work(room: Path) -> str:
     numbers = [float(word) for word in sys.argv[1:] if word != "host"]
     seconds = numbers[0] if numbers else SECONDS
     if OVER_HOST and not HOST.is_file():
-        fail("no host's program is built")
+        fail("the program isn't built")
     lab = room / "hostile.toml"
     text = built_in(room).read_text(encoding="utf-8")
     limits = text.replace("sessions = 4\n", "sessions = 16\n").replace("events = 100\n", "events = 100000\n")

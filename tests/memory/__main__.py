@@ -2,7 +2,7 @@
 
     python3 -m tests.memory           all of it
     python3 -m tests.memory uses      the program alone
-    python3 -m tests.memory hosts     the host's program alone, what serves no class
+    python3 -m tests.memory hosts     the commands that judge a class or answer a script
     python3 -m tests.memory classes   its words `host` and `resume` alone
     python3 -m tests.memory tests     the tests inside the crates alone
 
@@ -145,7 +145,7 @@ def refused_uses(library: Preloaded, room: Path) -> str:
 
 
 def refused_hosts(library: Preloaded, room: Path) -> str:
-    """Refuses memory in all uses of the host's program. Returns the lines about them."""
+    """Refuses memory in all uses of the commands that judge a class or answer a script. Returns the lines about them."""
     return "by a host: " + ", ".join(refuse_all(name, use, library) for name, use in host_uses(room).items())
 
 

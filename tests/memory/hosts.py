@@ -1,5 +1,5 @@
-"""Uses of the host's program without enough memory: its verdicts on a journal and a record, and a script that it
-answers."""
+"""Uses of commands without enough memory: verdicts on a journal and a record, and a script that is answered line by
+line."""
 from pathlib import Path
 
 from tests.common.hosting import HOST, Caller, Host, lab_of, let_in
@@ -28,7 +28,7 @@ def play(story: Story, host: Host) -> None:
 
 
 def host_uses(room: Path) -> dict[str, Use]:
-    """Returns the uses of the host's program that serve no class, by their names."""
+    """Returns the uses of these commands, by their names."""
     lab = lab_of(room, 4)
     story = Story(lab, b"".join((number + line) * 2 for number, line in SAID), room)
     journal, record = room / "kept.journal", room / "kept record"
@@ -46,7 +46,7 @@ def host_uses(room: Path) -> dict[str, Use]:
 
 
 def answered(story: Story) -> Use:
-    """Returns the use of a script that the host's program answers line by line."""
+    """Returns the use of a script that the program answers line by line."""
     def use(variables: dict[str, str]) -> Tried:
         """Runs the script with refusals. Returns its end and what is wrong."""
         ended = run(["answer", str(story.lab)], story.script(), variables, HOST)

@@ -229,5 +229,5 @@ def work(room: Path) -> str:
 
 if __name__ == "__main__":
     if not HOST.is_file():
-        fail("no host's program is built")
+        fail("the program isn't built")
     in_room(work)

@@ -1,4 +1,4 @@
-"""Scripts that the host's program answers as their lines come, and how it ends.
+"""Scripts that the program answers as their lines come, and how it ends.
 
     python3 -B -m tests.program.answering
 """

@@ -62,7 +62,7 @@ def phases(size: int, are_low: range) -> Iterator[Step]:
 
 
 def output_of(words: list[str | Path], given: bytes = b"") -> str:
-    """Runs the host's program with these arguments and this input, and returns its output. Fails if it doesn't end
+    """Runs the program with these arguments and this input, and returns its output. Fails if it doesn't end
     well."""
     done = subprocess.run([HOST, *words], input=given, capture_output=True, timeout=LIMIT, check=False)
     if done.returncode != 0 or done.stderr:

@@ -49,9 +49,9 @@ def installed(*packages: str) -> Callable[[], bool]:
 
 
 @cache
-def is_built() -> bool:
-    """Returns whether the program is built from these sources."""
-    call = ("python3", "-B", "-m", "tools.build", "--built", "mml_host")
+def is_built(program: str = "mml_host") -> bool:
+    """Returns whether a program, or the one that people run, is built from these sources."""
+    call = ("python3", "-B", "-m", "tools.build", "--built", program)
     return subprocess.run(call, cwd=TOP, capture_output=True, check=False).returncode == 0
 
 
@@ -61,8 +61,9 @@ def is_built_or_named() -> bool:
 
 
 def has_server() -> bool:
-    """Returns whether the smaller program, which only the proofs of all crates build, is there."""
-    return os.access(TOP / "crates/mml_server/out/mml_server", os.X_OK)
+    """Returns whether the smaller program, which is built only with the proofs of all crates, is built from these
+    sources."""
+    return is_built("mml_server")
 
 
 def has_tests() -> bool:

@@ -1,6 +1,6 @@
 """Tries plants: bugs in the crates' bodies that the prover has to refuse, or a test to see.
 
-    python3 -B -m tools.plant [PLANT..]                     builds the host's program with each in turn, and runs its test
+    python3 -B -m tools.plant [PLANT..]                     builds the program with each in turn, and runs its test
     python3 -B -m tools.plant --prove [PLANT..]             asks the prover about those that name their function
     python3 -B -m tools.plant --build TO [PLANT..]          builds the program once with all of these, and puts it there
     python3 -B -m tools.plant --draw N [--seed S] [CRATE..] draws N small bugs, one for each function, and asks the prover about them
