@@ -44,7 +44,7 @@ Key = tuple[str, int, str, str, int]  # what identifies a run: its family, nodes
 
 def sizes(word: str) -> range:
     """Returns the numbers of nodes in an argument: `A..B`, `A..B/STEP`, or one number. Raises `ArgumentTypeError` for
-    any other text, and for a number above the limit of nodes. If the programs aren't built yet, the limit isn't known,
+    any other text, and for a number above the limit of nodes. If the program isn't built yet, the limit isn't known,
     and `settings` checks it."""
     found, known = re.fullmatch(r"(\d+)(?:\.\.(\d+))?(?:/(\d+))?", word), limits.known()
     least, most = (int(found[1]), int(found[2] or found[1])) if found else (0, 0)

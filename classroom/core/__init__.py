@@ -1,1 +1,1 @@
-"""The base of all of `./class`: the proved programs, labs, journals, records, folders of runs, and counts."""
+"""The base of all of `./class`: the proved program, labs, journals, records, folders of runs, and counts."""

@@ -1,4 +1,4 @@
-"""Compares the output of the programs with that of the plain model for the same arguments."""
+"""Compares the output of the program with that of the plain model for the same arguments."""
 from __future__ import annotations
 
 import subprocess

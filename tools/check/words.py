@@ -33,7 +33,7 @@ def parser() -> argparse.ArgumentParser:
         f"2 if the words aren't understood, {TAKEN} if another check runs in this tree.",
     )
     each = every.add_subparsers(title="words, for a part of it", dest="word", metavar="WORD")
-    quick = each.add_parser("quick", help=f"what needs no proof, over the programs that are built: {taking(minutes(QUICK, 4))}")
+    quick = each.add_parser("quick", help=f"what needs no proof, over the program that is built: {taking(minutes(QUICK, 4))}")
     quick.add_argument("names", nargs="*", metavar="PART", help="only these: " + ", ".join(it.name for it in QUICK))
     proofs = each.add_parser("proofs", help=f"rt ci, every proof and the tests inside: {taking(minutes([PROOFS], 4))}")
     proofs.add_argument("names", nargs="*", metavar="CRATE", help="only these crates and those below them")

@@ -1,4 +1,4 @@
--- What the programs print about a class: about its journal, and about its record.
+-- What the program prints about a class: about its journal, and about its record.
 use Rattle.std.specs.Prelude.{◌≡◌, ◌<◌, ◌++◌, ℕ, true, false, List, length, take, Option, Err, MatchBool}
 use Rattle.std.specs.Io.KnownBytes.{Appends}
 use Rattle.mml_lab.specs.Labs.{LabValue}
