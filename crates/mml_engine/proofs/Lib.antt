@@ -1,1 +1,2 @@
+pub mod TurnsLemmas
 pub mod NamingLemmas

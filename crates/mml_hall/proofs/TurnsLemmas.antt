@@ -1,13 +1,14 @@
 -- What turns leave as it was, and when the refusal for memory may come instead of a reply.
 use Rattle.std.proofs.lemmas.{Bool.Decides.nat_tests, Bool.or_right, List.get_or-set_other, List.set-get_or}
 use Rattle.std.proofs.Common.{◌≡◌, ◌≢◌, ◌⊎◌, ◌<◌, ◌-◌, ℕ, Bool, true, false, true≢false, not, cond, List, Option, Some, None, Result, Ok, Err, refl, sym, ap, ◌∙◌, arith, subst, inl, inr}
-use Rattle.mml_lab.specs.{declared.who.Who.Who, Labs.LabValue, Rosters.principal}
+use Rattle.mml_lab.specs.{declared.who.Who.Who, Labs.LabValue}
 use Rattle.mml_board.specs.{Events.after, declared.event.Event.Event, declared.done.Done.Done}
 use Rattle.mml_board.proofs.EventsLemmas.{next_place}
 use Rattle.mml_policy.specs.{declared.command.Command.Command, declared.ruling.Ruling.Ruling, declared.ruling.Ruling.TheVariants.Granted, Rulings.ruling}
 use Rattle.mml_codec.specs.declared.{request.LineFault.LineFault, request.Request.Request, reply.Reply.Reply}
-use Rattle.mml_codec.specs.{Greetings.greeting, Greetings.admitted, Lines.request_in, Replies.is_short, Replies.place_in, Replies.TellsFor, Rulings.reply_of_done}
+use Rattle.mml_codec.specs.{Lines.request_in, Replies.is_short, Replies.place_in, Replies.TellsFor, Rulings.reply_of_done}
 use Rattle.mml_codec.proofs.RulingsLemmas.{place_of_done, short_done}
+use Rattle.mml_engine.proofs.TurnsLemmas.{by_greeting}
 use Rattle.mml_hall.specs.Turns.{State, Outcome, Mishap, Turn, IsRefusal, GrowsByGrant, is_grant, nothing, while_read, later, sink_failed, turn, known_on, with_known, with_event, outcome_of, settled}
 use Rattle.mml_hall.specs.Turns.{answer_to, plain_turn, takes_memory, without_memory, halting, IsKept}
 use Rattle.mml_board.specs.declared.done.Done.TheVariants as done
@@ -66,40 +67,29 @@ module _ (lab : LabValue) (st : State) (k : ℕ) where
   abbrev pub Does : Result Request LineFault → Outcome → Type 0
   Does asked out = IsIdle st out ⊎ IsGreeting st k out ⊎ IsGranting lab st k asked out
 
-  -- the connection stays known as it was
-  idle_known : (asked : Result Request LineFault) (x : Option Who) (r : Reply) → known_on st k ≡ x → place_in r ≡ None
-      → Does asked (record { reply = r; state = with_known st k x })
-  idle_known asked x r e none = inl (record { state = subst (λ (y : Option Who). with_known st k y ≡ st) e (with_known-known_on st k); nameless = none })
-
-  does_told : (x : Who) (c : Command) (ruled : Ruling) → ruling lab.ids lab.roster lab.events st.halted st.world x c ≡ ruled → known_on st k ≡ Some x
-      → Does (Ok (requests.Do c)) (outcome_of st ruled)
-  does_told x c (Granted f d) e known = inr (inr (record {
+  does_told : (asked : Result Request LineFault) (x : Who) (c : Command) (ruled : Ruling) → ruling lab.ids lab.roster lab.events st.halted st.world x c ≡ ruled
+      → known_on st k ≡ Some x → asked ≡ Ok (requests.Do c) → Does asked (outcome_of st ruled)
+  does_told asked x c (Granted f d) e known is = inr (inr (record {
     who = x;
     command = c;
     event = f;
     done = d;
     known = known;
-    request = refl;
+    request = is;
     ruled = e;
     reply = refl;
     state = refl;
   }))
-  does_told x c _ e known = inl (record { state = refl; nameless = refl })
-
-  does_admit : (found : Option Who) (asked : Result Request LineFault) → known_on st k ≡ None → Does asked (settled lab st k (admitted found))
-  does_admit None asked e = idle_known asked None _ e refl
-  does_admit (Some x) asked e = inr (inl (record { known = Some x; state = refl; nameless = refl; short = refl; tells = λ h. h }))
-
-  does_greet : (known : Option Who) (q : Request) → known_on st k ≡ known → Does (Ok q) (settled lab st k (greeting lab.roster known q))
-  does_greet None (requests.Hello name key) e = does_admit (principal lab.roster name key) (Ok (requests.Hello name key)) e
-  does_greet (Some x) (requests.Hello name key) e = idle_known (Ok (requests.Hello name key)) (Some x) _ e refl
-  does_greet _ requests.Bye e = inr (inl (record { known = None; state = refl; nameless = refl; short = refl; tells = λ h. h }))
-  does_greet None (requests.Do c) e = idle_known (Ok (requests.Do c)) None _ e refl
-  does_greet (Some x) (requests.Do c) e = does_told x c (ruling lab.ids lab.roster lab.events st.halted st.world x c) refl e
+  does_told asked x c _ e known is = inl (record { state = refl; nameless = refl })
 
   does_answer : (asked : Result Request LineFault) → Does asked (answer_to lab st k asked)
   does_answer (Err fault) = inl (record { state = refl; nameless = refl })
-  does_answer (Ok q) = does_greet (known_on st k) q refl
+  does_answer (Ok q) =
+      by_greeting (λ g. Does (Ok q) (settled lab st k g))
+      (λ x. inr (inl (record { known = Some x; state = refl; nameless = refl; short = refl; tells = λ h. h })))
+      (inr (inl (record { known = None; state = refl; nameless = refl; short = refl; tells = λ h. h }))) lab.roster (known_on st k) q
+      (λ d. inl (record { state = with_known-known_on st k; nameless = refl }))
+      (λ x c known is. does_told (Ok q) x c (ruling lab.ids lab.roster lab.events st.halted st.world x c) refl known (ap Ok is))
 
   pub plain_does : (line : List ℕ) → Does (request_in line) (plain_turn lab st k line)
   unfolding plain_turn

@@ -1,0 +1,69 @@
+-- What a turn does, whoever answers the commands.
+use Rattle.std.proofs.Common.{◌≡◌, ◌⊎◌, ◌∙◌, ℕ, true, List, Option, Some, None, Result, Ok, Err, refl, ap, inl, inr}
+use Rattle.mml_lab.specs.{declared.who.Who.Who, Rosters.RosterValue, Rosters.principal}
+use Rattle.mml_board.specs.declared.denial.Denial.{Denial}
+use Rattle.mml_policy.specs.declared.command.Command.{Command}
+use Rattle.mml_codec.specs.declared.{request.LineFault.LineFault, request.Request.Request, reply.Reply.Reply}
+use Rattle.mml_codec.specs.declared.greeting.Greeting.{Greeting, TheVariants.Answered, TheVariants.LeftToJudge}
+use Rattle.mml_codec.specs.{Greetings.greeting, Greetings.admitted, Lines.request_in, Replies.is_short, Replies.place_in}
+use Rattle.mml_engine.specs.Turns.{Settles, Asked, Turn}
+use Rattle.mml_board.specs.declared.denial.Denial.TheVariants as denial
+use Rattle.mml_codec.specs.declared.request.Request.TheVariants as requests
+use Rattle.mml_codec.specs.declared.reply.Reply.TheVariants as replies
+
+-- ---- a request is denied, and the same one stays known; or it is a hello that is granted, a bye, or a command to judge
+
+module _ (P : Greeting → Type 0) (hello : (who : Who) → P (Answered (replies.Hello who) (Some who))) (bye : P (Answered replies.Bye None)) where
+  by_admitted : ((d : Denial) → P (Answered (replies.Deny d) None)) → (found : Option Who) → P (admitted found)
+  by_admitted denied None = denied denial.Unknown
+  by_admitted denied (Some who) = hello who
+
+  -- what holds of each of these holds of any greeting
+  pub by_greeting : (roster : RosterValue) (known : Option Who) (q : Request) → ((d : Denial) → P (Answered (replies.Deny d) known))
+      → ((who : Who) (c : Command) → known ≡ Some who → q ≡ requests.Do c → P (LeftToJudge who c)) → P (greeting roster known q)
+  by_greeting roster None (requests.Hello name key) denied judged = by_admitted denied (principal roster name key)
+  by_greeting roster (Some who) (requests.Hello name key) denied judged = denied denial.Greeted
+  by_greeting roster _ requests.Bye denied judged = bye
+  by_greeting roster None (requests.Do c) denied judged = denied denial.NotGreeted
+  by_greeting roster (Some who) (requests.Do c) denied judged = judged who c refl refl
+
+-- ---- a line is answered at once, or by the engine
+
+-- the line was answered at once: the engine stays as it was, and the reply is short and names no place
+pub record IsQuiet {E V : Type 0} (e : E) (v : V) (r : Reply) (e' : E) (v' : V) : Type 0 where
+  pub short : is_short r ≡ true
+  pub nameless : place_in r ≡ None
+  pub engine : e' ≡ e
+  pub view : v' ≡ v
+
+-- the line is a command of a known participant, and the engine has answered it
+pub record IsTold {E V : Type 0} (tells : E → V → Who → Command → Reply → E → V → Type 0) (known : Option Who) (line : List ℕ) (e : E) (v : V) (r : Reply)
+    (known' : Option Who) (e' : E) (v' : V) : Type 0 where
+  pub who : Who
+  pub command : Command
+  pub by : known ≡ Some who
+  pub asked : request_in line ≡ Ok (requests.Do command)
+  pub still : known' ≡ known
+  pub told : tells e v who command r e' v'
+
+module _ {E V : Type 0} (tells : E → V → Who → Command → Reply → E → V → Type 0) (roster : RosterValue) (known : Option Who) (e : E) (v : V) (line : List ℕ)
+    (r : Reply) (known' : Option Who) (e' : E) (v' : V) where
+  abbrev pub Does : Type 0
+  Does = IsQuiet e v r e' v' ⊎ IsTold tells known line e v r known' e' v'
+
+  at_once : (q : Reply) → is_short q ≡ true → place_in q ≡ None → r ≡ q → e' ≡ e → v' ≡ v → Does
+  at_once q short none is same still =
+      inl (record { short = ap is_short is ∙ short; nameless = ap place_in is ∙ none; engine = same; view = still })
+
+  asked_does : (asked : Result Request LineFault) → request_in line ≡ asked → Asked tells roster known e v asked r known' e' v' → Does
+  asked_does (Err fault) is h = at_once _ refl refl h.0 h.1.1 h.1.2
+  asked_does (Ok q) is h =
+      by_greeting (λ g. Settles tells known e v g r known' e' v' → Does)
+      (λ who s. at_once (replies.Hello who) refl refl s.0 s.2 s.3) (λ s. at_once replies.Bye refl refl s.0 s.2 s.3) roster known q
+      (λ d s. at_once (replies.Deny d) refl refl s.0 s.2 s.3)
+      (λ who c by asked s. inr (record { who = who; command = c; by = by; asked = is ∙ ap Ok asked; still = s.0; told = s.1 })) h
+
+  -- a turn does one of these
+  pub turn_does : Turn tells roster known e v line r known' e' v' → Does
+  turn_does (inl h) = asked_does (request_in line) refl h
+  turn_does (inr h) = at_once _ refl refl h.0 h.1.1 h.1.2
