@@ -1,17 +1,19 @@
 -- A session's window replies as an engine does.
-use Rattle.std.proofs.Common.{◌≡◌, ◌⊎◌, ℕ, List, [], Option, Some, None, Result, Ok, Err, refl, ap, ◌∙◌, inl, inr}
+use Rattle.std.proofs.Common.{◌≡◌, ◌⊎◌, ℕ, List, [], Option, Some, None, Result, Ok, Err, refl, ap, ◌∙◌, inl, inr, arith}
+use Rattle.std.{specs.Prelude.⊤, proofs.lemmas.Bool.Decides.nat_tests}
 use Rattle.mml_lab.specs.{declared.who.Who.Who, Labs.LabValue}
 use Rattle.mml_board.specs.{declared.event.Event.Event, Lists.world_in}
 use Rattle.mml_policy.specs.{declared.command.Command.Command, declared.refusal.Refusal.Refusal, Rulings.event_of}
-use Rattle.mml_policy.specs.declared.ruling.Ruling.{Ruling, TheVariants.Denied, TheVariants.Seen, TheVariants.Looked, TheVariants.Reported, TheVariants.Full, TheVariants.Journal, TheVariants.Granted}
+use Rattle.mml_policy.specs.declared.ruling.Ruling.{Ruling}
 use Rattle.mml_codec.specs.{declared.request.LineFault.LineFault, declared.request.Request.Request, declared.reply.Refused.Refused, declared.reply.Reply.Reply, declared.greeting.Greeting.Greeting}
 use Rattle.mml_codec.specs.{declared.greeting.Greeting.TheVariants.Answered, declared.greeting.Greeting.TheVariants.LeftToJudge, Greetings.greeting, Lines.request_in}
 use Rattle.mml_window.specs.{Rulings.ruling_at, Windows.WindowValue}
-use Rattle.mml_session.specs.{Ends.IsView, Engines.OverWindow, Turns.Told, Turns.Plainly, Turns.Refuses, Turns.MayRefuse, Turns.Settles, Turns.Asked, Turns.Turn, Turns.entered, Turns.standing}
-use Rattle.mml_codec.specs.declared.reply.Refused.TheVariants as refused
+use Rattle.mml_session.specs.{Ends.IsView, Engines.OverWindow, Turns.Told, Turns.Plainly, Turns.Refuses, Turns.MayRefuse, Turns.Settles, Turns.Asked, Turns.Turn, Turns.entered, Turns.Standing, Turns.standing}
 use Rattle.mml_engine.specs.Told as engine
 use Rattle.mml_engine.specs.Asking as asking
 use Rattle.mml_engine.specs.Turns as turns
+use Rattle.mml_engine.proofs.TurnsLemmas.{IsQuiet, IsTold}
+use Rattle.mml_engine.proofs.TurnsLemmas as does
 
 -- ---- the window's reply is about the events that it has seen
 
@@ -20,22 +22,7 @@ entered_so l None = refl
 entered_so l (Some e) = refl
 
 may_refuse : (ruled : Ruling) (why : Refused) (kept : Option Refusal) → MayRefuse ruled why kept → engine.MayRefuse ruled why
-may_refuse (Looked l) refused.Memory kept h = tt
-may_refuse Reported refused.Memory kept h = tt
-may_refuse (Granted e done) refused.Memory kept h = tt
-may_refuse (Granted e done) refused.Journal kept h = tt
-may_refuse (Denied d) why kept h = absurd h
-may_refuse (Seen s) why kept h = absurd h
-may_refuse Full why kept h = absurd h
-may_refuse Journal why kept h = absurd h
-may_refuse (Looked l) refused.Malformed kept h = absurd h
-may_refuse (Looked l) refused.Full kept h = absurd h
-may_refuse (Looked l) refused.Journal kept h = absurd h
-may_refuse Reported refused.Malformed kept h = absurd h
-may_refuse Reported refused.Full kept h = absurd h
-may_refuse Reported refused.Journal kept h = absurd h
-may_refuse (Granted e done) refused.Malformed kept h = absurd h
-may_refuse (Granted e done) refused.Full kept h = absurd h
+may_refuse ruled why kept h = grind (arith, nat_tests)
 
 says_so : (lab : LabValue) (l : List Event) (ps : List ℕ) (ruled : Ruling) (r : Reply) (new : WindowValue)
     → Plainly lab l ps ruled r new ⊎ Refuses l ps ruled r new → engine.Plainly lab l ruled r new.seen ⊎ engine.Refuses l ruled r new.seen
@@ -69,6 +56,30 @@ module _ {E : Type 0} (lab : LabValue) (known known' : Option Who) (e e' : E) (v
   pub turn_over : (line : List ℕ) → turns.Turn (OverWindow lab) lab.roster known e v line r known' e' v' → Turn lab (standing known v) line r (standing known' v')
   turn_over line (inl h) = inl (asked_over (request_in line) h)
   turn_over line (inr h) = inr (h.0, stands known h.1.0 h.1.2)
+
+-- ---- a session's turn is one of an engine that is its window
+
+module _ (lab : LabValue) (st next : Standing) (r : Reply) where
+  settles_in : (g : Greeting) → Settles lab st g r next → turns.Settles (OverWindow {E = ⊤} lab) st.known tt st.window g r next.known tt next.window
+  settles_in (Answered q x) h = (h.0, ap (λ (s : Standing). s.known) h.1, refl, ap (λ (s : Standing). s.window) h.1)
+  settles_in (LeftToJudge who c) h = h
+
+  stays_in : next ≡ st → turns.Stays {E = ⊤} st.known tt st.window next.known tt next.window
+  stays_in same = (ap (λ (s : Standing). s.known) same, refl, ap (λ (s : Standing). s.window) same)
+
+  asked_in : (asked : Result Request LineFault) → Asked lab st asked r next
+      → turns.Asked (OverWindow {E = ⊤} lab) lab.roster st.known tt st.window asked r next.known tt next.window
+  asked_in (Err fault) h = (h.0, stays_in h.1)
+  asked_in (Ok request) h = settles_in (greeting lab.roster st.known request) h
+
+  pub turn_in : (line : List ℕ) → Turn lab st line r next → turns.Turn (OverWindow {E = ⊤} lab) lab.roster st.known tt st.window line r next.known tt next.window
+  turn_in line (inl h) = inl (asked_in (request_in line) h)
+  turn_in line (inr h) = inr (h.0, stays_in h.1)
+
+  -- what a session's turn does
+  pub turn_does : (line : List ℕ) → Turn lab st line r next → IsQuiet {E = ⊤} tt st.window r tt next.window
+      ⊎ IsTold (OverWindow {E = ⊤} lab) st.known line tt st.window r next.known tt next.window
+  turn_does line t = does.turn_does (OverWindow {E = ⊤} lab) lab.roster st.known tt st.window line r next.known tt next.window (turn_in line t)
 
 -- the line asks to see
 pub view_over : (known : Option Who) (v : WindowValue) (line : List ℕ) → asking.IsView known line → IsView (standing known v) line

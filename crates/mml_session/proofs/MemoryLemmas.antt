@@ -1,16 +1,16 @@
 -- If the line of a reply that isn't short can't be written, the refusal `memory` comes instead.
-use Rattle.std.proofs.Common.{◌≡◌, ◌⊎◌, ℕ, true, false, true≢false, List, [], ◌++◌, refl, sym, ap, ◌∙◌, subst, inl, inr, append-nil, Result, Ok, Err}
+use Rattle.std.proofs.Common.{◌≡◌, ◌⊎◌, ℕ, true, false, true≢false, List, [], ◌++◌, Option, refl, sym, ap, ◌∙◌, subst, inl, inr, append-nil, Result}
 use Rattle.mml_lab.specs.{declared.who.Who.Who, Labs.LabValue}
 use Rattle.mml_board.specs.{declared.event.Event.Event, World.World, Lists.world_in}
 use Rattle.mml_policy.specs.{declared.command.Command.Command, Rulings.event_of, Rulings.after_ruling}
-use Rattle.mml_policy.specs.declared.ruling.Ruling.{Ruling, TheVariants.Denied, TheVariants.Seen, TheVariants.Looked, TheVariants.Reported, TheVariants.Full, TheVariants.Journal, TheVariants.Granted}
+use Rattle.mml_policy.specs.declared.ruling.Ruling.{Ruling, TheVariants.Looked, TheVariants.Reported, TheVariants.Granted}
 use Rattle.mml_codec.specs.declared.{request.LineFault.LineFault, request.Request.Request, reply.Reply.Reply}
-use Rattle.mml_codec.specs.declared.greeting.Greeting.{Greeting, TheVariants.Answered, TheVariants.LeftToJudge}
-use Rattle.mml_codec.specs.{Greetings.greeting, Greetings.refusal_of, Lines.request_in, Replies.is_short, Replies.TellsFor, Rulings.reply_of, Rulings.reply_of_done}
+use Rattle.mml_codec.specs.{Greetings.greeting, Replies.is_short, Replies.TellsFor, Rulings.reply_of, Rulings.reply_of_done}
 use Rattle.mml_codec.proofs.RulingsLemmas.{short_done}
 use Rattle.mml_window.specs.{Rulings.ruling_at, Windows.WindowValue, Windows.HasSeen}
 use Rattle.mml_session.specs.Turns.{Standing, entered, places_in, MayRefuse, Plainly, Refuses, Told, Settles, Asked, Turn}
-use Rattle.mml_session.proofs.GreetingLemmas.{IsPlain, plain_greeting}
+use Rattle.mml_session.proofs.EngineLemmas.{turn_does}
+use Rattle.mml_codec.specs.declared.request.Request.TheVariants as requests
 use Rattle.mml_codec.specs.declared.reply.Refused.TheVariants as refused
 use Rattle.mml_codec.specs.declared.reply.Reply.TheVariants as replies
 
@@ -24,14 +24,11 @@ stays l ps r q new at same none = (at.0, at.1 ∙ (ap (λ (x : Reply). ps ++ pla
 long_refused : (w : World) (l : List Event) (ps : List ℕ) (r : Reply) (new : WindowValue) (ruled : Ruling) → is_short r ≡ false
     → r ≡ reply_of (after_ruling w ruled) ruled → HasSeen (entered l (event_of ruled)) (ps ++ places_in r) new
     → MayRefuse ruled refused.Memory new.refused × HasSeen l ps new
-long_refused w l ps r new (Denied d) long same at = long_not_short r (replies.Deny d) long same refl
-long_refused w l ps r new (Seen s) long same at = long_not_short r (replies.See s) long same refl
 long_refused w l ps r new (Looked k) long same at = (tt, stays l ps r (replies.Look k) new at same refl)
 long_refused w l ps r new Reported long same at = (tt, stays l ps r (reply_of w Reported) new at same refl)
-long_refused w l ps r new Full long same at = long_not_short r (replies.Refuse refused.Full) long same refl
-long_refused w l ps r new Journal long same at = long_not_short r (replies.Refuse refused.Journal) long same refl
 long_refused w l ps r new (Granted e done) long same at =
     let v = after_ruling w (Granted e done) in long_not_short r (reply_of_done v.number v.place done) long same (short_done v.number v.place done)
+long_refused w l ps r new _ long same at = long_not_short r _ long same refl
 
 module _ (lab : LabValue) where
   told_memory : (old new : WindowValue) (who : Who) (c : Command) (r : Reply) → is_short r ≡ false → Told lab old who c r new
@@ -46,21 +43,16 @@ module _ (lab : LabValue) where
           (refused.Memory, refl, k.0, k.1)
       says (inr q) = long_not_short r (replies.Refuse q.0) long q.1 refl
 
-  settles_memory : (st next : Standing) (g : Greeting) (r : Reply) → IsPlain g → is_short r ≡ false → Settles lab st g r next
-      → Settles lab st g (replies.Refuse refused.Memory) next
-  settles_memory st next (Answered q x) r plain long h = long_not_short r q long h.0 plain.0
-  settles_memory st next (LeftToJudge who c) r plain long h = (h.0, told_memory st.window next.window who c r long h.1)
-
-  asked_memory : (st next : Standing) (asked : Result Request LineFault) (r : Reply) → is_short r ≡ false → Asked lab st asked r next
-      → Asked lab st asked (replies.Refuse refused.Memory) next
-  asked_memory st next (Err fault) r long h = long_not_short r (replies.Refuse (refusal_of fault)) long h.0 refl
-  asked_memory st next (Ok request) r long h =
-      settles_memory st next (greeting lab.roster st.known request) r (plain_greeting lab.roster st.known request) long h
-
   turn_memory : (st next : Standing) (line : List ℕ) (r : Reply) → is_short r ≡ false → Turn lab st line r next
       → Turn lab st line (replies.Refuse refused.Memory) next
-  turn_memory st next line r long (inl h) = inl (asked_memory st next (request_in line) r long h)
-  turn_memory st next line r long (inr h) = long_not_short r (replies.Refuse refused.Memory) long h.0 refl
+  turn_memory st next line r long h = elim (turn_does lab st next r line h) [
+    | inl q ↦ absurd (true≢false (sym q.short ∙ long))
+    | inr t ↦ inl (
+      subst (λ (q : Result Request LineFault). Asked lab st q (replies.Refuse refused.Memory) next) (sym t.asked)
+          (subst (λ (k : Option Who). Settles lab st (greeting lab.roster k (requests.Do t.command)) (replies.Refuse refused.Memory) next) (sym t.by)
+          (t.still, told_memory st.window next.window t.who t.command r long t.told))
+    )
+  ]
 
   pub turn_told : (st next : Standing) (line : List ℕ) (r told : Reply) → TellsFor r told → Turn lab st line r next → Turn lab st line told next
   turn_told st next line r told (inl same) t = subst (λ (q : Reply). Turn lab st line q next) (sym same) t

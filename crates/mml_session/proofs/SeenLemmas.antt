@@ -24,9 +24,6 @@ module _ {lab : LabValue} {old new : WindowValue} where
 pub ended_seen : (e : SessionEnd) (lab : LabValue) (old new : WindowValue) (input left wrote wrote' : Option (List ℕ))
     → Ended e lab old new input left wrote wrote' → Sees old new
 ended_seen end.Bye lab old new input left wrote wrote' h = seen_on h.1.talk h.1.last h.1.stands
-ended_seen end.End lab old new input left wrote wrote' h = seen_to h.1.talk h.1.stands
-ended_seen end.ReadFault lab old new input left wrote wrote' h = seen_to h.1.talk h.1.stands
 ended_seen end.WriteFault lab old new input left wrote wrote' h = seen_on h.2.talk h.2.last h.2.stands
-ended_seen end.TooLong lab old new input left wrote wrote' h = seen_to h.1.talk h.1.stands
-ended_seen end.Closed lab old new input left wrote wrote' h = seen_to h.1.talk h.1.stands
 ended_seen end.Memory lab old new input left wrote wrote' h = subst (λ (w : WindowValue). Sees old w) (sym h.0) (prefix_self old.seen)
+ended_seen _ lab old new input left wrote wrote' h = seen_to h.1.talk h.1.stands

@@ -44,5 +44,4 @@ sent_behind said r unsent whole bytes unsent' wrote wrote' e h = behind said (su
   where
     behind : (said : Sent) → SendsReply said r (unsent ++ whole) [] unsent' wrote wrote' → SendsReply said r whole unsent unsent' wrote wrote'
     behind says.Told h = h
-    behind says.Bye h = h
-    behind (says.Unwritten n) h = h
+    behind _ h = h

@@ -1,7 +1,7 @@
 -- The line of a reply has at least 16 bytes, unless it is the reply to a bye.
-use Rattle.std.proofs.Common.{◌≡◌, ℕ, ◌+◌, ◌*◌, ◌≤◌, true, false, true≢false, List, [], ◌∷◌, ◌++◌, length, codes, decimal, map, length-append, arith, subst, sym, Option, None, Some}
+use Rattle.std.proofs.Common.{◌≡◌, ℕ, ◌+◌, ◌*◌, ◌≤◌, false, true≢false, List, [], ◌∷◌, ◌++◌, length, codes, decimal, map, length-append, arith, subst, Option, None, Some}
 use Rattle.std.specs.List.{AllByRecursion}
-use Rattle.mml_lab.specs.{Labs.LabValue, Rosters.RosterValue, Rosters.name_of}
+use Rattle.mml_lab.specs.{Labs.LabValue, Rosters.RosterValue}
 use Rattle.mml_ids.specs.Pieces.{truth_text}
 use Rattle.mml_board.specs.declared.denial.Denial.{Denial}
 use Rattle.mml_board.specs.{Denials.clause_of, Denials.text_of, Denials.denial_name}

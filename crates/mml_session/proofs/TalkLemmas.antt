@@ -1,20 +1,19 @@
 -- The window that a talk leaves, and the lines that it answers.
-use Rattle.std.proofs.Common.{◌≡◌, ◌⊎◌, ℕ, List, [], ◌∷◌, ◌++◌, flat_map, sym, ◌∙◌, ap, append_assoc, append-nil, subst, inl, inr, Option, Some, None, Result, Ok, Err, All}
+use Rattle.std.proofs.Common.{◌≡◌, ℕ, List, [], ◌∷◌, ◌++◌, flat_map, sym, ◌∙◌, ap, append_assoc, append-nil, subst, inl, inr, All}
 use Rattle.std.{specs.List.AllByRecursion, proofs.lemmas.List.Elements.All-nil, proofs.lemmas.List.Elements.All-cons}
 use mathlib.Core.List.{IsPrefix}
 use Rattle.mml_lab.specs.{declared.who.Who.Who, Labs.LabValue}
 use Rattle.mml_ids.specs.Lines.{IsUnbroken}
 use Rattle.mml_lines.specs.LinesOf.{IsWithinLimit, lines_of}
 use Rattle.mml_lines.proofs.{RunsLemmas.by_steps, RunsLemmas.run_keeps, LinesOfLemmas.all_lines, LinesOfLemmas.lines_first}
-use Rattle.mml_board.specs.{declared.event.Event.Event, Lists.world_in}
-use Rattle.mml_policy.specs.{declared.command.Command.Command, Rulings.event_of}
-use Rattle.mml_codec.specs.{declared.TheConstants.MAX_REQUEST, declared.request.LineFault.LineFault, declared.request.Request.Request, declared.reply.Reply.Reply, declared.greeting.Greeting.Greeting}
-use Rattle.mml_codec.specs.{declared.greeting.Greeting.TheVariants.Answered, declared.greeting.Greeting.TheVariants.LeftToJudge, Greetings.greeting, Lines.request_in}
-use Rattle.mml_window.specs.{Rulings.ruling_at, Windows.WindowValue}
-use Rattle.mml_window.proofs.PrefixLemmas.{prefix_self, prefix_trans, prefix_more}
-use Rattle.mml_session.specs.Turns.{Standing, places_in, entered, Plainly, Refuses, Told, Settles, Asked, Turn}
+use Rattle.mml_policy.specs.declared.command.Command.{Command}
+use Rattle.mml_codec.specs.{declared.TheConstants.MAX_REQUEST, declared.reply.Reply.Reply, Replies.as_list}
+use Rattle.mml_window.specs.Windows.{WindowValue}
+use Rattle.mml_window.proofs.PrefixLemmas.{prefix_self, prefix_trans}
+use Rattle.mml_session.specs.Turns.{Standing, places_in, Told, Turn}
 use Rattle.mml_session.specs.Talks.{Talk, LineTurn, bytes_read}
-use Rattle.mml_session.proofs.GreetingLemmas.{IsPlain, plain_greeting}
+use Rattle.mml_session.proofs.EngineLemmas.{seen_told, turn_does}
+use Rattle.mml_engine.proofs.NamingLemmas as naming
 
 -- the window went on: its places by those that the reply names, and what it has seen
 pub record WentOn (old new : WindowValue) (r : Reply) : Type 0 where
@@ -28,37 +27,21 @@ stays old new r same none = record {
   seen = subst (λ (w : WindowValue). IsPrefix old.seen w.seen) (sym same) (prefix_self old.seen);
 }
 
-entered_on : (seen l : List Event) (e : Option Event) → IsPrefix seen l → IsPrefix seen (entered l e)
-entered_on seen l None p = p
-entered_on seen l (Some e) p = prefix_more seen l (e ∷ []) p
-
 module _ (lab : LabValue) where
   told_on : (old new : WindowValue) (who : Who) (c : Command) (r : Reply) → Told lab old who c r new → WentOn old new r
-  told_on old new who c r t = on t.says
-    where
-      on : Plainly lab t.list old.places (ruling_at lab (world_in lab t.list) who c) r new
-          ⊎ Refuses t.list old.places (ruling_at lab (world_in lab t.list) who c) r new
-          → WentOn old new r
-      on (inl p) = record {
-        places = p.1.1;
-        seen = subst (IsPrefix old.seen) (sym p.1.0) (entered_on old.seen t.list (event_of (ruling_at lab (world_in lab t.list) who c)) t.later);
-      }
-      on (inr q) = record {
-        places = q.3.1 ∙ (sym (append-nil old.places) ∙ sym (ap (λ (x : Reply). old.places ++ places_in x) q.1));
-        seen = subst (IsPrefix old.seen) (sym q.3.0) t.later;
-      }
-
-  settles_on : (st next : Standing) (g : Greeting) (r : Reply) → IsPlain g → Settles lab st g r next → WentOn st.window next.window r
-  settles_on st next (Answered q x) r plain h = stays st.window next.window r (ap (λ (t : Standing). t.window) h.1) (ap places_in h.0 ∙ plain.1)
-  settles_on st next (LeftToJudge who c) r plain h = told_on st.window next.window who c r h.1
-
-  asked_on : (st next : Standing) (asked : Result Request LineFault) (r : Reply) → Asked lab st asked r next → WentOn st.window next.window r
-  asked_on st next (Err fault) r h = stays st.window next.window r (ap (λ (t : Standing). t.window) h.1) (ap places_in h.0)
-  asked_on st next (Ok request) r h = settles_on st next (greeting lab.roster st.known request) r (plain_greeting lab.roster st.known request) h
+  told_on old new who c r t = record {
+    places = elim t.says [
+      | inl p ↦ p.1.1
+      | inr q ↦ q.3.1 ∙ (sym (append-nil old.places) ∙ sym (ap (λ (x : Reply). old.places ++ places_in x) q.1))
+    ];
+    seen = naming.told_on lab old.seen new.seen who c r (seen_told lab old who c r new t);
+  }
 
   pub turn_on : (st next : Standing) (line : List ℕ) (r : Reply) → Turn lab st line r next → WentOn st.window next.window r
-  turn_on st next line r (inl h) = asked_on st next (request_in line) r h
-  turn_on st next line r (inr h) = stays st.window next.window r (ap (λ (t : Standing). t.window) h.1) (ap places_in h.0)
+  turn_on st next line r h = elim (turn_does lab st next r line h) [
+    | inl q ↦ stays st.window next.window r q.view (ap as_list q.nameless)
+    | inr t ↦ told_on st.window next.window t.who t.command r t.told
+  ]
 
   pub turn_places : (st after : Standing) (t : LineTurn lab st after) → after.window.places ≡ st.window.places ++ places_in t.reply
   turn_places st after t = (turn_on st after t.line t.reply t.turn).places
