@@ -213,6 +213,4 @@ module _ (lab : LabValue) (is : IsLab lab) where
   command_comes w event.Close number of forward =
       ((tt, tt), on_first lab.sessions (requests.Do command.Close) is.some_sessions (tt, tt) (short_by (requests.Do command.Close) _ close_text (omega arith)))
   command_comes w (event.Release i) number of forward = absurd (false≢true forward)
-  command_comes w (event.Fault i registers) number of forward = absurd (false≢true forward)
-  command_comes w (event.Link a b) number of forward = absurd (false≢true forward)
-  command_comes w (event.Cut a b) number of forward = absurd (false≢true forward)
+  command_comes w _ number of forward = absurd (false≢true forward)

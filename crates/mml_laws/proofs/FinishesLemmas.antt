@@ -31,11 +31,7 @@ use Rattle.mml_codec.specs.declared.request.Request.TheVariants as requests
 
 number_after : (w : World) (e : Event) → w.number ≤ w.place → (after w e).number ≤ (after w e).place
 number_after w (event.Grant s i q) few = omega (arith, few)
-number_after w (event.Release i) few = omega (arith, few)
-number_after w event.Close few = omega (arith, few)
-number_after w (event.Fault i registers) few = omega (arith, few)
-number_after w (event.Link a b) few = omega (arith, few)
-number_after w (event.Cut a b) few = omega (arith, few)
+number_after w _ few = omega (arith, few)
 
 number_few : (w : World) (es : List Event) → w.number ≤ w.place → (world_of w es).number ≤ (world_of w es).place
 number_few w [] few = few
@@ -108,11 +104,7 @@ module _ (lab : LabValue) where
     where
       of_event : (e : Event) → IsEventOf lab.ids lab.roster e → IsPrincipal lab.roster (asker e)
       of_event (event.Grant s i q) of = of.0
-      of_event (event.Release i) of = tt
-      of_event event.Close of = tt
-      of_event (event.Fault i registers) of = tt
-      of_event (event.Link a b) of = tt
-      of_event (event.Cut a b) of = tt
+      of_event _ of = tt
 
   asks : (st : State) (es : List Event) → IsHall lab st → st.halted ≡ false → is_legal_list lab.roster st.world es ≡ true → list_all is_grant_or_close es ≡ true
       → st.world.place + length es ≤ lab.events → Asks st es

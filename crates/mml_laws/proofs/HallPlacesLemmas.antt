@@ -1,5 +1,5 @@
 -- The places that the replies of a hall name.
-use Rattle.std.proofs.Common.{◌≡◌, ◌≤◌, ◌+◌, ℕ, suc, true, List, [], ◌∷◌, ◌++◌, length, flat_map, None, Some, Result, inl, inr, refl, sym, ap, ◌∙◌, subst, arith, length-append}
+use Rattle.std.proofs.Common.{◌≡◌, ◌≤◌, ◌+◌, ℕ, suc, true, List, [], ◌∷◌, ◌++◌, length, flat_map, Some, Result, inl, inr, refl, sym, ap, ◌∙◌, subst, arith, length-append}
 use Rattle.std.{specs.List.range_with_len, proofs.lemmas.Bool.Decides.nat_tests}
 use mathlib.Core.List.{IsPrefix}
 use Rattle.mml_lab.specs.Labs.{LabValue, IsLab}
@@ -12,6 +12,7 @@ use Rattle.mml_codec.specs.declared.{request.LineFault.LineFault, request.Reques
 use Rattle.mml_codec.specs.{Lines.request_in, Replies.place_in, Replies.as_list, Rulings.reply_of_done}
 use Rattle.mml_codec.proofs.RulingsLemmas.{place_of_done}
 use Rattle.mml_hall.specs.{Halls.IsHall, Turns.State, Turns.Outcome, Turns.Turn, Turns.TurnOf, Turns.RequestLine, Turns.Run, Turns.known_on}
+use Rattle.mml_engine.proofs.NamingLemmas.{none_named}
 use Rattle.mml_hall.proofs.TurnsLemmas.{IsQuiet, IsGranting, turn_does}
 use Rattle.mml_session.specs.Turns.{places_in}
 use Rattle.mml_window.proofs.PrefixLemmas.{prefix_self, prefix_trans}
@@ -66,9 +67,6 @@ module _ (lab : LabValue) (is : IsLab lab) where
 
   -- ---- the events that the replies name
 
-  none_named : (r : Reply) (p : ℕ) → place_in r ≡ None → place_in r ≡ Some p → ⊥
-  none_named r p none some = cc
-
   place_same : (n p : ℕ) → Some n ≡ Some p → n ≡ p
   place_same n p h = cc
 
@@ -76,7 +74,7 @@ module _ (lab : LabValue) (is : IsLab lab) where
       → TurnOf lab st line r next → IsPrefix next.events l → NamesItsEvent lab l (known_on st line.connection) line.request r
   names_turn l st next line r legal few on turn begins p named =
       elim (turn_does lab st line.connection line.request (record { reply = r; state = next }) turn) [
-        | inl q ↦ absurd (none_named r p q.nameless named)
+        | inl q ↦ none_named r p q.nameless named
         | inr g ↦
             let more = longer st.events g.event l (subst (λ (s : State). IsPrefix s.events l) g.state begins) in
             let there = on.world in

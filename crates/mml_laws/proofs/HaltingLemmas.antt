@@ -50,10 +50,9 @@ module _ {S : Type 0} (lab : LabValue) (failures : S → ℕ) where
   pub only_journal : (old new : BookValue S) (who : Who) (command : Command) (answer : Answer) → Decides lab failures old who command answer new
       → new.halted ≡ true → (old.halted ≡ true) ⊎ ((answer ≡ Refused Journal) × (failures old.sink < failures new.sink))
   only_journal old new who command (Denied d) decides is = same_halted old new decides.1 is
-  only_journal old new who command (Refused Full) decides is = same_halted old new decides.2 is
   only_journal old new who command (Refused Journal) decides is = elim decides.1 [ inl same ↦ inl same.0 | inr halts ↦ inr (refl, halts.failed) ]
-  only_journal old new who command (Refused Memory) decides is = same_halted old new decides.2 is
   only_journal old new who command (Granted place number done) decides is = absurd (true≢false (sym is ∙ decides.2.halted))
+  only_journal old new who command _ decides is = same_halted old new decides.2 is
 
   pub at_present : (contents : S → Option (List ℕ)) (old new : WindowValue) (who : Who) (command : Command)
       (a : AnswersAtPresent lab contents failures old who command (Refused Journal) new) → (a.after.halted ≡ true) × (a.after.events ≡ a.before.events)

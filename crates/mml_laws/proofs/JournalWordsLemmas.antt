@@ -20,17 +20,12 @@ truth_so false = refl
 
 rule_so : (ids : List ℕ) (q : Rule) → written.rule_words (named_rule ids q) ≡ rule_words ids q
 rule_so ids rule.Update = refl
-rule_so ids (rule.Marriage j) = refl
-rule_so ids rule.Seduction = refl
-rule_so ids rule.Abandonment = refl
+rule_so ids _ = refl
 
 -- the line of each event, word by word
 pub line_words : (ids : List ℕ) (r : RosterValue) (place before : ℕ) (e : Event)
     → event_line ids r place before e ≡ spaced (decimal place ∷ decimal before ∷ words_of ids r e)
 unfolding line_text
 line_words ids r place before (event.Grant s i q) = rw (rule_so ids q) refl
-line_words ids r place before (event.Release i) = refl
-line_words ids r place before event.Close = refl
 line_words ids r place before (event.Fault i registers) = rw (pointer_so ids registers.p, truth_so registers.m) refl
-line_words ids r place before (event.Link a b) = refl
-line_words ids r place before (event.Cut a b) = refl
+line_words ids r place before _ = refl

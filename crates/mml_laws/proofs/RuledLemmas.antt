@@ -1,11 +1,11 @@
 -- The ruling on a command, by its verdict.
-use Rattle.std.proofs.Common.{◌≡◌, ◌≢◌, ◌↔◌, ◌<◌, ◌≤◌, ℕ, Bool, true, false, cond, nat_le, List, Result, Ok, Err, refl, arith}
+use Rattle.std.proofs.Common.{◌≡◌, ◌≢◌, ◌↔◌, ◌<◌, ◌≤◌, ℕ, Bool, true, false, cond, nat_le, List, Result, Ok, refl, arith}
 use Rattle.std.proofs.lemmas.Bool.{leb-true, leb-false, le-leb, lt-leb, Decides.nat_tests}
 use Rattle.mml_lab.specs.{declared.who.Who.Who, Rosters.RosterValue}
 use Rattle.mml_board.specs.{declared.done.Done.Done, declared.event.Event.Event, World.World, Events.done_by, declared.denial.Denial.Denial}
 use Rattle.mml_policy.specs.{declared.command.Command.Command, Rulings.ruled, Rulings.ruling, Verdicts.clauses, Verdicts.settled, Verdicts.verdict}
 use Rattle.mml_policy.specs.declared.ruling.Ruling.{Ruling, TheVariants.Denied, TheVariants.Full, TheVariants.Journal, TheVariants.Granted}
-use Rattle.mml_policy.specs.declared.verdict.Leave.{Leave, TheVariants.See, TheVariants.Look, TheVariants.Report, TheVariants.Grant}
+use Rattle.mml_policy.specs.declared.verdict.Leave.{Leave, TheVariants.Grant}
 use Rattle.mml_laws.specs.Ruled.{IsGrantable, IsShown}
 use Rattle.mml_policy.specs.declared.verdict.Verdict.TheVariants as verdicts
 
@@ -43,21 +43,15 @@ module _ (w : World) (limit : ℕ) (halted : Bool) where
   from_shown s h = grind (arith, nat_tests)
 
   to_full : (s : Result Leave Denial) → ruled limit halted w s ≡ Full → ((e : Event) × (settled s ≡ verdicts.Grant e)) × (limit ≤ w.place)
-  to_full (Ok (See i)) h = absurd cc
-  to_full (Ok (Look i)) h = absurd cc
-  to_full (Ok Report) h = absurd cc
   to_full (Ok (Grant e)) h = ((e, refl), leb-true limit w.place (when_full w e (nat_le limit w.place) halted h))
-  to_full (Err f) h = absurd cc
+  to_full _ h = absurd cc
 
   from_full : (s : Result Leave Denial) → ((e : Event) × (settled s ≡ verdicts.Grant e)) × (limit ≤ w.place) → ruled limit halted w s ≡ Full
   from_full s h = grind (arith, nat_tests, le-leb)
 
   to_journal : (s : Result Leave Denial) → ruled limit halted w s ≡ Journal → ((e : Event) × (settled s ≡ verdicts.Grant e)) × (w.place < limit) × (halted ≡ true)
-  to_journal (Ok (See i)) h = absurd cc
-  to_journal (Ok (Look i)) h = absurd cc
-  to_journal (Ok Report) h = absurd cc
   to_journal (Ok (Grant e)) h = let two = when_journal w e (nat_le limit w.place) halted h in ((e, refl), leb-false limit w.place two.0, two.1)
-  to_journal (Err f) h = absurd cc
+  to_journal _ h = absurd cc
 
   from_journal : (s : Result Leave Denial) → ((e : Event) × (settled s ≡ verdicts.Grant e)) × (w.place < limit) × (halted ≡ true) → ruled limit halted w s ≡ Journal
   from_journal s h = grind (arith, nat_tests, lt-leb)

@@ -46,11 +46,7 @@ module _ (ids : List ℕ) (r q : RosterValue) (alike : (name : List ℕ) → stu
   named_alike : (w : EventWords) → event_named ids r w ≡ event_named ids q w
   unfolding event_named
   named_alike (words.grant name i rule) = rw (alike name) refl
-  named_alike (words.release i) = refl
-  named_alike words.close = refl
-  named_alike (words.fault i p m) = refl
-  named_alike (words.link a b) = refl
-  named_alike (words.cut a b) = refl
+  named_alike _ = refl
 
   -- what a line says of which these words were found
   abbrev said_in : RosterValue → Option LineWords → Result (ℕ × ℕ × Event) JournalFault
@@ -72,11 +68,7 @@ name_alike a b (who.Student s) is here = is.names.2 s here
 roster_line : (ids : List ℕ) (a b : LabValue) (place before : ℕ) (e : Event) → IsSameLab a b → IsEventOf a.ids a.roster e
     → event_line ids a.roster place before e ≡ event_line ids b.roster place before e
 roster_line ids a b place before (event.Grant s i rule) is of = rw (is.names.2 s of.0) refl
-roster_line ids a b place before (event.Release i) is of = refl
-roster_line ids a b place before event.Close is of = refl
-roster_line ids a b place before (event.Fault i registers) is of = refl
-roster_line ids a b place before (event.Link i j) is of = refl
-roster_line ids a b place before (event.Cut i j) is of = refl
+roster_line ids a b place before _ is of = refl
 
 -- each event of the lab has the same line
 pub line_alike : (a b : LabValue) (place before : ℕ) (e : Event) → IsSameLab a b → IsEventOf a.ids a.roster e

@@ -28,12 +28,9 @@ module _ (lab : LabValue) where
   ended_places : (end : SessionEnd) (old new : WindowValue) (input left wrote wrote' : Option (List ℕ)) (e : Ended end lab old new input left wrote wrote')
       → new.places ≡ old.places ++ flat_map places_in (replies_in end lab old new input left wrote wrote' e)
   ended_places end.Bye old new input left wrote wrote' e = talked_on old new e.1.talk e.1.after e.1.last e.1.stands
-  ended_places end.End old new input left wrote wrote' e = talked old new e.1.talk e.1.stands
-  ended_places end.ReadFault old new input left wrote wrote' e = talked old new e.1.talk e.1.stands
   ended_places end.WriteFault old new input left wrote wrote' e = talked_on old new e.2.talk e.2.after e.2.last e.2.stands
-  ended_places end.TooLong old new input left wrote wrote' e = talked old new e.1.talk e.1.stands
-  ended_places end.Closed old new input left wrote wrote' e = talked old new e.1.talk e.1.stands
   ended_places end.Memory old new input left wrote wrote' e = ap (λ (w : WindowValue). w.places) e.0 ∙ sym (append-nil old.places)
+  ended_places _ old new input left wrote wrote' e = talked old new e.1.talk e.1.stands
 
   session_places : (old new : WindowValue) (replies : List Reply) → IsSession lab old new replies → new.places ≡ old.places ++ flat_map places_in replies
   session_places old new replies s = grind (arith, nat_tests, ended_places)

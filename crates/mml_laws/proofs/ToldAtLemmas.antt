@@ -1,16 +1,16 @@
 -- The event that a reply names.
-use Rattle.std.proofs.Common.{◌≡◌, ◌≤◌, ◌+◌, ℕ, Bool, true, false, List, [], ◌∷◌, ◌++◌, length, Some, refl, sym, ap, ◌∙◌, subst, arith, append_assoc}
+use Rattle.std.proofs.Common.{◌≡◌, ◌≤◌, ◌+◌, ℕ, Bool, true, false, List, [], ◌∷◌, ◌++◌, length, Option, Some, Ok, refl, sym, ap, ◌∙◌, subst, arith, append_assoc}
 use Rattle.std.{specs.List.slice_get, proofs.lemmas.Bool.and_parts, proofs.lemmas.Bool.Decides.nat_tests}
 use mathlib.Core.List.{IsPrefix}
 use Rattle.mml_lab.specs.{declared.who.Who.Who, Labs.LabValue, Labs.IsLab}
 use Rattle.mml_board.specs.declared.{done.Done.Done, event.Event.Event}
 use Rattle.mml_board.specs.{World.World, World.opening_of, Events.is_legal, Events.after, Runs.is_legal_list, Runs.world_of, Lists.is_legal_in, Lists.world_in}
 use Rattle.mml_board.proofs.EventsLemmas.{next_place}
-use Rattle.mml_policy.specs.{declared.command.Command.Command, declared.ruling.Ruling.Ruling, declared.ruling.Ruling.TheVariants.Granted, Rulings.after_ruling}
+use Rattle.mml_policy.specs.declared.{command.Command.Command, ruling.Ruling.TheVariants.Granted}
 use Rattle.mml_journal.specs.EventLines.{event_line}
 use Rattle.mml_audit.proofs.AuditMeaningLemmas.{IsReached, reached_next, reached_first}
-use Rattle.mml_codec.specs.{declared.reply.Reply.Reply, Replies.place_in, Rulings.reply_of, Rulings.reply_of_done}
-use Rattle.mml_codec.proofs.RulingsLemmas.{place_of_done}
+use Rattle.mml_codec.specs.{declared.reply.Reply.Reply, declared.request.Request.TheVariants.Do, Lines.request_in, Rulings.reply_of_done}
+use Rattle.mml_engine.specs.Named.{NamesLast}
 use Rattle.mml_window.specs.Rulings.{ruling_while}
 use Rattle.mml_laws.specs.Told.{IsToldAt}
 use Rattle.mml_laws.proofs.{JournalsLemmas.lines, JournalsLemmas.lines_next, JournalsLemmas.line, RuledLemmas.ruled_granted}
@@ -27,11 +27,7 @@ line_at lab is w (f ∷ before) e later on legal few =
     ap (λ (ls : List (List ℕ)). slice_get ls (length (f ∷ before))) (lines_next lab is w f (before ++ e ∷ later) on both.0 (omega (arith, few)))
     ∙ line_at lab is (after w f) before e later (reached_next lab w f on both.0) both.1 (omega (arith, few, next_place w f))
 
--- ---- a reply that names a place is that to a grant
-
-pub names_grant : (w : World) (ruled : Ruling) (p : ℕ) → place_in (reply_of (after_ruling w ruled) ruled) ≡ Some p
-    → (e : Event) × (done : Done) × (ruled ≡ Granted e done) × (p ≡ w.place + 1)
-names_grant w ruled p h = grind (arith, nat_tests, place_of_done, next_place)
+-- ---- the event that a reply names
 
 module _ (lab : LabValue) (is : IsLab lab) (l before : List Event) (e : Event) (later : List Event) (done : Done) (x : Who) (c : Command) (r : Reply)
     (halted : Bool) (order : l ≡ before ++ e ∷ later) (legal : is_legal_in lab l ≡ true) (few : length l ≤ lab.events) where
@@ -66,3 +62,16 @@ module _ (lab : LabValue) (is : IsLab lab) (l before : List Event) (e : Event) (
 -- what a beginning of a list has is in the list
 pub longer : {A : Type 0} (before : List A) (e : A) (l : List A) → IsPrefix (before ++ e ∷ []) l → (later : List A) × (l ≡ before ++ e ∷ later)
 longer before e l p = (p.0, sym p.1 ∙ append_assoc before (e ∷ []) p.0)
+
+-- the last event of those that a session has seen, if a reply names it, is in each list that begins with them
+pub names_in : (lab : LabValue) → IsLab lab → (l : List Event) → is_legal_in lab l ≡ true → length l ≤ lab.events
+    → (known : Option Who) (line : List ℕ) (r : Reply) (p : ℕ) (seen : List Event) → NamesLast lab known line r p seen → IsPrefix seen l
+    → (x : Who) × (c : Command) × (known ≡ Some x) × (request_in line ≡ Ok (Do c)) × IsToldAt lab l p x c r
+names_in lab is l legal few known line r p seen n begins =
+    let w = world_in lab n.before in
+    let more = longer n.before n.event l (subst (λ (es : List Event). IsPrefix es l) n.last begins) in
+    let place : length n.before + 1 ≡ p = omega (arith, lists.place_in lab n.before, next_place w n.event, n.place) in
+    let told =
+    told_at lab is l n.before n.event more.0 n.done n.who n.command r false more.1 legal few n.ruled
+    (n.reply ∙ ap (λ k. reply_of_done (after w n.event).number k n.done) n.place) in
+    (n.who, n.command, n.by, n.asked, subst (λ k. IsToldAt lab l k n.who n.command r) place told)
