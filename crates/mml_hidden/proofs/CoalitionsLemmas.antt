@@ -1,110 +1,16 @@
 -- The turn of a member of a coalition, for each other member, and scripts.
-use Rattle.std.proofs.Common.{◌≡◌, ℕ, Bool, true, false, List, [], ◌∷◌, ◌++◌, Option, None, Some, Result, refl, sym, ap, ◌∙◌, subst, arith}
-use Rattle.std.{proofs.lemmas.Bool.false≢true, proofs.lemmas.Bool.eqb-true, proofs.lemmas.Bool.Decides.nat_tests, specs.Result.IfOk, specs.Option.option_map_or, specs.Prelude.decimal}
-use Rattle.mml_ids.proofs.GivesLemmas.{bind-if, need-if}
-use Rattle.mml_lab.specs.{declared.who.Who.Who, Labs.LabValue, Rosters.RosterValue}
-use Rattle.mml_board.specs.{declared.event.Event.Event, declared.denial.Denial.Denial, World.World, Events.after, Events.is_possible}
-use Rattle.mml_board.proofs.ClausesLemmas.{legal_possible}
-use Rattle.mml_policy.specs.declared.{command.Command.Command, verdict.Leave.Leave, verdict.Leave.TheVariants.Grant}
-use Rattle.mml_policy.specs.{Verdicts.clauses, Rulings.ruling, Rulings.ruled, Rulings.event_of, Rulings.after_ruling, Alike.Alike, Alike.IsWorldOf}
-use Rattle.mml_policy.proofs.{AlikeLemmas.same_ruling, RulingsLemmas.legal_event}
-use Rattle.mml_codec.specs.{declared.request.LineFault.LineFault, declared.request.Request.Request, Greetings.greeting, Greetings.admitted, Lines.request_in, Replies.reply_line}
-use Rattle.mml_hall.specs.{Turns.State, Turns.Outcome, Turns.Mishap, Turns.nothing, Turns.while_read, Turns.later, Turns.sink_failed, Turns.turn, Turns.known_on, Turns.outcome_of, Turns.settled}
-use Rattle.mml_hall.specs.{Turns.answer_to, Turns.plain_turn, Turns.opening, Turns.takes_memory, Turns.is_grant, Turns.without_memory, Turns.halting, Transcripts.Transcript, Transcripts.output_line}
-use Rattle.mml_hidden.specs.{Twins.AreTwins, Twins.StatesAlike, Twins.is_hers, Sight.ShowsTheSame, Scripted.written_on_any}
+use Rattle.std.proofs.Common.{◌≡◌, ℕ, Bool, true, false, List, [], ◌∷◌, ◌++◌, Option, None, Some, refl, sym, ap, ◌∙◌, arith}
+use Rattle.std.{proofs.lemmas.Bool.false≢true, proofs.lemmas.Bool.Decides.nat_tests, specs.Prelude.decimal}
+use Rattle.mml_lab.specs.{declared.who.Who.Who, Labs.LabValue}
+use Rattle.mml_codec.specs.{Replies.reply_line}
+use Rattle.mml_hall.specs.{Turns.State, Turns.Mishap, Turns.turn, Turns.known_on}
+use Rattle.mml_hall.specs.{Turns.opening, Transcripts.Transcript, Transcripts.output_line}
+use Rattle.mml_hidden.specs.{Twins.AreTwins, Twins.StatesAlike, Twins.is_hers, Scripted.written_on_any}
 use Rattle.mml_hidden.specs.Mishaps.{BefallenLine, turn_with, lines_in, replies_with, end_with}
 use Rattle.mml_hidden.specs.Coalitions.{AlikeFor, is_theirs, StatesAlikeFor, StayAlikeFor, AreTheirsThroughout, BeginAlikeFor, RunAlikeFor}
-use Rattle.mml_hidden.proofs.{SightLemmas.event_alike, ScriptedLemmas.if_same, ScriptedLemmas.openings_alike}
-use Rattle.mml_hidden.proofs.TwinsLemmas.{entered_is, either_both, plain_alike, same_turn, twin_turn, twin_others}
+use Rattle.mml_hidden.proofs.{ScriptedLemmas.if_same, ScriptedLemmas.openings_alike}
+use Rattle.mml_hidden.proofs.TwinsLemmas.{alike_here, twin_turn, twin_others}
 use Rattle.mml_lab.specs.declared.who.Who.TheVariants as who
-use Rattle.mml_board.specs.declared.event.Event.TheVariants as event
-
--- ---- a student's granted event is a move
-
-abbrev IsMove : Option Event → Type 0
-IsMove None = Unit {0}
-IsMove (Some (event.Grant t i q)) = Unit {0}
-IsMove (Some _) = ⊥
-
-abbrev MovesAtMost : Leave → Type 0
-MovesAtMost (Grant e) = IsMove (Some e)
-MovesAtMost _ = Unit {0}
-
-moves_at_most : (ids : List ℕ) (r : RosterValue) (w : World) (s : ℕ) (k : Command) → IfOk (clauses ids r w (who.Student s) k) MovesAtMost
-moves_at_most ids r w s k = grind (arith, nat_tests, bind-if, need-if)
-
-ruled_move : (limit : ℕ) (h : Bool) (w : World) (p : Result Leave Denial) → IfOk p MovesAtMost → IsMove (event_of (ruled limit h w p))
-ruled_move limit h w p is = grind (arith, nat_tests)
-
--- a move shows nobody anything but number and place
-shows_no_one : (r : RosterValue) (t : ℕ) (w v : World) (e : Event) → IsMove (Some e) → ShowsTheSame r t w v e
-shows_no_one r t w v (event.Grant s i q) is = tt
-shows_no_one r t w v _ is = absurd is
-
--- ---- a command of a member
-
-module _ (ids : List ℕ) (r : RosterValue) (limit : ℕ) (h : Bool) (w v : World) (in_w : IsWorldOf ids w) (in_v : IsWorldOf ids v) where
-  -- one event, which is a move, or none, in two worlds that are alike
-  after_move : (t : ℕ) → Alike r t w v → (o : Option Event) → IsMove o → ((e : Event) → o ≡ Some e → is_possible w e ≡ true)
-      → Alike r t (option_map_or (after w) o w) (option_map_or (after v) o v)
-  after_move t a None is possible = a
-  after_move t a (Some e) is possible = (event_alike ids r t w v in_w in_v a e (possible e refl)).1 (shows_no_one r t w v e is)
-
-  -- after a command of student s worlds that were alike for s and t are alike for t
-  pub others_afterwards : (s t : ℕ) (k : Command) → Alike r s w v → Alike r t w v
-      → Alike r t (after_ruling w (ruling ids r limit h w (who.Student s) k)) (after_ruling v (ruling ids r limit h v (who.Student s) k))
-  others_afterwards s t k a b =
-      let g = ruling ids r limit h w (who.Student s) k in
-      subst (λ x. Alike r t (after_ruling w g) (after_ruling v x)) (same_ruling ids r limit h w v s k in_w in_v a)
-      (after_move t b (event_of g) (ruled_move limit h w _ (moves_at_most ids r w s k))
-      (λ e is. legal_possible r w e (legal_event ids r limit h w (who.Student s) k e in_w.nodes is).0))
-
--- ---- a turn of student s, for student t
-
-module _ (lab : LabValue) (s t : ℕ) (st : State) (v : World) (es : List Event) (first : IsWorldOf lab.ids st.world) (second : IsWorldOf lab.ids v)
-    (a : Alike lab.roster s st.world v) (b : Alike lab.roster t st.world v) where
-  abbrev there : State
-  there = record { world = v; events = es; greeted = st.greeted; halted = st.halted }
-
-  abbrev For : Outcome → Outcome → Type 0
-  For one two = Alike lab.roster t one.state.world two.state.world
-
-  told_for : (c : Command) → For (outcome_of st (ruling lab.ids lab.roster lab.events st.halted st.world (who.Student s) c))
-      (outcome_of there (ruling lab.ids lab.roster lab.events st.halted v (who.Student s) c))
-  told_for c =
-      let g = ruling lab.ids lab.roster lab.events st.halted st.world (who.Student s) c in
-      let k = ruling lab.ids lab.roster lab.events st.halted v (who.Student s) c in
-      subst (λ (y : World). Alike lab.roster t y (outcome_of there k).state.world) (sym (entered_is st (event_of g)).0)
-      (subst (λ (y : World). Alike lab.roster t (after_ruling st.world g) y) (sym (entered_is there (event_of k)).0)
-      (others_afterwards lab.ids lab.roster lab.events st.halted st.world v first second s t c a b))
-
-  admitted_for : (k : ℕ) (found : Option Who) → For (settled lab st k (admitted found)) (settled lab there k (admitted found))
-  admitted_for k found = grind (arith, nat_tests)
-
-  greeted_for : (k : ℕ) (known : Option Who) (q : Request) → is_hers s known ≡ true
-      → For (settled lab st k (greeting lab.roster known q)) (settled lab there k (greeting lab.roster known q))
-  greeted_for k known q h = grind (arith, nat_tests, admitted_for, false≢true, eqb-true, told_for)
-
-  answer_for : (k : ℕ) (asked : Result Request LineFault) → is_hers s (known_on st k) ≡ true → For (answer_to lab st k asked) (answer_to lab there k asked)
-  answer_for k asked h = grind (arith, nat_tests, greeted_for)
-
-  plain_for : (k : ℕ) (line : List ℕ) → is_hers s (known_on st k) ≡ true → For (plain_turn lab st k line) (plain_turn lab there k line)
-  unfolding plain_turn
-  plain_for k line h = answer_for k (request_in line) h
-
-  same_reply : (k : ℕ) (line : List ℕ) → is_hers s (known_on st k) ≡ true → (plain_turn lab st k line).reply ≡ (plain_turn lab there k line).reply
-  same_reply k line h = (plain_alike lab s st v es first second a k line h).reply
-
-  -- whatever went wrong in the turn, in both
-  pub turn_for : (mishap : Mishap) (k : ℕ) (line : List ℕ) → is_hers s (known_on st k) ≡ true → For (turn mishap lab st k line) (turn mishap lab there k line)
-  turn_for nothing k line h = plain_for k line h
-  turn_for while_read k line h = b
-  turn_for later k line h =
-      either_both For (takes_memory (plain_turn lab st k line).reply) (takes_memory (plain_turn lab there k line).reply) (without_memory st) (without_memory there) _ _
-      (ap takes_memory (same_reply k line h)) b (plain_for k line h)
-  turn_for sink_failed k line h =
-      either_both For (is_grant (plain_turn lab st k line).reply) (is_grant (plain_turn lab there k line).reply) (halting st) (halting there) _ _
-      (ap is_grant (same_reply k line h)) b (plain_for k line h)
 
 -- ---- a turn in two labs
 
@@ -139,11 +45,7 @@ module _ (lab other : LabValue) (twins : AreTwins lab other) (members : ℕ → 
       let mine = single x.student x.member in
       let both = twin_turn lab other twins x.student st su mine m k line x.hers in (
         both.0,
-        after_others
-            (λ t h. subst (λ (o : Outcome). Alike lab.roster t (turn m lab st k line).state.world o.state.world)
-            (same_turn lab other twins x.student st su mine m k line)
-            (turn_for lab x.student t st su.world su.events a.first a.second (a.worlds x.student x.member) (a.worlds t h) m k line x.hers))
-            both.1.halted,
+        after_others (λ t h. (alike_here lab other twins x.student st su mine m k line t (a.worlds t h) x.hers).worlds) both.1.halted,
       )
 
   -- a line on a connection of theirs has the same reply, and leaves the states alike

@@ -1,7 +1,7 @@
+pub mod SightLemmas
 pub mod ToldLemmas
 pub mod TwinsLemmas
 pub mod ScriptedLemmas
-pub mod SightLemmas
 pub mod GrantsLemmas
 pub mod MishapsLemmas
 pub mod SessionsLemmas

@@ -1,18 +1,18 @@
 -- Two sessions of one student, in which the same lines have the same replies.
 use Rattle.std.proofs.Common.{◌≡◌, ℕ, ◌-◌, true, false, List, [], ◌∷◌, ◌++◌, length, take, map, Option, None, Some, Result, Ok, Err, refl, sym, ap, ◌∙◌, subst, arith, length-append, inl, inr}
 use Rattle.std.proofs.{Math.Seq.take-length, Math.Seq.take-append_seam, lemmas.Bool.false≢true, lemmas.Bool.eqb-true, lemmas.Bool.Decides.nat_tests}
-use Rattle.mml_lab.specs.{declared.who.Who.Who, Labs.LabValue, Labs.IsLab, Rosters.principal}
+use Rattle.mml_lab.specs.{declared.who.Who.Who, Labs.LabValue, Labs.IsLab, Rosters.RosterValue}
 use Rattle.mml_board.specs.{declared.event.Event.Event, World.World, Lists.is_legal_in, Lists.world_in}
 use Rattle.mml_policy.specs.{declared.command.Command.Command, declared.refusal.Refusal.Refusal, declared.ruling.Ruling.Ruling, Rulings.event_of, Alike.Alike, Alike.IsWorldOf}
 use Rattle.mml_codec.specs.declared.{request.LineFault.LineFault, request.Request.Request, reply.Refused.Refused, reply.Reply.Reply}
-use Rattle.mml_codec.specs.{Greetings.greeting, Greetings.admitted, Lines.request_in, Replies.reply_line, Rulings.reply_of}
+use Rattle.mml_codec.specs.{Greetings.greeting, Lines.request_in, Replies.reply_line, Rulings.reply_of}
+use Rattle.mml_engine.proofs.TurnsLemmas.{by_greeting}
 use Rattle.mml_window.specs.{Rulings.ruling_at, Windows.WindowValue}
 use Rattle.mml_window.proofs.{ListLemmas.nodes_in, AboutLemmas.world_is}
 use Rattle.mml_session.specs.Turns.{Standing, standing, entered, places_in, MayRefuse, Plainly, Told, Settles, Asked, Turn, Run}
 use Rattle.mml_hidden.specs.{CommandReplies.reply_to, Twins.AreTwins, Twins.is_hers, Sessions.seen_at, Sessions.IsUnhindered, Sessions.IsToldAlike, Sessions.AreToldAlike}
 use Rattle.mml_hidden.proofs.ToldLemmas.{same_reply_to}
 use Rattle.mml_lab.specs.declared.who.Who.TheVariants as who
-use Rattle.mml_codec.specs.declared.request.Request.TheVariants as requests
 use Rattle.mml_codec.specs.declared.reply.Reply.TheVariants as reply
 
 -- ---- the list at which a reply was made
@@ -77,34 +77,29 @@ module _ (lab other : LabValue) (is : IsLab lab) (too : IsLab other) (t : AreTwi
     answered : (a : Reply) (x : Option Who) → (r ≡ a) × (next ≡ standing x st.window) → (q ≡ a) × (last ≡ standing x su.window) → IsSame r q next last
     answered a x h k = (h.0 ∙ sym k.0, ap (λ n. n.known) h.1 ∙ sym (ap (λ n. n.known) k.1))
 
-    admitted_both : (found : Option Who) → Settles lab st (admitted found) r next → Settles other su (admitted found) q last → IsSame r q next last
-    admitted_both None h k = answered _ None h k
-    admitted_both (Some x) h k = answered _ (Some x) h k
+    settled_both : (asked : Request) → su.known ≡ st.known → IsToldAlike lab other s st.known r q next.window last.window
+        → Settles lab st (greeting lab.roster st.known asked) r next → Settles other su (greeting lab.roster st.known asked) q last → IsSame r q next last
+    settled_both asked e a =
+        by_greeting (λ g. Settles lab st g r next → Settles other su g q last → IsSame r q next last)
+        (λ x. answered (reply.Hello x) (Some x)) (answered reply.Bye None) lab.roster st.known asked (λ d. answered (reply.Deny d) st.known)
+        (λ x c known is h k. (
+          same_told x c r q next.window last.window (she_is x (subst (λ (o : Option Who). is_hers s o ≡ true) known a.hers))
+              (plain_told lab st.window next.window x c r a.first h.1) (plain_told other su.window last.window x c q a.second k.1) a.worlds,
+          h.0 ∙ sym e ∙ sym k.0,
+        ))
 
-    settled_both : (known : Option Who) (asked : Request) → st.known ≡ known → su.known ≡ known → IsToldAlike lab other s known r q next.window last.window
-        → Settles lab st (greeting lab.roster known asked) r next → Settles other su (greeting lab.roster known asked) q last → IsSame r q next last
-    settled_both None (requests.Hello name key) e f a h k = admitted_both (principal lab.roster name key) h k
-    settled_both (Some x) (requests.Hello name key) e f a h k = answered _ (Some x) h k
-    settled_both None requests.Bye e f a h k = answered _ None h k
-    settled_both (Some x) requests.Bye e f a h k = answered _ None h k
-    settled_both None (requests.Do c) e f a h k = answered _ None h k
-    settled_both (Some x) (requests.Do c) e f a h k = (
-      same_told x c r q next.window last.window (she_is x a.hers) (plain_told lab st.window next.window x c r a.first h.1)
-          (plain_told other su.window last.window x c q a.second k.1) a.worlds,
-      h.0 ∙ e ∙ sym f ∙ sym k.0,
-    )
-
-    asked_both : (known : Option Who) (asked : Result Request LineFault) → st.known ≡ known → su.known ≡ known
-        → IsToldAlike lab other s known r q next.window last.window
+    asked_both : (asked : Result Request LineFault) → su.known ≡ st.known → IsToldAlike lab other s st.known r q next.window last.window
         → Asked lab st asked r next → Asked other su asked q last → IsSame r q next last
-    asked_both known (Err fault) e f a h k = (h.0 ∙ sym k.0, ap (λ n. n.known) h.1 ∙ e ∙ sym f ∙ sym (ap (λ n. n.known) k.1))
-    asked_both known (Ok asked) e f a h k = grind (arith, nat_tests, settled_both)
+    asked_both (Err fault) e a h k = (h.0 ∙ sym k.0, ap (λ n. n.known) h.1 ∙ sym e ∙ sym (ap (λ n. n.known) k.1))
+    asked_both (Ok asked) e a h k =
+        settled_both asked e a h (subst (λ (o : Option Who). Settles other su (greeting lab.roster o asked) q last) e
+        (subst (λ (y : RosterValue). Settles other su (greeting y su.known asked) q last) (sym t.roster) k))
 
     turn_both : (line : List ℕ) → st.known ≡ su.known → IsToldAlike lab other s st.known r q next.window last.window → Turn lab st line r next
         → Turn other su line q last → IsSame r q next last
     turn_both line e a h k = elim h [
       | inr unread ↦ absurd (a.first.0 unread.0)
-      | inl one ↦ elim k [ inr unread ↦ absurd (a.second.0 unread.0) | inl two ↦ asked_both st.known (request_in line) refl (sym e) a one two ]
+      | inl one ↦ elim k [ inr unread ↦ absurd (a.second.0 unread.0) | inl two ↦ asked_both (request_in line) (sym e) a one two ]
     ]
 
   -- ---- all lines

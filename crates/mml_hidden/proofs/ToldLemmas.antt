@@ -1,19 +1,22 @@
 -- A student is told the same in worlds that are alike.
-use Rattle.std.proofs.Common.{◌≡◌, ℕ, Bool, true, false, cond, option_map, List, Result, Ok, Err, ap, arith}
-use Rattle.std.{proofs.lemmas.Bool.false≢true, proofs.lemmas.Bool.Decides.nat_tests, specs.Result.IfOk}
+use Rattle.std.proofs.Common.{◌≡◌, ℕ, Bool, true, false, cond, option_map, List, Option, None, Some, Result, Ok, Err, refl, ap, subst, arith}
+use Rattle.std.{proofs.lemmas.Bool.false≢true, proofs.lemmas.Bool.Decides.nat_tests, specs.Result.IfOk, specs.Option.option_map_or}
 use Rattle.mml_ids.proofs.GivesLemmas.{bind-if, need-if}
 use Rattle.mml_lab.specs.Rosters.{RosterValue, owns}
-use Rattle.mml_board.specs.{declared.event.Event.Event, declared.done.Done.Done, declared.denial.Denial.Denial, World.World, Clauses.check}
-use Rattle.mml_policy.specs.declared.{command.Command.Command, verdict.Leave.Leave, verdict.Leave.TheVariants.Report}
+use Rattle.mml_board.specs.{declared.event.Event.Event, declared.done.Done.Done, declared.denial.Denial.Denial, World.World, Events.after, Events.is_possible, Clauses.check}
+use Rattle.mml_board.proofs.ClausesLemmas.{legal_possible}
+use Rattle.mml_policy.specs.declared.{command.Command.Command, verdict.Leave.Leave, verdict.Leave.TheVariants.Report, verdict.Leave.TheVariants.Grant}
 use Rattle.mml_policy.specs.declared.ruling.Ruling.{Ruling, TheVariants.Reported, TheVariants.Full, TheVariants.Journal, TheVariants.Granted}
-use Rattle.mml_policy.specs.{Clauses.rule_of, Verdicts.clauses, Verdicts.granted, Rulings.ruled, Rulings.ruling, Alike.Alike, Alike.IsWorldOf}
+use Rattle.mml_policy.specs.{Clauses.rule_of, Verdicts.clauses, Verdicts.granted, Rulings.ruled, Rulings.ruling, Rulings.event_of, Rulings.after_ruling, Alike.Alike, Alike.IsWorldOf}
 use Rattle.mml_ids.specs.Ids.{rank_in}
-use Rattle.mml_policy.proofs.AlikeLemmas.{same_ruling, alike_afterwards}
+use Rattle.mml_policy.proofs.{AlikeLemmas.same_ruling, AlikeLemmas.alike_afterwards, RulingsLemmas.legal_event}
 use Rattle.mml_codec.specs.{declared.reply.Reply.Reply, Replies.reply_line, Rulings.reply_of}
-use Rattle.mml_hidden.specs.CommandReplies.{reply_to, line_to}
+use Rattle.mml_hidden.specs.{CommandReplies.reply_to, CommandReplies.line_to, Sight.ShowsTheSame}
+use Rattle.mml_hidden.proofs.SightLemmas.{event_alike}
 use Rattle.mml_lab.specs.declared.who.Who.TheVariants as who
 use Rattle.mml_policy.specs.declared.command.Command.TheVariants as command
 use Rattle.mml_board.specs.declared.act.Act.TheVariants as acts
+use Rattle.mml_board.specs.declared.event.Event.TheVariants as event
 
 -- ---- a student is shown no report
 
@@ -27,8 +30,6 @@ event_only (Ok e) = tt
 event_only (Err d) = tt
 
 no_report : (ids : List ℕ) (r : RosterValue) (w : World) (s : ℕ) (k : Command) → IfOk (clauses ids r w (who.Student s) k) NoReport
-no_report ids r w s (command.See id) = grind (arith, nat_tests, bind-if, need-if)
-no_report ids r w s (command.Look id) = grind (arith, nat_tests, bind-if, need-if)
 no_report ids r w s (command.Move id a at) = event_only (check (owns r) w (who.Student s) (acts.Move (rank_in ids id) (rule_of ids a) at))
 no_report ids r w s command.Close = event_only (check (owns r) w (who.Student s) acts.Close)
 no_report ids r w s (command.Fault id p m) = event_only (check (owns r) w (who.Student s) (acts.Fault (rank_in ids id) (option_map (rank_in ids) p) m))
@@ -36,6 +37,7 @@ no_report ids r w s (command.Link a b) = event_only (check (owns r) w (who.Stude
 no_report ids r w s (command.Cut a b) = event_only (check (owns r) w (who.Student s) (acts.Cut (rank_in ids a) (rank_in ids b)))
 no_report ids r w s (command.Release id) = event_only (check (owns r) w (who.Student s) (acts.Release (rank_in ids id)))
 no_report ids r w s command.Report = tt
+no_report ids r w s _ = grind (arith, nat_tests, bind-if, need-if)
 
 abbrev is_report : Ruling → Bool
 is_report Reported = true
@@ -69,3 +71,43 @@ pub same_line_to : (ids : List ℕ) (r : RosterValue) (limit : ℕ) (h : Bool) (
     → IsWorldOf ids v → Alike r s w v
     → line_to ids r limit h w (who.Student s) k ≡ line_to ids r limit h v (who.Student s) k
 same_line_to ids r limit h w v s k in_w in_v a = ap (λ (q : Reply). reply_line ids r q) (same_reply_to ids r limit h w v s k in_w in_v a)
+
+-- ---- a student's granted event is a move
+
+abbrev IsMove : Option Event → Type 0
+IsMove None = Unit {0}
+IsMove (Some (event.Grant t i q)) = Unit {0}
+IsMove (Some _) = ⊥
+
+abbrev MovesAtMost : Leave → Type 0
+MovesAtMost (Grant e) = IsMove (Some e)
+MovesAtMost _ = Unit {0}
+
+moves_at_most : (ids : List ℕ) (r : RosterValue) (w : World) (s : ℕ) (k : Command) → IfOk (clauses ids r w (who.Student s) k) MovesAtMost
+moves_at_most ids r w s k = grind (arith, nat_tests, bind-if, need-if)
+
+ruled_move : (limit : ℕ) (h : Bool) (w : World) (p : Result Leave Denial) → IfOk p MovesAtMost → IsMove (event_of (ruled limit h w p))
+ruled_move limit h w p is = grind (arith, nat_tests)
+
+-- a move shows nobody anything but number and place
+shows_no_one : (r : RosterValue) (t : ℕ) (w v : World) (e : Event) → IsMove (Some e) → ShowsTheSame r t w v e
+shows_no_one r t w v (event.Grant s i q) is = tt
+shows_no_one r t w v _ is = absurd is
+
+-- ---- after a student's command other worlds stay alike too
+
+module _ (ids : List ℕ) (r : RosterValue) (limit : ℕ) (h : Bool) (w v : World) (in_w : IsWorldOf ids w) (in_v : IsWorldOf ids v) where
+  -- one event, which is a move, or none, in two worlds that are alike
+  after_move : (t : ℕ) → Alike r t w v → (o : Option Event) → IsMove o → ((e : Event) → o ≡ Some e → is_possible w e ≡ true)
+      → Alike r t (option_map_or (after w) o w) (option_map_or (after v) o v)
+  after_move t a None is possible = a
+  after_move t a (Some e) is possible = (event_alike ids r t w v in_w in_v a e (possible e refl)).1 (shows_no_one r t w v e is)
+
+  -- after a command of student s worlds that were alike for s and t are alike for t
+  pub others_afterwards : (s t : ℕ) (k : Command) → Alike r s w v → Alike r t w v
+      → Alike r t (after_ruling w (ruling ids r limit h w (who.Student s) k)) (after_ruling v (ruling ids r limit h v (who.Student s) k))
+  others_afterwards s t k a b =
+      let g = ruling ids r limit h w (who.Student s) k in
+      subst (λ x. Alike r t (after_ruling w g) (after_ruling v x)) (same_ruling ids r limit h w v s k in_w in_v a)
+      (after_move t b (event_of g) (ruled_move limit h w _ (moves_at_most ids r w s k))
+      (λ e is. legal_possible r w e (legal_event ids r limit h w (who.Student s) k e in_w.nodes is).0))

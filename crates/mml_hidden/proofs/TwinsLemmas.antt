@@ -6,14 +6,14 @@ use Rattle.mml_rules.specs.Network.{Network}
 use Rattle.mml_board.specs.{declared.event.Event.Event, World.World, Events.after}
 use Rattle.mml_board.proofs.{WorldLemmas.after-world, WorldLemmas.size-after, ClausesLemmas.legal_possible}
 use Rattle.mml_policy.specs.{declared.command.Command.Command, Rulings.ruling, Rulings.event_of, Alike.Alike, Alike.IsWorldOf}
-use Rattle.mml_policy.proofs.{AlikeLemmas.alike_afterwards, RulingsLemmas.legal_event}
+use Rattle.mml_policy.proofs.RulingsLemmas.{legal_event}
 use Rattle.mml_codec.specs.declared.{request.LineFault.LineFault, request.Request.Request, reply.Reply.Reply, greeting.Greeting.TheVariants.Answered}
 use Rattle.mml_codec.specs.{Greetings.greeting, Greetings.admitted, Lines.request_in, Replies.reply_line}
 use Rattle.mml_hall.specs.Turns.{State, Outcome, Mishap, nothing, while_read, later, sink_failed, turn, known_on, entered, outcome_of, settled, answer_to, plain_turn, takes_memory, without_memory}
 use Rattle.mml_hall.specs.Turns.{is_grant, halting}
 use Rattle.mml_hall.proofs.TurnsLemmas.{plain_does, whatever_befell, either_of}
 use Rattle.mml_hidden.specs.Twins.{AreTwins, StatesAlike, is_hers}
-use Rattle.mml_hidden.proofs.ToldLemmas.{same_reply_to}
+use Rattle.mml_hidden.proofs.ToldLemmas.{same_reply_to, others_afterwards}
 use Rattle.mml_lab.specs.declared.who.Who.TheVariants as who
 
 -- ---- what comes of a turn, in one lab
@@ -44,17 +44,19 @@ module _ (lab : LabValue) (st : State) (k : ℕ) (line : List ℕ) where
 
 -- ---- two states that differ in their worlds and events alone
 
-pub record TurnsAlike (lab : LabValue) (s : ℕ) (one two : Outcome) : Type 0 where
+-- the same reply, and the worlds are alike for student t
+pub record TurnsAlike (lab : LabValue) (t : ℕ) (one two : Outcome) : Type 0 where
   pub reply : one.reply ≡ two.reply
-  pub worlds : Alike lab.roster s one.state.world two.state.world
+  pub worlds : Alike lab.roster t one.state.world two.state.world
   pub greeted : one.state.greeted ≡ two.state.greeted
   pub halted : one.state.halted ≡ two.state.halted
 
 pub either_both : (P : Outcome → Outcome → Type 0) (b c : Bool) (p q one two : Outcome) → b ≡ c → P p q → P one two → P (cond b p one) (cond c q two)
 either_both P b c p q one two e x y = grind (arith, nat_tests, false≢true)
 
-module _ (lab : LabValue) (s : ℕ) (st : State) (v : World) (es : List Event) (first : IsWorldOf lab.ids st.world) (second : IsWorldOf lab.ids v)
-    (a : Alike lab.roster s st.world v) where
+-- on a connection of student s, in worlds that are alike for s and for t
+module _ (lab : LabValue) (s t : ℕ) (st : State) (v : World) (es : List Event) (first : IsWorldOf lab.ids st.world) (second : IsWorldOf lab.ids v)
+    (a : Alike lab.roster s st.world v) (b : Alike lab.roster t st.world v) where
   abbrev su : State
   su = record { world = v; events = es; greeted = st.greeted; halted = st.halted }
 
@@ -65,35 +67,34 @@ module _ (lab : LabValue) (s : ℕ) (st : State) (v : World) (es : List Event) (
   abbrev told_su : Who → Command → Outcome
   told_su x c = outcome_of su (ruling lab.ids lab.roster lab.events st.halted v x c)
 
-  told_alike : (c : Command) → TurnsAlike lab s (told_st (who.Student s) c) (told_su (who.Student s) c)
-  told_alike c = grind (arith, nat_tests, entered_is, same_reply_to, alike_afterwards)
+  told_alike : (c : Command) → TurnsAlike lab t (told_st (who.Student s) c) (told_su (who.Student s) c)
+  told_alike c = grind (arith, nat_tests, entered_is, same_reply_to, others_afterwards lab.ids lab.roster lab.events st.halted st.world v first second s t c a b)
 
   -- a greeting, a bye, or what is asked before a greeting
-  answered_alike : (k : ℕ) (r : Reply) (x : Option Who) → TurnsAlike lab s (settled lab st k (Answered r x)) (settled lab su k (Answered r x))
-  answered_alike k r x = record { reply = refl; worlds = a; greeted = refl; halted = refl }
+  answered_alike : (k : ℕ) (r : Reply) (x : Option Who) → TurnsAlike lab t (settled lab st k (Answered r x)) (settled lab su k (Answered r x))
+  answered_alike k r x = record { reply = refl; worlds = b; greeted = refl; halted = refl }
 
-  admitted_alike : (k : ℕ) (found : Option Who) → TurnsAlike lab s (settled lab st k (admitted found)) (settled lab su k (admitted found))
+  admitted_alike : (k : ℕ) (found : Option Who) → TurnsAlike lab t (settled lab st k (admitted found)) (settled lab su k (admitted found))
   admitted_alike k found = grind (arith, nat_tests, answered_alike)
 
   greeted_alike : (k : ℕ) (known : Option Who) (q : Request) → is_hers s known ≡ true
-      → TurnsAlike lab s (settled lab st k (greeting lab.roster known q)) (settled lab su k (greeting lab.roster known q))
+      → TurnsAlike lab t (settled lab st k (greeting lab.roster known q)) (settled lab su k (greeting lab.roster known q))
   greeted_alike k known q h = grind (arith, nat_tests, admitted_alike, answered_alike, false≢true, eqb-true, told_alike)
 
   answer_alike : (k : ℕ) (asked : Result Request LineFault) → is_hers s (known_on st k) ≡ true
-      → TurnsAlike lab s (answer_to lab st k asked) (answer_to lab su k asked)
+      → TurnsAlike lab t (answer_to lab st k asked) (answer_to lab su k asked)
   answer_alike k asked h = grind (arith, nat_tests, greeted_alike)
 
-  pub plain_alike : (k : ℕ) (line : List ℕ) → is_hers s (known_on st k) ≡ true → TurnsAlike lab s (plain_turn lab st k line) (plain_turn lab su k line)
+  pub plain_alike : (k : ℕ) (line : List ℕ) → is_hers s (known_on st k) ≡ true → TurnsAlike lab t (plain_turn lab st k line) (plain_turn lab su k line)
   unfolding plain_turn
   plain_alike k line h = answer_alike k (request_in line) h
 
   -- whatever befell the turn, in both
   turn_alike : (mishap : Mishap) (k : ℕ) (line : List ℕ) → is_hers s (known_on st k) ≡ true
-      → TurnsAlike lab s (turn mishap lab st k line) (turn mishap lab su k line)
+      → TurnsAlike lab t (turn mishap lab st k line) (turn mishap lab su k line)
   turn_alike nothing k line h = plain_alike k line h
-  turn_alike while_read k line h = record { reply = refl; worlds = a; greeted = refl; halted = refl }
-  turn_alike later k line h = grind (arith, nat_tests, plain_alike, either_both)
-  turn_alike sink_failed k line h = grind (arith, nat_tests, plain_alike, either_both)
+  turn_alike while_read k line h = record { reply = refl; worlds = b; greeted = refl; halted = refl }
+  turn_alike _ k line h = grind (arith, nat_tests, plain_alike, either_both)
 
   -- a line of another: the replies are the same, and so is who is known afterwards, or nobody else is known than before
   abbrev KnownAlike : Outcome → Outcome → Type 0
@@ -130,19 +131,19 @@ with_network lab n = record { ids = lab.ids; roster = lab.roster; network = n; e
 net_turn : (lab : LabValue) (n : Network) (m : Mishap) (st : State) (k : ℕ) (line : List ℕ) → turn m lab st k line ≡ turn m (with_network lab n) st k line
 unfolding plain_turn
 net_turn lab n nothing st k line = refl
-net_turn lab n while_read st k line = refl
-net_turn lab n later st k line = refl
-net_turn lab n sink_failed st k line = refl
+net_turn lab n _ st k line = refl
 
-module _ (lab other : LabValue) (t : AreTwins lab other) (s : ℕ) (st su : State) (a : StatesAlike lab s st su) (m : Mishap) (k : ℕ) (line : List ℕ) where
+module _ (lab other : LabValue) (twins : AreTwins lab other) (s : ℕ) (st su : State) (a : StatesAlike lab s st su) (m : Mishap) (k : ℕ) (line : List ℕ) where
   abbrev pub su_here : State
   su_here = record { world = su.world; events = su.events; greeted = st.greeted; halted = st.halted }
 
   pub same_turn : turn m lab su_here k line ≡ turn m other su k line
   same_turn = grind (arith, nat_tests, net_turn)
 
-  alike_here : is_hers s (known_on st k) ≡ true → TurnsAlike lab s (turn m lab st k line) (turn m other su k line)
-  alike_here h = grind (arith, nat_tests, same_turn, turn_alike)
+  -- a line on a connection of student s, for student t
+  pub alike_here : (t : ℕ) → Alike lab.roster t st.world su.world → is_hers s (known_on st k) ≡ true
+      → TurnsAlike lab t (turn m lab st k line) (turn m other su k line)
+  alike_here t b h = subst (TurnsAlike lab t (turn m lab st k line)) same_turn (turn_alike lab s t st su.world su.events a.first a.second a.worlds b m k line h)
 
   -- a line of another leaves the states alike if it leaves the worlds so, and both halted or neither
   pub twin_others : Alike lab.roster s (turn m lab st k line).state.world (turn m other su k line).state.world
@@ -152,17 +153,17 @@ module _ (lab other : LabValue) (t : AreTwins lab other) (s : ℕ) (st su : Stat
     first = turn_world lab st k line a.first m;
     second = subst (λ (o : Outcome). IsWorldOf lab.ids o.state.world) same_turn (turn_world lab su_here k line a.second m);
     worlds = worlds;
-    greeted = turn_known lab s st su.world su.events a.first a.second a.worlds m k line ∙ ap (λ (o : Outcome). o.state.greeted) same_turn;
+    greeted = turn_known lab s s st su.world su.events a.first a.second a.worlds a.worlds m k line ∙ ap (λ (o : Outcome). o.state.greeted) same_turn;
     halted = halted;
   }
 
   pub twin_turn : is_hers s (known_on st k) ≡ true
       → ((turn m lab st k line).reply ≡ (turn m other su k line).reply) × StatesAlike lab s (turn m lab st k line).state (turn m other su k line).state
-  twin_turn h = let turns = alike_here h in (turns.reply, twin_others turns.worlds turns.halted)
+  twin_turn h = let turns = alike_here s a.worlds h in (turns.reply, twin_others turns.worlds turns.halted)
 
   pub twin_line : is_hers s (known_on st k) ≡ true
       → reply_line lab.ids lab.roster (turn m lab st k line).reply ≡ reply_line other.ids other.roster (turn m other su k line).reply
-  twin_line h = λ z. reply_line (t.ids z) (t.roster z) ((twin_turn h).0 z)
+  twin_line h = λ z. reply_line (twins.ids z) (twins.roster z) ((twin_turn h).0 z)
 
   -- the states stay alike after a line of hers, and after another's if the worlds do
   pub twin_next : (is_hers s (known_on st k) ≡ false → Alike lab.roster s (turn m lab st k line).state.world (turn m other su k line).state.world

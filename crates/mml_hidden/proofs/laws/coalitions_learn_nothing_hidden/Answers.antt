@@ -1,5 +1,5 @@
-use Rattle.mml_hidden.proofs.ToldLemmas.{same_reply_to}
-use Rattle.mml_hidden.proofs.CoalitionsLemmas.{others_afterwards, their_turn, their_line, same_written_for, same_end_for, same_transcripts_for}
+use Rattle.mml_hidden.proofs.ToldLemmas.{same_reply_to, others_afterwards}
+use Rattle.mml_hidden.proofs.CoalitionsLemmas.{their_turn, their_line, same_written_for, same_end_for, same_transcripts_for}
 use Rattle.mml_hidden.proofs.laws.coalitions_learn_nothing_hidden.Goals as goal
 
 pub returns : goal.returns
