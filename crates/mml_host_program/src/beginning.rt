@@ -12,7 +12,7 @@ use mml_ids::Piece;
 use mml_journal::Sink;
 use mml_ports::{HostState, SocketSession, TwoPorts, bell_of, open_ports};
 use mml_program::{Fault as ProgramFault, write_pieces};
-use mml_session::{NoGate, Recorder};
+use mml_session::Recorder;
 use mml_window::Log;
 use std::alloc::Global;
 use std::io::Write;
@@ -79,8 +79,8 @@ impl<C: Recorder + Send + Drop> Ready<C> {
             at_desk,
             elsewhere: at_port,
         } = open_ports(rt, alloc, state, ports);
-        let served = serve_host::<_, _, SocketSession<'_, R>, _, _, _, _, _, _, _, _, _>(
-            rt, alloc, lab, sink, recorders, at_desk, at_port, &bell, &NoGate, writer,
+        let served = serve_host::<_, _, SocketSession<'_, R>, _, _, _, _, _, _, _, _>(
+            rt, alloc, lab, sink, recorders, at_desk, at_port, &bell, writer,
         );
         match served {
             Ok(house) => Ok(log_of(house)),

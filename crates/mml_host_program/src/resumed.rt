@@ -12,7 +12,7 @@ use mml_journal::Sink;
 use mml_ports::{HostState, Ports, SocketSession, TwoPorts, bell_of, open_ports};
 use mml_program::Fault as ProgramFault;
 use mml_resuming::{ResumeFault, Store, resume_class};
-use mml_session::{NoGate, Recorder};
+use mml_session::Recorder;
 use mml_window::Log;
 use std::alloc::Global;
 use std::fs::File;
@@ -88,8 +88,8 @@ impl<C: Recorder + Send + Drop> Ready<C> {
             at_desk,
             elsewhere: at_port,
         } = open_ports(rt, alloc, state, ports);
-        let resumed = resume_class::<_, _, _, SocketSession<'_, R>, _, _, _, _, _, _, _, _, _>(
-            rt, alloc, lab, old, store, first, recorders, at_desk, at_port, &bell, &NoGate, writer,
+        let resumed = resume_class::<_, _, _, SocketSession<'_, R>, _, _, _, _, _, _, _, _>(
+            rt, alloc, lab, old, store, first, recorders, at_desk, at_port, &bell, writer,
         );
         let log = match resumed {
             Ok(house) => log_of(house),

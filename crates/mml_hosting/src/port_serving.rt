@@ -19,7 +19,7 @@ use mml_ids::Memory;
 use mml_journal::Sink;
 use mml_lines::{WriteFault, put_all};
 use mml_serving::HangUp;
-use mml_session::{Gate, Recorder, Setting};
+use mml_session::{Recorder, Setting};
 use mml_window::Desk;
 use std::alloc::Global;
 use std::io::{Read, Write};
@@ -229,11 +229,10 @@ fn new_marks(alloc: Global) -> Result<Vec<AtomicU64>, Memory>
 
 // What the threads of a port share.
 #[derive(Drop)]
-struct Shared<'s, Rt, S: Sink, H: Begun, G, B> {
+struct Shared<'s, Rt, S: Sink, H: Begun, B> {
     rt: &'s Rt,
     alloc: Global,
     desk: &'s Desk<S, H>,
-    gate: &'s G,
     bell: &'s B,
     // One mark for each number of a seat: it is set once the seat's thread has ended.
     marks: &'s [AtomicU64],
@@ -244,9 +243,8 @@ impl<
     Rt: Threads + Wait + Sync + 's,
     S: Sink + Send + Drop + 's,
     H: Begun + Send + Sync + 's,
-    G: Gate + Sync + 's,
     B: Bell + Sync + 's,
-> Shared<'s, Rt, S, H, G, B> {
+> Shared<'s, Rt, S, H, B> {
     // Starts a thread that serves a connection (`ends`) in a seat, and returns the thread's handle. The thread rings
     // the bell when the session has ended. If no thread can be made, serves the connection in this thread, and returns
     // the seat as an error. A connection that isn't at the desk is cut off before that, so that later connections
@@ -275,7 +273,6 @@ impl<
         let rt = self.rt;
         let alloc = self.alloc;
         let desk = self.desk;
-        let gate = self.gate;
         let bell = self.bell;
         let marks = self.marks;
         let is_desk = seat.is_desk;
@@ -289,7 +286,7 @@ impl<
                 ensures rung { B.IsRung bell.entry.now result.is_dismissed }
             {
                 let setting = Setting { rt, alloc, desk };
-                let seat = serve_in(&setting, seat, ends, gate, marks);
+                let seat = serve_in(&setting, seat, ends, marks);
                 bell.ring(seat.is_dismissed);
                 seat
             },
@@ -408,13 +405,11 @@ pub fn serve_port<
     W: Write + HangUp + Observed + Send + Drop,
     U: CutOff + Drop,
     A: Accept<R, W, U> + Drop,
-    G: Gate + Sync,
     B: Bell + Sync,
 >(
     setting: &Setting<'_, Rt, S, H>,
     seats: Vec<Seat<H, K, C>>,
     arrivals: A,
-    gate: &G,
     bell: &B,
 ) -> Result<Vec<Seat<H, K, C>>, Memory>
     requires seats { All (IsSeat (terms H.lab H.begun H.given R.remaining W.contents C.kept K.shows)) seats.items }
@@ -432,7 +427,7 @@ pub fn serve_port<
         thread::scope_env(),
         rt,
         |scope| -> Result<Vec<Seat<H, K, C>>, Memory>
-            requires { IsSync Rt.row × IsSync G.row × IsSync B.row × IsSend S.row × IsSend H.row
+            requires { IsSync Rt.row × IsSync B.row × IsSend S.row × IsSend H.row
                 × IsSync H.row × IsSend K.row × IsSend C.row × IsSend R.row × IsSend W.row
                 × All (IsSeat (terms H.lab H.begun H.given R.remaining W.contents C.kept K.shows)) seats.items }
             ensures serves { IfOk result (λ ps. ServesPort (terms H.lab H.begun H.given R.remaining W.contents C.kept K.shows)
@@ -444,7 +439,6 @@ pub fn serve_port<
                 rt,
                 alloc,
                 desk,
-                gate,
                 bell,
                 marks,
             };

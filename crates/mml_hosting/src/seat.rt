@@ -1,7 +1,7 @@
 //! Seats: windows through which one connection after another is served.
 //!
-//! A window is one session's view of the published events and board. A gate is a point at which tests can stop a
-//! session. The desk is the port at which the teacher's bye ends the class.
+//! A window is one session's view of the published events and board. The desk is the port at which the teacher's bye
+//! ends the class.
 ghost use Rattle.std.specs.Prelude.{◌≡◌, ◌&&◌};
 ghost use Rattle.mml_session.specs.Records.{EndedRecorded};
 ghost use Rattle.mml_hosting.specs.Seats.{IsReady, ServesIn, is_teachers_bye, terms};
@@ -12,7 +12,7 @@ use crate::replies::{Both, Observed};
 use mml_journal::Sink;
 use mml_lab::Who;
 use mml_serving::HangUp;
-use mml_session::{Ending, Gate, Gated, Recorder, SessionEnd, Setting, serve_observed};
+use mml_session::{Ending, Gated, NoGate, Recorder, SessionEnd, Setting, serve_observed};
 use mml_window::Window;
 use std::io::{Read, Write};
 use std::snapshot::Snapshot;
@@ -74,8 +74,8 @@ pub struct SeatRecord<K: Drop, C: Drop> {
     pub recorder: C,
 }
 
-/// A window through which one connection after another is served, and the record of its service. A gate and a recorder
-/// know the seat by its number.
+/// A window through which one connection after another is served, and the record of its service. A recorder knows the
+/// seat by its number.
 #[derive(Drop)]
 pub struct Seat<H: Begun, K: Drop, C: Drop> {
     /// Whether it is the seat of the desk: the teacher's bye there ends the service.
@@ -97,12 +97,10 @@ pub fn serve_in<
     C: Recorder + Drop,
     R: Read + Drop,
     W: Write + HangUp + Observed + Drop,
-    G: Gate,
 >(
     setting: &Setting<'_, Rt, S, H>,
     seat: Seat<H, K, C>,
     ends: (R, W),
-    gate: &G,
     marks: &[AtomicU64],
 ) -> Seat<H, K, C>
     requires { IsReady (terms H.lab H.begun H.given R.remaining W.contents C.kept K.shows) seat }
@@ -119,7 +117,7 @@ pub fn serve_in<
         mut sessions,
         recorder,
     } = record;
-    let (session, recorder) = serve_session(setting, &mut window, ends, number, recorder, gate);
+    let (session, recorder) = serve_session(setting, &mut window, ends, number, recorder);
     // From here on this thread waits for nobody, so the thread that joins it doesn't have to wait either.
     set_mark(marks, number, true);
     let is_dismissed = is_dismissed_by(&session.ending, is_desk);
@@ -145,14 +143,12 @@ fn serve_session<
     C: Recorder + Drop,
     R: Read + Drop,
     W: Write + HangUp + Observed + Drop,
-    G: Gate,
 >(
     setting: &Setting<'_, Rt, S, H>,
     window: &mut Window<H>,
     ends: (R, W),
     number: u8,
     recorder: C,
-    gate: &G,
 ) -> (ServedSession<R, W>, C)
     ensures came { result.0.came.value ≡ ends }
     ensures ended { EndedRecorded result.0.ending.end result.0.ending.who number H.lab window.old
@@ -163,7 +159,10 @@ fn serve_session<
     let (mut reader, mut writer) = ends;
     let replies = writer.reply_observer();
     let mut observer = Both {
-        observer: Gated { gate, recorder },
+        observer: Gated {
+            gate: &NoGate,
+            recorder,
+        },
         replies,
     };
     let ending = serve_observed(

@@ -6,7 +6,6 @@ use mml_fakes::scripts::{CLOSED_JOURNAL, NOTHING_CLOSED, ONE_CLOSED, TESS_CLOSES
 use mml_hosting::{HostFault, no_recorders, serve_host};
 use mml_journal::MemorySink;
 use mml_lab::Lab;
-use mml_session::NoGate;
 use std::alloc::{AllocError, Global};
 use std::sync::Wait;
 use std::test::Fail;
@@ -121,7 +120,7 @@ fn host_in_memory<R: Threads + Wait + Sync>(
     };
     let sink = MemorySink::new(alloc, None);
     serve_host(
-        rt, alloc, lab, sink, recorders, at_desk, at_port, count, &NoGate, out,
+        rt, alloc, lab, sink, recorders, at_desk, at_port, count, out,
     )
 }
 

@@ -12,7 +12,6 @@ use mml_journal::{MemorySink, Sink};
 use mml_lab::Lab;
 use mml_policy::Denial;
 use mml_resuming::{ResumeFault, Store, resume_class};
-use mml_session::NoGate;
 use std::alloc::Global;
 use std::sync::Wait;
 use std::test::Fail;
@@ -134,7 +133,6 @@ fn resume_in<R: Threads + Wait + Sync>(
         at_desk,
         at_port,
         count,
-        &NoGate,
         out,
     )
 }
