@@ -67,7 +67,10 @@ pub const FAR_APART: &str = lab!(
 /// error if memory runs out.
 pub fn greatest(alloc: Global) -> Result<String, AllocError> {
     let mut text = String::new(alloc);
-    write!(text, "events = {MAX_EVENTS}\nsessions = {MAX_SESSIONS}\nlinks = [\n")?;
+    write!(
+        text,
+        "events = {MAX_EVENTS}\nsessions = {MAX_SESSIONS}\nlinks = [\n"
+    )?;
     for a in 65280..65536u64 {
         for b in 65280..a {
             write!(text, "[{a},{b}],")?;

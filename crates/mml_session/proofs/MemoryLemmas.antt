@@ -48,10 +48,10 @@ module _ (lab : LabValue) where
   turn_memory st next line r long h = elim (turn_does lab st next r line h) [
     | inl q ↦ absurd (true≢false (sym q.short ∙ long))
     | inr t ↦ inl (
-      subst (λ (q : Result Request LineFault). Asked lab st q (replies.Refuse refused.Memory) next) (sym t.asked)
-          (subst (λ (k : Option Who). Settles lab st (greeting lab.roster k (requests.Do t.command)) (replies.Refuse refused.Memory) next) (sym t.by)
-          (t.still, told_memory st.window next.window t.who t.command r long t.told))
-    )
+        subst (λ (q : Result Request LineFault). Asked lab st q (replies.Refuse refused.Memory) next) (sym t.asked)
+        (subst (λ (k : Option Who). Settles lab st (greeting lab.roster k (requests.Do t.command)) (replies.Refuse refused.Memory) next) (sym t.by)
+        (t.still, told_memory st.window next.window t.who t.command r long t.told))
+        )
   ]
 
   pub turn_told : (st next : Standing) (line : List ℕ) (r told : Reply) → TellsFor r told → Turn lab st line r next → Turn lab st line told next
