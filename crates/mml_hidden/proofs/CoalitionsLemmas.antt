@@ -1,5 +1,5 @@
 -- The turn of a member of a coalition, for each other member, and scripts.
-use Rattle.std.proofs.Common.{◌≡◌, ℕ, Bool, true, false, List, [], ◌∷◌, ◌++◌, Option, None, Some, refl, sym, ap, ◌∙◌, arith}
+use Rattle.std.proofs.Common.{◌≡◌, ℕ, Bool, true, false, List, [], ◌∷◌, ◌++◌, Option, refl, ap, arith}
 use Rattle.std.{proofs.lemmas.Bool.false≢true, proofs.lemmas.Bool.Decides.nat_tests, specs.Prelude.decimal}
 use Rattle.mml_lab.specs.{declared.who.Who.Who, Labs.LabValue}
 use Rattle.mml_codec.specs.{Replies.reply_line}
@@ -10,7 +10,6 @@ use Rattle.mml_hidden.specs.Mishaps.{BefallenLine, turn_with, lines_in, replies_
 use Rattle.mml_hidden.specs.Coalitions.{AlikeFor, is_theirs, StatesAlikeFor, StayAlikeFor, AreTheirsThroughout, BeginAlikeFor, RunAlikeFor}
 use Rattle.mml_hidden.proofs.{ScriptedLemmas.if_same, ScriptedLemmas.openings_alike}
 use Rattle.mml_hidden.proofs.TwinsLemmas.{alike_here, twin_turn, twin_others}
-use Rattle.mml_lab.specs.declared.who.Who.TheVariants as who
 
 -- ---- a turn in two labs
 
@@ -21,9 +20,7 @@ record Speaks (members : ℕ → Bool) (known : Option Who) : Type 0 where
   hers : is_hers student known ≡ true
 
 speaker : (members : ℕ → Bool) (one : ℕ) → members one ≡ true → (known : Option Who) → is_theirs members known ≡ true → Speaks members known
-speaker members one is None h = record { student = one; member = is; hers = refl }
-speaker members one is (Some who.Teacher) h = absurd (false≢true h)
-speaker members one is (Some (who.Student s)) h = record { student = s; member = h; hers = grind (arith, nat_tests) }
+speaker members one is known h = grind (arith, nat_tests, false≢true)
 
 module _ (lab other : LabValue) (twins : AreTwins lab other) (members : ℕ → Bool) (one : ℕ) (is : members one ≡ true) (st su : State)
     (a : StatesAlikeFor lab members st su) (m : Mishap) (k : ℕ) (line : List ℕ) where
@@ -113,7 +110,4 @@ module _ (lab other : LabValue) (twins : AreTwins lab other) (members : ℕ → 
   pub same_transcripts_for : (some : ℕ → Bool) (t : Transcript lab) (u : Transcript other) (bs : List BefallenLine)
       → RunAlikeFor lab other members some t u bs
       → written_on_any lab some t.lines t.replies ≡ written_on_any other some u.lines u.replies
-  same_transcripts_for some t u bs alike =
-      (λ z. written_on_any lab some (sym alike.first.lines_are z) (alike.first.replies_are z))
-      ∙ same_written_for (opening lab) (opening other) some bs (openings_for alike.labs) alike.worlds alike.theirs
-      ∙ (λ z. written_on_any other some (alike.second.lines_are z) (sym alike.second.replies_are z))
+  same_transcripts_for some t u bs alike = grind (arith, nat_tests, same_written_for, openings_for)

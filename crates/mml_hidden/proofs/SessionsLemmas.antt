@@ -5,7 +5,7 @@ use Rattle.mml_lab.specs.{declared.who.Who.Who, Labs.LabValue, Labs.IsLab, Roste
 use Rattle.mml_board.specs.{declared.event.Event.Event, World.World, Lists.is_legal_in, Lists.world_in}
 use Rattle.mml_policy.specs.{declared.command.Command.Command, declared.refusal.Refusal.Refusal, declared.ruling.Ruling.Ruling, Rulings.event_of, Alike.Alike, Alike.IsWorldOf}
 use Rattle.mml_codec.specs.declared.{request.LineFault.LineFault, request.Request.Request, reply.Refused.Refused, reply.Reply.Reply}
-use Rattle.mml_codec.specs.{Greetings.greeting, Lines.request_in, Replies.reply_line, Rulings.reply_of}
+use Rattle.mml_codec.specs.{Greetings.greeting, Replies.reply_line, Rulings.reply_of}
 use Rattle.mml_engine.proofs.TurnsLemmas.{by_greeting}
 use Rattle.mml_window.specs.{Rulings.ruling_at, Windows.WindowValue}
 use Rattle.mml_window.proofs.{ListLemmas.nodes_in, AboutLemmas.world_is}
@@ -97,10 +97,7 @@ module _ (lab other : LabValue) (is : IsLab lab) (too : IsLab other) (t : AreTwi
 
     turn_both : (line : List ℕ) → st.known ≡ su.known → IsToldAlike lab other s st.known r q next.window last.window → Turn lab st line r next
         → Turn other su line q last → IsSame r q next last
-    turn_both line e a h k = elim h [
-      | inr unread ↦ absurd (a.first.0 unread.0)
-      | inl one ↦ elim k [ inr unread ↦ absurd (a.second.0 unread.0) | inl two ↦ asked_both (request_in line) (sym e) a one two ]
-    ]
+    turn_both line e a h k = grind (arith, nat_tests, asked_both)
 
   -- ---- all lines
 

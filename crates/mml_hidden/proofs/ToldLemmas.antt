@@ -1,21 +1,18 @@
 -- A student is told the same in worlds that are alike.
-use Rattle.std.proofs.Common.{◌≡◌, ℕ, Bool, true, false, cond, option_map, List, Option, None, Some, Result, Ok, Err, refl, ap, subst, arith}
+use Rattle.std.proofs.Common.{◌≡◌, ℕ, Bool, true, false, cond, List, Option, None, Some, Result, refl, ap, subst, arith}
 use Rattle.std.{proofs.lemmas.Bool.false≢true, proofs.lemmas.Bool.Decides.nat_tests, specs.Result.IfOk, specs.Option.option_map_or}
 use Rattle.mml_ids.proofs.GivesLemmas.{bind-if, need-if}
-use Rattle.mml_lab.specs.Rosters.{RosterValue, owns}
-use Rattle.mml_board.specs.{declared.event.Event.Event, declared.done.Done.Done, declared.denial.Denial.Denial, World.World, Events.after, Events.is_possible, Clauses.check}
+use Rattle.mml_lab.specs.Rosters.{RosterValue}
+use Rattle.mml_board.specs.{declared.event.Event.Event, declared.done.Done.Done, declared.denial.Denial.Denial, World.World, Events.after, Events.is_possible}
 use Rattle.mml_board.proofs.ClausesLemmas.{legal_possible}
 use Rattle.mml_policy.specs.declared.{command.Command.Command, verdict.Leave.Leave, verdict.Leave.TheVariants.Report, verdict.Leave.TheVariants.Grant}
 use Rattle.mml_policy.specs.declared.ruling.Ruling.{Ruling, TheVariants.Reported, TheVariants.Full, TheVariants.Journal, TheVariants.Granted}
-use Rattle.mml_policy.specs.{Clauses.rule_of, Verdicts.clauses, Verdicts.granted, Rulings.ruled, Rulings.ruling, Rulings.event_of, Rulings.after_ruling, Alike.Alike, Alike.IsWorldOf}
-use Rattle.mml_ids.specs.Ids.{rank_in}
+use Rattle.mml_policy.specs.{Verdicts.clauses, Verdicts.granted, Rulings.ruled, Rulings.ruling, Rulings.event_of, Rulings.after_ruling, Alike.Alike, Alike.IsWorldOf}
 use Rattle.mml_policy.proofs.{AlikeLemmas.same_ruling, AlikeLemmas.alike_afterwards, RulingsLemmas.legal_event}
 use Rattle.mml_codec.specs.{declared.reply.Reply.Reply, Replies.reply_line, Rulings.reply_of}
 use Rattle.mml_hidden.specs.{CommandReplies.reply_to, CommandReplies.line_to, Sight.ShowsTheSame}
 use Rattle.mml_hidden.proofs.SightLemmas.{event_alike}
 use Rattle.mml_lab.specs.declared.who.Who.TheVariants as who
-use Rattle.mml_policy.specs.declared.command.Command.TheVariants as command
-use Rattle.mml_board.specs.declared.act.Act.TheVariants as acts
 use Rattle.mml_board.specs.declared.event.Event.TheVariants as event
 
 -- ---- a student is shown no report
@@ -26,18 +23,10 @@ NoReport _ = Unit {0}
 
 -- an act gives leave to an event alone
 event_only : (s : Result Event Denial) → IfOk (granted s) NoReport
-event_only (Ok e) = tt
-event_only (Err d) = tt
+event_only s = grind (arith, nat_tests)
 
 no_report : (ids : List ℕ) (r : RosterValue) (w : World) (s : ℕ) (k : Command) → IfOk (clauses ids r w (who.Student s) k) NoReport
-no_report ids r w s (command.Move id a at) = event_only (check (owns r) w (who.Student s) (acts.Move (rank_in ids id) (rule_of ids a) at))
-no_report ids r w s command.Close = event_only (check (owns r) w (who.Student s) acts.Close)
-no_report ids r w s (command.Fault id p m) = event_only (check (owns r) w (who.Student s) (acts.Fault (rank_in ids id) (option_map (rank_in ids) p) m))
-no_report ids r w s (command.Link a b) = event_only (check (owns r) w (who.Student s) (acts.Link (rank_in ids a) (rank_in ids b)))
-no_report ids r w s (command.Cut a b) = event_only (check (owns r) w (who.Student s) (acts.Cut (rank_in ids a) (rank_in ids b)))
-no_report ids r w s (command.Release id) = event_only (check (owns r) w (who.Student s) (acts.Release (rank_in ids id)))
-no_report ids r w s command.Report = tt
-no_report ids r w s _ = grind (arith, nat_tests, bind-if, need-if)
+no_report ids r w s k = grind (arith, nat_tests, event_only, bind-if, need-if)
 
 abbrev is_report : Ruling → Bool
 is_report Reported = true
@@ -91,8 +80,7 @@ ruled_move limit h w p is = grind (arith, nat_tests)
 
 -- a move shows nobody anything but number and place
 shows_no_one : (r : RosterValue) (t : ℕ) (w v : World) (e : Event) → IsMove (Some e) → ShowsTheSame r t w v e
-shows_no_one r t w v (event.Grant s i q) is = tt
-shows_no_one r t w v _ is = absurd is
+shows_no_one r t w v e is = grind (arith, nat_tests)
 
 -- ---- after a student's command other worlds stay alike too
 

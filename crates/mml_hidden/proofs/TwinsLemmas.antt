@@ -9,8 +9,7 @@ use Rattle.mml_policy.specs.{declared.command.Command.Command, Rulings.ruling, R
 use Rattle.mml_policy.proofs.RulingsLemmas.{legal_event}
 use Rattle.mml_codec.specs.declared.{request.LineFault.LineFault, request.Request.Request, reply.Reply.Reply, greeting.Greeting.TheVariants.Answered}
 use Rattle.mml_codec.specs.{Greetings.greeting, Greetings.admitted, Lines.request_in, Replies.reply_line}
-use Rattle.mml_hall.specs.Turns.{State, Outcome, Mishap, nothing, while_read, later, sink_failed, turn, known_on, entered, outcome_of, settled, answer_to, plain_turn, takes_memory, without_memory}
-use Rattle.mml_hall.specs.Turns.{is_grant, halting}
+use Rattle.mml_hall.specs.Turns.{State, Outcome, Mishap, turn, known_on, entered, outcome_of, settled, answer_to, plain_turn}
 use Rattle.mml_hall.proofs.TurnsLemmas.{plain_does, whatever_befell, either_of}
 use Rattle.mml_hidden.specs.Twins.{AreTwins, StatesAlike, is_hers}
 use Rattle.mml_hidden.proofs.ToldLemmas.{same_reply_to, others_afterwards}
@@ -92,9 +91,7 @@ module _ (lab : LabValue) (s t : ℕ) (st : State) (v : World) (es : List Event)
   -- whatever befell the turn, in both
   turn_alike : (mishap : Mishap) (k : ℕ) (line : List ℕ) → is_hers s (known_on st k) ≡ true
       → TurnsAlike lab t (turn mishap lab st k line) (turn mishap lab su k line)
-  turn_alike nothing k line h = plain_alike k line h
-  turn_alike while_read k line h = record { reply = refl; worlds = b; greeted = refl; halted = refl }
-  turn_alike _ k line h = grind (arith, nat_tests, plain_alike, either_both)
+  turn_alike mishap k line h = grind (arith, nat_tests, plain_alike, either_both)
 
   -- a line of another: the replies are the same, and so is who is known afterwards, or nobody else is known than before
   abbrev KnownAlike : Outcome → Outcome → Type 0
@@ -117,10 +114,7 @@ module _ (lab : LabValue) (s t : ℕ) (st : State) (v : World) (es : List Event)
   either_known f p q one two x y alike = grind (arith, nat_tests, either_both, either_of)
 
   turn_known : (m : Mishap) (k : ℕ) (line : List ℕ) → (turn m lab st k line).state.greeted ≡ (turn m lab su k line).state.greeted
-  turn_known nothing k line = grind (arith, nat_tests, plain_known)
-  turn_known while_read k line = refl
-  turn_known later k line = either_known takes_memory (without_memory st) (without_memory su) _ _ refl refl (plain_known k line)
-  turn_known sink_failed k line = either_known is_grant (halting st) (halting su) _ _ refl refl (plain_known k line)
+  turn_known m k line = grind (arith, nat_tests, plain_known, either_known)
 
 -- ---- in two labs
 
@@ -130,8 +124,7 @@ with_network lab n = record { ids = lab.ids; roster = lab.roster; network = n; e
 -- a turn reads no network of the lab
 net_turn : (lab : LabValue) (n : Network) (m : Mishap) (st : State) (k : ℕ) (line : List ℕ) → turn m lab st k line ≡ turn m (with_network lab n) st k line
 unfolding plain_turn
-net_turn lab n nothing st k line = refl
-net_turn lab n _ st k line = refl
+net_turn lab n m st k line = grind (arith, nat_tests)
 
 module _ (lab other : LabValue) (twins : AreTwins lab other) (s : ℕ) (st su : State) (a : StatesAlike lab s st su) (m : Mishap) (k : ℕ) (line : List ℕ) where
   abbrev pub su_here : State
