@@ -4,7 +4,7 @@ use Rattle.mml_ids.specs.Pieces.{truth_text}
 use Rattle.mml_rules.specs.declared.rule.Rule.{Rule}
 use Rattle.mml_lab.specs.Rosters.{RosterValue}
 use Rattle.mml_board.specs.declared.event.Event.{Event}
-use Rattle.mml_journal.specs.{Words.spaced, EventWords.line_text, EventWords.register_word, EventLines.event_line, EventLines.id_at, EventLines.named_rule}
+use Rattle.mml_journal.specs.{Words.spaced, Words.id_at, RegsWords.register_word, EventWords.line_text, EventLines.event_line, EventLines.named_rule}
 use Rattle.mml_laws.specs.JournalWords.{words_of, rule_words, pointer_word, truth_word}
 use Rattle.mml_rules.specs.declared.rule.Rule.TheVariants as rule
 use Rattle.mml_board.specs.declared.event.Event.TheVariants as event
