@@ -1,9 +1,10 @@
 -- The lines that ask for grants and closes, and the hellos before them, are read as script lines.
-use Rattle.std.proofs.Common.{◌≡◌, ◌≢◌, ℕ, ◌<◌, ◌≤◌, ◌+◌, ◌*◌, ◌^◌, ◌/◌, ◌%◌, nat_lt, Bool, true, false, cond, List, [], ◌∷◌, ◌++◌, codes, decimal, length, refl, sym, subst, arith, length-append}
-use Rattle.std.proofs.Common.{get_or, inl, inr}
-use Rattle.std.specs.{List.All, Char.digit_char, Int.IsInRange}
+use Rattle.std.proofs.lemmas.Bool.Decides.{nat_tests}
+use Rattle.std.proofs.Common.{◌≡◌, ◌≢◌, ℕ, ◌<◌, ◌≤◌, ◌+◌, ◌*◌, ◌^◌, Bool, true, cond, List, [], ◌∷◌, ◌++◌, codes, decimal, length, refl, sym, subst, arith, length-append}
+use Rattle.std.proofs.Common.{get_or, rules}
+use Rattle.std.specs.{List.All}
 use Rattle.std.proofs.lemmas.{Bool.and_parts, Bool.cases_lt, Bool.false≢true, Fmt.length-decimal-le, Str.IsUtf8-from_ascii, List.get_or_default, List.get_or_past}
-use Rattle.json.specs.Print.{escape_byte, escape, escape_letter, quoted}
+use Rattle.json.specs.Print.{escape_byte, escape, quoted}
 use Rattle.mml_ids.specs.Lines.{IsUnbroken}
 use Rattle.mml_lab.specs.{declared.who.Who.Who, Labs.LabValue, Labs.IsLab, Rosters.IsPrincipal, Rosters.name_of, Rosters.key_of, Rosters.is_name, Rosters.is_key, RosterMeaning.IsKey}
 use Rattle.mml_lab.proofs.FormLemmas.{name-means, key-means}
@@ -34,35 +35,12 @@ digits n small = length-decimal-le 20 n (omega arith) (omega arith) small
 -- pieces and two numbers
 two_numbers : (a b c : List ℕ) (x y : ℕ) → x < 2 ^ 64 → y < 2 ^ 64 → length a + length b + length c ≤ 4056
     → length (a ++ (decimal x ++ (b ++ (decimal y ++ c)))) ≤ MAX_REQUEST
-two_numbers a b c x y small small' pieces =
-    omega (
-      arith,
-      digits x small,
-      digits y small',
-      length-append a (decimal x ++ (b ++ (decimal y ++ c))),
-      length-append (decimal x) (b ++ (decimal y ++ c)),
-      length-append b (decimal y ++ c),
-      length-append (decimal y) c,
-      pieces,
-    )
+two_numbers a b c x y small small' pieces = grind (arith, nat_tests, digits, length-append)
 
 -- pieces and three numbers
 three_numbers : (a b c d : List ℕ) (x y z : ℕ) → x < 2 ^ 64 → y < 2 ^ 64 → z < 2 ^ 64 → length a + length b + length c + length d ≤ 4036
     → length (a ++ (decimal x ++ (b ++ (decimal y ++ (c ++ (decimal z ++ d)))))) ≤ MAX_REQUEST
-three_numbers a b c d x y z small small' small'' pieces =
-    omega (
-      arith,
-      digits x small,
-      digits y small',
-      digits z small'',
-      length-append a (decimal x ++ (b ++ (decimal y ++ (c ++ (decimal z ++ d))))),
-      length-append (decimal x) (b ++ (decimal y ++ (c ++ (decimal z ++ d)))),
-      length-append b (decimal y ++ (c ++ (decimal z ++ d))),
-      length-append (decimal y) (c ++ (decimal z ++ d)),
-      length-append c (decimal z ++ d),
-      length-append (decimal z) d,
-      pieces,
-    )
+three_numbers a b c d x y z small small' small'' pieces = grind (arith, nat_tests, digits, length-append)
 
 update_text : (n at : ℕ) → canonical (requests.Do (command.Move n asked.Update at))
     ≡ codes "{\"at\":" ++ (decimal at ++ (codes ",\"do\":\"move\",\"node\":" ++ (decimal n ++ codes ",\"rule\":\"update\"}")))
@@ -98,15 +76,11 @@ unfolding canonical escape_byte
 hello_text name key = refl
 
 one_of_three : (b c : Bool) (p q r : List ℕ) → length p ≤ 6 → length q ≤ 6 → length r ≤ 6 → length (cond b p (cond c q r)) ≤ 6
-one_of_three true c p q r hp hq hr = hp
-one_of_three false true p q r hp hq hr = hq
-one_of_three false false p q r hp hq hr = hr
+one_of_three b c p q r hp hq hr = grind (arith, nat_tests)
 
 escape_byte_short : (x : ℕ) → length (escape_byte x) ≤ 6
 unfolding escape_byte
-escape_byte_short x =
-    one_of_three (nat_lt 0 (escape_letter x)) (nat_lt x 32) (92 ∷ escape_letter x ∷ []) (92 ∷ 117 ∷ 48 ∷ 48 ∷ digit_char (x / 16) ∷ digit_char (x % 16) ∷ [])
-    (x ∷ []) (omega arith) (omega arith) (omega arith)
+escape_byte_short x = grind (arith, nat_tests, one_of_three)
 
 escape_short : (s : List ℕ) → length (escape s) ≤ 6 * length s
 escape_short [] = omega arith
@@ -116,20 +90,7 @@ quoted_short : (s : List ℕ) → length (quoted s) ≤ 6 * length s + 2
 quoted_short s = omega (arith, escape_short s, length-append (escape s) (34 ∷ []))
 
 hello_short : (name key : List ℕ) → length name ≤ 32 → length key ≤ 64 → IsShort (requests.Hello name key)
-hello_short name key short short' =
-    let all : length (codes "{\"do\":\"hello\",\"key\":" ++ (quoted key ++ (codes ",\"name\":" ++ (quoted name ++ codes "}")))) ≤ MAX_REQUEST =
-    omega (
-      arith,
-      length-append (codes "{\"do\":\"hello\",\"key\":") (quoted key ++ (codes ",\"name\":" ++ (quoted name ++ codes "}"))),
-      length-append (quoted key) (codes ",\"name\":" ++ (quoted name ++ codes "}")),
-      length-append (codes ",\"name\":") (quoted name ++ codes "}"),
-      length-append (quoted name) (codes "}"),
-      quoted_short key,
-      quoted_short name,
-      short,
-      short',
-    ) in
-    subst (λ (x : List ℕ). length x ≤ MAX_REQUEST) (sym (hello_text name key)) all
+hello_short name key short short' = grind (arith, nat_tests, length-append, quoted_short, hello_text)
 
 -- ---- a request on the first connection
 
@@ -137,12 +98,7 @@ unbroken_all : (bs : List ℕ) → All (λ b. b ≢ 10) bs → IsUnbroken bs
 unbroken_all bs h = λ i k. h i 0 k
 
 on_first : (sessions : ℕ) (q : Request) → 0 < sessions → IsWritable q → IsShort q → IsScriptLine sessions (line_for q)
-on_first sessions q some can short = record {
-  some = omega arith;
-  known = omega (arith, some);
-  request = (unbroken_all (canonical q) (canonical_line q can), short);
-  whole = let one : length (decimal 1) ≤ 1 = length-decimal-le 1 1 (omega arith) (omega arith) (omega arith) in omega (arith, one, short, length-append (decimal 1) (32 ∷ canonical q));
-}
+on_first sessions q some can short = grind (arith, nat_tests, unbroken_all, canonical_line, length-decimal-le, length-append)
 
 module _ (lab : LabValue) (is : IsLab lab) where
   pub bye_comes : IsScriptLine lab.sessions (line_for requests.Bye)
@@ -153,15 +109,10 @@ module _ (lab : LabValue) (is : IsLab lab) where
   formed who member = and_parts (is_name (name_of lab.roster who)) (is_key (key_of lab.roster who)) (is.roster.formed who member)
 
   key_ascii : (key : List ℕ) → IsKey key → (i : ℕ) → get_or key i 0 < 128
-  key_ascii key k i = elim (cases_lt i (length key)) [
-    | inl within ↦ let range : IsInRange 33 126 (get_or key i 0) = k.bytes i 0 within in omega (arith, range.1)
-    | inr past ↦ omega (arith, get_or_past key i 0 past)
-  ]
+  key_ascii key k i = grind (arith, nat_tests, cases_lt, get_or_past)
 
   pub hello_can : (who : Who) → IsPrincipal lab.roster who → IsWritable (hello_of lab who)
-  hello_can who member =
-      let f = formed who member in
-      (tt, (IsUtf8-from_ascii (key_of lab.roster who) (key_ascii (key_of lab.roster who) ((key-means (key_of lab.roster who)).0 f.1)), (name_is_utf8 (name_of lab.roster who) f.0, tt)))
+  hello_can who member = grind (arith, nat_tests, formed, IsUtf8-from_ascii, key_ascii, key-means, name_is_utf8)
 
   pub hello_comes : (who : Who) → IsPrincipal lab.roster who → IsScriptLine lab.sessions (line_for (hello_of lab who))
   hello_comes who member =

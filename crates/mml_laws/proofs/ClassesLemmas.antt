@@ -1,5 +1,6 @@
 -- What a host says of a class gives what the laws on houses and on records begin with.
-use Rattle.std.proofs.Common.{◌≡◌, ◌<◌, ◌≤◌, ◌+◌, ◌&&◌, ℕ, zero, suc, cond, nat_lt, nat_le, List, [], ◌∷◌, ◌++◌, map, length, All, Option, None, Some, refl, sym, ap, ◌∙◌, subst, arith, inl, inr}
+use Rattle.std.proofs.lemmas.Bool.Decides.{nat_tests}
+use Rattle.std.proofs.Common.{◌≡◌, ◌<◌, ◌≤◌, ◌+◌, ◌&&◌, ℕ, zero, suc, cond, nat_lt, nat_le, List, [], ◌∷◌, ◌++◌, map, length, All, Option, Some, refl, sym, ap, ◌∙◌, subst, arith, inl, inr}
 use Rattle.std.proofs.lemmas.Bool.{cases_Bool, cases_eq, and_parts, and_from, ltb-true, leb-true, lt-ltb, le-leb, eq-eqb, ne_eqb}
 use Rattle.std.proofs.lemmas.List.{Sums.sum_by-cons, Elements.All-head, Elements.All-tail}
 use Rattle.std.specs.{List.AllByRecursion, List.AllZip, List.range_with_len, List.sum_by, Option.unwrap_or}
@@ -62,9 +63,7 @@ module _ {K C R W : Type 0} (t : Terms K C R W) where
   -- ---- the seats of a record
 
   still_kept : (old new : Option Kept) (k : Kept) (bytes : List ℕ) → old ≡ Some k → Adds old new bytes → (k' : Kept) × (new ≡ Some k')
-  still_kept None new k bytes e adds = absurd cc
-  still_kept (Some k₁) None k bytes e adds = absurd adds
-  still_kept (Some k₁) (Some k') k bytes e adds = (k', refl)
+  still_kept old new k bytes e adds = grind (arith, nat_tests)
 
   -- the sessions of a seat whose recorder has kept something before, as its record has them
   held : (n : ℕ) (ss : List (ServedSession R W)) (a b : Stand) (k : Kept) → a.kept ≡ Some k → Chain (Leads t n) a ss b
@@ -134,10 +133,7 @@ within_none most n some le = ap (λ b. cond {A = ℕ} b 0 1) (and_from (nat_lt 0
 
 none_within : (most n : ℕ) → out_of most n ≡ 0 → (0 < n) × (n ≤ most)
 unfolding out_of
-none_within most n e = elim (cases_Bool (nat_lt 0 n && nat_le n most)) [
-  | inl on ↦ let both = and_parts (nat_lt 0 n) (nat_le n most) on in (ltb-true 0 n both.0, leb-true n most both.1)
-  | inr off ↦ let one : out_of most n ≡ 1 = ap (λ b. cond {A = ℕ} b 0 1) off in absurd (omega (arith, one, e))
-]
+none_within most n e = grind (arith, nat_tests, cases_Bool, and_parts, ltb-true, leb-true, out_of)
 
 range_within : (most a k : ℕ) → 0 < a → a + k ≤ most + 1 → sum_by (out_of most) (range_with_len a k) ≡ 0
 range_within most a zero some le = refl
@@ -163,15 +159,12 @@ module _ {S K C R W : Type 0} (begun : List Event) (given : ℕ → Option Kept)
     (contents : W → Option (List ℕ)) (recorded : C → Option Kept) (shows : K → ServedSession R W) (to_desk to_come : Option (List (R × W))) (house : Hosted S K C)
     (h : HostsFrom begun given lab sink remaining contents recorded shows to_desk to_come house) where
   all_led : AllZip (Led (terms lab begun given remaining contents recorded shows)) (house.at_desk.items ++ house.others.items) (h.desk_windows ++ h.windows)
-  all_led =
-      zip_append (Led (terms lab begun given remaining contents recorded shows)) house.at_desk.items house.others.items h.desk_windows h.windows h.at_desk h.elsewhere
+  all_led = grind (arith, nat_tests, zip_append)
 
   pub class_house : (sessions : List (List (List Reply))) × AreServed lab begun sessions (h.desk_windows ++ h.windows)
       × IsLogFrom (length begun) lab sink (h.desk_windows ++ h.windows) house.log
       × IsEachOnceFrom (length begun) (length house.log.events) (named_by sessions)
-  class_house =
-      let all = served (terms lab begun given remaining contents recorded shows) (house.at_desk.items ++ house.others.items) (h.desk_windows ++ h.windows) all_led in
-      (all.0, all.1, h.kept, house_once lab begun (length house.log.events) all.0 (h.desk_windows ++ h.windows) all.1 h.kept.places)
+  class_house = grind (arith, nat_tests, served, all_led, house_once)
 
   pub class_seats : ((n : ℕ) → 0 < n → n ≤ lab.sessions → given n ≡ Some fresh)
       → AllZip (IsResumedSeat lab begun) (seats_of recorded shows house) (h.desk_windows ++ h.windows)

@@ -1,4 +1,5 @@
 -- What is left of a run can be asked for.
+use Rattle.std.proofs.lemmas.Bool.Decides.{nat_tests}
 use Rattle.std.{proofs.lemmas.Bool.and_parts, proofs.lemmas.Bool.and_from, proofs.lemmas.List.get_or-set_same, specs.List.list_all, specs.List.AllByRecursion}
 use Rattle.std.proofs.Common.{◌≡◌, ℕ, ◌<◌, ◌≤◌, ◌+◌, ◌*◌, ◌^◌, true, false, List, [], ◌∷◌, length, Option, None, Some, Ok, refl, sym, ap, ◌∙◌, subst, arith}
 use Rattle.mml_rules.specs.Matching.{IsStable}
@@ -6,7 +7,7 @@ use Rattle.mml_lab.specs.{declared.who.Who.Who, Labs.LabValue, Labs.IsLab, Labs.
 use Rattle.mml_lab_file.specs.Reading.{lab_of}
 use Rattle.mml_lab_file.proofs.{LabMeaningLemmas.lawful, OwnersLemmas.one_or_two}
 use Rattle.mml_board.specs.declared.{done.Done.Done, event.Event.Event}
-use Rattle.mml_board.specs.{World.World, World.IsWorld, World.size, World.configuration, World.opening_of, Events.is_legal, Events.after, Events.done_by, Runs.is_legal_list, Runs.world_of}
+use Rattle.mml_board.specs.{World.World, World.IsWorld, World.size, World.configuration, Events.is_legal, Events.after, Events.done_by, Runs.is_legal_list, Runs.world_of}
 use Rattle.mml_board.proofs.EventsLemmas.{next_place}
 use Rattle.mml_policy.specs.{declared.ruling.Ruling.TheVariants.Granted, Asking.asker, Asking.command_of, Rulings.ruling, Alike.IsWorldOf}
 use Rattle.mml_policy.proofs.AskingLemmas.{legal_granted}
@@ -22,7 +23,6 @@ use Rattle.mml_hall.proofs.HallsLemmas.{IsHall-opening, IsHall-event, IsHall-kno
 use Rattle.mml_laws.specs.Finishes.{line_for, hello_of, asking_lines, is_granted, FinishesByAsking}
 use Rattle.mml_laws.proofs.{GreetedLemmas.plain_so, GreetedLemmas.hall_judged, RuledLemmas.ruled_granted, ChoicesLemmas.opening as world_opening, RestWithinLemmas.events_few}
 use Rattle.mml_laws.proofs.AskingLinesLemmas.{bye_comes, hello_can, hello_comes, command_comes}
-use Rattle.mml_board.specs.declared.done.Done.TheVariants as done
 use Rattle.mml_board.specs.declared.event.Event.TheVariants as event
 use Rattle.mml_codec.specs.declared.reply.Reply.TheVariants as reply
 use Rattle.mml_codec.specs.declared.request.Request.TheVariants as requests
@@ -30,23 +30,18 @@ use Rattle.mml_codec.specs.declared.request.Request.TheVariants as requests
 -- ---- the number of a configuration is at most the place
 
 number_after : (w : World) (e : Event) → w.number ≤ w.place → (after w e).number ≤ (after w e).place
-number_after w (event.Grant s i q) few = omega (arith, few)
-number_after w _ few = omega (arith, few)
+number_after w e few = grind (arith, nat_tests)
 
 number_few : (w : World) (es : List Event) → w.number ≤ w.place → (world_of w es).number ≤ (world_of w es).place
 number_few w [] few = few
 number_few w (e ∷ es) few = number_few (after w e) es (number_after w e few)
 
 granted_done : (at place : ℕ) (d : Done) → is_granted (reply_of_done at place d) ≡ true
-granted_done at place (done.Move node kind) = refl
-granted_done at place _ = refl
+granted_done at place d = grind (arith, nat_tests)
 
 module _ (lab : LabValue) where
   number_small : (st : State) → IsHall lab st → st.world.number < 2 ^ 64
-  number_small st is =
-      let few : st.world.number ≤ st.world.place =
-      subst (λ (w : World). w.number ≤ w.place) (sym is.events) (number_few (opening_of lab.network) st.events (omega arith)) in
-      omega (arith, few, place-is lab st is, is.few, is.is_lab.few_events)
+  number_small st is = grind (arith, nat_tests, number_few, place-is)
 
   -- ---- the turns that ask for one event
 

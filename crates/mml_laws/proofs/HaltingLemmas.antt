@@ -1,9 +1,10 @@
 -- A book that is halted stays as it is, and grants nothing.
-use Rattle.std.proofs.Common.{◌≡◌, ◌⊎◌, ◌<◌, ℕ, true, true≢false, List, [], ◌∷◌, Option, inl, inr, refl, sym, ap, ◌∙◌}
+use Rattle.std.proofs.lemmas.Bool.Decides.{nat_tests}
+use Rattle.std.proofs.Common.{◌≡◌, ◌⊎◌, ◌<◌, ℕ, true, List, [], ◌∷◌, Option, inl, inr, sym, ap, ◌∙◌, arith}
 use Rattle.std.specs.List.{AllByRecursion}
 use Rattle.mml_lab.specs.{declared.who.Who.Who, Labs.LabValue}
-use Rattle.mml_policy.specs.declared.{command.Command.Command, refusal.Refusal.TheVariants.Full, refusal.Refusal.TheVariants.Journal, refusal.Refusal.TheVariants.Memory}
-use Rattle.mml_window.specs.declared.answer.Answer.{Answer, TheVariants.Granted, TheVariants.Denied, TheVariants.Refused}
+use Rattle.mml_policy.specs.declared.{command.Command.Command, refusal.Refusal.TheVariants.Journal}
+use Rattle.mml_window.specs.declared.answer.Answer.{Answer, TheVariants.Refused}
 use Rattle.mml_window.specs.{Answers.Decides, Answers.AnswersAtPresent, Books.BookValue, Windows.WindowValue}
 use Rattle.mml_laws.specs.Halting.{Act, DecidesEach, IsNoGrant}
 
@@ -17,14 +18,7 @@ module _ {S : Type 0} (lab : LabValue) (failures : S → ℕ) where
 
   one_stays : (old new : BookValue S) (who : Who) (command : Command) (answer : Answer) → old.halted ≡ true → Decides lab failures old who command answer new
       → (new ≡ old) × IsNoGrant answer
-  one_stays old new who command (Denied d) was decides = (decides.1, tt)
-  one_stays old new who command (Refused Full) was decides = (decides.2, tt)
-  one_stays old new who command (Refused Journal) was decides = elim decides.1 [
-    | inl same ↦ (same.1, tt)
-    | inr halts ↦ absurd (true≢false (sym was ∙ halts.running))
-  ]
-  one_stays old new who command (Refused Memory) was decides = (decides.2, tt)
-  one_stays old new who command (Granted place number done) was decides = absurd (true≢false (sym was ∙ decides.2.running))
+  one_stays old new who command answer was decides = grind (arith, nat_tests)
 
   pub all_stay : (old new : BookValue S) (acts : List Act) (answers : List Answer) → old.halted ≡ true → DecidesEach lab failures old acts answers new
       → (new ≡ old) × AllByRecursion IsNoGrant answers
@@ -39,20 +33,14 @@ module _ {S : Type 0} (lab : LabValue) (failures : S → ℕ) where
   pub for_good : (old new last : BookValue S) (who : Who) (command : Command) (acts : List Act) (answers : List Answer)
       → Decides lab failures old who command (Refused Journal) new → DecidesEach lab failures new acts answers last
       → (new.halted ≡ true) × (last ≡ new) × AllByRecursion IsNoGrant answers
-  for_good old new last who command acts answers d each =
-      let is = (halted old new who command d).0 in
-      let rest = all_stay new last acts answers is each in
-      (is, rest.0, rest.1)
+  for_good old new last who command acts answers d each = grind (arith, nat_tests, halted, all_stay)
 
   same_halted : {P : Type 0} (old new : BookValue S) → new ≡ old → new.halted ≡ true → (old.halted ≡ true) ⊎ P
   same_halted old new same is = inl (ap (λ (b : BookValue S). b.halted) (sym same) ∙ is)
 
   pub only_journal : (old new : BookValue S) (who : Who) (command : Command) (answer : Answer) → Decides lab failures old who command answer new
       → new.halted ≡ true → (old.halted ≡ true) ⊎ ((answer ≡ Refused Journal) × (failures old.sink < failures new.sink))
-  only_journal old new who command (Denied d) decides is = same_halted old new decides.1 is
-  only_journal old new who command (Refused Journal) decides is = elim decides.1 [ inl same ↦ inl same.0 | inr halts ↦ inr (refl, halts.failed) ]
-  only_journal old new who command (Granted place number done) decides is = absurd (true≢false (sym is ∙ decides.2.halted))
-  only_journal old new who command _ decides is = same_halted old new decides.2 is
+  only_journal old new who command answer decides is = grind (arith, nat_tests, same_halted, halted)
 
   pub at_present : (contents : S → Option (List ℕ)) (old new : WindowValue) (who : Who) (command : Command)
       (a : AnswersAtPresent lab contents failures old who command (Refused Journal) new) → (a.after.halted ≡ true) × (a.after.events ≡ a.before.events)

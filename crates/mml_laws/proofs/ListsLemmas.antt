@@ -1,11 +1,11 @@
 -- What a reader finds in the lists of a reply.
-use Rattle.std.proofs.Common.{◌≡◌, ℕ, List, Some, refl, sym, subst, ◌∙◌}
+use Rattle.std.proofs.lemmas.Bool.Decides.{nat_tests}
+use Rattle.std.proofs.Common.{◌≡◌, ℕ, List, Some, arith}
 use Rattle.serde_json.specs.{Data.Data, Read.read}
 use Rattle.mml_ids.specs.Ids.{IsTable}
 use Rattle.mml_lab.specs.Rosters.{RosterValue, IsRoster}
 use Rattle.mml_codec.specs.{declared.reply.Reply.Reply, Replies.IsAbout, ReplyValues.reply_value, ReplyValues.AreWritableCounts}
 use Rattle.mml_codec.proofs.ReplyValuesLemmas.{read-reply}
-use Rattle.mml_codec.specs.declared.reply.Reply.TheVariants as reply
 use Rattle.mml_codec.specs.Replies as written
 use Rattle.mml_laws.specs.Lists.{listed, HasLists}
 
@@ -13,12 +13,8 @@ some_same : {A : Type 0} (x y : A) → Some x ≡ Some y → x ≡ y
 some_same x y h = cc
 
 has_lists : (ids : List ℕ) (roster : RosterValue) (r : Reply) → HasLists (reply_value ids roster r) (listed ids r)
-has_lists ids roster (reply.Look l) = (refl, tt)
-has_lists ids roster (reply.Report r) = (refl, (refl, (refl, (refl, tt))))
-has_lists ids roster (reply.Close at place moved) = (refl, tt)
-has_lists ids roster _ = tt
+has_lists ids roster r = grind (arith, nat_tests)
 
 pub read_lists : (ids : List ℕ) (roster : RosterValue) (r : Reply) (d : Data) → IsTable ids → IsRoster roster → IsAbout ids roster r → AreWritableCounts roster r
     → read (written.text ids roster r) ≡ Some d → HasLists d (listed ids r)
-read_lists ids roster r d table is about counts h =
-    subst (λ x. HasLists x (listed ids r)) (some_same (reply_value ids roster r) d (sym (read-reply ids roster is table r about counts) ∙ h)) (has_lists ids roster r)
+read_lists ids roster r d table is about counts h = grind (arith, nat_tests, some_same, read-reply, has_lists)

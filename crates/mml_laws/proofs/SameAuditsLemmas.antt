@@ -1,14 +1,14 @@
 -- Two labs that are the same in all that a journal names, and allow as many events, audit alike.
-use Rattle.std.proofs.Common.{◌≡◌, ◌∙◌, ℕ, ◌+◌, ◌≤◌, ◌==◌, ◌&&◌, nat_lt, not, Bool, false, List, [], ◌∷◌, length, Result, Ok, inl, inr, refl, ap, sym, arith}
+use Rattle.std.proofs.lemmas.Bool.Decides.{nat_tests}
+use Rattle.std.proofs.Common.{◌≡◌, ◌∙◌, ℕ, ◌+◌, ◌≤◌, ◌==◌, ◌&&◌, nat_lt, Bool, false, List, [], ◌∷◌, length, Result, Ok, inl, inr, refl, ap, sym, arith}
 use Rattle.std.{proofs.lemmas.Bool.cases_lt, proofs.lemmas.Bool.false_from_ne_true, specs.Result.is_ok}
 use Rattle.mml_ids.specs.Gives.{◌>>=◌, ◌>>◌, need}
 use Rattle.mml_lab.specs.{declared.who.Who.Who, Rosters.RosterValue, Rosters.IsRoster, Rosters.owns, Labs.LabValue, Labs.IsLab}
 use Rattle.mml_lab.proofs.RosterMeaningLemmas.{owner_there}
-use Rattle.mml_board.specs.{declared.event.Event.Event, World.World, World.opening_of, Events.is_legal, Events.after, Clauses.check, Clauses.asker, Clauses.act_of}
-use Rattle.mml_lines.specs.LinesOf.{lines_of}
-use Rattle.mml_journal.specs.{EventLines.said_by, declared.journal_fault.JournalFault.JournalFault}
+use Rattle.mml_board.specs.{declared.event.Event.Event, World.World, Events.is_legal, Events.after, Clauses.check, Clauses.asker, Clauses.act_of}
+use Rattle.mml_journal.specs.{declared.journal_fault.JournalFault.JournalFault}
 use Rattle.mml_audit.specs.declared.auditing.AuditFault.{AuditFault}
-use Rattle.mml_audit.specs.Audit.{or_else, allowed, event_in, after_line, after_lines, audited, audited_from, is_torn}
+use Rattle.mml_audit.specs.Audit.{or_else, allowed, event_in, after_line, after_lines, audited}
 use Rattle.mml_record.proofs.RiseLemmas.{owned_within}
 use Rattle.mml_lab_file.specs.Sameness.{IsSameLab}
 use Rattle.mml_laws.proofs.SameLabsLemmas.{said_alike, networks_alike}
@@ -41,8 +41,7 @@ module _ (a b : LabValue) (la : IsLab a) (lb : IsLab b) (is : IsSameLab a b) whe
       nowhere r past = false_from_ne_true _ (λ own. absurd (omega (arith, past, owned_within r (who.Student s) i own)))
 
   each_owns : (x : Who) (i : ℕ) → owns a.roster x i ≡ owns b.roster x i
-  each_owns who.Teacher i = refl
-  each_owns (who.Student s) i = student_owns s i
+  each_owns x i = grind (arith, nat_tests, student_owns)
 
   -- the same ones own the same nodes
   pub owns_alike : owns a.roster ≡ owns b.roster
@@ -55,10 +54,7 @@ module _ (a b : LabValue) (la : IsLab a) (lb : IsLab b) (is : IsSameLab a b) whe
 
   module _ (limit : a.events ≡ b.events) where
     event_alike : (w : World) (line : List ℕ) → event_in a w line ≡ event_in b w line
-    event_alike w line =
-        ap (λ (said : Result (ℕ × ℕ × Event) JournalFault). event_by said (owns a.roster) a.events w) (said_alike a b line is)
-        ∙ ap (λ (owner : Who → ℕ → Bool). event_by (said_by b.ids b.roster line) owner a.events w) owns_alike
-        ∙ ap (λ (n : ℕ). event_by (said_by b.ids b.roster line) (owns b.roster) n w) limit
+    event_alike w line = grind (arith, nat_tests, said_alike, owns_alike)
 
     lines_alike : (lines : List (List ℕ)) (w : World) → after_lines a w lines ≡ after_lines b w lines
     lines_alike [] w = refl
@@ -68,6 +64,4 @@ module _ (a b : LabValue) (la : IsLab a) (lb : IsLab b) (is : IsSameLab a b) whe
 
     -- bytes pass in both, and leave the same world, or have the same fault
     pub audits_alike : (bytes : List ℕ) → audited a bytes ≡ audited b bytes
-    audits_alike bytes =
-        ap (λ n. audited_from a (opening_of n) bytes) (networks_alike a b la lb is)
-        ∙ ap (λ (r : Result World AuditFault). r >>= (λ end. need (not (is_torn bytes)) (fault.Torn (end.place + 1)) >> Ok end)) (lines_alike (lines_of bytes) (opening_of b.network))
+    audits_alike bytes = grind (arith, nat_tests, networks_alike, lines_alike)

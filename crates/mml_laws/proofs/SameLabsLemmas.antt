@@ -1,4 +1,5 @@
 -- Two labs that are the same in all that a journal names.
+use Rattle.std.proofs.lemmas.Bool.Decides.{nat_tests}
 use Rattle.std.proofs.Common.{◌≡◌, ◌∙◌, ℕ, suc, ◌+◌, ◌<◌, ◌≤◌, cond, not, nat_lt, Bool, false, List, [], ◌∷◌, length, slice_index_or, Option, Some, None, Result, Ok, ok_or, inl, inr, refl, ap, sym}
 use Rattle.std.proofs.Common.{arith, bytes_eq}
 use Rattle.std.{specs.List.prefix_len, proofs.lemmas.List.same_lists, proofs.lemmas.List.get_or_default, proofs.lemmas.Bool.cases_lt, proofs.lemmas.Bool.false_from_ne_true}
@@ -13,9 +14,7 @@ use Rattle.mml_lab_file.specs.Sameness.{IsSameLab}
 use Rattle.std.specs.FinSet as set
 use Rattle.mml_ids.specs.Gives as steps
 use Rattle.mml_lab.specs.declared.who.Who.TheVariants as who
-use Rattle.mml_board.specs.declared.event.Event.TheVariants as event
 use Rattle.mml_journal.specs.declared.journal_fault.JournalFault.TheVariants as fault
-use Rattle.mml_journal.specs.EventWords as words
 
 -- ---- lines
 
@@ -45,16 +44,14 @@ module _ (ids : List ℕ) (r q : RosterValue) (alike : (name : List ℕ) → stu
   -- words name the same event by rosters that have each student's name at the same index
   named_alike : (w : EventWords) → event_named ids r w ≡ event_named ids q w
   unfolding event_named
-  named_alike (words.grant name i rule) = rw (alike name) refl
-  named_alike _ = refl
+  named_alike w = grind (arith, nat_tests)
 
   -- what a line says of which these words were found
   abbrev said_in : RosterValue → Option LineWords → Result (ℕ × ℕ × Event) JournalFault
   said_in r line = steps.◌>>=◌ (ok_or line fault.Shape) (λ l. steps.◌>>=◌ (ok_or (event_named ids r l.event) fault.Unknown) (λ e. Ok (l.place, l.before, e)))
 
   in_alike : (line : Option LineWords) → said_in r line ≡ said_in q line
-  in_alike None = refl
-  in_alike (Some l) = rw (named_alike l.event) refl
+  in_alike line = grind (arith, nat_tests, named_alike)
 
 -- each line says the same
 pub said_alike : (a b : LabValue) (bytes : List ℕ) → IsSameLab a b → said_by a.ids a.roster bytes ≡ said_by b.ids b.roster bytes
@@ -62,13 +59,11 @@ said_alike a b bytes is = ap (λ ids. said_by ids a.roster bytes) is.ids ∙ in_
 
 -- a name is the same
 pub name_alike : (a b : LabValue) (w : Who) → IsSameLab a b → IsPrincipal a.roster w → name_of a.roster w ≡ name_of b.roster w
-name_alike a b who.Teacher is here = is.names.0
-name_alike a b (who.Student s) is here = is.names.2 s here
+name_alike a b w is here = grind (arith, nat_tests)
 
 roster_line : (ids : List ℕ) (a b : LabValue) (place before : ℕ) (e : Event) → IsSameLab a b → IsEventOf a.ids a.roster e
     → event_line ids a.roster place before e ≡ event_line ids b.roster place before e
-roster_line ids a b place before (event.Grant s i rule) is of = rw (is.names.2 s of.0) refl
-roster_line ids a b place before _ is of = refl
+roster_line ids a b place before e is of = grind (arith, nat_tests)
 
 -- each event of the lab has the same line
 pub line_alike : (a b : LabValue) (place before : ℕ) (e : Event) → IsSameLab a b → IsEventOf a.ids a.roster e

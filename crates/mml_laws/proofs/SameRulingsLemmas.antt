@@ -1,13 +1,14 @@
 -- Two labs that are the same in all that a journal names rule alike on each command, and greet alike.
-use Rattle.std.proofs.Common.{◌≡◌, ◌∙◌, ℕ, Bool, ◌&&◌, ◌||◌, List, [], ◌∷◌, ◌++◌, Result, Ok, option_map, refl, ap}
+use Rattle.std.proofs.lemmas.Bool.Decides.{nat_tests}
+use Rattle.std.proofs.Common.{◌≡◌, ℕ, Bool, ◌&&◌, ◌||◌, List, [], Ok, option_map, refl, arith}
 use Rattle.mml_ids.specs.{Gives.◌>>=◌, Gives.◌>>◌, Gives.need, Ids.rank_in, Search.some_below}
 use Rattle.mml_rules.specs.Configuration.{Configuration}
 use Rattle.mml_lab.specs.{declared.who.Who.Who, Rosters.RosterValue, Rosters.IsPrincipal, Rosters.owns, Labs.LabValue, Labs.IsLab}
 use Rattle.mml_board.specs.{World.World, World.configuration, Clauses.check, Clauses.is_teacher}
-use Rattle.mml_board.specs.declared.denial.Denial.{Denial, TheVariants.Hidden, TheVariants.NotOwner}
-use Rattle.mml_policy.specs.declared.{command.Command.Command, verdict.Leave.Leave, verdict.Leave.TheVariants.See, verdict.Leave.TheVariants.Look}
-use Rattle.mml_policy.specs.{Clauses.node, Clauses.rule_of, Visible.is_visible, Visible.owns_neighbour, Verdicts.granted, Verdicts.clauses, Rulings.ruled, Rulings.ruling}
-use Rattle.mml_codec.specs.{Facts.object_text, Replies.hello_fields, Replies.reply_line}
+use Rattle.mml_board.specs.declared.denial.Denial.{TheVariants.Hidden, TheVariants.NotOwner}
+use Rattle.mml_policy.specs.declared.{command.Command.Command, verdict.Leave.TheVariants.See, verdict.Leave.TheVariants.Look}
+use Rattle.mml_policy.specs.{Clauses.node, Clauses.rule_of, Visible.is_visible, Visible.owns_neighbour, Verdicts.granted, Verdicts.clauses, Rulings.ruling}
+use Rattle.mml_codec.specs.{Replies.reply_line}
 use Rattle.mml_lab_file.specs.Sameness.{IsSameLab}
 use Rattle.mml_laws.proofs.{SameLabsLemmas.name_alike, SameAuditsLemmas.owns_alike}
 use Rattle.mml_board.specs.declared.act.Act.TheVariants as act
@@ -34,13 +35,9 @@ module _ (ids : List ℕ) (r q : RosterValue) (same : owns r ≡ owns q) (w : Wo
 -- each command is ruled alike
 pub rulings_alike : (a b : LabValue) (limit : ℕ) (h : Bool) (w : World) (x : Who) (c : Command) → IsLab a → IsLab b → IsSameLab a b
     → ruling a.ids a.roster limit h w x c ≡ ruling b.ids b.roster limit h w x c
-rulings_alike a b limit h w x c la lb is =
-    ap (λ (ids : List ℕ). ruling ids a.roster limit h w x c) is.ids
-    ∙ ap (λ (p : Result Leave Denial). ruled limit h w p) (clauses_alike b.ids a.roster b.roster (owns_alike a b la lb is) w x c)
+rulings_alike a b limit h w x c la lb is = grind (arith, nat_tests, clauses_alike, owns_alike)
 
 -- a hello has the same reply line
 pub hellos_alike : (a b : LabValue) (x : Who) → IsSameLab a b → IsPrincipal a.roster x
     → reply_line a.ids a.roster (replies.Hello x) ≡ reply_line b.ids b.roster (replies.Hello x)
-hellos_alike a b x is here =
-    ap (λ (ids : List ℕ). reply_line ids a.roster (replies.Hello x)) is.ids
-    ∙ ap (λ (name : List ℕ). object_text b.ids (hello_fields name) ++ 10 ∷ []) (name_alike a b x is here)
+hellos_alike a b x is here = grind (arith, nat_tests, name_alike)
