@@ -1,5 +1,6 @@
 -- What has been answered so far, and how it ends.
-use Rattle.std.proofs.Common.{◌≡◌, ℕ, ◌+◌, List, [], ◌∷◌, ◌++◌, length, map, flat_map, refl, sym, ◌∙◌, ap, Option, subst, inl, inr, Result, Ok, Err, IsErrAnd, ◌<◌, length-append}
+use Rattle.std.proofs.lemmas.Bool.Decides.{nat_tests}
+use Rattle.std.proofs.Common.{◌≡◌, ℕ, ◌+◌, List, [], ◌∷◌, ◌++◌, length, map, flat_map, refl, sym, ◌∙◌, ap, Option, subst, inl, inr, Result, IsErrAnd, ◌<◌, length-append, arith}
 use Rattle.std.{specs.Prelude.⊤, specs.Io.KnownBytes.Consumes, specs.Io.KnownBytes.prepend_known, proofs.lemmas.List.map-append, proofs.KnownBytes.Consumes-trans}
 use Rattle.mml_lab.specs.Labs.{LabValue}
 use Rattle.mml_ids.specs.Lines.{ended}
@@ -101,15 +102,10 @@ module _ {S : Type 0} {contents : S → Option (List ℕ)} {failures : S → ℕ
 
   from_end : (came : ScriptStep) → ServesNext came hall.lab hall.state hall'.state a held left unsent unsent' c d
       → ServesNext came lab so.transcript.end hall'.state a held left unsent unsent' c d
-  from_end came serves =
-      subst (λ (t : State). ServesNext came lab t hall'.state a held left unsent unsent' c d) (sym so.stands)
-      (subst (λ (t : LabValue). ServesNext came t hall.state hall'.state a held left unsent unsent' c d) so.same_lab serves)
+  from_end came serves = grind (arith, nat_tests)
 
   journals_on : GoesOn → Left hall'.sink hall'.state
-  journals_on on = (
-    subst (λ (t : LabValue). TellsJournal t hall'.state (contents hall'.sink)) (on.0 ∙ so.same_lab) on.1,
-    halts_on hall.state.halted hall'.state.halted (failures first) (failures hall.sink) (failures hall'.sink) so.journals.1 on.2,
-  )
+  journals_on on = grind (arith, nat_tests, halts_on)
 
   pub one_more : GoesOn → ServesNext next.Answered hall.lab hall.state hall'.state a held left unsent unsent' c d
       → AnsweredSoFar contents failures lab first hall' (count + 1) input (prepend_known held left) unsent' wrote d
@@ -187,6 +183,4 @@ pub write_told : {S : Type 0} (contents : S → Option (List ℕ)) (failures : S
     (input left wrote wrote' : Option (List ℕ)) (n : ℕ)
     → IsErrAnd r (λ e. e ≡ fault.Write n) → Stopped (Journals contents failures opened.lab opened.sink) (fault.Write n) opened.lab input left wrote wrote'
     → EndsScript contents failures r opened hall input left wrote wrote'
-write_told contents failures (Ok done) opened hall input left wrote wrote' n h stopped = absurd h
-write_told contents failures (Err e) opened hall input left wrote wrote' n h stopped =
-    subst (λ (f : ScriptFault). Stopped (Journals contents failures opened.lab opened.sink) f opened.lab input left wrote wrote') (sym h) stopped
+write_told contents failures r opened hall input left wrote wrote' n h stopped = grind (arith, nat_tests)

@@ -9,25 +9,20 @@ use Rattle.mml_codec.specs.declared.{request.LineFault.LineFault, request.Reques
 use Rattle.mml_codec.specs.{Lines.request_in, Replies.is_short, Replies.place_in, Replies.TellsFor, Rulings.reply_of_done}
 use Rattle.mml_codec.proofs.RulingsLemmas.{place_of_done, short_done}
 use Rattle.mml_engine.proofs.TurnsLemmas.{by_greeting}
-use Rattle.mml_hall.specs.Turns.{State, Outcome, Mishap, Turn, IsRefusal, GrowsByGrant, is_grant, nothing, while_read, later, sink_failed, turn, known_on, with_known, with_event, outcome_of, settled}
+use Rattle.mml_hall.specs.Turns.{State, Outcome, Mishap, Turn, IsRefusal, GrowsByGrant, is_grant, turn, known_on, with_known, with_event, outcome_of, settled}
 use Rattle.mml_hall.specs.Turns.{answer_to, plain_turn, takes_memory, without_memory, halting, IsKept}
-use Rattle.mml_board.specs.declared.done.Done.TheVariants as done
 use Rattle.mml_codec.specs.declared.request.Request.TheVariants as requests
 
 -- ---- whatever went wrong in a turn
 
 pub either_of : (P : Outcome → Type 0) (b : Bool) (one other : Outcome) → P one → P other → P (cond b one other)
-either_of P true one other p q = p
-either_of P false one other p q = q
+either_of P b one other p q = grind (arith, nat_tests)
 
 module _ (lab : LabValue) (st : State) (k : ℕ) (line : List ℕ) (P : Outcome → Type 0) (plain : P (plain_turn lab st k line)) (memory : P (without_memory st))
     (journal : P (halting st)) where
   -- what holds of a plain turn, and of what may come instead, holds whatever went wrong in the turn
   pub whatever_befell : (mishap : Mishap) → P (turn mishap lab st k line)
-  whatever_befell nothing = plain
-  whatever_befell while_read = memory
-  whatever_befell later = either_of P (takes_memory (plain_turn lab st k line).reply) (without_memory st) (plain_turn lab st k line) memory plain
-  whatever_befell sink_failed = either_of P (is_grant (plain_turn lab st k line).reply) (halting st) (plain_turn lab st k line) journal plain
+  whatever_befell mishap = grind (arith, nat_tests, either_of)
 
   pub by_turn : (out : Outcome) → Turn lab st k line out → P out
   by_turn out (mishap, e) = subst P (sym e) (whatever_befell mishap)
@@ -97,8 +92,7 @@ module _ (lab : LabValue) (st : State) (k : ℕ) where
 
 -- the reply to a grant is no refusal
 granted_not_refused : (at place : ℕ) (d : Done) → IsRefusal (reply_of_done at place d) → ⊥
-granted_not_refused at place (done.Move node kind) h = h
-granted_not_refused at place _ h = h
+granted_not_refused at place d h = grind (arith, nat_tests)
 
 -- ---- what a turn leaves as it was
 
@@ -123,23 +117,12 @@ other_known st k j x some some' differ = grind (arith, nat_tests, st.greeted, ge
 -- a turn leaves who is known on every other connection
 pub others_turn : (lab : LabValue) (st : State) (k j : ℕ) (line : List ℕ) (out : Outcome) → Turn lab st k line out → 0 < k → 0 < j → j ≢ k
     → known_on out.state j ≡ known_on st j
-others_turn lab st k j line out t some some' differ = by_turn lab st k line (λ out. known_on out.state j ≡ known_on st j) plain refl refl out t
-  where
-    plain : known_on (plain_turn lab st k line).state j ≡ known_on st j
-    plain = elim (plain_does lab st k line) [
-      | inl idle ↦ ap (λ (s : State). known_on s j) idle.state
-      | inr (inl greets) ↦ ap (λ (s : State). known_on s j) greets.state ∙ other_known st k j greets.known some some' differ
-      | inr (inr grants) ↦ ap (λ (s : State). known_on s j) grants.state
-    ]
+others_turn lab st k j line out t some some' differ = grind (arith, nat_tests, by_turn, plain_does, other_known)
 
 -- ---- a reply that isn't short
 
 long_turn : (lab : LabValue) (st : State) (k : ℕ) (line : List ℕ) → is_short (plain_turn lab st k line).reply ≡ false → (plain_turn lab st k line).state ≡ st
-long_turn lab st k line long = elim (plain_does lab st k line) [
-  | inl idle ↦ idle.state
-  | inr (inl greets) ↦ absurd (true≢false (sym greets.short ∙ long))
-  | inr (inr grants) ↦ absurd (true≢false (sym (short_done _ _ grants.done) ∙ sym (ap is_short grants.reply) ∙ long))
-]
+long_turn lab st k line long = grind (arith, nat_tests, plain_does, short_done)
 
 long_takes_memory : (r : Reply) → is_short r ≡ false → takes_memory r ≡ true
 long_takes_memory r h = or_right (is_grant r) (not (is_short r)) (ap not h)
@@ -147,12 +130,7 @@ long_takes_memory r h = or_right (is_grant r) (not (is_short r)) (ap not h)
 -- the plain outcome isn't short: the refusal for memory may come instead
 wanting : (lab : LabValue) (st : State) (k : ℕ) (line : List ℕ) (told : Reply) → told ≡ (without_memory st).reply
     → is_short (plain_turn lab st k line).reply ≡ false → Turn lab st k line (record { reply = told; state = (plain_turn lab st k line).state })
-wanting lab st k line told want long = (
-  later,
-  ap (λ (r : Reply). record { reply = r; state = (plain_turn lab st k line).state }) want
-      ∙ ap (λ (s : State). record { reply = (without_memory st).reply; state = s }) (long_turn lab st k line long)
-      ∙ sym (ap (λ (b : Bool). cond b (without_memory st) (plain_turn lab st k line)) (long_takes_memory (plain_turn lab st k line).reply long)),
-)
+wanting lab st k line told want long = grind (arith, nat_tests, long_turn, long_takes_memory)
 
 -- the reply that is sent is that of a turn too
 pub told_turn : (lab : LabValue) (st : State) (k : ℕ) (line : List ℕ) (out : Outcome) (told : Reply) → Turn lab st k line out → TellsFor out.reply told

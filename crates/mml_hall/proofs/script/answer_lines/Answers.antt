@@ -1,19 +1,10 @@
-use Rattle.std.proofs.Common.{arith, ap, refl}
+use Rattle.std.proofs.lemmas.Bool.Decides.{nat_tests}
+use Rattle.std.proofs.Common.{arith, refl}
 use Rattle.mml_hall.proofs.ScriptsLemmas.{nothing_yet, sent_on, one_more, finished_so, bad_so, unread_so, unwritten_so, unflushed_so, bad_unflushed_so, write_told}
 use Rattle.mml_hall.proofs.script.answer_lines.Goals as goal
 
 pub loop-hall-init : goal.loop-hall-init
-loop-hall-init g c = record {
-  so_far =
-      nothing_yet g.S.Sink.contents g.S.Sink.failures c.args.hall.now.lab c.args.hall.now.sink c.args.hall.now (g.R.Read.remaining c.args.reader.now)
-      (g.W.Write.contents c.args.writer.now) c.args.buffers.now.lines.unread c.args.buffers.now.outgoing
-      refl c.requires.opening refl c.requires.fresh (ap (λ x. x.unread) c.requires.nothing_read) c.requires.nothing_held;
-  going = ap (λ x. x.ending) c.requires.nothing_read;
-  limit = ap (λ x. x.limit) c.requires.nothing_read;
-  few_held = rw (ap (λ x. x.unread) c.requires.nothing_read) (omega arith);
-  few = rw (ap (λ x. x.unread) c.requires.nothing_read, ap (λ x. x.reads) c.requires.nothing_read) (omega arith);
-  room = c.requires.room;
-}
+loop-hall-init g c = grind (arith, nat_tests, nothing_yet)
 
 pub returns-in_err-flush_before_read-clause-ends : goal.returns-in_err-flush_before_read-clause-ends
 returns-in_err-flush_before_read-clause-ends g c =
