@@ -314,7 +314,8 @@ class Verified(Disputed):
             again.until("^connected: gus$")
         self.ended(again)
         told = self.history(folder)
-        self.assertRegex(told, r"^.*/record\.~1~: ok: \d+ sessions, \d+ lines, 3 events\n.*/record: ok: \d+ sessions, \d+ lines, 3 events, begun after 3 events\n")
+        self.assertRegex(told, r"^.*/record\.~1~: ok: \d+ sessions, \d+ lines, 3 events\n"
+                               r".*/record: ok: \d+ sessions, \d+ lines, 3 events, begun after 3 events\n")
         self.assertEqual((told.count(GUARD), told.count(UNKNOWN), told.count("***")), (2, 2, 5))
         for hidden in (key, KEYS["gus"]):
             self.assertNotIn(hidden, told)
