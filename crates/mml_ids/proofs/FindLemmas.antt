@@ -1,8 +1,8 @@
--- What a search of a list finds.
+-- Searching a list for an element that passes a test.
 use Rattle.std.proofs.Common.{◌≡◌, ℕ, suc, ◌<◌, List, [], ◌∷◌, Bool, true, false, cond, ◌||◌, length, get_or, Some, refl, ap, ◌∙◌, arith}
 use Rattle.std.{specs.List.list_any, specs.List.find, proofs.lemmas.Bool.false≢true}
 
--- x stands in the list, and passes
+-- x is in the list and passes the test
 pub record IsFound {X : Type 0} (p : X → Bool) (xs : List X) (x : X) : Type 0 where
   pub index : ℕ
   pub within : index < length xs
@@ -12,12 +12,12 @@ pub record IsFound {X : Type 0} (p : X → Bool) (xs : List X) (x : X) : Type 0 
 later : {X : Type 0} (p : X → Bool) (y : X) (xs : List X) (x : X) → IsFound p xs x → IsFound p (y ∷ xs) x
 later p y xs x found = let lt = found.within in record { index = suc found.index; within = omega arith; there = found.there; passes = found.passes }
 
--- what is found stands in the list and passes
+-- if the search finds x, x is in the list and passes the test
 pub find-is : {X : Type 0} (p : X → Bool) (xs : List X) (x : X) → find p xs ≡ Some x → IsFound p xs x
 find-is p [] x e = absurd cc
 find-is p (y ∷ ys) x e = grind (arith, later, find-is p ys x)
 
--- some element passes, so the search finds one
+-- if some element passes the test, the search finds one
 pub find-some : {X : Type 0} (p : X → Bool) (xs : List X) → list_any p xs ≡ true → (x : X) × (find p xs ≡ Some x)
 find-some p [] h = absurd (false≢true h)
 find-some p (y ∷ ys) h = by (p y) refl (find-some p ys)
@@ -26,11 +26,11 @@ find-some p (y ∷ ys) h = by (p y) refl (find-some p ys)
     by true is rest = (y, ap (λ b. cond b (Some y) (find p ys)) is)
     by false is rest = grind arith
 
--- if some element passes the test, there is one in the list that passes
+-- if some element passes the test, there is such an element with its index in the list
 pub list_any-found : {X : Type 0} (p : X → Bool) (xs : List X) → list_any p xs ≡ true → (x : X) × IsFound p xs x
 list_any-found p xs h = let r = find-some p xs h in (r.0, find-is p xs r.0 r.1)
 
--- two tests that agree on everything are true of some element of the same lists
+-- if two tests agree on all elements, some element passes the first exactly if some element passes the second
 pub list_any-same : {X : Type 0} (p q : X → Bool) (xs : List X) → ((x : X) → p x ≡ q x) → list_any p xs ≡ list_any q xs
 list_any-same p q [] same = refl
 list_any-same p q (x ∷ xs) same = ap (λ b. b || list_any p xs) (same x) ∙ ap (λ b. q x || b) (list_any-same p q xs same)

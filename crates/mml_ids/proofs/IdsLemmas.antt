@@ -8,7 +8,7 @@ use Rattle.mml_ids.specs.{declared.TheConstants.MAX_NODES, declared.TheConstants
 use Rattle.mml_ids.proofs.{GivesLemmas.both_none, GivesLemmas.if_none, GivesLemmas.map_none, SearchLemmas.none-is, InOrderLemmas.AllFrom, InOrderLemmas.Climbs}
 use Rattle.mml_ids.specs.Ids.{is_id, id_fault, is_again_at, put_in_order, in_order, rank_in, IsTable}
 
--- a number stands in the list
+-- the number q is in the list
 abbrev has : ℕ → List ℕ → Bool
 has q ns = list_any (λ n. eqb n q) ns
 
@@ -35,7 +35,7 @@ differ_from (x ∷ xs) h = (
   differ_from xs (λ i l. (or_parts (eqb x (get_or xs i 0)) (list_any (λ n. eqb n (get_or xs i 0)) (take i xs)) (h (suc i) (omega arith))).1),
 )
 
--- how often a number stands in a list
+-- how often the number q occurs in a list
 abbrev times : ℕ → List ℕ → ℕ
 times q [] = 0
 times q (n ∷ ns) = cond (eqb n q) 1 0 + times q ns
@@ -52,7 +52,7 @@ times-differ : (q : ℕ) (ns : List ℕ) → Differ ns → times q ns ≤ 1
 times-differ q [] d = omega arith
 times-differ q (n ∷ ns) d = grind (arith, cases_eq, times-absent, eq-eqb, ne_eqb, times-differ q ns)
 
--- the first is at most each of the others, and so on
+-- if x is at most the number at each index, x is at most each number of the list
 all_from : (x : ℕ) (xs : List ℕ) → ((j : ℕ) → j < length xs → x ≤ get_or xs j 0) → AllFrom x xs
 all_from x [] h = tt
 all_from x (y ∷ ys) h = (h 0 (omega arith), all_from x ys (λ j l. h (suc j) (omega arith)))
@@ -105,7 +105,7 @@ absent_above : (q x : ℕ) (xs : List ℕ) → q ≤ x → AllAbove x xs → has
 absent_above q x [] l a = refl
 absent_above q x (y ∷ ys) l a = rw (ne_eqb y q (λ e. omega arith)) (absent_above q x ys l a.1)
 
--- rising lists with the same numbers are the same
+-- rising lists with the same numbers are equal
 same_rising : (xs ys : List ℕ) → Rises xs → Rises ys → ((q : ℕ) → has q xs ≡ has q ys) → xs ≡ ys
 same_rising [] [] r s h = refl
 same_rising [] (y ∷ ys) r s h = absurd (false≢true (h y ∙ ap (λ b. b || has y ys) (eq-eqb y y refl)))
@@ -147,7 +147,7 @@ passes p (x ∷ xs) (suc i) h l = passes p xs i (or_parts (p x) (list_any p xs) 
 id_parts : (n : ℕ) → not (is_id n) ≡ false → (0 < n) × (n ≤ MAX_ID)
 id_parts n h = grind (arith, and_parts, not-false, ltb-true, leb-true)
 
--- what a sort makes of identifiers without an error
+-- a sorted list of the same identifiers, if no identifier occurs twice
 module _ (ns sorted : List ℕ) (moved : IsPermutation ns sorted) (climbs : IsSorted nat_cmp sorted)
     (differ : first_below (is_again_at ns) (length ns) ≡ None) where
   different : Differ ns
@@ -177,11 +177,11 @@ module _ (ns sorted : List ℕ) (moved : IsPermutation ns sorted) (climbs : IsSo
 position_at : (id : ℕ) (ids : List ℕ) (k : ℕ) → k < length ids → get_or ids k 0 ≡ id → ((i : ℕ) → i < k → get_or ids i 0 ≢ id) → rank_in ids id ≡ Some k
 position_at id ids k l e before = grind (arith, position_or_len_is, ne_eqb, eq-eqb, lt-ltb)
 
--- an identifier stands at one index
+-- the rank of the identifier at index k of a table is k
 pub rank_of_id : (ids : List ℕ) (k id : ℕ) → IsTable ids → k < length ids → id ≡ get_or ids k id → rank_in ids id ≡ Some k
 rank_of_id ids k id t l e = grind (arith, get_or_default, position_at)
 
--- at the rank of an identifier stands that identifier
+-- if the rank of an identifier is k, this identifier is at index k of the table
 pub id_of_rank : (ids : List ℕ) (id k : ℕ) → rank_in ids id ≡ Some k → get_or ids k 0 ≡ id
 id_of_rank ids id k e = eqb-true (get_or ids k 0) id (position-Some (λ n. eqb n id) ids k 0 e).1
 
@@ -192,13 +192,13 @@ none_passes p (n ∷ ns) h = rw (h 0 (omega arith)) (none_passes p ns (λ i l. h
 position_none : (p : ℕ → Bool) (ns : List ℕ) → position p ns ≡ None → list_any p ns ≡ false
 position_none p ns h = grind (arith, cases_lt, lt-ltb, none_passes, fails_before_first)
 
--- what a list without an error is
+-- a list of identifiers without an error: 1 to 256 numbers, all of them identifiers, and no two of them equal
 pub record IsSound (ns : List ℕ) : Type 0 where
   pub some : 0 < length ns
   pub few : length ns ≤ MAX_NODES
   pub valid : list_any (λ n. not (is_id n)) ns ≡ false
   pub differ : first_below (is_again_at ns) (length ns) ≡ None
 
--- in a list without an error each number is an identifier and no number stands twice
+-- if `id_fault` finds no error, the list is sound: it is a list of 1 to 256 different identifiers
 pub sound : (ns : List ℕ) → id_fault ns ≡ None → IsSound ns
 sound ns h = grind (arith, both_none, eqb-false, if_none, ltb-false, position_none, map_none)

@@ -1,4 +1,4 @@
--- A list put in order has the same numbers, and never falls.
+-- `in_order` keeps the numbers of a list, and puts no number before a smaller one.
 use Rattle.std.proofs.Common.{ℕ, zero, suc, ◌<◌, ◌≤◌, Bool, true, false, cond, ltb, List, [], ◌∷◌, length, get_or, arith}
 use Rattle.std.{specs.Prelude.IsPermutation, specs.List.Sorted.IsNonDecreasing, proofs.lemmas.Bool.ltb-true, proofs.lemmas.Bool.ltb-false}
 use Rattle.std.proofs.lemmas.List.Sorted.{IsPermutation-refl, IsPermutation-cons, IsPermutation-trans, IsPermutation-insert, IsNonDecreasingBy-from_default}
@@ -14,7 +14,7 @@ put-moves n (k ∷ ks) = by (ltb k n) (put-moves n ks)
         (IsPermutation-cons k (n ∷ ks) (put_in_order n ks) rest)
     by false rest = IsPermutation-refl (n ∷ k ∷ ks)
 
--- a list put in order has the same elements as before
+-- `in_order` returns a list with the same elements in another order
 pub in_order-moves : (ns : List ℕ) → IsPermutation ns (in_order ns)
 unfolding in_order
 in_order-moves [] = IsPermutation-refl []
@@ -22,12 +22,12 @@ in_order-moves (n ∷ ns) =
     IsPermutation-trans (n ∷ ns) (n ∷ in_order ns) (put_in_order n (in_order ns)) (IsPermutation-cons n ns (in_order ns) (in_order-moves ns))
     (put-moves n (in_order ns))
 
--- the number is at most each of the list
+-- the number x is at most each number of the list
 abbrev pub AllFrom : ℕ → List ℕ → Type 0
 AllFrom x [] = Unit {0}
 AllFrom x (y ∷ ys) = (x ≤ y) × AllFrom x ys
 
--- no number of the list is above one that stands after it
+-- no number of the list is greater than a later one
 abbrev pub Climbs : List ℕ → Type 0
 Climbs [] = Unit {0}
 Climbs (x ∷ xs) = AllFrom x xs × Climbs xs
@@ -44,7 +44,7 @@ climbs-put : (n : ℕ) (ks : List ℕ) → Climbs ks → Climbs (put_in_order n 
 climbs-put n [] climbs = (tt, tt)
 climbs-put n (k ∷ ks) climbs = grind (arith, ltb-true, from-put, ltb-false, from_less, climbs-put n ks)
 
--- a list put in order never falls
+-- in a list that `in_order` returns, no number is greater than a later one
 pub climbs-in_order : (ns : List ℕ) → Climbs (in_order ns)
 unfolding in_order
 climbs-in_order [] = tt
@@ -55,7 +55,7 @@ from_at x [] j all lt = absurd (omega arith)
 from_at x (y ∷ ys) zero all lt = all.0
 from_at x (y ∷ ys) (suc j) all lt = from_at x ys j all.1 (omega arith)
 
--- in a list that never falls, the number at a later index isn't lower
+-- if no number of a list is greater than a later one, the number at index j is at least the one at an earlier index i
 pub climbs_at : (xs : List ℕ) (i j : ℕ) → Climbs xs → i ≤ j → j < length xs → get_or xs i 0 ≤ get_or xs j 0
 climbs_at [] i j climbs le lt = absurd (omega arith)
 climbs_at (x ∷ xs) zero zero climbs le lt = omega arith
@@ -63,6 +63,6 @@ climbs_at (x ∷ xs) zero (suc j) climbs le lt = from_at x xs j climbs.0 (omega 
 climbs_at (x ∷ xs) (suc i) zero climbs le lt = absurd (omega arith)
 climbs_at (x ∷ xs) (suc i) (suc j) climbs le lt = climbs_at xs i j climbs.1 (omega arith) (omega arith)
 
--- a list put in order never falls, in the library's words
+-- a list that `in_order` returns is non-decreasing, as the standard library defines it
 pub in_order-climbs : (ns : List ℕ) → IsNonDecreasing (in_order ns)
 in_order-climbs ns = IsNonDecreasingBy-from_default (λ n. n) (in_order ns) 0 (λ i j le lt. climbs_at (in_order ns) i j (climbs-in_order ns) le lt)

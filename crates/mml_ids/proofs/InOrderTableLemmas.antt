@@ -1,4 +1,4 @@
--- Identifiers without an error, put in order, are a table of the same identifiers.
+-- A list of identifiers without an error, put in order, is a table.
 use Rattle.std.proofs.Common.{◌≡◌, ℕ, suc, ◌+◌, ◌≤◌, false, List, get_or, None, ap, ◌∙◌, add-one, arith}
 use Rattle.std.{specs.Prelude.IsSorted, specs.Ordering.nat_cmp, specs.Ordering.is_lt, proofs.lemmas.Bool.le-ltb, proofs.lemmas.List.get_or_default}
 use Rattle.mml_ids.specs.Ids.{id_fault, in_order, IsTable}
@@ -15,7 +15,7 @@ in_order-sorted ns = λ k d low lt.
     let this : get_or (in_order ns) k d ≡ get_or (in_order ns) k 0 = get_or_default (in_order ns) k d 0 (omega arith) in
     not_less (get_or (in_order ns) (k + 1) d) (get_or (in_order ns) k d) (omega arith)
 
--- identifiers without an error, put in order, are 1 to 256 identifiers, each below the next
+-- if a list of identifiers has no error, `in_order` makes a table of it: 1 to 256 identifiers, each below the next
 pub in_order-table : (ns : List ℕ) → id_fault ns ≡ None → IsTable (in_order ns)
 in_order-table ns none =
     let right = sound ns none in

@@ -1,14 +1,14 @@
--- Searches of a list, and of what its elements stand for.
+-- Searching a list, and searching the list of the values of a function at its elements.
 use Rattle.std.proofs.Common.{◌≡◌, ℕ, List, [], ◌∷◌, Bool, true, false, cond, ◌||◌, length, map, Some, None, suc, refl, ap, arith}
 use Rattle.std.proofs.lemmas.Bool.{cases_lt, lt-ltb, le-ltb}
 use Rattle.std.specs.{Prelude.option_map, Prelude.nat_lt, List.list_any, List.find, List.position, List.position_or_len}
 
--- a test of what the elements stand for is true of some element, as it is in the list of what they stand for
+-- some element passes the test after f exactly if some element of the mapped list passes the test
 pub list_any-map : {X Y : Type 0} (p : Y → Bool) (f : X → Y) (xs : List X) → list_any (λ x. p (f x)) xs ≡ list_any p (map f xs)
 list_any-map p f [] = refl
 list_any-map p f (x ∷ xs) = ap (λ b. p (f x) || b) (list_any-map p f xs)
 
--- what the first element that passes stands for is the first that passes in the list of what they stand for
+-- f of the first element that passes the test after f is the first element of the mapped list that passes the test
 pub find-map : {X Y : Type 0} (p : Y → Bool) (f : X → Y) (xs : List X) → option_map f (find (λ x. p (f x)) xs) ≡ find p (map f xs)
 find-map p f [] = refl
 find-map p f (x ∷ xs) = grind (arith, find-map p f xs)
@@ -21,26 +21,27 @@ length-mapped : {X Y : Type 0} (f : X → Y) (xs : List X) → length xs ≡ len
 length-mapped f [] = refl
 length-mapped f (x ∷ xs) = rw (length-mapped f xs) refl
 
--- the index of the first that passes is the same in the list of what the elements stand for
+-- the first element that passes the test after f has the same index as the first one in the mapped list that passes the
+-- test
 pub position-map : {X Y : Type 0} (p : Y → Bool) (f : X → Y) (xs : List X) → position (λ x. p (f x)) xs ≡ position p (map f xs)
 position-map p f xs = rw (index-map p f xs, length-mapped f xs) refl
 
--- two maps, one after the other, are one
+-- mapping by f and then by g is the same as mapping by the composition of both
 pub map-map : {X Y Z : Type 0} (g : Y → Z) (f : X → Y) (xs : List X) → map (λ x. g (f x)) xs ≡ map g (map f xs)
 map-map g f [] = refl
 map-map g f (x ∷ xs) = ap (λ zs. g (f x) ∷ zs) (map-map g f xs)
 
--- if the first element passes, its index is 0
+-- if the first element passes, the search returns index 0
 pub position-first : {X : Type 0} (p : X → Bool) (x : X) (xs : List X) → p x ≡ true → position p (x ∷ xs) ≡ Some 0
 position-first p x xs here = rw (here, lt-ltb 0 (suc (length xs)) (omega arith)) refl
 
 shift : (n m : ℕ) → cond (nat_lt (suc n) (suc m)) (Some (suc n)) None ≡ option_map suc (cond (nat_lt n m) (Some n) None)
 shift n m = grind (arith, cases_lt, lt-ltb, le-ltb)
 
--- one past the index in the rest
+-- if the first element doesn't pass, the result is one more than the result for the rest of the list
 index-later : {X : Type 0} (p : X → Bool) (x : X) (xs : List X) → p x ≡ false → position_or_len p (x ∷ xs) ≡ suc (position_or_len p xs)
 index-later p x xs not_here = rw not_here (omega arith)
 
--- if the first element doesn't pass, the index is one past that in the rest
+-- if the first element doesn't pass, the index is one more than that in the rest of the list
 pub position-later : {X : Type 0} (p : X → Bool) (x : X) (xs : List X) → p x ≡ false → position p (x ∷ xs) ≡ option_map suc (position p xs)
 position-later p x xs not_here = grind (arith, index-later, shift)

@@ -1,4 +1,4 @@
--- What the operations on words do to the sets that they keep.
+-- How operations on the words of a set change the set that they store.
 use Rattle.std.proofs.Common.{◌≡◌, ℕ, zero, suc, ◌+◌, ◌-◌, ◌*◌, ◌/◌, ◌%◌, ◌^◌, ◌<◌, ◌≤◌, Bool, true, false, not, cond, ◌&&◌, eqb, ltb, min, List, get_or, refl, sym, ap, ◌∙◌, subst, arith, inl, inr}
 use Rattle.std.proofs.Common.{w64, bit_and, lit<}
 use Rattle.std.proofs.lemmas.Bool.{cases_lt, cases_eq, cases_order, eq-eqb, eqb-true, eqb-false, lt-ltb, le-ltb, ltb-true, and_parts, and_right}
@@ -24,11 +24,11 @@ and_both t x y = grind arith
 and_without : (t x y : Bool) → (t && (x && not y)) ≡ ((t && x) && not (t && y))
 and_without t x y = grind arith
 
--- of four words, each
+-- what holds of 0, 1, 2 and 3 holds of each number below 4
 pub each_of_four : (P : ℕ → Type 0) → P 0 → P 1 → P 2 → P 3 → (w : ℕ) → w < 4 → P w
 each_of_four P a b c d w l = grind arith
 
--- words that are the and of two others, word by word, keep the intersection of their sets
+-- if each new word is the bitwise AND of the words of two sets, the new words store the intersection of the sets
 pub set_of-and : (n : ℕ) (a b new : List ℕ) → ((w : ℕ) → 64 * w < n → get_or new w 0 ≡ bit_and (get_or a w 0) (get_or b w 0))
     → set_of n new ≡ sets.intersection (set_of n a) (set_of n b)
 set_of-and n a b new each = same_ranks _ _ (λ q.
@@ -41,7 +41,8 @@ set_of-and n a b new each = same_ranks _ _ (λ q.
     bits : (q : ℕ) → (ltb q n && bit_in new q) ≡ (ltb q n && (bit_in a q && bit_in b q))
     bits q = grind (arith, cases_lt, bit_at_and, and_bits, bit_at-lt, le-ltb)
 
--- words without the bits of others, word by word, keep the difference of their sets
+-- if each new word is the first set's word without the bits of the second set's, the new words store the difference of
+-- the sets
 pub set_of-and_not : (n : ℕ) (a b new : List ℕ) → ((w : ℕ) → 64 * w < n → get_or b w 0 < 2 ^ 64)
     → ((w : ℕ) → 64 * w < n → get_or new w 0 ≡ bit_and (get_or a w 0) (bit_not w64 (get_or b w 0))) → set_of n new ≡ sets.difference (set_of n a) (set_of n b)
 set_of-and_not n a b new fits each = same_ranks _ _ (λ q.
@@ -63,11 +64,11 @@ set_of-and_not n a b new fits each = same_ranks _ _ (λ q.
       | inr ge ↦ rw (le-ltb q n ge) refl
     ]
 
--- all ones from r on, but for the one at r
+-- the word of 64 bits in which all bits above bit r are 1, and no others
 abbrev pub ones_above : ℕ → ℕ
 ones_above r = bit_and ((2 ^ 64 - 1) * 2 ^ r % 2 ^ 64) (bit_not w64 (1 * 2 ^ r % 2 ^ 64))
 
--- among the ones above r, the bit at k is set exactly if k is above r
+-- bit k of `ones_above r` is 1 exactly if k is above r
 pub bit-ones_above : (r k : ℕ) → r < 64 → k < 64 → eqb (bit_at (ones_above r) k) 1 ≡ ltb r k
 bit-ones_above r k below lt = elim (cases_order k r) [
   | inl same ↦ rw (same, bit_at_clear_same w64 ((2 ^ 64 - 1) * 2 ^ r % 2 ^ 64) r below, le-ltb r r (omega arith)) refl
@@ -87,16 +88,16 @@ bit-ones_above r k below lt = elim (cases_order k r) [
   ]
 ]
 
--- in one word the order is that of the bits
+-- if the bit of rank r is in word w, r is below rank 64 * w + k exactly if its bit is below bit k of the word
 pub ltb_within : (r w k : ℕ) → r / 64 ≡ w → ltb (r % 64) k ≡ ltb r (64 * w + k)
 ltb_within r w k e = grind (arith, cases_lt, lt-ltb, le-ltb)
 
--- the ranks above r, word by word
+-- if bit k of each word w is 1 exactly if the rank 64 * w + k is above r, the words store the ranks above r
 pub has-above : (n : ℕ) (words : List ℕ) (r q : ℕ) → ((w : ℕ) → 64 * w < n → (k : ℕ) → k < 64 → eqb (bit_at (get_or words w 0) k) 1 ≡ ltb r (64 * w + k))
     → sets.contains (set_of n words) q ≡ (ltb r q && ltb q n)
 has-above n words r q each = grind (arith, has-set_of, cases_lt, le-ltb, and_right)
 
--- the low digits, one more of them
+-- the lowest n + 1 bits of b are its bit n followed by its lowest n bits
 low_digits : (b n : ℕ) → b % 2 ^ suc n ≡ bit_at b n * 2 ^ n + b % 2 ^ n
 low_digits b n = ap (λ m. b % m) (pow-succ' 2 n) ∙ mod-mul b {m = 2} {c = 2 ^ n} (lit< tt) (pow_pos n)
 
@@ -106,14 +107,14 @@ none_counted = let small = ones_le_self 0 in omega arith
 one_counted : count_ones 1 ≡ 1
 one_counted = grind (arith, ones_le_self, zero_from_ones)
 
--- a rank that the set lacks makes it longer by one
+-- adding a rank that isn't in the set makes its size greater by one
 pub len-insert_new : (s : FinSet nat_cmp) (k : ℕ) → sets.contains s k ≡ false → sets.len (sets.insert s k) ≡ sets.len s + 1
 len-insert_new s k e = sets.len-insert nat_cmp_total s k ∙ ap (λ c. cond c (sets.len s) (sets.len s + 1)) e
 
 not_yet : (n : ℕ) (words : List ℕ) → sets.contains (set_of n words) n ≡ false
 not_yet n words = has-set_of n words n ∙ ap (λ t. t && bit_in words n) (le-ltb n n (omega arith))
 
--- the bit of a rank, as a number
+-- the bit of rank n, as a number
 abbrev digit : List ℕ → ℕ → ℕ
 digit words n = bit_at (get_or words (n / 64) 0) (n % 64)
 
@@ -133,7 +134,7 @@ pub len-set_of_none : (words : List ℕ) → sets.len (set_of 0 words) ≡ 0
 unfolding set_of those_below
 len-set_of_none words = sets.len-empty nat_cmp
 
--- the lowest bits of the word at an index add their ones
+-- the ranks of the set below 64 * w + j are those below 64 * w, and one for each 1 among the lowest j bits of word w
 len-part : (words : List ℕ) (w j : ℕ) → j ≤ 64 → sets.len (set_of (64 * w + j) words) ≡ count_ones (get_or words w 0 % 2 ^ j) + sets.len (set_of (64 * w) words)
 len-part words w zero l = grind (arith, none_counted)
 len-part words w (suc j) l =
@@ -149,7 +150,7 @@ len-part words w (suc j) l =
     ap (λ n. sets.len (set_of n words)) next ∙ len-set_of_step (64 * w + j) words
     ∙ omega (arith, len-part words w j (omega arith))
 
--- each word adds its ones
+-- each word adds as many ranks to the set as it has bits that are 1
 pub len-set_of_word : (words : List ℕ) (w : ℕ) → get_or words w 0 < 2 ^ 64
     → sets.len (set_of (64 * (w + 1)) words) ≡ count_ones (get_or words w 0) + sets.len (set_of (64 * w) words)
 len-set_of_word words w fits =
@@ -157,11 +158,11 @@ len-set_of_word words w fits =
     ap (λ n. sets.len (set_of n words)) next ∙ len-part words w 64 (omega arith)
     ∙ ap (λ b. count_ones b + sets.len (set_of (64 * w) words)) (mod-eq_of_lt fits)
 
--- a set whose words are all zero
+-- if all words are zero, they store the empty set
 pub none_of_zeros : (n : ℕ) (words : List ℕ) → ((w : ℕ) → 64 * w < n → get_or words w 0 ≡ 0) → set_of n words ≡ sets.empty
 none_of_zeros n words zeros = grind (arith, same_ranks, has-set_of, has_empty, cases_lt, bit_at-zero, and_right, le-ltb)
 
--- the highest one of a word
+-- the rank of the highest 1 of a word is in the set
 pub has-highest : (n : ℕ) (words : List ℕ) (w k : ℕ) → 64 * w + k < n → k < 64 → 2 ^ k ≤ get_or words w 0 → get_or words w 0 < 2 * 2 ^ k
     → sets.contains (set_of n words) (64 * w + k) ≡ true
 has-highest n words w k inside below low high =
@@ -174,7 +175,7 @@ has-highest n words w k inside below low high =
     ∙ ap (λ x. eqb (bit_at (get_or words w 0) x) 1) bit
     ∙ eq-eqb (bit_at (get_or words w 0) k) 1 (ap (λ x. x % 2) one)
 
--- if no later word has a one, none is above it
+-- if all later words are zero, no rank of the set is above the rank of the highest 1 of word w
 pub none_above_highest : (n : ℕ) (words : List ℕ) (w k q : ℕ) → get_or words w 0 < 2 * 2 ^ k → ((v : ℕ) → w < v → 64 * v < n → get_or words v 0 ≡ 0)
     → sets.contains (set_of n words) q ≡ true → q ≤ 64 * w + k
 none_above_highest n words w k q high zeros there =
@@ -196,12 +197,12 @@ none_above_highest n words w k q high zeros there =
       ]
     ]
 
--- a one of a word
+-- if bit k of word w is 1, its rank is in the set
 pub has-one : (n : ℕ) (words : List ℕ) (w k : ℕ) → 64 * w + k < n → k < 64 → bit_at (get_or words w 0) k ≡ 1
     → sets.contains (set_of n words) (64 * w + k) ≡ true
 has-one n words w k inside below one = grind (arith, has-set_of, lt-ltb, eq-eqb)
 
--- if no earlier word has a one, none is below the lowest of this one
+-- if all earlier words are zero, no rank of the set is below the rank of the lowest 1 of word w
 pub none_below_lowest : (n : ℕ) (words : List ℕ) (w k q : ℕ) → k < 64 → ((i : ℕ) → i < k → bit_at (get_or words w 0) i ≡ 0)
     → ((v : ℕ) → v < w → get_or words v 0 ≡ 0) → sets.contains (set_of n words) q ≡ true → 64 * w + k ≤ q
 none_below_lowest n words w k q below low zeros there = grind (arith, and_parts, has-set_of, eqb-true, cases_lt, cases_eq, bit_at-zero)

@@ -1,4 +1,4 @@
--- What searches below a number and in a list find.
+-- Searching the numbers below a bound, and searching a list.
 use Rattle.std.proofs.Common.{◌≡◌, ℕ, zero, suc, ◌+◌, ◌-◌, ◌<◌, ◌≤◌, Option, Some, None, Bool, true, false, cond, List, length, get_or, nat_lt, refl, sym, ap, ◌∙◌, arith}
 use Rattle.std.{specs.List.position, specs.List.position_or_len, proofs.lemmas.List.Sums.position_or_len_is, proofs.lemmas.List.Sums.fails_before_first}
 use Rattle.std.proofs.lemmas.Bool.{or_cases, or_left, or_right, or_parts, false≢true, cases_order, cases_Bool, lt-ltb, le-ltb, ltb-false, both_ways, false_from_ne_true}
@@ -19,7 +19,7 @@ from_first : (test : ℕ → Bool) (s n k : ℕ) → s ≤ k → k < s + n → t
 from_first test s zero k le lt here before = absurd (omega arith)
 from_first test s (suc n) k le lt here before = grind (arith, cases_order, one_step, from_first test (s + 1) n k)
 
--- the test is true at k, which is below n, and false at all before
+-- k is the first of the n numbers from s on that passes the test
 pub record IsFirst (test : ℕ → Bool) (s n k : ℕ) : Type 0 where
   pub from : s ≤ k
   pub within : k < s + n
@@ -30,11 +30,11 @@ first_of : (test : ℕ → Bool) (s n k : ℕ) → first_from test s n ≡ Some 
 first_of test s zero k found = absurd cc
 first_of test s (suc n) k found = grind (arith, one_step, cases_order, first_of test (s + 1) n k)
 
--- the first number that passes is below n, passes, and no number before it does
+-- if the search below n finds k, then k is below n and passes, and no number before k passes
 pub first-is : (test : ℕ → Bool) (n k : ℕ) → first_below test n ≡ Some k → (k < n) × (test k ≡ true) × ((i : ℕ) → i < k → test i ≡ false)
 first-is test n k found = let at = first_of test 0 n k found in let within = at.within in (omega arith, at.here, λ i lt. at.before i (omega arith) lt)
 
--- a number below n that passes, if none before it does, is the first
+-- if k is below n and passes, and no number before k passes, the search below n finds k
 pub first-at : (test : ℕ → Bool) (n k : ℕ) → k < n → test k ≡ true → ((i : ℕ) → i < k → test i ≡ false) → first_below test n ≡ Some k
 first-at test n k lt here before = from_first test 0 n k (omega arith) (omega arith) here (λ i le to. before i to)
 
@@ -46,72 +46,72 @@ none-is test n none i lt = none_from test 0 n i none (omega arith) (omega arith)
 pub none-at : (test : ℕ → Bool) (n : ℕ) → ((i : ℕ) → i < n → test i ≡ false) → first_below test n ≡ None
 none-at test n nowhere = from_none test 0 n (λ i le lt. nowhere i (omega arith))
 
--- one step of a search through what is left
+-- if n isn't 0, a search of n numbers from k on finds k if k passes, and otherwise goes on from k + 1
 next_step : (bad : ℕ → Bool) (k n m : ℕ) → n ≡ suc m → first_from bad k n ≡ cond (bad k) (Some k) (first_from bad (k + 1) m)
 next_step bad k n m e = rw e
 
--- a search from k finds k, where k passes
+-- if k passes, a search from k on finds k
 pub first_here : (bad : ℕ → Bool) (k n : ℕ) → k < n → bad k ≡ true → first_from bad k (n - k) ≡ Some k
 first_here bad k n h e = next_step bad k (n - k) (n - (k + 1)) (omega arith) ∙ rw e
 
--- a search from k goes on from the next number, where k doesn't pass
+-- if k doesn't pass, a search from k + 1 on has the same result as a search from k on
 pub first_next : (bad : ℕ → Bool) (k n : ℕ) → k < n → bad k ≡ false → first_from bad (k + 1) (n - (k + 1)) ≡ first_from bad k (n - k)
 first_next bad k n h e = sym (next_step bad k (n - k) (n - (k + 1)) (omega arith) ∙ rw e)
 
--- a search from n on finds none
+-- a search below n from n on, or from a greater number on, finds none
 pub first_end : (bad : ℕ → Bool) (k n : ℕ) → n ≤ k → first_from bad k (n - k) ≡ None
 first_end bad k n h = let e : n - k ≡ 0 = omega arith in rw e
 
--- if no element passes, there is no index to name
+-- if no element passes, `position` returns no index
 pub position-none : {X : Type 0} (p : X → Bool) (xs : List X) (d : X) → ((k : ℕ) → k < length xs → p (get_or xs k d) ≡ false) → position p xs ≡ None
 position-none p xs d nowhere =
     let e : position_or_len p xs ≡ length xs = position_or_len_is p xs (length xs) d (omega arith) nowhere (λ lt. absurd (omega arith)) in
     rw (e, le-ltb (length xs) (length xs) (omega arith))
 
--- the index of an element that passes, if none before it does
+-- if the element at index i passes, and none before it passes, `position` returns i
 pub position-at : {X : Type 0} (p : X → Bool) (xs : List X) (i : ℕ) (d : X) → i < length xs → p (get_or xs i d) ≡ true
     → ((k : ℕ) → k < i → p (get_or xs k d) ≡ false) → position p xs ≡ Some i
 position-at p xs i d lt here before = grind (arith, position_or_len_is, lt-ltb)
 
--- if no index is named, no element passes
+-- if `position` returns no index, no element passes
 pub position-None : {X : Type 0} (p : X → Bool) (xs : List X) (d : X) → position p xs ≡ None → (k : ℕ) → k < length xs → p (get_or xs k d) ≡ false
 position-None p xs d none k lt = grind (arith, fails_before_first, nat_lt, ltb-false)
 
--- the one index at which the test is true
+-- if only the element at index i passes, `position` returns i
 pub position-only : {X : Type 0} (p : X → Bool) (xs : List X) (i : ℕ) (d : X) → i < length xs → p (get_or xs i d) ≡ true
     → ((k : ℕ) → k < length xs → p (get_or xs k d) ≡ true → k ≡ i) → position p xs ≡ Some i
 position-only p xs i d lt here only = grind (arith, position-at, cases_Bool)
 
--- two tests that are each true if the other is are the same
+-- if each of two truth values is true if the other is, they are equal
 pub same_bool : (a b : Bool) → (a ≡ true → b ≡ true) → (b ≡ true → a ≡ true) → a ≡ b
 same_bool a b h k = grind arith
 
--- if the test is true of some number below n, there is one to name
+-- if `some_below` is true, there is a number below n that passes
 pub some_below-find : (n : ℕ) (t : ℕ → Bool) → some_below n t ≡ true → (k : ℕ) × (k < n) × (t k ≡ true)
 some_below-find zero t h = absurd (false≢true h)
 some_below-find (suc n) t h = grind (arith, or_cases, some_below-find n t)
 
--- if a number below n passes, some does
+-- if a number below n passes, `some_below` is true
 pub some_below-at : (n k : ℕ) (t : ℕ → Bool) → k < n → t k ≡ true → some_below n t ≡ true
 some_below-at zero k t l h = absurd (omega arith)
 some_below-at (suc n) k t l h = grind (arith, cases_order, or_left, or_right, some_below-at n k t)
 
--- if the test is true of no number below n, each one fails it
+-- if `some_below` is false, no number below n passes
 pub some_below-none : (n k : ℕ) (t : ℕ → Bool) → some_below n t ≡ false → k < n → t k ≡ false
 some_below-none zero k t h l = absurd (omega arith)
 some_below-none (suc n) k t h l = grind (arith, cases_order, or_parts, some_below-none n k t)
 
--- two tests that agree below n are both true of some number there, or neither is
+-- if two tests agree on all numbers below n, `some_below` has the same value for both
 pub some_below_same : (n : ℕ) (t u : ℕ → Bool) → ((k : ℕ) → k < n → t k ≡ u k) → some_below n t ≡ some_below n u
 some_below_same zero t u h = refl
 some_below_same (suc n) t u h = grind (arith, some_below_same n t u)
 
--- the greatest number that passes is below n and passes
+-- if `greatest_below` finds j, then j is below n and passes
 pub greatest_below-some : (n j : ℕ) (t : ℕ → Bool) → greatest_below n t ≡ Some j → (j < n) × (t j ≡ true)
 greatest_below-some zero j t h = cc
 greatest_below-some (suc n) j t h = grind (arith, greatest_below-some n j t)
 
--- if there is no greatest number that passes, none below n passes
+-- if `greatest_below` finds no number, no number below n passes
 pub greatest_below-none : (n k : ℕ) (t : ℕ → Bool) → greatest_below n t ≡ None → k < n → t k ≡ false
 greatest_below-none zero k t h l = absurd (omega arith)
 greatest_below-none (suc n) k t h l = grind (arith, cases_order, greatest_below-none n k t)
@@ -120,24 +120,26 @@ pub greatest_below_same : (n : ℕ) (t u : ℕ → Bool) → ((k : ℕ) → k < 
 greatest_below_same zero t u h = refl
 greatest_below_same (suc n) t u h = grind (arith, greatest_below_same n t u)
 
--- a number below n that passes, if none above it does, is the greatest
+-- if j is below n and passes, and no number above j and below n passes, `greatest_below` finds j
 pub greatest_is : (n j : ℕ) (t : ℕ → Bool) → j < n → t j ≡ true → ((k : ℕ) → j < k → k < n → t k ≡ false) → greatest_below n t ≡ Some j
 greatest_is zero j t l h above = absurd (omega arith)
 greatest_is (suc n) j t l h above = grind (arith, cases_order, greatest_is n j t)
 
--- no number above the greatest passes
+-- if `greatest_below` finds j, no number above j and below n passes
 pub greatest_above : (n j k : ℕ) (t : ℕ → Bool) → greatest_below n t ≡ Some j → j < k → k < n → t k ≡ false
 greatest_above zero j k t h l q = absurd (omega arith)
 greatest_above (suc n) j k t h l q = grind (arith, cases_order, greatest_above n j k t)
 
--- one search, with two bounds above all that it could find
+-- if two tests agree, and every number that passes is below both bounds, `some_below` has the same value for both
+-- bounds
 pub some_below_alike : (n m : ℕ) (t u : ℕ → Bool) → ((k : ℕ) → t k ≡ u k) → ((k : ℕ) → t k ≡ true → k < n) → ((k : ℕ) → u k ≡ true → k < m)
     → some_below n t ≡ some_below m u
 some_below_alike n m t u same under_n under_m = same_bool _ _
     (λ h. let r = some_below-find n t h in let e = sym (same r.0) ∙ r.2 in some_below-at m r.0 u (under_m r.0 e) e)
     (λ h. let r = some_below-find m u h in let e = same r.0 ∙ r.2 in some_below-at n r.0 t (under_n r.0 e) e)
 
--- tests that agree, and pass no number from their bound on, have the same greatest number
+-- if two tests agree, and every number that passes is below both bounds, `greatest_below` finds the same for both
+-- bounds
 pub greatest_below_alike : (n m : ℕ) (t u : ℕ → Bool) → ((k : ℕ) → t k ≡ u k) → ((k : ℕ) → t k ≡ true → k < n) → ((k : ℕ) → u k ≡ true → k < m)
     → greatest_below n t ≡ greatest_below m u
 greatest_below_alike n m t u same under_n under_m = go (greatest_below n t) refl

@@ -1,4 +1,4 @@
--- Sets of ranks: their ranks in rising order, one after the other, and a set without one of its ranks.
+-- The ranks of a set in rising order, and a set without one of its ranks.
 use Rattle.std.proofs.Common.{◌≡◌, ◌≢◌, ℕ, zero, suc, ◌+◌, ◌<◌, ◌≤◌, Bool, true, false, cond, eqb, not, ◌&&◌, ◌||◌, List, [], ◌∷◌, ◌++◌, map, filter, sym, refl, ap, ◌∙◌, arith, append-nil}
 use Rattle.std.proofs.Common.{append_assoc, zero-add}
 use Rattle.std.proofs.lemmas.{Bool.cases_eq, Bool.eq-eqb, Bool.ne_eqb, Bool.false_from_ne_true, List.map-append, List.FromFn.map-range_with_len_more, List.Elements.filter-append}
@@ -14,13 +14,13 @@ same_from : (t u : ℕ → Bool) (k n : ℕ) → ((q : ℕ) → k ≤ q → t q 
 same_from t u k zero h = refl
 same_from t u k (suc n) h = grind (arith, same_from t u (k + 1) n)
 
--- the first that passes comes first, and then what passes without it
+-- if t and u differ only at a, the first number that passes t, then the numbers that pass t are a and those that pass u
 first_passes : (t u : ℕ → Bool) (k n a : ℕ) → k ≤ a → a < k + n → t a ≡ true → u a ≡ false → ((q : ℕ) → q ≢ a → t q ≡ u q) → ((q : ℕ) → q < a → t q ≡ false)
     → filter t (range_with_len k n) ≡ a ∷ filter u (range_with_len k n)
 first_passes t u k zero a from below here gone others before = absurd (omega arith)
 first_passes t u k (suc n) a from below here gone others before = grind (arith, cases_eq, same_from, first_passes t u (k + 1) n a)
 
--- the least rank comes first, and then those of the set without it
+-- the ranks of a set in rising order are its least rank, followed by the ranks of the set without it
 pub least_first : (n : ℕ) (s rest : FinSet nat_cmp) (a : ℕ) → sets.contains s a ≡ true → ((q : ℕ) → sets.contains s q ≡ true → a ≤ q) → a < n
     → rest ≡ sets.remove s a → ranks_in n s ≡ a ∷ ranks_in n rest
 least_first n s rest a there least below removed = first_passes (sets.contains s) (sets.contains rest) 0 n a (omega arith) (omega arith) there
@@ -38,15 +38,16 @@ none_pass (x ∷ xs) = none_pass xs
 pub no_ranks : (n : ℕ) (s : FinSet nat_cmp) → s ≡ sets.empty → ranks_in n s ≡ []
 no_ranks n s e = same_from (sets.contains s) (λ q. false) 0 n (λ q l. ap (λ r. sets.contains r q) e ∙ has_empty q) ∙ none_pass (range_with_len 0 n)
 
--- ---- what is made of each rank, in a loop that takes out the least
+-- ---- a loop that takes out the least rank and appends a value for it
 
--- what was put, and what is made of the ranks that are left, stays the whole
+-- if the loop takes out the least rank and appends its value, the whole stays the same: the list so far, followed by
+-- the values of the ranks left
 pub one_put : {X : Type 0} (f : ℕ → X) (n : ℕ) (left rest : FinSet nat_cmp) (a : ℕ) (held pushed whole : List X) → sets.contains left a ≡ true
     → ((q : ℕ) → sets.contains left q ≡ true → a ≤ q) → a < n → rest ≡ sets.remove left a
     → pushed ≡ held ++ f a ∷ [] → held ++ map f (ranks_in n left) ≡ whole → pushed ++ map f (ranks_in n rest) ≡ whole
 one_put f n left rest a held pushed whole there least below removed put so_far = grind (arith, append_assoc, least_first)
 
--- once no rank is left, what was put is the whole
+-- if no rank is left, the list so far is the whole list
 pub all_put : {X : Type 0} (f : ℕ → X) (n : ℕ) (left : FinSet nat_cmp) (held whole : List X) → left ≡ sets.empty
     → held ++ map f (ranks_in n left) ≡ whole → held ≡ whole
 all_put f n left held whole none so_far = sym (append-nil held) ∙ sym (ap (λ xs. held ++ map f xs) (no_ranks n left none)) ∙ so_far
@@ -62,17 +63,17 @@ range_more n =
     sym (map-same (range_with_len 0 (n + 1))) ∙ map-range_with_len_more (λ x. x) 0 n n (zero-add n)
     ∙ ap (λ xs. xs ++ n ∷ []) (map-same (range_with_len 0 n))
 
--- what is made of each number below n that passes
+-- the values of f at the numbers below n that pass the test, in rising order
 abbrev pub passing : {X : Type 0} → (ℕ → Bool) → (ℕ → X) → ℕ → List X
 passing t f n = map f (filter t (range_with_len 0 n))
 
--- one number more below n adds what is made of n at the end, if n passes
+-- for n + 1, `passing` is the list for n with the value of n appended if n passes
 pub passing_more : {X : Type 0} (t : ℕ → Bool) (f : ℕ → X) (n : ℕ) → passing t f (n + 1) ≡ passing t f n ++ map f (cond (t n) (n ∷ []) [])
 passing_more t f n = grind (arith, range_more, filter-append, map-append)
 
 -- ---- a set without one of its ranks
 
--- a set is longer by one than without one of its ranks
+-- a set has one rank more than the set without one of its ranks
 pub len-remove_one : (s : FinSet nat_cmp) (a : ℕ) → sets.contains s a ≡ true → sets.len s ≡ sets.len (sets.remove s a) + 1
 len-remove_one s a h =
     ap sets.len

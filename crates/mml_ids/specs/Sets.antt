@@ -7,6 +7,6 @@ unfoldable pub those_below : ℕ → (ℕ → Bool) → FinSet nat_cmp
 those_below zero test = set.empty
 those_below (suc n) test = if test n then set.insert (those_below n test) n else those_below n test
 
--- the code by which a proof distinguishes sets of ranks
+-- the code of a set of ranks: sets with the same code are equal
 abbrev pub node_set_code : Coded (FinSet nat_cmp)
 node_set_code = set.code coded_ℕ

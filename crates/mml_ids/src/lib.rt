@@ -25,7 +25,7 @@ pub use piece::{
 pub use rank::Rank;
 pub use word::Word;
 
-/// The most nodes that a network may have. Ranks are below it.
+/// The greatest number of nodes that a network may have. Ranks are below this number.
 pub const MAX_NODES: u64 = 256;
 
 /// The greatest identifier. The least is 1.

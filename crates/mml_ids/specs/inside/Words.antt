@@ -4,11 +4,11 @@ use Rattle.std.specs.{Int.bit_at, List.range_with_len, Ordering.nat_cmp, FinSet.
 use Rattle.mml_ids.specs.Sets.{those_below}
 use Rattle.std.specs.FinSet as set
 
--- the bit of a rank is one
+-- the bit of rank k is 1
 abbrev pub bit_in : List ℕ → ℕ → Bool
 bit_in words k = bit_at (slice_index words (k / 64)) (k % 64) == 1
 
--- the ranks below n whose bits are ones
+-- the ranks below n whose bits are 1
 unfoldable pub set_of : ℕ → List ℕ → FinSet nat_cmp
 set_of n words = those_below n (bit_in words)
 
@@ -17,7 +17,7 @@ abbrev pub ones_at : ℕ → (ℕ → Bool) → ℕ
 ones_at zero test = 0
 ones_at (suc n) test = (if test n then 1 else 0) * 2 ^ n + ones_at n test
 
--- the word at an index, of those that store a set
+-- the word with index w of the words that store the set s
 abbrev pub word_of : FinSet nat_cmp → ℕ → ℕ
 word_of s w = ones_at 64 (λ k. set.contains s (64 * w + k))
 

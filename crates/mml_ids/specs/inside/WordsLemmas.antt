@@ -1,4 +1,4 @@
--- Which ranks the words store. It stands here, since the contract of a set's type cites `words_back`.
+-- Which ranks the words of a set store. The file is in `specs/`, because the type `NodeSet` uses `words_back`.
 use Rattle.std.proofs.Common.{◌≡◌, ℕ, zero, suc, ◌<◌, ◌≤◌, ◌+◌, ◌≢◌, Bool, true, false, not, cond, ◌&&◌, ◌||◌, eqb, ltb, List, length, get_or, set, sym, refl, ap, ◌∙◌, subst, arith, inl, inr}
 use Rattle.std.proofs.Common.{get_or-set_same, get_or-set_other, length-set, ◌-◌, ◌*◌, ◌^◌, ◌/◌, ◌%◌, lit<, add-one}
 use Rattle.std.proofs.lemmas.Bool.{cases_order, cases_eq, eq-eqb, ne_eqb, eqb-true, eqb-false, lt-ltb, le-ltb}
@@ -100,7 +100,7 @@ pub words_back : (n : ℕ) (words : List ℕ) → length words ≡ n → ((w : �
 unfolding words_of
 words_back n words e h = sym (fill_by_all (word_of (set_of (64 * n) words)) words n 0 e (λ w l. sym (word_back (64 * n) words w (omega arith) (h w l))))
 
--- another word at the index of the word of r, with the same bits but for that of r
+-- if the word with the bit of rank r is replaced by one that differs in no other bit, the other ranks keep their bits
 bits_beside : (words : List ℕ) (new r q : ℕ) → r / 64 < length words → ((i : ℕ) → i < 64 → i ≢ r % 64 → bit_at new i ≡ bit_at (get_or words (r / 64) 0) i)
     → q ≢ r → bit_in (set words (r / 64) new) q ≡ bit_in words q
 bits_beside words new r q l there ne = elim (cases_eq (q / 64) (r / 64)) [
