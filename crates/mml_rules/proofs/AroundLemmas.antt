@@ -1,4 +1,4 @@
--- Guards and effects at a node read the node and its neighbours alone.
+-- The guards and the effects at a node depend only on the node and its neighbours.
 use Rattle.std.proofs.Common.{◌≡◌, ℕ, ◌<◌, Bool, true, ◌&&◌, is_some, is_none, nat_lt, ap, ◌∙◌, arith}
 use Rattle.std.{specs.Bool.beq, proofs.lemmas.Bool.and_parts}
 use Rattle.mml_rules.specs.{declared.rule.Rule.Rule, Configuration.Configuration, Configuration.IsLawful, Around.AgreeAround}

@@ -9,7 +9,7 @@ use Rattle.mml_rules.proofs.RulesLemmas.{suitor-from, suitor-find, vain-some, so
 some-path : {x y : Kind} → Some x ≡ Some y → x ≡ y
 some-path h = cc
 
--- the choice that `enabled_kind` makes, over plain tests
+-- `enabled_kind` as a function of its five tests
 abbrev pub choose : Bool → Bool → Bool → Bool → Bool → Option Kind
 choose settled pointing vain suitor best =
     cond (not settled) (Some Kind.Update)
@@ -33,7 +33,7 @@ chosen_seduction s p v u b h k l m = rw (h, k, l, m) refl
 chosen_abandonment : (s p v u b : Bool) → s ≡ true → p ≡ true → v ≡ true → choose s p v u b ≡ Some Kind.Abandonment
 chosen_abandonment s p v u b h k l = rw (h, k, l) refl
 
--- a rule whose guard holds is the enabled one, so at most one of the four holds
+-- if the guard of a rule holds, `enabled_kind` names its kind, so at most one of the four kinds is enabled
 pub guard-kind : (c : Configuration) (i : ℕ) (r : Rule) → IsLawful c → guard c i r ≡ true → enabled_kind c i ≡ Some (kind_of r)
 guard-kind c i r l h =
     grind (
@@ -56,7 +56,7 @@ guard-kind c i r l h =
 pub idle-guard : (c : Configuration) (i : ℕ) (r : Rule) → IsLawful c → is_privileged c i ≡ false → guard c i r ≡ false
 idle-guard c i r l h = grind (arith, false_from_ne_true, both_ways, guard-kind)
 
--- the enabled rule has a guard that holds
+-- if `enabled_kind` names a kind, the guard of some rule of this kind holds
 pub kind-guard : (c : Configuration) (i : ℕ) (k : Kind) → enabled_kind c i ≡ Some k → (r : Rule) × (kind_of r ≡ k) × (guard c i r ≡ true)
 kind-guard c i k h =
     go (m_is_right c i) (is_some (c.p i)) (points_in_vain c i) (has_suitor c i) (is_some (greatest_candidate c i)) refl refl refl refl refl
@@ -76,6 +76,6 @@ kind-guard c i k h =
     go true false v false true es ep ev eu eb e = (Rule.Seduction, some-path e, and_from _ _ es (and_from _ _ (null ep) (and_from _ _ (ap not eu) eb)))
     go true false v false false es ep ev eu eb e = cc
 
--- two rules whose guards hold at one node are of one kind
+-- two rules whose guards hold at one node are of the same kind
 pub one-kind : (c : Configuration) (i : ℕ) (r s : Rule) → IsLawful c → guard c i r ≡ true → guard c i s ≡ true → kind_of r ≡ kind_of s
 one-kind c i r s l g h = some-path (sym (guard-kind c i r l g) ∙ guard-kind c i s l h)

@@ -1,4 +1,4 @@
--- Each test of the rules is true exactly where the fact that it stands for holds.
+-- Each test of the rules is true exactly if the fact that it tests holds.
 use Rattle.std.proofs.Common.{◌≡◌, ◌↔◌, ◌≢◌, ℕ, ◌<◌, Bool, true, not, ◌&&◌, inl, inr, nat_lt, Option, None, Some, is_some, is_none, refl, ap, arith}
 use Rattle.std.specs.Bool.{beq}
 use Rattle.std.proofs.lemmas.Bool.{and_parts, and_from, or_cases, or_left, or_right, not-true, false_from_ne_true, both_ways, false≢true, lt-ltb, ltb-true, cases_order}
@@ -9,11 +9,11 @@ use Rattle.mml_ids.proofs.SearchLemmas.{same_bool, some_below-find, some_below-a
 use Rattle.mml_rules.proofs.{ConfigurationLemmas.holds-true, ConfigurationLemmas.holds-from, EnabledKindLemmas.guard-kind, EnabledKindLemmas.kind-guard}
 use Rattle.mml_rules.proofs.RulesLemmas.{suitor-from, suitor-find, none-null, null-none}
 
--- tests that are found equal are equal
+-- if `beq` is true, the two truth values are equal
 pub beq-true : (a b : Bool) → beq a b ≡ true → a ≡ b
 beq-true a b h = grind (arith, false≢true)
 
--- equal tests are found equal
+-- if the two truth values are equal, `beq` is true
 pub beq-same : (a b : Bool) → a ≡ b → beq a b ≡ true
 beq-same a b h = grind arith
 
@@ -29,7 +29,7 @@ married-back c i l h =
     some_below-at c.size h.0 (λ j. c.linked i j && (holds (c.p i) j && holds (c.p j) i)) (l.in_range i h.0 h.1).1
     (and_from _ _ h.1 (and_from _ _ (holds-from (c.p i) h.0 h.2) (holds-from (c.p h.0) i h.3)))
 
--- a node is found married exactly if it is married
+-- `is_married` is true exactly if the node is married
 pub married-means : (c : Configuration) (i : ℕ) → IsLawful c → (is_married c i ≡ true) ↔ IsMarried c i
 married-means c i l = (married-to c i, married-back c i l)
 
@@ -39,7 +39,7 @@ right-to c i l h = grind (arith, beq-true, married-to, married-back)
 right-back : (c : Configuration) (i : ℕ) → IsLawful c → IsMRight c i → m_is_right c i ≡ true
 right-back c i l h = beq-same _ _ (same_bool (c.m i) (is_married c i) (λ m. married-back c i l (h.0 m)) (λ k. h.1 (married-to c i k)))
 
--- m is found right exactly if it is right
+-- `m_is_right` is true exactly if the node's m is right
 pub right-means : (c : Configuration) (i : ℕ) → IsLawful c → (m_is_right c i ≡ true) ↔ IsMRight c i
 right-means c i l = (right-to c i l, right-back c i l)
 
@@ -51,7 +51,7 @@ suitor-to c i h = suitor-find c i h
 suitor-back : (c : Configuration) (i : ℕ) → IsLawful c → HasSuitor c i → has_suitor c i ≡ true
 suitor-back c i l h = suitor-from c i h.0 l h.1 h.2
 
--- a suitor is found exactly if there is one
+-- `has_suitor` is true exactly if the node has a suitor
 pub suitor-means : (c : Configuration) (i : ℕ) → IsLawful c → (has_suitor c i ≡ true) ↔ HasSuitor c i
 suitor-means c i l = (suitor-to c i, suitor-back c i l)
 
@@ -61,7 +61,7 @@ candidate-to c i j h = grind (arith, and_parts, nat_lt, is_none, ltb-true, none-
 candidate-back : (c : Configuration) (i j : ℕ) → IsCandidate c i j → is_candidate c i j ≡ true
 candidate-back c i j h = and_from _ _ h.0 (and_from _ _ (lt-ltb i j h.1) (and_from _ _ (null-none (c.p j) h.2) (ap not h.3)))
 
--- a candidate is found exactly if it is one
+-- `is_candidate` is true exactly if j is a candidate of i
 pub candidate-means : (c : Configuration) (i j : ℕ) → (is_candidate c i j ≡ true) ↔ IsCandidate c i j
 candidate-means c i j = (candidate-to c i j, candidate-back c i j)
 
@@ -87,7 +87,7 @@ greatest-back c i j l h =
     greatest_is c.size j (is_candidate c i) (candidate_in c i j l h.0) (candidate-back c i j h.0) (λ k above below.
     false_from_ne_true (is_candidate c i k) (λ a. let least = h.1 k (candidate-to c i k a) in absurd (omega arith)))
 
--- the candidate that is found is the greatest one, and only that one
+-- `greatest_candidate` returns j exactly if j is the greatest candidate of i
 pub greatest-means : (c : Configuration) (i j : ℕ) → IsLawful c → (greatest_candidate c i ≡ Some j) ↔ IsGreatestCandidate c i j
 greatest-means c i j l = (greatest-to c i j l, greatest-back c i j l)
 
@@ -102,7 +102,7 @@ none-back c i l h = go (greatest_candidate c i) refl
     go None e = e
     go (Some j) e = absurd (h j (greatest-to c i j l e).0)
 
--- no candidate is found exactly if there is none
+-- `greatest_candidate` returns none exactly if i has no candidate
 pub no_greatest-means : (c : Configuration) (i : ℕ) → IsLawful c → (greatest_candidate c i ≡ None) ↔ ((j : ℕ) → ¬ IsCandidate c i j)
 no_greatest-means c i l = (λ h j. none-to c i j l h, none-back c i l)
 
@@ -124,7 +124,7 @@ vain-to c i h = grind (arith, nat_lt, false≢true, and_parts, both_ways, not-tr
 vain-back : (c : Configuration) (i : ℕ) → PointsInVain c i → points_in_vain c i ≡ true
 vain-back c i h = grind (arith, nat_lt, and_from, false_from_ne_true, holds-true, or_left, or_right, lt-ltb)
 
--- a pointer is found to be useless exactly if it is
+-- `points_in_vain` is true exactly if the node points in vain
 pub vain-means : (c : Configuration) (i : ℕ) → (points_in_vain c i ≡ true) ↔ PointsInVain c i
 vain-means c i = (vain-to c i, vain-back c i)
 
@@ -141,13 +141,13 @@ effect_keeps_m c i (Rule.Marriage j) other = refl
 effect_keeps_m c i Rule.Seduction other = refl
 effect_keeps_m c i Rule.Abandonment other = refl
 
--- a rule's guard holds exactly where the rule may be applied
+-- the guard of a rule holds exactly if the rule may be applied
 pub guard-means : (c : Configuration) (i : ℕ) (r : Rule) → IsLawful c → (guard c i r ≡ true) ↔ MayApply c i r
 guard-means c i r l = (guard-to c i r l, guard-back c i r l)
 
 privileged-to : (c : Configuration) (i : ℕ) → is_privileged c i ≡ true → (r : Rule) × (guard c i r ≡ true)
 privileged-to c i h = grind (arith, false≢true, kind-guard)
 
--- a node is found privileged exactly if the guard of some rule holds there
+-- `is_privileged` is true exactly if the guard of some rule holds at the node
 pub privileged-means : (c : Configuration) (i : ℕ) → IsLawful c → (is_privileged c i ≡ true) ↔ ((r : Rule) × (guard c i r ≡ true))
 privileged-means c i l = (privileged-to c i, λ g. ap is_some (guard-kind c i g.0 l g.1))

@@ -1,4 +1,4 @@
--- Names that keep the order change no guard and no effect.
+-- If nodes get other names in the same order, guards and effects stay the same.
 use Rattle.std.proofs.Common.{◌≡◌, ℕ, ◌<◌, Bool, true, false, not, ◌&&◌, ◌||◌, eqb, ltb, Option, None, Some, is_some, is_none, sym, refl, ap, ◌∙◌, arith, inl, inr}
 use Rattle.std.specs.{Bool.beq, Option.option_map_or}
 use Rattle.std.proofs.lemmas.Bool.{cases_order, cases_eq, eq-eqb, ne_eqb, lt-ltb, le-ltb, and_parts, both_ways, false_from_ne_true}
@@ -34,7 +34,8 @@ module _ (f : ℕ → ℕ) (c d : Configuration) (l : IsLawful c) (r : IsRenamed
   pointing_named : (i : ℕ) → i < c.size → is_some (d.p (f i)) ≡ is_some (c.p i)
   pointing_named i a = ap is_some (r.p i a) ∙ some_named (c.p i)
 
-  -- a search among the neighbours of a node finds the same under the names
+  -- if two tests agree on each node and its name, and only neighbours of x pass, some name passes exactly if some node
+  -- passes
   search_named : (t u : ℕ → Bool) (x : ℕ) → ((k : ℕ) → k < c.size → u (f k) ≡ t k) → ((y : ℕ) → u y ≡ true → d.linked x y ≡ true) → some_below d.size u ≡ some_below c.size t
   search_named t u x same near = same_bool _ _
       (λ h. let y = some_below-find d.size u h in

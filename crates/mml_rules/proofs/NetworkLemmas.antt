@@ -1,4 +1,4 @@
--- What a change of a network leaves, and that it keeps the network lawful.
+-- Changes of a network: which parts stay the same, and that the network stays lawful.
 use Rattle.std.proofs.Common.{◌≡◌, ℕ, ◌<◌, true, false, cond, not, ◌&&◌, ◌||◌, eqb, Some, List, length, set, sym, subst, arith, length-set, get_or-set_same, get_or-set_other}
 use Rattle.std.proofs.lemmas.Bool.{cases_eq, eq-eqb, ne_eqb, eqb-true, and_parts, and_from, or_cases, or_left, or_right, both_ways, false_from_ne_true}
 use Rattle.std.specs.{FinSet.FinSet, Ordering.nat_cmp}
@@ -11,65 +11,65 @@ pub neighbours_at-set : (neighbours : List (FinSet nat_cmp)) (a i : ℕ) (s : Fi
     → neighbours_at (set neighbours a s) i ≡ cond (eqb i a) s (neighbours_at neighbours i)
 neighbours_at-set neighbours a i s l = grind (arith, cases_eq, get_or-set_same, eq-eqb, get_or-set_other, ne_eqb)
 
--- registers that are set stand at their node, and all others are as before
+-- after node a gets the registers r, all other nodes have the same registers as before
 pub registers_at-set : (registers : List Regs) (a i : ℕ) (r : Regs) → a < length registers → registers_at (set registers a r) i ≡ cond (eqb i a) r (registers_at registers i)
 registers_at-set registers a i r l = grind (arith, cases_eq, get_or-set_same, eq-eqb, get_or-set_other, ne_eqb)
 
--- which nodes are in the rows with one more neighbour
+-- after b is added to the neighbours of a, i has the neighbour j if it had j before, or if i is a and j is b
 pub has-with_neighbour : (neighbours : List (FinSet nat_cmp)) (a b i j : ℕ) → a < length neighbours
     → sets.contains (neighbours_at (with_neighbour neighbours a b) i) j ≡ ((eqb i a && eqb j b) || sets.contains (neighbours_at neighbours i) j)
 has-with_neighbour neighbours a b i j l = grind (arith, neighbours_at-set, has_insert, eqb-true)
 
--- without b among the neighbours of a, every other neighbour is as before
+-- after b is removed from the neighbours of a, i has the neighbour j if it had j before, unless i is a and j is b
 pub has-without_neighbour : (neighbours : List (FinSet nat_cmp)) (a b i j : ℕ) → a < length neighbours
     → sets.contains (neighbours_at (without_neighbour neighbours a b) i) j ≡ (not (eqb i a && eqb j b) && sets.contains (neighbours_at neighbours i) j)
 has-without_neighbour neighbours a b i j l = grind (arith, neighbours_at-set, has_remove, eqb-true)
 
--- a neighbour more leaves the number of rows
+-- adding a neighbour keeps the number of rows
 pub length-with_neighbour : (neighbours : List (FinSet nat_cmp)) (a b : ℕ) → length (with_neighbour neighbours a b) ≡ length neighbours
 length-with_neighbour neighbours a b = length-set neighbours a (sets.insert (neighbours_at neighbours a) b)
 
--- a neighbour less leaves the number of rows
+-- removing a neighbour keeps the number of rows
 pub length-without_neighbour : (neighbours : List (FinSet nat_cmp)) (a b : ℕ) → length (without_neighbour neighbours a b) ≡ length neighbours
 length-without_neighbour neighbours a b = length-set neighbours a (sets.remove (neighbours_at neighbours a) b)
 
--- a pointer taken back leaves the number of nodes
+-- setting a pointer to null keeps the number of nodes
 pub length-unpointed : (registers : List Regs) (a b : ℕ) → length (unpointed registers a b) ≡ length registers
 length-unpointed registers a b = grind (arith, length-set)
 
--- a lawful network stays one if a node's new pointer, if it has one, leads to a neighbour
+-- a network stays lawful if a node gets a new pointer that is null or leads to a neighbour
 pub with_registers-lawful : (n : Network) (i : ℕ) (r : Regs) → IsNetwork n → i < length n.registers
     → ((j : ℕ) → r.p ≡ Some j → sets.contains (neighbours_at n.neighbours i) j ≡ true) → IsNetwork (with_registers n i r)
 with_registers-lawful n i r w l ok = grind (arith, length-set, registers_at-set, eqb-true)
 
--- after a link of a and b these two are linked, and all others as before
+-- after a and b are linked, there is a link between them, and all others are as before
 pub linked-with_link : (n : Network) (a b i j : ℕ) → a < length n.neighbours → b < length n.neighbours
     → (configuration_of (with_link n a b)).linked i j ≡ ((eqb i b && eqb j a) || ((eqb i a && eqb j b) || (configuration_of n).linked i j))
 linked-with_link n a b i j la lb = grind (arith, has-with_neighbour, length-with_neighbour)
 
--- after a cut of a and b these two aren't linked, and all others are as before
+-- after the link between a and b is cut, they aren't linked, and all other links are as before
 pub linked-without_link : (n : Network) (a b i j : ℕ) → a < length n.neighbours → b < length n.neighbours
     → (configuration_of (without_link n a b)).linked i j ≡ (not (eqb i b && eqb j a) && (not (eqb i a && eqb j b) && (configuration_of n).linked i j))
 linked-without_link n a b i j la lb = grind (arith, has-without_neighbour, length-without_neighbour)
 
--- a pair of numbers that is found equal to another is that pair
+-- if both tests are true, i is a and j is b
 pub both_are : (i a j b : ℕ) → (eqb i a && eqb j b) ≡ true → (i ≡ a) × (j ≡ b)
 both_are i a j b h = let x = and_parts (eqb i a) (eqb j b) h in (eqb-true i a x.0, eqb-true j b x.1)
 
--- equal pairs of numbers are found equal
+-- if i is a and j is b, both tests are true
 pub are_both : (i a j b : ℕ) → i ≡ a → j ≡ b → (eqb i a && eqb j b) ≡ true
 are_both i a j b e f = and_from _ _ (eq-eqb i a e) (eq-eqb j b f)
 
--- a lawful network stays one with a link between two different nodes
+-- a network stays lawful if a link is added between two different nodes
 pub with_link-lawful : (n : Network) (a b : ℕ) → IsNetwork n → a < length n.registers → b < length n.registers → (a ≡ b → ⊥) → IsNetwork (with_link n a b)
 with_link-lawful n a b w la lb apart = grind (arith, length-with_neighbour, or_right, linked-with_link, or_cases, both_are, or_left, are_both, false_from_ne_true, both_ways)
 
--- a pointer that is left stood before, and was not the one that is dropped
+-- if i points at j after a pointer from a to b was set to null, i pointed at j before, and it isn't this pointer
 pub pointer_left : (registers : List Regs) (a b i j : ℕ) → a < length registers → (registers_at (unpointed registers a b) i).p ≡ Some j
     → ((registers_at registers i).p ≡ Some j) × ((eqb i a && eqb j b) ≡ false)
 pointer_left registers a b i j l = grind (arith, registers_at-set, false_from_ne_true, both_are, both_ways, eq-eqb)
 
--- a lawful network stays one without a link and the pointers over it
+-- a network stays lawful if a link and the pointers along it are removed
 pub without_link-lawful : (n : Network) (a b : ℕ) → IsNetwork n → a < length n.registers → b < length n.registers → IsNetwork (without_link n a b)
 without_link-lawful n a b w la lb =
     grind (arith, length-without_neighbour, and_from, false_from_ne_true, both_ways, pointer_left, length-unpointed, linked-without_link, and_parts)
@@ -77,16 +77,16 @@ without_link-lawful n a b w la lb =
 network_is : (m n : Network) → m.neighbours ≡ n.neighbours → m.registers ≡ n.registers → n ≡ m
 network_is m n e f = λ k. record { neighbours = sym e k; registers = sym f k }
 
--- a network whose neighbours and registers are those of one with one more link is a network
+-- if m has the neighbours and registers of the network n with one more link, m is a network too
 pub linked_is_lawful : (n m : Network) (a b : ℕ) → IsNetwork n → a < length n.registers → b < length n.registers → (a ≡ b → ⊥)
     → m.neighbours ≡ with_neighbour (with_neighbour n.neighbours a b) b a → m.registers ≡ n.registers → IsNetwork m
 linked_is_lawful n m a b w la lb apart e f = subst (λ x. IsNetwork x) (network_is m (with_link n a b) e f) (with_link-lawful n a b w la lb apart)
 
--- a node of a network is one of the network that it is equal to
+-- if two networks are equal, each node of the second is a node of the first
 pub node_within : (n m : Network) (a : ℕ) → n ≡ m → a < length m.registers → a < length n.registers
 node_within n m a e l = subst (λ (x : Network). a < length x.registers) (sym e) l
 
--- a network whose neighbours and registers are those of one with one link less is a network
+-- if m has the neighbours and registers of the network n after a link was cut, m is a network too
 pub cut_is_lawful : (n m : Network) (a b : ℕ) → IsNetwork n → a < length n.registers → b < length n.registers
     → m.neighbours ≡ without_neighbour (without_neighbour n.neighbours a b) b a → m.registers ≡ unpointed (unpointed n.registers a b) b a → IsNetwork m
 cut_is_lawful n m a b w la lb e f = subst (λ x. IsNetwork x) (network_is m (without_link n a b) e f) (without_link-lawful n a b w la lb)

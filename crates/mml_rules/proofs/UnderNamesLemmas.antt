@@ -1,4 +1,4 @@
--- Names that keep the order of the nodes keep steps, pairs and whether a node is privileged.
+-- If nodes get other names in the same order, steps and pairs stay the same, and the same nodes are privileged.
 use Rattle.std.proofs.Common.{◌≡◌, ◌↔◌, ◌⊎◌, ℕ, ◌<◌, Bool, true, false, eqb, Option, None, Some, is_some, sym, refl, ap, ◌∙◌, subst, inl, inr, arith}
 use Rattle.std.proofs.lemmas.Bool.{eqb-true, eq-eqb, and_parts, both_ways, false_from_ne_true}
 use Rattle.mml_ids.specs.Search.{some_below}

@@ -1,17 +1,17 @@
--- Moves under other names, and the numbers that name no node.
+-- Moves after the nodes are renamed, and numbers that name no node.
 use Rattle.std.specs.Prelude.{◌≡◌, ◌≢◌, ℕ, ◌<◌, false, Option, None, Some}
 use Rattle.mml_rules.specs.{declared.rule.Rule.Rule, Configuration.Configuration, Naming.renamed_rule}
 
--- the chosen move under the names
+-- the chosen move, if there is one, after each node i is renamed to f i
 abbrev pub renamed_move : (ℕ → ℕ) → Option Rule → Option Rule
 renamed_move f None = None
 renamed_move f (Some r) = Some (renamed_rule f r)
 
--- each node has under its name the move that is chosen for it
+-- the move of each node under its new name is its chosen move, with the partner renamed
 abbrev pub AreRenamedMoves : (ℕ → ℕ) → ℕ → (ℕ → Option Rule) → (ℕ → Option Rule) → Type 0
 AreRenamedMoves f size chosen named = (i : ℕ) → i < size → named (f i) ≡ renamed_move f (chosen i)
 
--- no node has this name
+-- x is the name of no node
 abbrev pub IsNoName : (ℕ → ℕ) → ℕ → ℕ → Type 0
 IsNoName f size x = (i : ℕ) → i < size → f i ≢ x
 

@@ -34,7 +34,7 @@ impl Model for Network {
 }
 
 impl Network {
-    /// Returns the network with these neighbours and these registers of each node, both by rank.
+    /// Returns the network with these neighbours and these registers of each node, both listed by rank.
     pub fn of(neighbours: Vec<NodeSet>, registers: Vec<Regs>) -> Network
         requires { IsNetwork (record { neighbours = neighbours.items; registers = registers.items }) }
         ensures { result ≡ record { neighbours = neighbours.items; registers = registers.items } }
@@ -104,7 +104,7 @@ impl Network {
         link_one_way(&mut self.neighbours, b, a);
     }
 
-    /// Removes the link between two nodes, if there is one, and makes the pointers over it null.
+    /// Removes the link between two nodes, if there is one, and sets the pointers along it to null.
     pub fn cut(&mut self, a: Rank, b: Rank)
         requires a { a < length self.old.registers }
         requires b { b < length self.old.registers }
