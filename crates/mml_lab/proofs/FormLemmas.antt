@@ -36,13 +36,13 @@ from_name (b ∷ bs) form =
     and_from _ _ (and_from _ _ (from_range 97 122 b form.first) (all_pass is_name_byte IsNameByte from_name_byte bs (All-tail IsNameByte b bs form.bytes)))
     (le-leb (length (b ∷ bs)) MAX_NAME form.short)
 
--- a name is found of its form exactly if it is
+-- `is_name` is true exactly for well-formed names
 pub name-means : (name : List ℕ) → (is_name name ≡ true) ↔ IsName name
 name-means name = (name-is name, from_name name)
 
 from_key : (key : List ℕ) → IsKey key → is_key key ≡ true
 from_key key form = search (rules, and_from, lt-ltb, le-leb, all_pass, from_range)
 
--- a key is found of its form exactly if it is
+-- `is_key` is true exactly for well-formed keys
 pub key-means : (key : List ℕ) → (is_key key ≡ true) ↔ IsKey key
 key-means key = (grind (arith, common_steps, nat_tests, and_parts, ltb-true, leb-true, each_passes, in_range), from_key key)

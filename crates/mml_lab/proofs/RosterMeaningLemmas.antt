@@ -1,4 +1,4 @@
--- What the roster's definitions mean.
+-- The definitions of the roster agree with the logical statements.
 use Rattle.std.proofs.Common.{◌≡◌, ◌↔◌, ℕ, ◌<◌, List, length, get_or, Option, Some, None, true, false, ◌⊎◌, inl, inr, refl, sym, ◌∙◌, arith, Contains}
 use Rattle.std.{specs.List.position, proofs.lemmas.Slice.Eq.bytes_eq-Decides}
 use Rattle.std.proofs.lemmas.Bool.{Decides.nat_tests, cases_Bool, cases_lt, and_from, and_parts, eqb-true, eq-eqb}
@@ -38,11 +38,11 @@ known_is_found r name key (who.Student s) roster known = by (cases_Bool (has_nam
         (from_both name key (get_or r.students s no_account) known.named known.keyed) only in
         rw (other, here)
 
--- the one who is found by a name and a key is the one who takes part under them
+-- `principal` returns w exactly if w is a participant with this name and key
 pub principal-one : (r : RosterValue) (name key : List ℕ) (w : Who) → IsRoster r → (principal r name key ≡ Some w) ↔ IsKnownAs r w name key
 principal-one r name key w roster = (grind (arith, position-Some, has_both), known_is_found r name key w roster)
 
--- nobody is found by a name and a key exactly if nobody takes part under them
+-- `principal` returns none exactly if no participant has this name and key
 pub principal-nobody : (r : RosterValue) (name key : List ℕ) → IsRoster r → (principal r name key ≡ None) ↔ ((w : Who) → ¬ IsKnownAs r w name key)
 principal-nobody r name key roster =
     ((λ none w known. absurd (apart w (sym none ∙ known_is_found r name key w roster known))), λ nobody. by (principal r name key) refl nobody)
@@ -56,17 +56,17 @@ principal-nobody r name key roster =
 
 -- ---- owners
 
--- a student is found to own a node exactly if listed among its owners
+-- `owns` is true for a student exactly if the student is among the owners of the node
 pub owns-student : (r : RosterValue) (s i : ℕ) → (owns r (who.Student s) i ≡ true) ↔ Contains (owners_of r i) s
 owns-student r s i = grind (arith, nat_tests, Any-from_list_any, list_any_at, eq-eqb, eqb-true)
 
--- an owner is a student
+-- each owner of a node is a student of the roster
 pub owner_there : (r : RosterValue) (s i : ℕ) → IsRoster r → owns r (who.Student s) i ≡ true → s < length r.students
 owner_there r s i known owner = grind (arith, nat_tests, owns-student, cases_lt, All-get_or, get_or_past)
 
 -- ---- names
 
--- a student is found by the student's own name
+-- `student_named` finds each student of the roster by the student's name
 pub student_of_name : (r : RosterValue) (s : ℕ) → IsRoster r → s < length r.students → student_named r (name_of r (who.Student s)) ≡ Some s
 student_of_name r s roster lt =
     position-only (has_name (name_of r (who.Student s))) r.students s no_account lt
@@ -79,6 +79,6 @@ student_of_name r s roster lt =
         (sym ((bytes_eq-Decides (name_of r (who.Student s)) (get_or r.students k no_account).name).0 named)) in
         cc
 
--- the student who is found by a name has that name
+-- a student whom `student_named` finds has that name
 pub name_of_student : (r : RosterValue) (name : List ℕ) (s : ℕ) → student_named r name ≡ Some s → name_of r (who.Student s) ≡ name
 name_of_student r name s found = (student_is r name s found).1

@@ -1,4 +1,4 @@
--- Rows of neighbours, into which one more is put.
+-- Rows of neighbours, to which one more neighbour is added.
 use Rattle.std.proofs.lemmas.{Bool.cases_eq, Bool.eq-eqb, Bool.ne_eqb, Bool.eqb-true, List.get_or-set_same, List.get_or-set_other, List.get_or_default}
 use Rattle.std.proofs.Common.{◌≡◌, ℕ, ◌<◌, ◌&&◌, ◌||◌, eqb, List, [], length, get_or, set, arith}
 use Rattle.std.specs.{Ordering.nat_cmp, FinSet.FinSet}
@@ -10,7 +10,7 @@ use Rattle.std.specs.FinSet as sets
 abbrev pub Rows : Type 0
 Rows = List (FinSet nat_cmp)
 
--- a row into which b is put has b besides what it had, and all other rows are as before
+-- after b is added to row a, row a has b in addition to its members, and all other rows are as before
 pub inserted : (rows : Rows) (a b : ℕ) (old new : FinSet nat_cmp) → a < length rows → old ≡ get_or rows a old → new ≡ sets.insert old b → (i q : ℕ)
     → sets.contains (neighbours_at (set rows a new) i) q ≡ (sets.contains (neighbours_at rows i) q || (eqb a i && eqb b q))
 inserted rows a b old new lt here is i q = grind (arith, cases_eq, get_or_default, get_or-set_same, has_insert, eq-eqb, get_or-set_other, ne_eqb, same_bool, eqb-true)

@@ -1,4 +1,4 @@
--- What contracts see of the accounts in a program's memory.
+-- The accounts of the program, as contracts see them.
 use Rattle.std.specs.{Prelude.String, Prelude.string_bytes, declared.alloc.Global.Global}
 use Rattle.mml_lab.specs.{declared.accounts.Account.Account as KeptAccount, Rosters.Account}
 

@@ -1,4 +1,4 @@
--- What the roster's definitions mean, stated as facts.
+-- The definitions of the roster, as logical statements.
 use Rattle.std.specs.{Prelude.◌≡◌, Prelude.ℕ, Prelude.◌<◌, Prelude.◌≤◌, Prelude.◌⊎◌, Prelude.List, Prelude.length, Prelude.slice_index, Prelude.All, Int.IsInRange}
 use Rattle.mml_lab.specs.{declared.TheConstants.MAX_NAME, declared.TheConstants.MAX_KEY, declared.who.Who.Who, Rosters.RosterValue, Rosters.IsPrincipal, Rosters.name_of, Rosters.key_of}
 
@@ -17,13 +17,13 @@ pub record IsName (name : List ℕ) : Type 0 where
   pub first : IsLetter (slice_index name 0)
   pub bytes : All IsNameByte name
 
--- 1 to 64 bytes, each an ASCII character that can be seen and is no space
+-- 1 to 64 bytes, each a printable ASCII character other than the space
 pub record IsKey (key : List ℕ) : Type 0 where
   pub some : 0 < length key
   pub short : length key ≤ MAX_KEY
   pub bytes : All (IsInRange 33 126) key
 
--- w takes part under that name and key
+-- w is a participant with that name and key
 pub record IsKnownAs (r : RosterValue) (w : Who) (name key : List ℕ) : Type 0 where
   pub member : IsPrincipal r w
   pub named : name_of r w ≡ name

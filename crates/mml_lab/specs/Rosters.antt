@@ -5,7 +5,7 @@ use Rattle.std.specs.{List.list_any, List.list_all, Char.is_ascii_lowercase, Cha
 use Rattle.mml_lab.specs.declared.{TheConstants.MAX_STUDENTS, TheConstants.MAX_NAME, TheConstants.MAX_KEY, who.Who.Who}
 use Rattle.mml_lab.specs.declared.who.Who.TheVariants as who
 
--- the name and the key of one who takes part
+-- the name and the key of a participant
 pub record Account : Type 0 where
   pub name : List ℕ
   pub key : List ℕ
@@ -33,11 +33,11 @@ is_key key = nat_lt 0 (length key) && nat_le (length key) MAX_KEY && list_all is
 abbrev pub is_account : Account → Bool
 is_account a = is_name a.name && is_key a.key
 
--- the account's name is this one
+-- the account has this name
 abbrev pub has_name : List ℕ → Account → Bool
 has_name name a = bytes_eq name a.name
 
--- the account's name and key are these
+-- the account has this name and this key
 abbrev pub has_name_and_key : List ℕ → List ℕ → Account → Bool
 has_name_and_key name key a = bytes_eq name a.name && bytes_eq key a.key
 
@@ -45,7 +45,7 @@ has_name_and_key name key a = bytes_eq name a.name && bytes_eq key a.key
 abbrev pub no_account : Account
 no_account = record { name = []; key = [] }
 
--- the account of one who takes part
+-- the account of a participant
 abbrev pub account_of : RosterValue → Who → Account
 account_of r who.Teacher = r.teacher
 account_of r (who.Student s) = slice_index_or r.students s no_account
@@ -58,7 +58,7 @@ name_of r who = (account_of r who).name
 abbrev pub key_of : RosterValue → Who → List ℕ
 key_of r who = (account_of r who).key
 
--- the participant under that name and key, if there is one
+-- the participant with that name and key, if there is one
 abbrev pub principal : RosterValue → List ℕ → List ℕ → Option Who
 principal r name key =
     if has_name_and_key name key r.teacher then Some who.Teacher else option_map who.Student (position (has_name_and_key name key) r.students)
@@ -76,7 +76,7 @@ abbrev pub owns : RosterValue → Who → ℕ → Bool
 owns r who.Teacher i = false
 owns r (who.Student s) i = list_any (λ o. o == s) (owners_of r i)
 
--- a participant
+-- who is a participant: the teacher, or one of the students
 abbrev pub IsPrincipal : RosterValue → Who → Type 0
 IsPrincipal r who.Teacher = Unit {0}
 IsPrincipal r (who.Student s) = s < length r.students
@@ -88,6 +88,6 @@ pub record IsRoster (r : RosterValue) : Type 0 where
   pub differ : (a b : Who) → IsPrincipal r a → IsPrincipal r b → name_of r a ≡ name_of r b → a ≡ b
   pub owned : All (All (λ s. s < length r.students)) r.owners
 
--- the roster of a teacher, of students and, for each rank, of the owners of the node
+-- the roster with this teacher, these students and, for each rank, the owners of the node
 abbrev pub with_owners : Account → List Account → List (List ℕ) → RosterValue
 with_owners teacher students owners = record { teacher = teacher; students = students; owners = owners }

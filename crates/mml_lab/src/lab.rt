@@ -41,8 +41,8 @@ impl Model for Lab {
 
 impl Lab {
     /// Returns the lab with these identifiers, this roster, this network at the beginning, at most `events` events, and
-    /// at most `sessions` connections at once. All of them must be valid and fit one another: roster and network have
-    /// as many nodes as there are identifiers.
+    /// at most `sessions` connections at once. The parts must be valid, and the roster and the network must have as
+    /// many nodes as there are identifiers.
     pub fn new(ids: IdTable, roster: Roster, network: Network, events: u64, sessions: u8) -> Lab
         requires { IsLab (record {
           ids = ids;
@@ -105,14 +105,14 @@ impl Lab {
         &self.network
     }
 
-    /// Returns the most events that a run may have.
+    /// Returns the greatest number of events that a run may have.
     pub fn events(&self) -> u64
         ensures { result ≡ self.now.events }
     {
         self.events
     }
 
-    /// Returns the most connections that there may be at once.
+    /// Returns the greatest number of connections that there may be at once.
     pub fn sessions(&self) -> u8
         ensures { result ≡ self.now.sessions }
     {

@@ -4,12 +4,12 @@ ghost use Rattle.mml_lab.specs.declared.lab_fault.LabFault.TheVariants.{Memory};
 use mml_ids::IdFault;
 use std::alloc::{AllocError, AllocFailed};
 
-/// A key of the lab file, in the order in which the keys are read.
+/// The keys of a lab file, in the order in which they are read.
 #[derive(Clone, Copy, Debug)]
 pub enum Key {
-    /// `events`: the most events that a run may have.
+    /// `events`: the greatest number of events that a run may have.
     Events,
-    /// `sessions`: the most connections that there may be at once.
+    /// `sessions`: the greatest number of connections that there may be at once.
     Sessions,
     /// The table `teacher`.
     Teacher,
@@ -56,13 +56,13 @@ pub enum LabFault {
     OwnerTwice(usize),
     /// An end of a link isn't a node of the file.
     LinkEnd(usize),
-    /// Both ends of a link are one node.
+    /// A link joins a node to itself.
     Loop(usize),
     /// A link before this one has the same ends, in this order or the other.
     LinkTwice(usize),
-    /// A node points at one that isn't its neighbour.
+    /// The pointer p of a node leads to a node that isn't its neighbour, or to no node.
     BadPointer(usize),
-    /// A number is out of its range: that of the events, of the sessions or of the students.
+    /// The number of events, of sessions or of students is outside its range.
     Limit(Key),
     /// Memory ran out.
     Memory,
@@ -80,8 +80,8 @@ impl From<AllocError> for LabFault {
 impl<T: Drop> From<AllocFailed<T>> for LabFault {
     ghost from_gives = { λ _ e. e ≡ Memory };
 
-    /// Turns a failed allocation into `LabFault::Memory`, so that `?` returns it, and drops the value that was to be
-    /// kept.
+    /// Turns a failed allocation into `LabFault::Memory`, so that `?` returns it. Drops the value for which there was
+    /// no memory.
     fn from(_e: AllocFailed<T>) -> LabFault {
         LabFault::Memory
     }

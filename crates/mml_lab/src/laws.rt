@@ -31,7 +31,7 @@ pub fn names_and_students_are_inverse()
         student_named r name ≡ Some s → name_of r (Who.Student s) ≡ name }
 {}
 
-/// The tests `is_name` and `is_key` are true exactly of the names and keys that are well-formed.
+/// The tests `is_name` and `is_key` are true exactly for well-formed names and keys.
 pub fn forms_mean_facts()
     ensures name { (name : List ℕ) → (is_name name ≡ true) ↔ IsName name }
     ensures key { (key : List ℕ) → (is_key key ≡ true) ↔ IsKey key }

@@ -15,16 +15,16 @@ pub use lab_fault::{Key, LabFault};
 pub use roster::Roster;
 pub use who::{Student, Who};
 
-/// The most events that a run may have.
+/// The greatest number of events that a run may have.
 pub const MAX_EVENTS: u64 = 100_000;
 
-/// The most connections that there may be at once.
+/// The greatest number of connections that there may be at once.
 pub const MAX_SESSIONS: u64 = 16;
 
-/// The most students that a lab may have.
+/// The greatest number of students that a lab may have.
 pub const MAX_STUDENTS: u64 = 256;
 
-/// The most owners that a node may have.
+/// The greatest number of owners that a node may have.
 pub const MAX_OWNERS: u64 = 2;
 
 /// The greatest length of a name, in bytes.

@@ -1,4 +1,4 @@
-//! The nodes that each student owns, as rows of bits.
+//! The set of the nodes that each student owns.
 //!
 //! The rank of a node is its index in the rising order of identifiers.
 ghost use Rattle.std.specs.Prelude.{◌≡◌, ℕ, ◌<◌, ◌≤◌, ◌==◌, ◌&&◌, ◌||◌, All, length, map, IfOk, IfErr};
@@ -14,9 +14,9 @@ use crate::who::Student;
 use mml_ids::{NodeSet, Rank};
 use std::alloc::Global;
 
-/// Returns the set of the nodes that each student owns, by student. At its end the list has one more set, which is
-/// empty, for a student who isn't in the roster. `students` is the number of students, and `owners` has the owners of
-/// each node, by rank. Returns `Memory` if memory runs out.
+/// Returns, for each student, the set of the nodes that the student owns. The last set of the list is empty, and is for
+/// anyone who isn't in the roster. `students` is the number of students, and `owners` has the owners of each node, by
+/// rank. Returns `Memory` if memory runs out.
 pub(crate) fn owned_by_each(
     alloc: Global,
     students: usize,

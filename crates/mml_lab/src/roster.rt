@@ -19,15 +19,15 @@ use mml_ids::{NodeSet, Rank};
 use std::alloc::Global;
 use std::marker::Model;
 
-/// The participants of a lab: under which name and key each takes part, and who owns each node.
+/// The participants of a lab, with their names and keys, and the owners of each node.
 #[derive(Debug, Drop)]
 pub struct Roster {
     teacher: Account,
-    // name to key, in the file's order
+    // the key of each student under the student's name, in the file's order
     students: IndexMap<String, String>,
-    // by rank
+    // the owners of each node, by rank
     owners: Vec<Vec<Student>>,
-    // by student: the ranks of the nodes that the student owns; after the last student comes an empty set
+    // the set of the nodes that each student owns, by student; after the last student comes an empty set
     owned: Vec<NodeSet>,
 }
 
@@ -90,8 +90,8 @@ impl Roster {
         index.map(|index| Who::Student(Student::new(index as u16)))
     }
 
-    /// Returns the nodes that `who` owns: none for the teacher, and none for a student who isn't in the roster. The
-    /// steps are the same for all students, whatever they own.
+    /// Returns the nodes that `who` owns: none for the teacher, and none for a student who isn't in the roster. Takes
+    /// the same steps for all students, whatever they own.
     pub fn owned(&self, who: Who) -> NodeSet
         ensures { (i : ℕ) → set.contains result i ≡ owns self.now who i }
     {
@@ -138,7 +138,7 @@ impl Roster {
 }
 
 /// Returns whether `name` is `known` and `key` is `secret`. Compares both, even if the names differ, so that the time
-/// doesn't reveal whether the name exists.
+/// that it takes doesn't reveal whether the name exists.
 fn are_name_and_key(name: &str, key: &str, known: &str, secret: &str) -> bool
     ensures { result ≡
         has_name_and_key name.now key.now (record { name = known.now; key = secret.now }) }
@@ -149,8 +149,8 @@ fn are_name_and_key(name: &str, key: &str, known: &str, secret: &str) -> bool
 }
 
 /// Returns the index of the student with this name and this key, from 0 in the file's order, or `None` if no student
-/// has both. Each student's name and key are compared, so that a student's name takes the same steps as an unknown name
-/// of its length.
+/// has both. Compares the name and the key of every student, so that a student's name takes the same steps as an
+/// unknown name of the same length.
 fn student_with(students: &IndexMap<String, String>, name: &str, key: &str) -> Option<usize>
     ensures value { result ≡
         position (has_name_and_key name.now key.now) (map entry_account students.now.entries) }

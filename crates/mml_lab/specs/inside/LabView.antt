@@ -1,7 +1,7 @@
--- The lab that contracts see.
+-- A stored lab, as contracts see it.
 use Rattle.mml_lab.specs.{declared.lab.Lab.TheInside.Inside, Labs.LabValue, Labs.IsLab}
 
--- the parts of a lab, as the definitions have them
+-- the lab that contracts see
 abbrev pub lab_view : Inside → LabValue
 lab_view a = record {
   ids = a.ids;
@@ -11,6 +11,6 @@ lab_view a = record {
   sessions = a.sessions;
 }
 
--- the parts make a lab
+-- the stored parts are a lab
 abbrev pub IsLabInside : Inside → Type 0
 IsLabInside a = IsLab (lab_view a)

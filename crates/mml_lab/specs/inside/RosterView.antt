@@ -1,13 +1,13 @@
--- The roster that contracts see.
+-- A stored roster, as contracts see it.
 use Rattle.std.specs.Prelude.{map, length}
 use Rattle.mml_lab.specs.{declared.roster.Roster.TheInside.Inside, AccountView.account_view, AccountView.entry_account, inside.Owned.AreOwned}
 use Rattle.mml_lab.specs.Rosters.{RosterValue, IsRoster, with_owners}
 
--- teacher, students and owners, as the definitions have them
+-- the roster that contracts see
 abbrev pub roster_view : Inside → RosterValue
 roster_view a = with_owners (account_view a.teacher) (map entry_account a.students.entries) (map (λ v. v.items) a.owners.items)
 
--- the roster is lawful, and each student has a row of what the student owns
+-- the roster is lawful, and each student has a row with the nodes that the student owns
 pub record IsRosterInside (a : Inside) : Type 0 where
   pub lawful : IsRoster (roster_view a)
   pub rows : AreOwned (length (roster_view a).students) (roster_view a).owners a.owned.items

@@ -3,7 +3,7 @@ use Rattle.mml_lab.specs.inside.Owned.{row_at}
 use Rattle.std.specs.FinSet as sets
 use Rattle.mml_lab.proofs.owned.give.Given as goal
 
--- the node is in the rows of the owners that were gone through
+-- the node is in the rows of the owners that the loop has passed
 abbrev pub invariant-loop-owner : goal.invariant-loop-owner
 invariant-loop-owner l = record {
   count : length l.rows ≡ length l.fn.rows;

@@ -3,7 +3,7 @@ use Rattle.std.specs.FinSet as sets
 use Rattle.mml_lab.specs.inside.Owned.{row_at, is_owner}
 use Rattle.mml_lab.proofs.owned.owned_by_each.Given as goal
 
--- the rows are those of the nodes that were gone through
+-- the rows contain the nodes that the loop has passed
 abbrev pub invariant-loop-index : goal.invariant-loop-index
 invariant-loop-index l = record {
   count : length l.rows.items ≡ l.students + 1;
