@@ -1,4 +1,4 @@
--- Links are looked up by rank, and put into the rows of neighbours one after the other.
+-- Checking the links while they are added to the rows of neighbours one after another.
 use Rattle.std.proofs.lemmas.Bool.{Decides.nat_tests, Decides.Decides-int_eq, and_parts, and_from, not-false, false≢true, lt-ltb}
 use Rattle.std.proofs.Common.{◌≡◌, ℕ, ℤ, pos, ◌-◌, ◌<◌, ◌≤◌, true, not, ◌&&◌, List, length, get_or, take, map, Option, Some, None, Ok, Err, ap, subst, arith}
 use Rattle.std.specs.{Prelude.is_some, Prelude.slice_index, Prelude.position, FinSet.FinSet, Ordering.nat_cmp, Ordering.int_eq}
@@ -15,12 +15,12 @@ use Rattle.mml_lab.specs.declared.lab_fault.LabFault.TheVariants as fault
 some_rank : (o : Option ℕ) → is_some o ≡ true → (j : ℕ) × (o ≡ Some j)
 some_rank o h = grind (arith, false≢true)
 
--- the rank of an integer is that of its own identifier
+-- if an integer of the file has a rank, it is the identifier of the node with this rank
 rank-names : (ids : List ℕ) → IsTable ids → (z : ℤ) (j : ℕ) → rank_at ids z ≡ Some j → (j < length ids) × (z ≡ pos (slice_index ids j))
 unfolding rank_at
 rank-names ids table z j at = grind (arith, position-Some, positive, id_of_rank)
 
--- a rank stands in the row of another exactly if a link joins their nodes
+-- if two integers are identifiers of nodes, the nodes are neighbours in the rows exactly if a link joins them
 near-linked : (ids : List ℕ) → IsTable ids → (links : List (ℤ × ℤ)) (rows : List (FinSet nat_cmp)) → AreRows ids links rows → (z w : ℤ)
     → is_some (rank_at ids z) ≡ true → is_some (rank_at ids w) ≡ true
     → are_near rows (rank_at ids z) (rank_at ids w) ≡ is_linked links z w
@@ -31,7 +31,7 @@ near-linked ids table links rows are z w some_z some_w =
     let at_i = rank-names ids table z i.0 i.1 in
     grind (arith, nat_tests, rank-names, has-neighbours_of, lt-ltb)
 
--- if each end is a node of the file, each has a rank
+-- if all ends of links are nodes of the file, each of them has a rank
 pub all-ranked : (nodes : List NodeSpec) → IsTable (in_order (file_ids nodes)) → (links : List (ℤ × ℤ)) → pass_unless (ends_fault nodes links) ≡ Ok tt
     → position (lacks_rank (in_order (file_ids nodes))) links ≡ None
 unfolding ends_fault rank_at
@@ -48,36 +48,36 @@ all-ranked nodes table links right = position-none (lacks_rank (in_order (file_i
     has : (z : ℤ) → is_node nodes z ≡ true → is_some (rank_in (in_order (file_ids nodes)) (number_of z)) ≡ true
     has z holds = ap is_some (ranked nodes table z ((any_means (λ node. int_eq node.id z) (λ node. node.id ≡ z) (λ node. Decides-int_eq node.id z) nodes).0 holds)).2
 
--- ---- the rows, link after link
+-- ---- the rows after each link
 
--- the rows are those of the first k links, of which none stands twice
+-- the rows have the neighbours of the first k links, and none of these links repeats an earlier one
 pub record AreFresh (ids : List ℕ) (links : List (ℤ × ℤ)) (k : ℕ) (rows : List (FinSet nat_cmp)) : Type 0 where
   pub are : AreRows ids (take k links) rows
   pub fresh : first_from (is_link_again links) k (length links - k) ≡ first_below (is_link_again links) (length links)
 
--- the row of one end has the other exactly if the link stood before
+-- the ends of link k are neighbours in the rows of the first k links exactly if link k repeats an earlier link
 pub again-at : (ids : List ℕ) → IsTable ids → (links : List (ℤ × ℤ)) (k : ℕ) (rows : List (FinSet nat_cmp)) (d : ℤ × ℤ) → k < length links
     → position (lacks_rank ids) links ≡ None → AreRows ids (take k links) rows
     → are_near rows (rank_at ids (get_or links k d).0) (rank_at ids (get_or links k d).1) ≡ is_link_again links k
 again-at ids table links k rows d lt ends are = grind (arith, not-false, position-None, and_parts, near-linked, slice_get-get_or)
 
--- the first link that stood before is the error of the links
+-- if no link before k repeats an earlier one, and link k does, the error of the links is `LinkTwice k`
 pub again-found : (ids : List ℕ) (links : List (ℤ × ℤ)) (k : ℕ) (rows : List (FinSet nat_cmp)) → k < length links → AreFresh ids links k rows
     → is_link_again links k ≡ true → pass_unless (again_fault links) ≡ Err (fault.LinkTwice k)
 unfolding again_fault
 again-found ids links k rows lt so_far again = grind (arith, first_here)
 
 module _ (ids : List ℕ) (links : List (ℤ × ℤ)) (k : ℕ) (rows : List (FinSet nat_cmp)) where
-  -- once all links were put in, none stood before
+  -- if all links were added, none of them repeats an earlier one
   pub again-none : length links ≤ k → AreFresh ids links k rows → pass_unless (again_fault links) ≡ Ok tt
   unfolding again_fault
   again-none le so_far = grind (arith, first_end)
 
-  -- and the rows are whole
+  -- if all links were added, the rows have the neighbours of each node
   pub all-rows : length links ≤ k → AreFresh ids links k rows → rows ≡ map (neighbours_of ids links) ids
   all-rows le so_far = all_rows ids links rows (subst (λ l. AreRows ids l rows) (take_all k links le) so_far.are)
 
--- a file that passes its tests gives the lab of what they found
+-- if a file passes all tests, its lab is the one made from their results
 pub gathered : (raw : RawSpec) (ids : List ℕ) (students : List Account) (rows : List (FinSet nat_cmp)) (events sessions : ℕ)
     → identified raw.nodes ≡ Ok tt → enrolled raw.teacher raw.students ≡ Ok tt → owned students raw.nodes ≡ Ok tt → linked raw.nodes raw.links ≡ Ok tt
     → pass_unless (pointers_fault raw.links raw.nodes) ≡ Ok tt → limited raw.events raw.sessions (length students) ≡ Ok tt

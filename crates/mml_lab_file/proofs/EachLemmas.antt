@@ -1,4 +1,4 @@
--- Reading the values of an array one after the other, as a loop does.
+-- Reading the values of an array one after another in a loop.
 use Rattle.std.proofs.Common.{◌≡◌, ℕ, ◌+◌, ◌≤◌, ◌<◌, List, [], ◌∷◌, ◌++◌, Bool, length, drop, get_or, Result, Ok, Err, MatchBool, append_assoc, arith}
 use Rattle.std.proofs.lemmas.List.{append-nil, drop_all}
 use Rattle.mml_ids.specs.Gives.{◌>>=◌}
@@ -7,7 +7,7 @@ use Rattle.toml.proofs.Views.{items_view-drop}
 use Rattle.mml_lab.specs.declared.lab_fault.LabFault.{LabFault}
 use Rattle.mml_lab_file.specs.Shape.{each}
 
--- what was read before, and what is still read
+-- the values read before, followed by the result of reading the rest
 abbrev pub with_front : {A : Type 0} → List A → Result (List A) LabFault → Result (List A) LabFault
 with_front front read = read >>= λ xs. Ok (front ++ xs)
 
@@ -16,7 +16,7 @@ pub goes_on : {A : Type 0} (f : Data → Result A LabFault) (vs : List Value) (i
     → with_front front (each f (items_view (drop i vs))) ≡ total → with_front (front ++ x ∷ []) (each f (items_view (drop (i + 1) vs))) ≡ total
 goes_on f vs i d x front total lt h so_far = grind (arith, items_view-drop, append_assoc)
 
--- what follows if an error isn't out of memory
+-- if P holds unless memory ran out, and P implies Q, then Q holds unless memory ran out
 pub weaker : (b : Bool) {P Q : Type 0} → (P → Q) → MatchBool b (Unit {0}) P → MatchBool b (Unit {0}) Q
 weaker b f h = grind arith
 

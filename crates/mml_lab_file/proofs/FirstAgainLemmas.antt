@@ -1,4 +1,4 @@
--- The first name that stands before it already, and rosters whose names differ.
+-- The first name that an earlier account has, and rosters in which all names are different.
 use Rattle.std.proofs.Common.{◌≡◌, ◌↔◌, ℕ, suc, ◌<◌, ◌≤◌, List, ◌∷◌, length, Option, Some, None, true, false, not, refl, sym, ap, ◌∙◌, arith, true≢false, All}
 use Rattle.std.{specs.List.position, specs.Option.option_map, proofs.lemmas.Slice.Eq.bytes_eq-Decides}
 use Rattle.std.proofs.lemmas.Bool.{Decides.nat_tests, cases_Bool, cases_order, not-false}
@@ -14,11 +14,11 @@ use Rattle.mml_lab.specs.declared.lab_fault.LabFault.TheVariants as fault
 again_means : (accounts : List Account) (k : ℕ) → k < length accounts → is_name_again accounts k ≡ true → (j : ℕ) × (j < k) × (name_at accounts j ≡ name_at accounts k)
 again_means accounts k within is = grind (arith, nat_tests, Any-from_list_any, length-take-le, get_or_default, get_or-take, bytes_eq-Decides)
 
--- up to n no name stands before, exactly where the first n differ
+-- if none of the first n names occurs earlier, the first n names are different
 fresh-differ : (accounts : List Account) (n : ℕ) → n ≤ length accounts → ((k : ℕ) → k < n → is_name_again accounts k ≡ false) → AreDistinctBelow accounts n
 fresh-differ accounts n le fresh j k lt within same = true≢false (sym (grind (arith, get_or-take, bytes_eq-Decides, list_any_at, length-take-le)) ∙ fresh k within)
 
--- the error is a name twice exactly where it is the first name that stood before
+-- the error is `NameTwice k` exactly if k is the first index whose name occurs earlier
 pub name_twice-fault : (accounts : List Account) (k : ℕ) → (name_twice accounts ≡ Some (fault.NameTwice k)) ↔ IsFirstAgain accounts k
 name_twice-fault accounts k = (
   λ found.
@@ -34,7 +34,7 @@ name_twice-fault accounts k = (
     below : (o : Option ℕ) → option_map fault.NameTwice o ≡ Some (fault.NameTwice k) → o ≡ Some k
     below o e = grind arith
 
--- no name is found twice exactly where all names differ
+-- there is no such error exactly if all names are different
 pub name_twice-none : (accounts : List Account) → (name_twice accounts ≡ None) ↔ AreDistinctBelow accounts (length accounts)
 name_twice-none accounts = (
   λ none. fresh-differ accounts (length accounts) (omega arith)
@@ -45,9 +45,9 @@ name_twice-none accounts = (
     below : (o : Option ℕ) → option_map fault.NameTwice o ≡ None → o ≡ None
     below o e = grind arith
 
--- ---- a roster of accounts that have their forms and differ
+-- ---- a roster of well-formed accounts with different names
 
--- accounts of their forms, each name once, and owners who are students make a lawful roster
+-- well-formed accounts with different names, and owners who are students, make a lawful roster
 pub is_roster : (teacher : Account) (students : List Account) (owners : List (List ℕ)) → length students ≤ MAX_STUDENTS
     → position (λ a. not (is_account a)) (teacher ∷ students) ≡ None → name_twice (teacher ∷ students) ≡ None → All (All (λ s. s < length students)) owners
     → IsRoster (with_owners teacher students owners)

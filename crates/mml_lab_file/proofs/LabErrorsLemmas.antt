@@ -8,12 +8,12 @@ use Rattle.mml_lab_file.specs.{Shape.RawSpec, LabErrors.order_of, LabErrors.erro
 use Rattle.mml_lab_file.specs.Reading.{both_fault, ids_fault, forms_fault, no_owner_fault, owner_twice_fault, ends_fault, loops_fault, again_fault, pointers_fault, pass_unless, identified, enrolled}
 use Rattle.mml_lab_file.specs.Reading.{owned, linked, limited, checked, error_of, lab_fault}
 
--- the first of a list of errors
+-- the first error in the list, if there is one
 abbrev pub first_of : List (Option LabFault) → Option LabFault
 first_of [] = None
 first_of (t ∷ ts) = first_fault t (first_of ts)
 
--- ---- the position of each in the order
+-- ---- the index of each error in the order
 
 abbrev HasOrder : ℕ → Option LabFault → Type 0
 HasOrder n t = (f : LabFault) → t ≡ Some f → order_of f ≡ n
@@ -32,7 +32,7 @@ have_order : (raw : RawSpec) → HaveOrder 0 (errors_of raw)
 unfolding both_fault ids_fault forms_fault no_owner_fault owner_twice_fault ends_fault loops_fault again_fault pointers_fault
 have_order raw = grind (arith, nat_tests, and_also, mapped)
 
--- ---- the first one
+-- ---- the first error
 
 record IsFirstIn (n : ℕ) (ts : List (Option LabFault)) (f : LabFault) : Type 0 where
   at : ℕ
@@ -50,7 +50,7 @@ first_in n (None ∷ ts) f have h =
     before : (at : ℕ) → ((k : ℕ) → k < at → slice_get ts k ≡ Some None) → (k : ℕ) → k < suc at → slice_get (None ∷ ts) k ≡ Some None
     before at each k lt = grind arith
 
--- the steps end in the first of these errors
+-- the error of the result is the first error in the list
 pub record EndsIn (r : Result (Unit {0}) LabFault) (ts : List (Option LabFault)) : Type 0 where
   pub first : error_of r ≡ first_of ts
 
@@ -71,12 +71,12 @@ more r s {ts} {us} a b = record { first = by r ts a.first }
     by (Err e) (None ∷ ts) same = by (Err e) ts same
     by (Err e) (Some f ∷ ts) same = same
 
--- the first error of a file is the first of those that it has
+-- the error that the tests of a file report is the first one in `errors_of`
 pub first_error : (raw : RawSpec) → EndsIn (checked raw) (errors_of raw)
 unfolding checked identified enrolled owned linked limited
 first_error raw = grind (arith, more, one, one_above)
 
--- it is reported before those that come after it in the order
+-- no other error of the file comes before the reported one in the order
 pub told_in_order : (raw : RawSpec) (f : LabFault) → lab_fault raw ≡ Some f → IsFirstError raw f
 told_in_order raw f h =
     let first = first_in 0 (errors_of raw) f (have_order raw) (sym (first_error raw).first ∙ h) in

@@ -1,4 +1,4 @@
--- What a file without an error is.
+-- What holds of a file without an error.
 use Rattle.std.proofs.Common.{◌≡◌, ◌≤◌, ℕ, zero, suc, Bool, true, not, List, [], ◌∷◌, length, Option, Some, None, Ok, Err, refl, sym, ap, ◌∙◌, arith}
 use Rattle.std.{specs.List.position, specs.List.slice_get, proofs.lemmas.Bool.ltb-false}
 use Rattle.mml_ids.specs.{Gives.fault_if, Search.first_below, Ids.id_fault}
@@ -56,7 +56,7 @@ faultless raw none =
       students = ltb-false MAX_STUDENTS (length raw.students) (if_none _ _ (at 12 _ refl));
     }
 
--- a file gives a lab exactly if it has no error, and it is the lab in it
+-- if `lab_from` returns a lab, the file has no error, and the lab is the file's
 pub made : (raw : RawSpec) (lab : LabValue) → lab_from raw ≡ Ok lab → (lab_fault raw ≡ None) × (lab_in raw ≡ lab)
 unfolding lab_from
 made raw lab is = let passed = bind-ok (checked raw) (λ _. Ok (lab_in raw)) lab is in let same : lab_in raw ≡ lab = cc in (ap error_of passed.1, same)
@@ -65,7 +65,7 @@ pub makes : (raw : RawSpec) → lab_fault raw ≡ None → lab_from raw ≡ Ok (
 unfolding lab_from
 makes raw = grind arith
 
--- the error for which a file gives no lab is its first
+-- if `lab_from` returns an error, it is the file's first one
 pub refuses : (raw : RawSpec) (f : LabFault) → lab_from raw ≡ Err f → lab_fault raw ≡ Some f
 unfolding lab_from
 refuses raw f = grind arith

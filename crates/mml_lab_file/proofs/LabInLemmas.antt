@@ -1,4 +1,4 @@
--- The lab of a file without an error is a lab.
+-- The lab of a file without an error is lawful.
 use Rattle.std.proofs.Common.{◌≡◌, ℕ, ℤ, pos, negsuc, ◌<◌, ◌≤◌, ◌==◌, true, false, not, ◌&&◌, ltb, List, [], length, get_or, map, Option, Some, Ok, None, inl, inr, refl, sym, ap, ◌∙◌, subst, arith}
 use Rattle.std.proofs.Common.{All}
 use Rattle.std.specs.{Prelude.slice_index, Prelude.position, List.list_any, Option.option_and_then, Option.option_map_or}
@@ -15,30 +15,30 @@ use Rattle.mml_lab_file.specs.Reading.{registers_with, neighbours_of, network_in
 use Rattle.mml_lab_file.proofs.{FirstAgainLemmas.is_roster, NeighboursLemmas.has-neighbours_of, LabFaultLemmas.IsFaultless, LabFaultLemmas.faultless, LabFaultLemmas.made}
 use Rattle.mml_ids.proofs.FindLemmas.{IsFound, find-is, find-some, list_any-found, list_any-same}
 
--- a number that is some natural number above 0 is not negative
+-- if `number_of` returns a number n above 0, the integer is n
 pub positive : (z : ℤ) (n : ℕ) → number_of z ≡ n → 0 < n → z ≡ pos n
 positive z n e h = grind (arith, pos, negsuc)
 
--- a link joins its ends in either order
+-- a link between a and b is also a link between b and a
 pub is_linked_turned : (links : List (ℤ × ℤ)) (a b : ℤ) → is_linked links a b ≡ is_linked links b a
 is_linked_turned links a b = list_any-same (joins a b) (joins b a) links (grind arith)
 
--- without a loop no link joins a node to itself
+-- if no link is a loop, no link joins a node to itself
 pub no_loop : (links : List (ℤ × ℤ)) (a : ℤ) → position is_loop links ≡ None → is_linked links a a ≡ false
 no_loop links a none = grind (arith, cases_Bool, list_any-found, and_parts, both_ways, position-None)
 
--- the node of the file that has a rank
+-- the file's node with an identifier
 pub record IsNodeAt (nodes : List NodeSpec) (id : ℕ) (node : NodeSpec) : Type 0 where
   pub found : node_with nodes id ≡ Some node
   pub stands : IsFound (λ n. number_of n.id == id) nodes node
   pub named : node.id ≡ pos id
 
--- a student's name has an index among the students
+-- if some student has the name, `student_index` is the index of the first student with this name
 pub index-position : (students : List Account) (name : List ℕ) → list_any (has_name name) students ≡ true
     → position (has_name name) students ≡ Some (student_index students name)
 index-position students name some = grind (arith, IsFound, list_any-found, both_ways, position-None)
 
--- each owner is a student
+-- if `lacks_owner` is false, each owner is a student
 pub owners-known : (students : List Account) (node : NodeSpec) → lacks_owner students node ≡ false → All (λ name. list_any (has_name name) students ≡ true) node.owners
 owners-known students node right k d lt = grind (arith, cases_Bool, both_ways, list_any_at)
 
@@ -146,7 +146,7 @@ module _ (raw : RawSpec) (right : IsFaultless raw) where
   pub roster : IsRoster (with_owners raw.teacher raw.students (map (owners_with raw.students raw.nodes) ids))
   roster = is_roster raw.teacher raw.students (map (owners_with raw.students raw.nodes) ids) right.students right.forms right.names owners-within
 
--- a number that is found within its limit is from 1 to the greatest
+-- if `is_within` is true, the number is from 1 to the greatest
 pub within : (greatest : ℕ) (z : ℤ) → is_within greatest z ≡ true → (0 < number_of z) × (number_of z ≤ greatest)
 within greatest z holds = let parts = and_parts (ltb 0 (number_of z)) _ holds in (ltb-true 0 (number_of z) parts.0, leb-true (number_of z) greatest parts.1)
 
@@ -165,6 +165,6 @@ lab_in-lab raw right = record {
   few_sessions = (within MAX_SESSIONS raw.sessions right.sessions).1;
 }
 
--- and so is each lab that a file gives
+-- each lab that `lab_from` returns is lawful
 pub lawful_from : (raw : RawSpec) (lab : LabValue) → lab_from raw ≡ Ok lab → IsLab lab
 lawful_from raw lab is = let m = made raw lab is in subst (λ l. IsLab l) m.1 (lab_in-lab raw (faultless raw m.0))

@@ -1,4 +1,4 @@
--- What the definitions of a lab mean.
+-- The definitions of a lab agree with the logical statements.
 use Rattle.std.proofs.lemmas.Bool.{Decides.nat_tests, Decides.Decides-int_eq, cases_Bool, cases_order, eqb-true, eq-eqb, and_parts, and_from, or_cases, not-false, both_ways, lt-ltb}
 use Rattle.std.proofs.Common.{◌≡◌, ◌≢◌, ◌↔◌, ℕ, ℤ, pos, ◌<◌, ◌==◌, Bool, true, false, not, ◌&&◌, List, [], length, get_or, map, Option, Some, None, Ok, ◌⊎◌, inl, inr, sym, ap, ◌∙◌, subst, arith}
 use Rattle.std.proofs.Common.{Contains}
@@ -18,7 +18,7 @@ use Rattle.mml_lab_file.proofs.LabFaultLemmas.{IsFaultless}
 use Rattle.mml_lab_file.proofs.LabInLemmas.{positive, lawful_from, node_at, IsNodeAt, linked-in, registers-in, net, table, roster, index-position, owners-known}
 use Rattle.mml_lab.specs.declared.who.Who.TheVariants as who
 
--- a link is found to join two numbers exactly if it does
+-- `joins` is true exactly if the link has these two ends
 pub joins-means : (a b : ℤ) (link : ℤ × ℤ) → (joins a b link ≡ true) ↔ Joins a b link
 joins-means a b link = grind (arith, nat_tests, or_cases, and_parts, Decides-int_eq, and_from)
 
@@ -28,11 +28,11 @@ any_means p P means xs = grind (arith, nat_tests, Any-from_list_any, list_any-fr
 pub linked-means : (raw : RawSpec) (a b : ℤ) → (is_linked raw.links a b ≡ true) ↔ HasLink raw a b
 linked-means raw a b = any_means (joins a b) (Joins a b) (joins-means a b) raw.links
 
--- a node is found in a file exactly if the file has it
+-- `is_node` is true exactly if the file has a node with this identifier
 pub node-means : (raw : RawSpec) (id : ℤ) → (is_node raw.nodes id ≡ true) ↔ HasNode raw id
 node-means raw id = any_means (λ node. int_eq node.id id) (λ node. node.id ≡ id) (λ node. Decides-int_eq node.id id) raw.nodes
 
--- no link lacks an end or is a loop exactly if each joins two nodes that differ
+-- the tests find no missing end and no loop exactly if each link joins two different nodes
 pub join-means : (raw : RawSpec) → ((position (lacks_end raw.nodes) raw.links ≡ None) × (position is_loop raw.links ≡ None)) ↔ JoinNodes raw
 join-means raw = (λ none. there none.0 none.1, back)
   where
@@ -64,13 +64,13 @@ join-means raw = (λ none. there none.0 none.1, back)
           (λ k lt. apart (get_or raw.links k (pos 0, pos 0)) (join.different k (pos 0, pos 0) lt) (cases_Bool (is_loop (get_or raw.links k (pos 0, pos 0))))),
     )
 
--- an identifier is in the table exactly if it is some node's
+-- a number is in the table exactly if it is the identifier of a node of the file
 listed : (nodes : List NodeSpec) (n : ℕ) → list_any (λ k. k == n) (in_order (file_ids nodes)) ≡ list_any (λ node. number_of node.id == n) nodes
 listed nodes n =
     sym (list_any-map (λ k. k == n) (λ (node : NodeSpec). number_of node.id) nodes
     ∙ list_any-IsPermutation (λ k. k == n) (file_ids nodes) (in_order (file_ids nodes)) (in_order-moves (file_ids nodes)))
 
--- an identifier of the file has a rank
+-- each identifier of the file has a rank in the table
 pub ranked : (nodes : List NodeSpec) → IsTable (in_order (file_ids nodes)) → (z : ℤ) → Any (λ node. node.id ≡ z) nodes
     → (j : ℕ) × (j < length (in_order (file_ids nodes))) × (rank_in (in_order (file_ids nodes)) (number_of z) ≡ Some j)
     × (z ≡ pos (slice_index (in_order (file_ids nodes)) j))
@@ -82,7 +82,7 @@ ranked nodes table z node =
     listed nodes n ∙ list_any-from_Any (λ (x : NodeSpec). number_of x.id == n) nodes (node.0, node.1, node.2, node.3, eq-eqb (number_of node.1.id) n same) in
     grind (arith, nat_tests, Any-from_list_any, get_or_default, eqb-true, rank_of_id, table, positive)
 
--- the links of a file without an error do
+-- in a file without an error, each link joins two different nodes
 pub all-join : (raw : RawSpec) → IsFaultless raw → JoinNodes raw
 all-join raw right = (join-means raw).0 (right.ends, right.loops)
 
@@ -102,7 +102,7 @@ module _ (raw : RawSpec) (right : IsFaultless raw) where
         (a.0, a.2, get_or_default ids a.0 id a.1 a.2 ∙ a.3 ∙ eqb-true a.1 id a.4),
   )
 
-  -- an identifier stands at one index of the file
+  -- two different nodes of the file have different identifiers
   one_index : (j k : ℕ) (x y : NodeSpec) → j < k → k < length raw.nodes → get_or raw.nodes j x ≡ x → get_or raw.nodes k y ≡ y → number_of x.id ≢ number_of y.id
   one_index j k x y less lt at_j at_k same =
       let ns : List ℕ = file_ids raw.nodes in
@@ -203,7 +203,7 @@ module _ (raw : RawSpec) (right : IsFaultless raw) where
           test ∙ list_any_at (λ name. student_index raw.students name == s) node.owners among.0 name among.1
           (ap (λ n. student_index raw.students n == s) among.2 ∙ eq-eqb (student_index raw.students name) s is)
 
--- a lab that bytes spell is lawful
+-- each lab that `lab_of` returns is lawful
 pub lawful : (bytes : List ℕ) (lab : LabValue) → lab_of bytes ≡ Ok lab → IsLab lab
 unfolding lab_of
 lawful bytes lab is = let raw = bind-ok (spelled bytes) lab_from lab is in lawful_from raw.0 lab raw.2

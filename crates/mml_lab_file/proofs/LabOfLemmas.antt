@@ -1,4 +1,4 @@
--- Which bytes are read as a lab, and which errors a file has: never that memory ran out.
+-- Which bytes describe a lab, and that the error of a file is never that memory ran out.
 use Rattle.std.proofs.Common.{◌≡◌, ◌≢◌, ◌↔◌, ℕ, List, length, Bool, Option, Some, None, Ok, arith}
 use Rattle.std.specs.Prelude.{option_map}
 use Rattle.mml_ids.specs.{Gives.fault_if, Search.first_below, Ids.id_fault, declared.id_table.IdFault.IdFault}
@@ -10,12 +10,12 @@ use Rattle.mml_lab_file.proofs.{LabErrorsLemmas.told_in_order, LabFaultLemmas.ma
 use Rattle.mml_ids.specs.declared.id_table.IdFault.TheVariants as id
 use Rattle.mml_lab.specs.declared.lab_fault.LabFault.TheVariants as fault
 
--- bytes are read as a lab exactly if they spell a file without an error, whose lab it is
+-- `lab_of` returns a lab exactly if the bytes have the contents of a file without an error, and the lab is the file's
 pub of_file : (bytes : List ℕ) (lab : LabValue) → (lab_of bytes ≡ Ok lab) ↔ ((raw : RawSpec) × IsLabOfFile bytes raw lab)
 unfolding lab_of
 of_file bytes lab = grind (arith, bind-ok, made, bind-from, makes)
 
--- the error is not out of memory
+-- the error isn't that memory ran out
 abbrev Tells : IdFault → Type 0
 Tells id.Empty = Unit {0}
 Tells id.TooMany = Unit {0}
@@ -23,7 +23,7 @@ Tells (id.OutOfRange k) = Unit {0}
 Tells (id.Twice k) = Unit {0}
 Tells id.Memory = ⊥
 
--- if there is an error, the fact holds of it
+-- P holds of the error, if there is one
 abbrev OfFault : {E : Type 0} → (E → Type 0) → Option E → Type 0
 OfFault P None = Unit {0}
 OfFault P (Some f) = P f
@@ -37,7 +37,7 @@ of_index P f all o = grind arith
 of_ids : (ns : List ℕ) → OfFault Tells (id_fault ns)
 of_ids ns = grind (arith, of_if, of_index)
 
--- the error of a file is never that memory ran out for the identifiers
+-- the error of a file is never that memory ran out in the test of its identifiers
 pub no_memory_of_ids : (raw : RawSpec) → lab_fault raw ≢ Some (fault.Id id.Memory)
 unfolding ids_fault
 no_memory_of_ids raw is = by (id_fault (file_ids raw.nodes)) (of_ids (file_ids raw.nodes)) (told_in_order raw (fault.Id id.Memory) is).here
@@ -49,7 +49,7 @@ no_memory_of_ids raw is = by (id_fault (file_ids raw.nodes)) (of_ids (file_ids r
 pub no_memory : (raw : RawSpec) → lab_fault raw ≢ Some fault.Memory
 no_memory raw is = let here = (told_in_order raw fault.Memory is).here in absurd cc
 
--- a file whose error is a link twice has there the first link that stood before
+-- if the error of a file is `LinkTwice k`, then k is the first link that repeats an earlier one
 pub twice-told : (raw : RawSpec) (k : ℕ) → lab_fault raw ≡ Some (fault.LinkTwice k) → IsFirstLinkAgain raw.links k
 unfolding again_fault
 twice-told raw k is = by (first_below (is_link_again raw.links) (length raw.links)) ((first-means raw.links k).0) (told_in_order raw (fault.LinkTwice k) is).here

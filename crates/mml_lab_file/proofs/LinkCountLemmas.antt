@@ -17,7 +17,7 @@ use Rattle.mml_lab_file.proofs.LinksBelowLemmas.{pairs_below, links_below-pairs,
 abbrev Link : Type 0
 Link = ℤ × ℤ
 
--- the node of a rank, as links name it
+-- the identifier of the node with a rank, as an end of a link
 abbrev end_of : List ℕ → ℕ → ℤ
 end_of ids i = pos (slice_index ids i)
 
@@ -27,14 +27,14 @@ record JoinsRanks (ids : List ℕ) (link : Link) (a b : ℕ) : Type 0 where
   less : b < a
   joined : Joins (end_of ids a) (end_of ids b) link
 
--- some links join the nodes of two ranks
+-- some link joins the nodes of the two ranks
 abbrev near : List ℕ → List Link → ℕ → ℕ → Bool
 near ids links i j = is_linked links (end_of ids i) (end_of ids j)
 
 same_rank : (ids : List ℕ) → IsTable ids → (i j : ℕ) → i < length ids → j < length ids → (z : ℤ) → z ≡ end_of ids i → z ≡ end_of ids j → i ≡ j
 same_rank ids rises i j in_i in_j z at_i at_j = grind (arith, cases_order)
 
--- a link joins no other two ranks
+-- a link joins the nodes of only one pair of ranks
 joins_one : (ids : List ℕ) → IsTable ids → (link : Link) (a b i j : ℕ) → JoinsRanks ids link a b → i < length ids → j < i
     → Joins (end_of ids i) (end_of ids j) link → (i ≡ a) × (j ≡ b)
 joins_one ids rises link a b i j ranks lt below there = by ranks.joined there
@@ -63,7 +63,7 @@ or_false b = grind arith
 or_true : (b : Bool) → (b || true) ≡ true
 or_true b = grind arith
 
--- one link more joins two ranks more
+-- if a link doesn't repeat an earlier one, it increases the number of pairs of linked ranks by one
 one_link : (ids : List ℕ) → IsTable ids → (links : List Link) (k : ℕ) (link : Link) (a b : ℕ) → k < length links → get_or links k link ≡ link
     → JoinsRanks ids link a b → is_linked (take k links) link.0 link.1 ≡ false
     → pairs_below (near ids (take (k + 1) links)) (length ids) ≡ pairs_below (near ids (take k links)) (length ids) + 1

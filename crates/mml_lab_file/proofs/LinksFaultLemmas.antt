@@ -1,4 +1,4 @@
--- The error of a link that stands twice.
+-- The error of a link that repeats an earlier one.
 use Rattle.std.proofs.lemmas.{Bool.Decides.nat_tests, Bool.cases_Bool, Bool.both_ways, Option.slice_get_within, Option.get_or_from_slice_get, Option.slice_get_read}
 use Rattle.std.proofs.Common.{◌≡◌, ◌↔◌, ℕ, ℤ, ◌<◌, true, false, List, length, get_or, take, Option, Some, None, Result, Ok, Err, refl, ◌∙◌, arith}
 use Rattle.std.specs.{Prelude.option_map, Prelude.slice_get, Option.option_map_or}
@@ -60,7 +60,8 @@ all_none a b c e = grind arith
 third : (a b c d : Option ℕ) → a ≡ None → b ≡ None → c ≡ d → three a b c ≡ pass_unless (option_map fault.LinkTwice d)
 third a b c d no_a no_b is = rw (no_a, no_b, is) refl
 
--- the error is a link twice exactly if all links join different nodes and it is the first that stood before
+-- the error is `LinkTwice k` exactly if all links join different nodes, and link k is the first that repeats an earlier
+-- one
 pub twice-fault : (raw : RawSpec) (k : ℕ) → (linked raw.nodes raw.links ≡ Err (fault.LinkTwice k)) ↔ (JoinNodes raw × IsFirstLinkAgain raw.links k)
 unfolding linked ends_fault loops_fault again_fault
 twice-fault raw k = (
@@ -68,7 +69,7 @@ twice-fault raw k = (
   λ is. let none = (join-means raw).1 is.0 in third _ _ _ (Some k) none.0 none.1 ((first-means raw.links k).1 is.1),
 )
 
--- links are without an error exactly if they all join different nodes and none stands twice
+-- the links have no error exactly if they all join different nodes, and none of them repeats an earlier one
 pub twice-none : (raw : RawSpec) → (linked raw.nodes raw.links ≡ Ok tt) ↔ (JoinNodes raw × ((k : ℕ) → ¬ IsLinkAgain raw.links k))
 unfolding linked ends_fault loops_fault again_fault
 twice-none raw = (

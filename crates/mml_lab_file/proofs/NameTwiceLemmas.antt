@@ -1,4 +1,4 @@
--- The first name that stands before it already, met student after student.
+-- Searching for the first name that an earlier account has, student by student.
 use Rattle.std.{proofs.lemmas.Bool.Decides.nat_tests, proofs.lemmas.List.length-map, specs.Prelude.bytes_eq, specs.List.list_any, specs.Map.lookup}
 use Rattle.std.proofs.Common.{◌≡◌, ℕ, suc, ◌+◌, ◌-◌, ◌<◌, List, [], ◌∷◌, ◌++◌, length, get_or, take, map, None, Bool, true, false, ◌||◌, Ok, Err, refl, sym, ap, ◌∙◌, arith, string_bytes, String}
 use Rattle.std.proofs.Common.{Global, is_some, true≢false, append-nil, length-append, rules}
@@ -9,7 +9,7 @@ use Rattle.mml_lab_file.specs.Reading.{is_name_again, name_twice}
 use Rattle.mml_lab.proofs.StudentNamedLemmas.{Entry}
 use Rattle.mml_lab.specs.declared.lab_fault.LabFault.TheVariants as fault
 
--- the name is the teacher's or that of an entry
+-- the name is the teacher's, or that of a student in the map
 abbrev pub is_taken : List ℕ → List Entry → List ℕ → Bool
 is_taken teacher es name = bytes_eq name teacher || is_some (lookup (λ k. bytes_eq name (string_bytes k)) es)
 
@@ -29,7 +29,8 @@ lookup_any : (name : List ℕ) (es : List Entry) → is_some (lookup (λ k. byte
 lookup_any name [] = refl
 lookup_any name (e ∷ es) = grind (arith, string_bytes, lookup_any name es)
 
--- the test at a student, by the map of those before
+-- if the map has the students before x, looking up x's name in it has the result of the test on the list of all
+-- accounts
 pub taken_at : (teacher : KeptAccount) (all done rest : List KeptAccount) (x : KeptAccount) (es : List Entry) (t name : List ℕ) (r b : Bool)
     → done ++ x ∷ rest ≡ all → map entry_account es ≡ map account_view done → t ≡ string_bytes teacher.name → name ≡ string_bytes x.name
     → r ≡ is_taken t es name → r ≡ b → is_name_again (account_view teacher ∷ map account_view all) (length done + 1) ≡ b
@@ -42,7 +43,7 @@ taken_at teacher all done rest x es t name r b parts seen same_teacher same is a
     rw (accounts, index) (grind (arith, at_middle, take_middle, account_view teacher, map account_view done, account_view x, map account_view rest)) in
     grind (arith, nat_tests, lookup_any)
 
--- nothing stands before the teacher
+-- a search that begins after the teacher's account finds the same, since no account is before the teacher's
 pub teacher_first : (accounts : List Account) → 0 < length accounts
     → first_from (is_name_again accounts) 1 (length accounts - 1) ≡ first_below (is_name_again accounts) (length accounts)
 teacher_first accounts some = first_next (is_name_again accounts) 0 (length accounts) some refl ∙ ap (first_from (is_name_again accounts) 0) (omega arith)
@@ -63,7 +64,7 @@ fault_at accounts x k lt again so_far = grind (arith, first_here)
 second_false : (a b : Bool) → (a || b) ≡ false → b ≡ false
 second_false a b h = grind (arith, true≢false)
 
--- a name that isn't taken has no entry
+-- if a name isn't taken, the map has no entry for it
 pub absent : (teacher : List ℕ) (es : List Entry) (name : List ℕ) (k : String Global) (r : Bool) → string_bytes k ≡ name → r ≡ is_taken teacher es name
     → r ≡ false → lookup (λ q. bytes_eq (string_bytes k) (string_bytes q)) es ≡ None
 absent teacher es name k r same is at = rw same (grind (arith, true≢false, second_false (bytes_eq name teacher) _ (sym is ∙ at)))
@@ -76,14 +77,14 @@ pub nothing_left : {X : Type 0} (xs : List X) → length xs ≡ 0 → xs ≡ []
 nothing_left [] h = refl
 nothing_left (x ∷ xs) h = absurd (omega arith)
 
--- the map holds the students so far, and no name of theirs stands before it
+-- the map has the students so far, and no account up to them has the name of an earlier one
 pub record IsSoFar (teacher : KeptAccount) (all done : List KeptAccount) (es : List Entry) : Type 0 where
   pub seen : map entry_account es ≡ map account_view done
   pub none : first_from (is_name_again (account_view teacher ∷ map account_view all)) (length done + 1)
       (length (account_view teacher ∷ map account_view all) - (length done + 1))
       ≡ first_below (is_name_again (account_view teacher ∷ map account_view all)) (length (account_view teacher ∷ map account_view all))
 
--- an empty map holds the students so far, before the first
+-- before the first student, this holds of an empty map
 pub at_start : (teacher : KeptAccount) (all : List KeptAccount) (es : List Entry) → es ≡ [] → IsSoFar teacher all [] es
 at_start teacher all es empty = grind (arith, teacher_first)
 
@@ -102,7 +103,7 @@ module _ (teacher : KeptAccount) (all done rest : List KeptAccount) (x : KeptAcc
       → name ≡ string_bytes x.name → r ≡ is_taken t es name → r ≡ false → IsSoFar teacher all (done ++ x ∷ []) new
   at_next new so_far parts more same_teacher same is at = search (rules, taken_at, one_more, next_at, length-append, is_within)
 
--- once no student is left, no name stood twice and the map holds all students
+-- after the last student, no name occurs twice, and the map has all students
 pub at_end : (teacher : KeptAccount) (all done rest : List KeptAccount) (es : List Entry) → IsSoFar teacher all done es → done ++ rest ≡ all → length rest ≡ 0
     → unless_fault (name_twice (account_view teacher ∷ map account_view all)) (map account_view all) ≡ Ok (map entry_account es)
 at_end teacher all done rest es so_far parts nothing = grind (arith, append-nil, nothing_left, length-map, first_end)

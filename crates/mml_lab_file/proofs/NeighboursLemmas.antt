@@ -1,4 +1,4 @@
--- The rows of neighbours, as links are put into them one after the other.
+-- The rows of neighbours, while links are added to them one after another.
 use Rattle.std.proofs.lemmas.{Bool.Decides.nat_tests, Bool.and_right, Bool.cases_lt, Bool.ne_eqb, Bool.lt-ltb, Bool.le-ltb, Grind.common_steps, List.Folds.list_any_more}
 use Rattle.std.proofs.lemmas.{List.Quantifiers.position-Some, List.get_or_default, List.get_or-replicate, List.length-replicate, List.get_or-map, List.length-map, List.same_lists}
 use Rattle.std.proofs.Common.{◌≡◌, ℕ, ℤ, pos, negsuc, ◌+◌, ◌<◌, ◌&&◌, ◌||◌, ltb, List, [], length, get_or, take, map, sym, ◌∙◌, arith, rules}
@@ -11,7 +11,7 @@ use Rattle.mml_lab_file.specs.Reading.{number_of, joins, is_linked, neighbours_o
 use Rattle.mml_lab.proofs.RowLemmas.{Rows}
 use Rattle.std.specs.FinSet as sets
 
--- an end is a node's identifier exactly if it has the node's rank
+-- an end of a link is the identifier of the node with rank i exactly if the rank of the end is i
 pub end_at : (ids : List ℕ) → IsTable ids → (z : ℤ) (i : ℕ) → i < length ids → int_eq z (pos (slice_index ids i)) ≡ holds (rank_in ids (number_of z)) i
 end_at ids table z i lt = search (rules, same_bool, pos, holds-from, rank_of_id, get_or_default, id_of_rank, holds-true, negsuc)
 
@@ -21,22 +21,22 @@ pub joins_at : (ids : List ℕ) → IsTable ids → (link : ℤ × ℤ) (i q : �
     || (holds (rank_in ids (number_of link.1)) i && holds (rank_in ids (number_of link.0)) q))
 joins_at ids table link i q in_i in_q = grind (arith, end_at)
 
--- which ranks are a node's neighbours
+-- a rank is among a node's neighbours exactly if a link joins the identifiers of both
 pub has-neighbours_of : (ids : List ℕ) (links : List (ℤ × ℤ)) (id q : ℕ)
     → sets.contains (neighbours_of ids links id) q ≡ (ltb q (length ids) && is_linked links (pos id) (pos (slice_index ids q)))
 unfolding neighbours_of
 has-neighbours_of ids links id q = has-those_below (length ids) (λ rank. is_linked links (pos id) (pos (slice_index ids rank))) q
 
--- the rows are those of the links
+-- the rows have the neighbours that the links join
 pub record AreRows (ids : List ℕ) (links : List (ℤ × ℤ)) (rows : Rows) : Type 0 where
   pub size : length rows ≡ length ids
   pub members : (i q : ℕ) → i < length ids → sets.contains (neighbours_at rows i) q ≡ sets.contains (neighbours_of ids links (slice_index ids i)) q
 
--- empty rows are those of no link
+-- empty rows have the neighbours that an empty list of links joins
 pub no_rows : (ids : List ℕ) (rows : Rows) → rows ≡ replicate (length ids) (sets.empty {R = nat_cmp}) → AreRows ids [] rows
 no_rows ids rows is = grind (arith, length-replicate, get_or-replicate, has_empty, has-neighbours_of, and_right)
 
--- with each end of the next link put into the row of the other, the rows are those of one link more
+-- if each end of the next link is added to the row of the other end, the rows have the neighbours of one link more
 pub one_more : (ids : List ℕ) → IsTable ids → (links : List (ℤ × ℤ)) (k : ℕ) (link : ℤ × ℤ) (rows new : Rows) → k < length links → link ≡ get_or links k link
     → length new ≡ length rows
     → ((i q : ℕ) → sets.contains (neighbours_at new i) q ≡ (sets.contains (neighbours_at rows i) q
@@ -58,7 +58,7 @@ one_more ids table links k link rows new lt is long step so_far = grind (
   le-ltb,
 )
 
--- the rows of all links hold each node's neighbours
+-- the rows of all links have the neighbours of each node
 pub all_rows : (ids : List ℕ) (links : List (ℤ × ℤ)) (rows : Rows) → AreRows ids links rows → rows ≡ map (neighbours_of ids links) ids
 all_rows ids links rows are = same_lists rows (map (neighbours_of ids links) ids) (are.size ∙ sym (length-map ids (neighbours_of ids links)))
     (λ i d lt. let in_i : i < length ids = omega (arith, are.size) in

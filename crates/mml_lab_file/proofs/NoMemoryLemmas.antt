@@ -1,4 +1,4 @@
--- No bytes spell out of memory: neither a file without its keys nor one with an error.
+-- By the definitions, no bytes are refused because memory ran out.
 use Rattle.std.proofs.Common.{◌≡◌, ◌≢◌, ◌⊎◌, inl, inr, ℕ, List, Option, Some, Result, Err, subst, arith}
 use Rattle.std.specs.Prelude.{codes, ok_or, IfErr}
 use Rattle.toml.specs.Data.{Data, Items, no_items, item, Members, as_table, as_array}
@@ -11,13 +11,13 @@ use Rattle.mml_ids.specs.declared.id_table.IdFault.TheVariants as id
 use Rattle.mml_lab.specs.declared.lab_fault.LabFault.TheVariants as fault
 use Rattle.mml_lab.specs.declared.lab_fault.Key.TheVariants as key
 
--- the error is not out of memory
+-- the error isn't that memory ran out
 abbrev Tells : LabFault → Type 0
 Tells fault.Memory = ⊥
 Tells (fault.Id id.Memory) = ⊥
 Tells _ = Unit {0}
 
--- if the result is an error, it is not out of memory
+-- if the result is an error, the error isn't that memory ran out
 abbrev OfResult : {A : Type 0} → Result A LabFault → Type 0
 OfResult r = IfErr r Tells
 
@@ -83,7 +83,7 @@ file : (bytes : List ℕ) → OfResult (spelled bytes)
 unfolding spelled
 file bytes = then (ok_or (table_in bytes) fault.NotToml) raw_of (or_fault (table_in bytes) fault.NotToml tt) raw
 
--- bytes that are refused spell no file, for that error, or a file with it
+-- if bytes are refused, either their contents can't be read, for that reason, or they are a file with this error
 refused : (bytes : List ℕ) (f : LabFault) → lab_of bytes ≡ Err f → (spelled bytes ≡ Err f) ⊎ ((raw : RawSpec) × (lab_fault raw ≡ Some f))
 unfolding lab_of
 refused bytes f = grind (arith, raw, refuses)
@@ -92,6 +92,6 @@ refused bytes f = grind (arith, raw, refuses)
 pub spells_no_memory : (bytes : List ℕ) → lab_of bytes ≢ Err fault.Memory
 spells_no_memory bytes is = elim (refused bytes fault.Memory is) [ inl e ↦ subst OfResult e (file bytes) | inr r ↦ no_memory r.0 r.1 ]
 
--- nor because it ran out for the identifiers
+-- no bytes are refused because memory ran out in the test of identifiers
 pub spells_no_memory_of_ids : (bytes : List ℕ) → lab_of bytes ≢ Err (fault.Id id.Memory)
 spells_no_memory_of_ids bytes is = elim (refused bytes (fault.Id id.Memory) is) [ inl e ↦ subst OfResult e (file bytes) | inr r ↦ no_memory_of_ids r.0 r.1 ]

@@ -1,4 +1,4 @@
--- Each node of a lab that bytes spell has one or two owners, which differ.
+-- Each node of a lab that is read from bytes has one owner or two different owners.
 use Rattle.std.proofs.lemmas.Bool.{Decides.nat_tests, and_parts, both_ways, ltb-true, leb-true}
 use Rattle.std.proofs.Common.{◌≡◌, ◌≢◌, ℕ, ◌<◌, ◌≤◌, true, false, nat_lt, nat_le, List, [], ◌∷◌, length, get_or, map, Option, None, Some, Result, Ok, Err, ap, ◌∙◌, subst, arith, All}
 use Rattle.std.specs.{Prelude.codes, Prelude.ok_or, Prelude.position, Prelude.slice_index, Prelude.bytes_eq, List.list_any, Option.option_map_or}
@@ -15,7 +15,7 @@ use Rattle.mml_lab.specs.declared.lab_fault.Key.TheVariants as key
 abbrev pub IsOneOrTwo : ℕ → Type 0
 IsOneOrTwo n = (0 < n) × (n ≤ 2)
 
--- ---- what is read
+-- ---- the owners that are read
 
 each_ok : {A : Type 0} (P : A → Type 0) (f : Data → Result A LabFault) → ((v : Data) (x : A) → f v ≡ Ok x → P x) → (items : Items) (xs : List A)
     → each f items ≡ Ok xs → (d : A) (k : ℕ) → k < length xs → P (get_or xs k d)
@@ -54,9 +54,9 @@ nodes_ok bytes raw e d k lt =
     nodes_read (Ok raw) = raw.nodes
     nodes_read (Err f) = []
 
--- ---- by rank
+-- ---- the owners by rank
 
--- the node of a rank, and its owners
+-- the file's node that has a rank, and the owners of this node
 record IsOwnedBy (raw : RawSpec) (i : ℕ) (node : NodeSpec) : Type 0 where
   index : ℕ
   within : index < length raw.nodes
@@ -88,7 +88,7 @@ apart_in : (students : List Account) (os : List (List ℕ)) → All (λ name. li
     → (j k : ℕ) → j < k → k < length os → slice_index (map (student_index students) os) j ≢ slice_index (map (student_index students) os) k
 apart_in students os known apart few j k less lt = grind (arith, index_apart, index-position)
 
--- what owns the node of a rank
+-- one owner or two different owners
 record AreOwners (owners : List ℕ) : Type 0 where
   few : IsOneOrTwo (length owners)
   differ : (j k : ℕ) → j < k → k < length owners → slice_index owners j ≢ slice_index owners k
@@ -103,12 +103,12 @@ owners_in_file bytes raw i spells none lt =
 are_owners : (bytes : List ℕ) (lab : LabValue) (i : ℕ) → lab_of bytes ≡ Ok lab → i < length lab.ids → AreOwners (owners_of lab.roster i)
 are_owners bytes lab i is lt = let file = (of_file bytes lab).0 is in grind (arith, nat_tests, owners_in_file)
 
--- each node of a lab that bytes spell has one or two owners
+-- each node of a lab that is read from bytes has one or two owners
 pub one_or_two : (bytes : List ℕ) (lab : LabValue) (i : ℕ) → lab_of bytes ≡ Ok lab → i < length lab.ids
     → (0 < length (owners_of lab.roster i)) × (length (owners_of lab.roster i) ≤ 2)
 one_or_two bytes lab i is lt = (are_owners bytes lab i is lt).few
 
--- no student stands twice among the owners of a node
+-- no student is twice among the owners of a node
 pub owners_differ : (bytes : List ℕ) (lab : LabValue) (i j k : ℕ) → lab_of bytes ≡ Ok lab → i < length lab.ids → j < k → k < length (owners_of lab.roster i)
     → slice_index (owners_of lab.roster i) j ≢ slice_index (owners_of lab.roster i) k
 owners_differ bytes lab i j k is lt less within = (are_owners bytes lab i is lt).differ j k less within

@@ -1,4 +1,4 @@
--- What the values that were read stand for, under the tests of a lab.
+-- The tests of a lab have the same results on the values that were read as on those that contracts see.
 use Rattle.std.proofs.Common.{◌≡◌, ℕ, List, [], ◌∷◌, map, None, Ok, Err, MatchBool, refl, String, Global, string_bytes, arith}
 use Rattle.std.specs.{Prelude.option_map, Prelude.is_some, Prelude.bytes_eq, Prelude.◌==◌, List.list_any, List.find, Map.lookup}
 use Rattle.mml_ids.specs.{Gives.Faults, Ids.id_fault, Ids.is_id_memory, declared.id_table.IdFault.IdFault}
@@ -7,11 +7,11 @@ use Rattle.mml_lab.specs.{AccountView.entry_account, Rosters.has_name}
 use Rattle.mml_lab_file.specs.Reading.{number_of, file_ids, node_with, ids_fault, pass_unless}
 use Rattle.mml_ids.proofs.MapLemmas.{find-map, map-map}
 
--- the identifiers that were read are those of the file's nodes
+-- the identifiers of the nodes that were read are those of the nodes that contracts see
 pub file_ids-read : (nodes : List RawNode) → map (λ node. number_of node.id) nodes ≡ file_ids (map node_view nodes)
 file_ids-read nodes = map-map (λ node. number_of node.id) node_view nodes
 
--- the node that was read with an identifier stands for the file's node with it
+-- the first node with an identifier is the same among the nodes that were read and among those that contracts see
 pub node_with-read : (nodes : List RawNode) (id : ℕ) → option_map node_view (find (λ node. number_of node.id == id) nodes) ≡ node_with (map node_view nodes) id
 node_with-read nodes id = find-map (λ node. number_of node.id == id) node_view nodes
 
@@ -21,12 +21,12 @@ pub some-lookup : (name : List ℕ) (entries : List (String Global × String Glo
 some-lookup name [] = refl
 some-lookup name (e ∷ es) = grind (arith, string_bytes, some-lookup name es)
 
--- identifiers without an error are those of a file without one
+-- if the identifiers have no error, the file passes the test of its identifiers
 pub table_ok : (nodes : List NodeSpec) (ids : List ℕ) → ids ≡ file_ids nodes → id_fault ids ≡ None → pass_unless (ids_fault nodes) ≡ Ok tt
 unfolding ids_fault
 table_ok nodes ids same sound = rw (← same, sound) refl
 
--- the error of the identifiers is the file's, unless memory ran out
+-- an error of the identifiers is the error of the file's test, unless memory ran out
 pub table_fault : (nodes : List NodeSpec) (ids : List ℕ) (e : IdFault) → ids ≡ file_ids nodes → Faults is_id_memory e (id_fault ids)
     → MatchBool (is_lab_memory (id_fault_as e)) (Unit {0}) (pass_unless (ids_fault nodes) ≡ Err (id_fault_as e))
 unfolding ids_fault

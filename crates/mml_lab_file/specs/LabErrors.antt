@@ -8,10 +8,11 @@ use Rattle.mml_lab_file.specs.Reading.{name_twice, is_within, both_fault, ids_fa
 use Rattle.mml_lab.specs.declared.lab_fault.LabFault.TheVariants as fault
 use Rattle.mml_lab.specs.declared.lab_fault.Key.TheVariants as key
 
--- the index of an error, from 0, in the order in which the errors of a file are reported if it has all keys, each of
--- its kind. First come both keys for owners, identifiers, names and keys, and names that occur twice. Then come owners
--- that aren't students, and two owners that are one. Then come ends that aren't nodes, loops, links that occur twice,
--- and pointers. At last come the numbers of events, of sessions and of students. Any other error has the index 13
+-- the index of an error, from 0, in the order in which the errors of a file are reported if all its keys are there and
+-- of their kinds: both keys for owners, identifiers, forms of names and keys, names that occur twice, owners that
+-- aren't students, a student who is an owner of a node twice, ends of links that aren't nodes, links of a node to
+-- itself, links that occur twice, pointers, and the numbers of events, of sessions and of students; any other error has
+-- the index 13
 abbrev pub order_of : LabFault → ℕ
 order_of (fault.BothOwners i) = 0
 order_of (fault.Id f) = 1

@@ -1,4 +1,4 @@
--- What the definitions of a lab mean, stated as facts.
+-- The definitions of a lab, as logical statements.
 use Rattle.std.specs.Prelude.{◌≡◌, ◌≢◌, ◌<◌, ◌⊎◌, ℕ, ℤ, pos, List, length, slice_get, slice_index, slice_index_or, All, Contains, Ok, Some, None}
 use Rattle.std.specs.List.{Any}
 use Rattle.mml_lab_file.specs.{Shape.NodeSpec, Shape.RawSpec, Shape.spelled, Reading.lab_fault, Reading.lab_in}
@@ -26,18 +26,18 @@ pub record IsNodeOf (raw : RawSpec) (lab : LabValue) (rank : ℕ) (node : NodeSp
   pub stands : Contains raw.nodes node
   pub named : node.id ≡ pos (id_at lab rank)
 
--- bytes spell that file, it has no error, and the lab is the one in it
+-- the bytes have these contents, which have no error, and the lab is the one that they describe
 pub record IsLabOfFile (bytes : List ℕ) (raw : RawSpec) (lab : LabValue) : Type 0 where
   pub spells : spelled bytes ≡ Ok raw
   pub faultless : lab_fault raw ≡ None
   pub built : lab ≡ lab_in raw
 
--- each link of the file joins two nodes that differ
+-- each link of the file joins two different nodes
 pub record JoinNodes (raw : RawSpec) : Type 0 where
   pub nodes : All (λ link. HasNode raw link.0 × HasNode raw link.1) raw.links
   pub different : All (λ link. link.0 ≢ link.1) raw.links
 
--- the link at k joins what an earlier one joins
+-- the link at index k joins the same two nodes as an earlier link
 pub record IsLinkAgain (links : List (ℤ × ℤ)) (k : ℕ) : Type 0 where
   pub earlier : ℕ
   pub before : earlier < k
@@ -47,16 +47,16 @@ pub record IsLinkAgain (links : List (ℤ × ℤ)) (k : ℕ) : Type 0 where
   pub second : slice_get links k ≡ Some again
   pub joins : Joins again.0 again.1 link
 
--- the link at k joins what an earlier one joins, and k is the first such index
+-- the link at index k joins the same two nodes as an earlier link, and k is the first such index
 pub record IsFirstLinkAgain (links : List (ℤ × ℤ)) (k : ℕ) : Type 0 where
   pub again : IsLinkAgain links k
   pub first : (j : ℕ) → j < k → ¬ IsLinkAgain links j
 
--- the name at an index of the accounts
+-- the name of the account at index k
 abbrev pub name_at : List Account → ℕ → List ℕ
 name_at accounts k = (slice_index_or accounts k no_account).name
 
--- no two of the first n have one name
+-- no two of the first n accounts have the same name
 abbrev pub AreDistinctBelow : List Account → ℕ → Type 0
 AreDistinctBelow accounts n = (j k : ℕ) → j < k → k < n → name_at accounts j ≢ name_at accounts k
 

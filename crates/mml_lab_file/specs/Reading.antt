@@ -10,7 +10,7 @@ use Rattle.mml_lab_file.specs.Shape.{NodeSpec, RawSpec, spelled}
 use Rattle.mml_lab.specs.declared.lab_fault.LabFault.TheVariants as fault
 use Rattle.mml_lab.specs.declared.lab_fault.Key.TheVariants as key
 
--- the number; a negative one counts as 0
+-- the number, or 0 if it is negative
 abbrev pub number_of : ℤ → ℕ
 number_of (pos n) = n
 number_of (negsuc n) = 0
@@ -31,7 +31,7 @@ joins a b link = (int_eq link.0 a && int_eq link.1 b) || (int_eq link.0 b && int
 abbrev pub is_linked : List (ℤ × ℤ) → ℤ → ℤ → Bool
 is_linked links a b = list_any (joins a b) links
 
--- some owner is no student
+-- some owner isn't a student
 abbrev pub lacks_owner : List Account → NodeSpec → Bool
 lacks_owner students node = list_any (λ name. not (list_any (has_name name) students)) node.owners
 
@@ -40,7 +40,7 @@ abbrev pub are_one_twice : List (List ℕ) → Bool
 are_one_twice (a ∷ b ∷ []) = bytes_eq a b
 are_one_twice _ = false
 
--- an end of the link is no node
+-- an end of the link isn't a node
 abbrev pub lacks_end : List NodeSpec → ℤ × ℤ → Bool
 lacks_end nodes link = not (is_node nodes link.0 && is_node nodes link.1)
 
@@ -48,11 +48,11 @@ lacks_end nodes link = not (is_node nodes link.0 && is_node nodes link.1)
 abbrev pub is_loop : ℤ × ℤ → Bool
 is_loop link = int_eq link.0 link.1
 
--- the link at an index has the ends of one before it
+-- the link at index i joins the same two nodes as an earlier link
 abbrev pub is_link_again : List (ℤ × ℤ) → ℕ → Bool
 is_link_again links i = option_map_or (λ link. is_linked (take i links) link.0 link.1) (slice_get links i) false
 
--- the node points at one that it isn't linked to
+-- the node points at an identifier to which no link joins it
 abbrev pub points_at_unlinked : List (ℤ × ℤ) → NodeSpec → Bool
 points_at_unlinked links node = option_map_or (λ p. not (is_linked links node.id p)) node.p false
 
@@ -68,7 +68,7 @@ both_fault nodes = option_map fault.BothOwners (position (λ node. node.both) no
 abbrev pub is_name_again : List Account → ℕ → Bool
 is_name_again accounts k = list_any (has_name (slice_index_or accounts k no_account).name) (take k accounts)
 
--- the error of the first name that another account has before it, if there is one; the teacher's is at index 0
+-- the error of the first account with the name of an earlier one, if there is one; the teacher's account is at index 0
 abbrev pub name_twice : List Account → Option LabFault
 name_twice accounts = option_map fault.NameTwice (first_below (is_name_again accounts) (length accounts))
 
@@ -76,35 +76,36 @@ name_twice accounts = option_map fault.NameTwice (first_below (is_name_again acc
 unfoldable pub ids_fault : List NodeSpec → Option LabFault
 ids_fault nodes = option_map fault.Id (id_fault (file_ids nodes))
 
--- the error of the first account whose name or key isn't well-formed, if there is one; the teacher's is at index 0
+-- the error of the first account whose name or key isn't well-formed, if there is one; the teacher's account is at
+-- index 0
 unfoldable pub forms_fault : List Account → Option LabFault
 forms_fault accounts = option_map fault.Name (position (λ a. not (is_account a)) accounts)
 
--- the error of the first node with an owner who is no student, if there is one
+-- the error of the first node with an owner who isn't a student, if there is one
 unfoldable pub no_owner_fault : List Account → List NodeSpec → Option LabFault
 no_owner_fault students nodes = option_map fault.NoOwner (position (lacks_owner students) nodes)
 
--- the error of the first node whose two owners are one student, if there is one
+-- the error of the first node whose two owners are the same student, if there is one
 unfoldable pub owner_twice_fault : List NodeSpec → Option LabFault
 owner_twice_fault nodes = option_map fault.OwnerTwice (position (λ node. are_one_twice node.owners) nodes)
 
--- the error of the first link with an end that is no node, if there is one
+-- the error of the first link with an end that isn't a node, if there is one
 unfoldable pub ends_fault : List NodeSpec → List (ℤ × ℤ) → Option LabFault
 ends_fault nodes links = option_map fault.LinkEnd (position (lacks_end nodes) links)
 
--- the error of the first link whose ends are one node, if there is one
+-- the error of the first link that joins a node to itself, if there is one
 unfoldable pub loops_fault : List (ℤ × ℤ) → Option LabFault
 loops_fault links = option_map fault.Loop (position is_loop links)
 
--- the error of the first link that joins what an earlier one joins, if there is one
+-- the error of the first link that joins the same two nodes as an earlier one, if there is one
 unfoldable pub again_fault : List (ℤ × ℤ) → Option LabFault
 again_fault links = option_map fault.LinkTwice (first_below (is_link_again links) (length links))
 
--- the error of the first node that points at one that isn't its neighbour, if there is one
+-- the error of the first node whose pointer leads along no link, if there is one
 unfoldable pub pointers_fault : List (ℤ × ℤ) → List NodeSpec → Option LabFault
 pointers_fault links nodes = option_map fault.BadPointer (position (points_at_unlinked links) nodes)
 
--- a step that ends in the error, if there is one
+-- success, or failure with the error if there is one
 abbrev pub pass_unless : Option LabFault → Result (Unit {0}) LabFault
 pass_unless fault = unless_fault fault tt
 
@@ -114,19 +115,20 @@ identified nodes = do
   pass_unless (both_fault nodes)
   pass_unless (ids_fault nodes)
 
--- the test of who takes part: all names and keys are well-formed, and no name occurs twice
+-- the test of the participants: all names and keys are well-formed, and no name occurs twice
 unfoldable pub enrolled : Account → List Account → Result (Unit {0}) LabFault
 enrolled teacher students = do
   pass_unless (forms_fault (teacher ∷ students))
   pass_unless (name_twice (teacher ∷ students))
 
--- the test of the owners: all are students, and both owners of a node differ
+-- the test of the owners: all are students, and the two owners of a node are different
 unfoldable pub owned : List Account → List NodeSpec → Result (Unit {0}) LabFault
 owned students nodes = do
   pass_unless (no_owner_fault students nodes)
   pass_unless (owner_twice_fault nodes)
 
--- the test of the links: each end is a node, both ends differ, and no link joins what an earlier one joins
+-- the test of the links: both ends are nodes, they are different, and no link joins the same two nodes as an earlier
+-- one
 unfoldable pub linked : List NodeSpec → List (ℤ × ℤ) → Result (Unit {0}) LabFault
 linked nodes links = do
   pass_unless (ends_fault nodes links)
@@ -140,7 +142,8 @@ limited events sessions students = do
   need (is_within MAX_SESSIONS sessions) (fault.Limit key.Sessions)
   need (nat_le students MAX_STUDENTS) (fault.Limit key.Student)
 
--- the tests of a file, in the order in which errors are reported: each goes over the whole file before the next begins
+-- the tests of a file, in the order in which errors are reported; each test covers the whole file before the next
+-- begins
 unfoldable pub checked : RawSpec → Result (Unit {0}) LabFault
 checked raw = do
   identified raw.nodes
@@ -150,7 +153,7 @@ checked raw = do
   pass_unless (pointers_fault raw.links raw.nodes)
   limited raw.events raw.sessions (length raw.students)
 
--- the error that ended the steps, if one did
+-- the error of the result, if it is an error
 abbrev pub error_of : {A E : Type 0} → Result A E → Option E
 error_of (Ok x) = None
 error_of (Err e) = Some e
@@ -171,7 +174,7 @@ neighbours_of ids links id = those_below (length ids) (λ rank. is_linked links 
 abbrev pub registers_in : List ℕ → NodeSpec → Regs
 registers_in ids node = record { p = option_and_then (λ p. rank_in ids (number_of p)) node.p; m = node.m }
 
--- the index of that name among the students; 0 if none has it, which is an error of the file
+-- the index of the first student with that name; 0 if there is none, which is an error of the file
 abbrev pub student_index : List Account → List ℕ → ℕ
 student_index students name = unwrap_or (position (has_name name) students) 0
 
@@ -207,6 +210,6 @@ lab_from raw = do
   checked raw
   Ok (lab_in raw)
 
--- the lab that bytes spell, or the first error
+-- the lab that the bytes of a file describe, or the file's first error
 unfoldable pub lab_of : List ℕ → Result LabValue LabFault
 lab_of bytes = spelled bytes >>= lab_from

@@ -1,4 +1,4 @@
--- Two labs that agree in all that a journal names: its lines mean the same in both. Keys and limits may differ.
+-- Two labs that agree in everything that a journal depends on. Keys and limits may differ.
 use Rattle.std.specs.Prelude.{◌≡◌, ◌<◌, ℕ, List, length, Ok}
 use Rattle.mml_rules.specs.Network.{neighbours_at, registers_at}
 use Rattle.mml_lab.specs.{Rosters.RosterValue, Rosters.name_of, Rosters.owns, Labs.LabValue}
@@ -31,6 +31,6 @@ pub record IsSameLab (a b : LabValue) : Type 0 where
   pub names : HasSameNames a.roster b.roster
   pub nodes : (i : ℕ) → i < length a.ids → IsSameNode a b i
 
--- the bytes spell a lab that is the same as the given one in all that a journal names
+-- the bytes describe a lab that is the same as the given one in everything that a journal depends on
 abbrev pub SpellsSame : LabValue → List ℕ → Type 0
 SpellsSame lab bytes = (other : LabValue) × (lab_of bytes ≡ Ok other) × IsSameLab lab other

@@ -7,7 +7,7 @@ use Rattle.mml_lab.specs.{declared.TheConstants.MAX_OWNERS, declared.lab_fault.L
 use Rattle.mml_lab.specs.declared.lab_fault.LabFault.TheVariants as fault
 use Rattle.mml_lab.specs.declared.lab_fault.Key.TheVariants as key
 
--- the error is that memory ran out, about which the definitions say nothing
+-- the error is that memory ran out
 abbrev pub is_lab_memory : LabFault → Bool
 is_lab_memory fault.Memory = true
 is_lab_memory _ = false
@@ -16,34 +16,35 @@ is_lab_memory _ = false
 abbrev pub value_under : Key → List ℕ → Members → Result Data LabFault
 value_under at name members = ok_or (get_member name members) (fault.Missing at)
 
--- the value, if it is of the kind, or the error that it isn't
+-- the value, if it is of the required kind, or the error that it is of another kind
 abbrev pub of_kind : {A : Type 0} → Key → (Data → Option A) → Data → Result A LabFault
 of_kind at kind value = ok_or (kind value) (fault.WrongKind at)
 
--- the value under a key, or the error that the key is missing or that the value isn't of the kind
+-- the value under a key, or the error that the key is missing or that its value is of another kind
 abbrev pub needed : {A : Type 0} → Key → List ℕ → (Data → Option A) → Members → Result A LabFault
 needed at name kind members = value_under at name members >>= λ value. of_kind at kind value
 
--- what is read of the value under a key that may be left out
+-- the result of reading the value under a key that may be left out
 abbrev pub optional : {A : Type 0} → (Data → Result A LabFault) → Option Data → Result (Option A) LabFault
 optional read None = Ok None
 optional read (Some value) = read value >>= λ found. Ok (Some found)
 
--- the value under a key that may be left out, if it is of the kind
+-- the value under a key that may be left out, or the error that it is of another kind
 abbrev pub optional_of : {A : Type 0} → Key → (Data → Option A) → Option Data → Result (Option A) LabFault
 optional_of at kind = optional (of_kind at kind)
 
--- false if there is none
+-- the truth value, or false if there is none
 abbrev pub or_false : Option Bool → Bool
 or_false None = false
 or_false (Some b) = b
 
--- each value in order, up to the first error
+-- the results of reading the values in order, or the first error
 abbrev pub each : {A : Type 0} → (Data → Result A LabFault) → Items → Result (List A) LabFault
 each f no_items = Ok []
 each f (item first rest) = f first >>= λ x. each f rest >>= λ xs. Ok (x ∷ xs)
 
--- the strings under `name` and `key` of a table; an error of the first names name_at, one of the second key_at
+-- the strings under `name` and `key` of a table; an error of `name` has the key name_at, an error of `key` the key
+-- key_at
 unfoldable pub account_in : Key → Key → Members → Result Account LabFault
 account_in name_at key_at members = do
   name ← needed name_at (codes "name") as_str members
@@ -145,10 +146,10 @@ raw_of members = do
   links ← links_of (get_member (codes "links") members)
   Ok (record { events = events; sessions = sessions; teacher = teacher; students = students; nodes = nodes; links = links })
 
--- the table that bytes are, if they are TOML
+-- the TOML table in the bytes, if they are TOML
 unfoldable pub table_in : List ℕ → Option Members
 table_in bytes = if is_utf8 bytes then parse_document bytes else None
 
--- the contents of a file's bytes
+-- the contents of a file, read from its bytes
 unfoldable pub spelled : List ℕ → Result RawSpec LabFault
 spelled bytes = ok_or (table_in bytes) fault.NotToml >>= raw_of

@@ -23,7 +23,7 @@ use mml_lab::{Lab, LabFault, Roster, Student};
 use mml_rules::{Network, Regs};
 use std::alloc::Global;
 
-/// Makes the lab of a file that was checked. Returns `Memory` if memory runs out, which is the only error left.
+/// Makes the lab of a file that was checked. Returns `Memory` if memory runs out, the only error that can still occur.
 #[tactic(auto, unfolding(crate::specs::inside::Checks::lab_with))]
 pub(crate) fn build(alloc: Global, checked: Checked) -> Result<Lab, LabFault>
     requires { IsLab (checked_view checked) }
@@ -44,8 +44,8 @@ pub(crate) fn build(alloc: Global, checked: Checked) -> Result<Lab, LabFault>
     Ok(Lab::new(ids, roster, network, events, sessions))
 }
 
-/// Returns the registers of each node (first) and the owners of each node (second), both by rank, as a checked file
-/// says. Returns `Memory` if memory runs out.
+/// Returns the registers and the owners of each node, both by rank, as a checked file describes them. Returns `Memory`
+/// if memory runs out.
 fn registers_and_owners(
     alloc: Global,
     checked: &Checked,
@@ -98,8 +98,8 @@ fn node_with(nodes: &[RawNode], id: u64) -> Option<&RawNode>
     nodes.iter().find(|node| number_of(node.id) == id)
 }
 
-/// Returns a node's registers as the file says: its pointer is the rank of the node that it names, or null if it names
-/// none.
+/// Returns a node's registers as the file describes them. The pointer is the rank of the node that p names in the file,
+/// or null if p names no node.
 #[tactic(auto, unfolding(crate::specs::inside::Checks::rank_at))]
 fn registers_in(ids: &IdTable, node: &RawNode) -> Regs
     ensures { result ≡ registers_in ids.now (node_view node.now) }
@@ -147,8 +147,8 @@ fn owners_with(
     }
 }
 
-/// Returns the students with the names in `names`, in order. A name that no student has, which the checks of a file
-/// rule out, would count as the first student's. Returns `Memory` if memory runs out.
+/// Returns the students with the names in `names`, in order. Returns the first student for a name that no student has,
+/// but the checks of a file exclude this case. Returns `Memory` if memory runs out.
 fn owners_in(
     alloc: Global,
     students: &IndexMap<String, String>,
@@ -166,8 +166,8 @@ fn owners_in(
     Ok(found)
 }
 
-/// Returns the student with this name. If no student had it, which the checks of a file rule out, it would be the first
-/// student.
+/// Returns the student with this name, or the first student if no student has it. The checks of a file exclude the
+/// second case.
 fn student_named(students: &IndexMap<String, String>, name: &str) -> Student
     requires { length students.now.entries ≤ MAX_STUDENTS }
     ensures { result ≡ student_index (map entry_account students.now.entries) name.now }

@@ -76,7 +76,7 @@ pub(crate) fn check(alloc: Global, raw: RawLab) -> Result<Checked, LabFault>
     })
 }
 
-/// The results of the checks of a file. With the file's teacher and its nodes, they make a `Checked`.
+/// The results of the checks of a file. Together with the file's teacher and nodes, they are a `Checked`.
 #[derive(Drop)]
 struct Found {
     ids: IdTable,
@@ -86,8 +86,8 @@ struct Found {
     sessions: u8,
 }
 
-/// Checks the parts of a file. Returns what the checks found, or the file's first error. The teacher and the nodes are
-/// borrowed, and stay with the caller.
+/// Checks the parts of a file. Returns the results of the checks, or the file's first error. The teacher and the nodes
+/// are borrowed, and stay with the caller.
 #[tactic(auto, unfolding(crate::specs::Reading::lab_from, crate::specs::Reading::checked))]
 fn check_parts(
     alloc: Global,
@@ -149,8 +149,9 @@ fn enrol(
     students_map(alloc, teacher, students)
 }
 
-/// Returns `Ok(())` if all owners are students, and no node has one student as both owners. Otherwise returns the error
-/// of the first node with an owner who is no student, or else of the first node whose two owners are one student.
+/// Returns `Ok(())` if all owners are students, and the two owners of a node are different students. Otherwise returns
+/// the error of the first node with an owner who isn't a student. If all owners are students, returns the error of the
+/// first node whose two owners are the same student.
 #[tactic(auto, unfolding(crate::specs::Reading::owned))]
 fn check_owners(students: &IndexMap<String, String>, nodes: &[RawNode]) -> Result<(), LabFault>
     ensures { Gives is_lab_memory (λ u. u) result
@@ -231,7 +232,7 @@ fn forms_fault(teacher: &Account, students: &[Account]) -> Option<LabFault>
     first_malformed(teacher, students).map(LabFault::Name)
 }
 
-/// Returns the error of the first node with an owner who is no student, or `None` if all owners are students.
+/// Returns the error of the first node with an owner who isn't a student, or `None` if all owners are students.
 #[tactic(auto, unfolding(crate::specs::Reading::no_owner_fault))]
 fn no_owner_fault(students: &IndexMap<String, String>, nodes: &[RawNode]) -> Option<LabFault>
     ensures { result ≡
@@ -240,7 +241,7 @@ fn no_owner_fault(students: &IndexMap<String, String>, nodes: &[RawNode]) -> Opt
     first_without_owner(students, nodes).map(LabFault::NoOwner)
 }
 
-/// Returns the error of the first node whose two owners are one student, or `None` if there is no such node.
+/// Returns the error of the first node whose two owners are the same student, or `None` if there is no such node.
 #[tactic(auto, unfolding(crate::specs::Reading::owner_twice_fault))]
 fn owner_twice_fault(nodes: &[RawNode]) -> Option<LabFault>
     ensures { result ≡ owner_twice_fault (map node_view nodes.now) }
@@ -248,7 +249,7 @@ fn owner_twice_fault(nodes: &[RawNode]) -> Option<LabFault>
     first_with_owner_twice(nodes).map(LabFault::OwnerTwice)
 }
 
-/// Returns the index of the first node with an owner who is no student, or `None` if all owners are students.
+/// Returns the index of the first node with an owner who isn't a student, or `None` if all owners are students.
 fn first_without_owner(students: &IndexMap<String, String>, nodes: &[RawNode]) -> Option<usize>
     ensures { result ≡ position
         (λ node. lacks_owner (map entry_account students.now.entries) (node_view node)) nodes.now }
@@ -256,14 +257,14 @@ fn first_without_owner(students: &IndexMap<String, String>, nodes: &[RawNode]) -
     nodes.iter().position(|node| lacks_owner(students, node))
 }
 
-/// Returns whether some owner of a node is no student.
+/// Returns whether some owner of a node isn't a student.
 fn lacks_owner(students: &IndexMap<String, String>, node: &RawNode) -> bool
     ensures { result ≡ lacks_owner (map entry_account students.now.entries) (node_view node.now) }
 {
     lacks_student(students, &node.owners)
 }
 
-/// Returns whether some of the names is no student's.
+/// Returns whether `names` has a name that no student has.
 fn lacks_student(students: &IndexMap<String, String>, names: &[String]) -> bool
     ensures { result ≡ list_any (λ name. not (list_any (has_name (string_bytes name))
         (map entry_account students.now.entries))) names.now }
@@ -271,7 +272,7 @@ fn lacks_student(students: &IndexMap<String, String>, names: &[String]) -> bool
     names.iter().any(|name| !is_students_name(students, name))
 }
 
-/// Returns whether the name is a student's.
+/// Returns whether some student has the name.
 fn is_students_name(students: &IndexMap<String, String>, name: &String) -> bool
     ensures { result ≡ list_any (has_name (string_bytes name.now))
         (map entry_account students.now.entries) }
@@ -279,7 +280,7 @@ fn is_students_name(students: &IndexMap<String, String>, name: &String) -> bool
     students.contains_key(name.as_str())
 }
 
-/// Returns the index of the first node whose two owners are one student, or `None` if there is no such node.
+/// Returns the index of the first node whose two owners are the same student, or `None` if there is no such node.
 fn first_with_owner_twice(nodes: &[RawNode]) -> Option<usize>
     ensures { result ≡ position (λ node. are_one_twice (node_view node).owners) nodes.now }
 {
@@ -310,7 +311,7 @@ fn check_range(greatest: u64, number: i64, key: Key) -> Result<u64, LabFault>
 }
 
 /// Checks the limits of a file. Returns the number of events (first) and of sessions (second). Returns the error of the
-/// first number that is out of its range, in the order of events, sessions and students.
+/// first number that is out of its range. The order is events, sessions, students.
 #[tactic(auto, unfolding(crate::specs::Reading::limited))]
 fn check_limits(bounds: RawLimits, students: usize) -> Result<(u64, u8), LabFault>
     ensures tests { Gives is_lab_memory (λ _. tt {0}) result

@@ -13,8 +13,7 @@ use indexmap::IndexMap;
 use mml_lab::{Account, LabFault};
 use std::alloc::Global;
 
-/// Returns whether a name is in use: it is `teacher`, the teacher's name, or that of one of `students`, those read so
-/// far.
+/// Returns whether a name is in use: it is the teacher's name `teacher`, or the name of a student who was read before.
 fn is_taken(students: &IndexMap<String, String>, teacher: &str, name: &str) -> bool
     ensures { result ≡ (bytes_eq name.now teacher.now
         || is_some (lookup (λ k. bytes_eq name.now (string_bytes k)) students.now.entries)) }
@@ -38,9 +37,9 @@ pub(crate) fn students_map(
     Ok(found)
 }
 
-/// Puts the students' names and keys into an empty map, in order. Stops at the first name that the teacher or an
-/// earlier student has, and returns `NameTwice` with its index, which counts the students from 1. Returns `Memory` if
-/// memory runs out.
+/// Puts the students' names and keys into an empty map, in order. Stops at the first student whose name the teacher or
+/// an earlier student has. Returns `NameTwice` with the index of this student, where the first student has the index 1.
+/// Returns `Memory` if memory runs out.
 fn fill(
     found: &mut IndexMap<String, String>,
     teacher: &Account,

@@ -9,9 +9,9 @@ use crate::raw_lab::read_bytes;
 use mml_lab::{Lab, LabFault};
 use std::alloc::Global;
 
-/// Returns the lab that the bytes of a lab file describe, or their first error. It is first checked whether the bytes
-/// are TOML, then whether each key is there with a value of its kind. The other errors follow in the order of
-/// `LabFault`. Returns `Memory` if memory runs out.
+/// Returns the lab that the bytes of a lab file describe, or the file's first error. The first errors are that the
+/// bytes aren't TOML, and that a key is missing or has a value of the wrong kind. The other errors follow in the order
+/// of `LabFault`. Returns `Memory` if memory runs out.
 #[tactic(auto, unfolding(crate::specs::Reading::lab_of))]
 pub fn read_lab(alloc: Global, bytes: &[u8]) -> Result<Lab, LabFault>
     ensures { Gives is_lab_memory (λ lab. lab) result (lab_of bytes.now) }

@@ -35,7 +35,7 @@ pub fn links_join_two_nodes()
         ¬ Joins again.0 again.1 link }
 {}
 
-/// If each link joins two nodes that differ, the check of links finds an error exactly if some link occurs twice. The
+/// If each link joins two different nodes, the check of links finds an error exactly if some link occurs twice. The
 /// error has the index of the first link that occurs at a lower index, too.
 pub fn link_twice_is_the_first()
     ensures fault { (raw : RawSpec) (k : ℕ) →
@@ -92,7 +92,7 @@ pub fn owners_are_those_of_the_file()
         ↔ Contains node.owners (name_of (lab_in raw).roster (Who.Student s)) }
 {}
 
-/// Each node of a lab that was read from bytes has one or two owners, who differ.
+/// Each node of a lab that was read from bytes has one owner or two different owners.
 pub fn labs_have_owners()
     ensures one_or_two { (bytes : List ℕ) (lab : LabValue) (i : ℕ) → lab_of bytes ≡ Ok lab →
         i < length lab.ids →

@@ -1,5 +1,5 @@
-//! Reading a lab file, which results in a lab or in the file's first error, and comparing two labs in all that a
-//! journal names.
+//! Reading a lab file, which results in a lab or in the file's first error, and comparing two labs in everything that a
+//! journal depends on.
 #![tactic(auto)]
 
 mod build;

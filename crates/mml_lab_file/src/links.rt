@@ -21,9 +21,9 @@ use mml_ids::{IdTable, NodeSet, Rank};
 use mml_lab::LabFault;
 use std::alloc::Global;
 
-/// Returns the set of neighbours of each node, by rank. Returns the first error of the links. That is the error of the
-/// first end that isn't a node. If all ends are nodes, it is that of the first loop, and otherwise that of the first
-/// link that occurs twice.
+/// Returns the set of neighbours of each node, by rank. If the links have errors, returns one of the first kind that
+/// occurs. The kinds are, in this order: an end that isn't a node, a link from a node to itself, and a link that occurs
+/// twice. Of several errors of this kind, returns that of the first link.
 #[tactic(auto, unfolding(crate::specs::Reading::linked))]
 pub(crate) fn neighbours(
     alloc: Global,
@@ -43,7 +43,7 @@ pub(crate) fn neighbours(
     neighbour_rows(alloc, ids, links)
 }
 
-/// Returns the error of the first link with an end that is no node, or `None` if all ends are nodes.
+/// Returns the error of the first link with an end that isn't a node, or `None` if all ends are nodes.
 #[tactic(auto, unfolding(crate::specs::Reading::ends_fault))]
 fn ends_fault(nodes: &[RawNode], links: &[(i64, i64)]) -> Option<LabFault>
     ensures { result ≡ ends_fault (map node_view nodes.now) links.now }
@@ -51,14 +51,14 @@ fn ends_fault(nodes: &[RawNode], links: &[(i64, i64)]) -> Option<LabFault>
     first_without_end(nodes, links).map(LabFault::LinkEnd)
 }
 
-/// Returns the index of the first link with an end that is no node, or `None` if all ends are nodes.
+/// Returns the index of the first link with an end that isn't a node, or `None` if all ends are nodes.
 fn first_without_end(nodes: &[RawNode], links: &[(i64, i64)]) -> Option<usize>
     ensures { result ≡ position (lacks_end (map node_view nodes.now)) links.now }
 {
     links.iter().position(|link| lacks_end(nodes, *link))
 }
 
-/// Returns whether at least one end of a link is no node.
+/// Returns whether at least one end of a link isn't a node.
 fn lacks_end(nodes: &[RawNode], link: (i64, i64)) -> bool
     ensures { result ≡ lacks_end (map node_view nodes.now) link }
 {
@@ -81,7 +81,7 @@ fn has_id(nodes: &[RawNode], id: i64) -> bool
     nodes.iter().any(|node| node.id == id)
 }
 
-/// Returns the error of the first link whose ends are one node, or `None` if there is no such link.
+/// Returns the error of the first link that joins a node to itself, or `None` if there is no such link.
 #[tactic(auto, unfolding(crate::specs::Reading::loops_fault))]
 fn loops_fault(links: &[(i64, i64)]) -> Option<LabFault>
     ensures { result ≡ loops_fault links.now }
@@ -89,14 +89,14 @@ fn loops_fault(links: &[(i64, i64)]) -> Option<LabFault>
     first_loop(links).map(LabFault::Loop)
 }
 
-/// Returns the index of the first link whose ends are one node, or `None` if there is no such link.
+/// Returns the index of the first link that joins a node to itself, or `None` if there is no such link.
 fn first_loop(links: &[(i64, i64)]) -> Option<usize>
     ensures { result ≡ position is_loop links.now }
 {
     links.iter().position(|link| is_loop(*link))
 }
 
-/// Returns whether both ends of a link are one node.
+/// Returns whether both ends of a link are the same node.
 fn is_loop(link: (i64, i64)) -> bool
     ensures { result ≡ is_loop link }
 {
@@ -128,8 +128,8 @@ fn neighbour_rows(
     Ok(rows)
 }
 
-/// Returns whether `a` and `b` are neighbours in `rows`, which has the neighbours of each node, by rank. `None` stands
-/// for no node, which has no neighbours.
+/// Returns whether `a` and `b` are neighbours in `rows`, which has the neighbours of each node, by rank. `None` means
+/// no node, which has no neighbours.
 #[tactic(auto, unfolding(crate::specs::inside::Checks::are_near))]
 fn are_near(rows: &[NodeSet], a: Option<Rank>, b: Option<Rank>) -> bool
     requires { ForSome a (λ rank. rank < length rows.now) }
@@ -151,7 +151,7 @@ pub(crate) fn rank_at(ids: &IdTable, id: i64) -> Option<Rank>
 }
 
 /// Makes `a` and `b` neighbours of each other in `rows`, which has the neighbours of each node, by rank. Does nothing
-/// if one of them is `None`, which stands for no node.
+/// if one of them is `None`, which means no node.
 fn join(rows: &mut [NodeSet], a: Option<Rank>, b: Option<Rank>)
     requires a { ForSome a (λ rank. rank < length rows.old) }
     requires b { ForSome b (λ rank. rank < length rows.old) }

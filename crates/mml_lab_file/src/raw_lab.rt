@@ -21,7 +21,7 @@ use toml::{Table, Value};
 pub struct RawNode {
     pub id: i64,
     pub owners: Vec<String>,
-    /// Whether it has both keys, `owner` and `owners`.
+    /// Whether the node has both keys, `owner` and `owners`.
     pub both: bool,
     pub p: Option<i64>,
     pub m: bool,
@@ -391,8 +391,8 @@ pub fn read_raw(alloc: Global, table: &Table) -> Result<RawLab, LabFault>
     })
 }
 
-/// Reads the bytes of a lab file. Returns its contents, or the error that the bytes are no TOML, or of the first key
-/// that is missing or of another kind.
+/// Reads the bytes of a lab file. Returns its contents. Returns `NotToml` if the bytes aren't TOML, and otherwise the
+/// error of the first key that is missing or of another kind.
 #[tactic(auto, unfolding(crate::specs::Shape::spelled))]
 pub fn read_bytes(alloc: Global, bytes: &[u8]) -> Result<RawLab, LabFault>
     ensures { Gives is_lab_memory raw_view result (spelled bytes.now) }

@@ -1,4 +1,4 @@
--- The checks of a file: links are looked up by rank, and the lab is made of what was found.
+-- How the program checks a file: it looks up the ends of links by rank, and makes the lab from its results.
 use Rattle.std.specs.Prelude.{ℕ, ℤ, Bool, false, not, ◌&&◌, List, map, Option, is_some}
 use Rattle.std.specs.{Option.option_map_or, FinSet.FinSet, Ordering.nat_cmp}
 use Rattle.mml_ids.specs.Ids.{rank_in}
@@ -19,7 +19,7 @@ lacks_rank ids link = not (is_some (rank_at ids link.0) && is_some (rank_at ids 
 unfoldable pub are_near : List (FinSet nat_cmp) → Option ℕ → Option ℕ → Bool
 are_near rows a b = option_map_or (λ i. option_map_or (set.contains (neighbours_at rows i)) b false) a false
 
--- the lab of these identifiers, accounts, nodes and rows of neighbours
+-- the lab with these identifiers, accounts, nodes, rows of neighbours and limits
 unfoldable pub lab_with : List ℕ → Account → List Account → List NodeSpec → List (FinSet nat_cmp) → ℕ → ℕ → LabValue
 lab_with ids teacher students nodes neighbours events sessions = record {
   ids = ids;

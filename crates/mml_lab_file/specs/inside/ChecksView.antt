@@ -8,7 +8,7 @@ abbrev pub checked_view : Checked → LabValue
 checked_view c =
     lab_with c.ids (account_view c.teacher) (map entry_account c.students.entries) (map node_view c.nodes.items) c.neighbours.items c.events c.sessions
 
--- the lab of what was found, with the teacher and the nodes of the file
+-- the lab made of the results of the checks and of the file's teacher and nodes
 abbrev pub found_view : Account → List RawNode → Found → LabValue
 found_view teacher nodes f =
     lab_with f.ids (account_view teacher) (map entry_account f.students.entries) (map node_view nodes) f.neighbours.items f.events f.sessions
