@@ -1,4 +1,4 @@
--- The set of the nodes that have a chosen move, beside the list of the choices.
+-- The stored set of the nodes with a chosen move agrees with the list of choices.
 use Rattle.std.proofs.Common.{◌≡◌, ℕ, ◌<◌, Bool, true, false, not, cond, ◌||◌, eqb, Option, None, is_some, List, [], ◌∷◌, length, zero, suc, set, replicate, sym, refl, ap, ◌∙◌, arith}
 use Rattle.std.proofs.lemmas.Bool.{false≢true, or_right, both_ways, false_from_ne_true}
 use Rattle.std.specs.{List.list_any, FinSet.FinSet, Ordering.nat_cmp}
@@ -8,11 +8,12 @@ use Rattle.mml_board.specs.{World.chosen_at, inside.Kept.AreChosen}
 use Rattle.mml_board.proofs.WorldLemmas.{chosen_at-set, length-none, none_at, same_lists}
 use Rattle.std.specs.FinSet as sets
 
--- what is not some is none
+-- if `is_some` is false, the value is None
 pub not_some : {X : Type 0} (o : Option X) → is_some o ≡ false → o ≡ None
 not_some o h = grind arith
 
--- a choice that is set, and the set with its node or without
+-- if node a gets the choice o, and is put into the set exactly if o is a move, the set still has the nodes with a
+-- chosen move
 pub are_chosen-set : (xs : List (Option Rule)) (s s' : FinSet nat_cmp) (a : ℕ) (o : Option Rule) → a < length xs → AreChosen xs s
     → ((i : ℕ) → sets.contains s' i ≡ cond (eqb i a) (is_some o) (sets.contains s i)) → AreChosen (set xs a o) s'
 are_chosen-set xs s s' a o l are h i = grind (arith, chosen_at-set)
@@ -38,7 +39,7 @@ none_chosen xs s are e = go xs (none_of xs s are e)
     go [] h = refl
     go (x ∷ xs) h = ap (λ b. b || list_any is_some xs) (h zero) ∙ go xs (λ i. h (suc i))
 
--- one choice that is some is found
+-- if node i has a chosen move, some move is chosen
 some_chosen : (xs : List (Option Rule)) (i : ℕ) → is_some (chosen_at xs i) ≡ true → list_any is_some xs ≡ true
 some_chosen [] i h = absurd (false≢true h)
 some_chosen (x ∷ xs) zero h = ap (λ b. b || list_any is_some xs) h

@@ -1,5 +1,5 @@
--- What follows if the clauses of an act hold, and when they hold again for the event's own act. Other crates cite these lemmas
--- and no clause.
+-- What follows if all clauses of an act hold, and that the clauses of the resulting event's own act then hold, too.
+-- Other crates use these lemmas instead of the clauses.
 use Rattle.std.proofs.Common.{◌≡◌, ℕ, ◌<◌, ◌-◌, ◌^◌, ◌==◌, nat_lt, Bool, true, cond, not, ◌&&◌, Option, None, Some, is_none, option_map, Result, Ok, Err, refl, ap, sym, ◌∙◌, arith}
 use Rattle.std.specs.{Option.ok_or, Option.IfSome, Result.IfOk, Result.is_ok}
 use Rattle.mml_ids.proofs.GivesLemmas.{bind-if, need-if}
@@ -13,26 +13,26 @@ use Rattle.mml_lab.specs.{declared.who.Who.Who, Rosters.RosterValue, Rosters.own
 use Rattle.mml_lab.specs.declared.who.Who.TheVariants as who
 use Rattle.mml_board.specs.declared.event.Event.TheVariants as event
 
--- a step whose chain ends well found a value
+-- if the chain of s and f succeeds, s succeeds with some a, and f a succeeds
 pub ok-bind : {A B E : Type 0} (s : Result A E) (f : A → Result B E) → is_ok (s >>= f) ≡ true → (a : A) × (s ≡ Ok a) × (is_ok (f a) ≡ true)
 ok-bind s f h = grind arith
 
--- a condition whose chain ends well holds
+-- if `need b e` followed by t succeeds, b is true, and t succeeds
 pub ok-need : {B E : Type 0} (b : Bool) (e : E) (t : Result B E) → is_ok (need b e >> t) ≡ true → (b ≡ true) × (is_ok t ≡ true)
 ok-need b e t h = grind arith
 
--- a step that finds a value ends well where what comes next does
+-- if s succeeds with a, and f a succeeds, the chain of s and f succeeds
 pub ok-from : {A B E : Type 0} (s : Result A E) (f : A → Result B E) (a : A) → s ≡ Ok a → is_ok (f a) ≡ true → is_ok (s >>= f) ≡ true
 ok-from s f a e h = ap (λ t. is_ok (t >>= f)) e ∙ h
 
--- the node that was looked up in the world is the one that was named, and there
+-- if looking up node i in the world finds j, then i is j, and is a node of the world
 pub node_in-ok : (w : World) (i j : ℕ) (d : Denial) → ok_or (node_in w i) d ≡ Ok j → (i ≡ j) × (is_node w i ≡ true)
 node_in-ok w i j d h = grind arith
 
 pub pointer-ok : (w : World) (p q : Option ℕ) (d : Denial) → pointer (option_map (node_in w) p) d ≡ Ok q → p ≡ q
 pointer-ok w p q d h = grind arith
 
--- the tests that each possible event passes, weaker than its clauses
+-- tests that each possible event passes; they are weaker than its clauses
 abbrev pub is_fit : World → Event → Bool
 is_fit w (event.Grant s i q) = is_node w i && (is_none (chosen_at w.chosen i) && guard (configuration w) i q)
 is_fit w (event.Release i) = is_chosen w i
@@ -41,7 +41,7 @@ is_fit w (event.Fault i registers) = is_node w i && may_point (configuration w) 
 is_fit w (event.Link a b) = (is_node w a && is_node w b) && (not (a == b) && not ((configuration w).linked a b))
 is_fit w (event.Cut a b) = (configuration w).linked a b
 
--- what holds of each value that steps may end in holds if they end in one
+-- if s succeeds, and P holds of whatever value s returns, P holds
 if_ok : {A E : Type 0} (P : Type 0) (s : Result A E) → is_ok s ≡ true → IfOk s (λ a. P) → P
 if_ok P (Ok a) h p = p
 if_ok P (Err e) h p = absurd (false≢true h)
@@ -53,7 +53,7 @@ pub fit : (w : World) (e : Event) → is_possible w e ≡ true → is_fit w e �
 unfolding is_possible
 fit w e h = if_ok (is_fit w e ≡ true) (check anybodys w (asker e) (act_of w e)) h (fits w e)
 
--- whoever owns what, an event that is legal may happen
+-- a legal event is possible
 pub legal_possible : (r : RosterValue) (w : World) (e : Event) → is_legal r w e ≡ true → is_possible w e ≡ true
 unfolding is_possible is_legal
 legal_possible r w (event.Grant s i q) h =
@@ -62,7 +62,7 @@ legal_possible r w (event.Grant s i q) h =
     ok-from (ok_or (node_in w i) NotOwner) _ one.0 one.1 two.1
 legal_possible r w _ h = h
 
--- who asks for a move that is legal owns its node
+-- the student of a legal move owns its node
 pub legal_owned : (r : RosterValue) (w : World) (s i : ℕ) (q : Rule) → is_legal r w (event.Grant s i q) ≡ true → owns r (who.Student s) i ≡ true
 unfolding is_legal
 legal_owned r w s i q h =
@@ -70,7 +70,7 @@ legal_owned r w s i q h =
     let two = ok-need (owns r (who.Student s) one.0) _ _ one.2 in
     grind (arith, node_in-ok)
 
--- a move that can be absorbed is at a node, and its rule may be applied there
+-- if a move can be absorbed, its node is in the world, and its guard holds there
 pub absorbed_grant : (w : World) (s i : ℕ) (q : Rule) → can_absorb w (event.Grant s i q) ≡ true → (i < size w) × (guard (configuration w) i q ≡ true)
 absorbed_grant w s i q h =
     let x = and_parts (is_possible w (event.Grant s i q)) (nat_lt w.place (2 ^ 64 - 1)) h in
@@ -78,25 +78,25 @@ absorbed_grant w s i q h =
     let z = and_parts (is_none (chosen_at w.chosen i)) (guard (configuration w) i q) y.1 in
     (ltb-true i (size w) y.0, z.1)
 
--- ---- asked again
+-- ---- the act of the event to which an act leads
 
 there-ok : (o : Option ℕ) (i n : ℕ) (d : Denial) → ok_or o d ≡ Ok i → IfSome o (λ j. j < n) → i < n
 there-ok o i n d e h = grind arith
 
--- a node of the world is found in it
+-- looking up a node of the world finds it
 pub node_back : (w : World) (i : ℕ) (d : Denial) → i < size w → ok_or (node_in w i) d ≡ Ok i
 node_back w i d l = ap (λ b. ok_or (cond b (Some i) None) d) (lt-ltb i (size w) l)
 
--- the student that a step found is the one who asks
+-- if the step `student` finds s, the asker is the student s
 pub asked_by : (x : Who) (s : ℕ) → student x NotOwner ≡ Ok s → x ≡ who.Student s
 asked_by x s h = grind arith
 
--- a condition that holds, and a chain after it that ends well
+-- if b is true and t succeeds, `need b e` followed by t succeeds
 pub need-well : {B E : Type 0} (b : Bool) (e : E) (t : Result B E) → b ≡ true → is_ok t ≡ true → is_ok (need b e >> t) ≡ true
 need-well b e t h k = ap (λ c. is_ok (need c e >> t)) h ∙ k
 
 module _ (owned : Who → ℕ → Bool) (w : World) (x : Who) where
-  -- the clauses of the act that asks for the event hold
+  -- all clauses of the act that asks for this event hold
   abbrev pub IsAgain : Event → Type 0
   IsAgain e = is_ok (check owned w (asker e) (act_of w e)) ≡ true
 
@@ -107,11 +107,11 @@ module _ (owned : Who → ℕ → Bool) (w : World) (x : Who) where
   pointer_back None h = refl
   pointer_back (Some j) h = ap (λ s. s >>= (λ j. Ok (Some j))) (node_back w j BadRegister h)
 
-  -- what the clauses of an act let happen, they let happen when it is asked for by its nodes
+  -- if all clauses of an act hold, and lead to an event, those of the act that asks for this event hold, too
   pub again : (a : Act) → AreAllThere (size w) a → IfOk (check owned w x a) IsAgain
   again a there = grind (arith, nat_tests, bind-if, need-if, there-ok, node_back, pointed_there, pointer_back, asked_by, eq-eqb)
 
--- the student who asks for a move owns its node; any other event names nobody who asks
+-- the student of a move owns its node; for other events nothing is required
 abbrev pub has_right_owner : RosterValue → Event → Bool
 has_right_owner r (event.Grant s i q) = owns r (who.Student s) i
 has_right_owner r _ = true
@@ -120,9 +120,9 @@ pub right_owner : (r : RosterValue) (w : World) (e : Event) → is_legal r w e �
 right_owner r w (event.Grant s i q) h = legal_owned r w s i q h
 right_owner r w _ h = refl
 
--- ---- from what holds to what may happen
+-- ---- possible events
 
--- a move at a node for which none is chosen may happen if its guard holds
+-- a move is possible if its node is in the world and has no chosen move, and its guard holds
 pub grant_possible : (w : World) (s i : ℕ) (q : Rule) → i < size w → chosen_at w.chosen i ≡ None → guard (configuration w) i q ≡ true
     → is_possible w (event.Grant s i q) ≡ true
 unfolding is_possible
@@ -131,12 +131,12 @@ grant_possible w s i q l free g =
     (need-well (w.number == w.number) _ _ (eq-eqb w.number w.number refl)
     (need-well (is_none (chosen_at w.chosen i)) _ _ (ap is_none free) (need-well (guard (configuration w) i q) _ _ g refl)))
 
--- a close may happen if some node has a chosen move
+-- a close is possible if some node has a chosen move
 pub close_possible : (w : World) → is_any_chosen w ≡ true → is_possible w event.Close ≡ true
 unfolding is_possible
 close_possible w any = need-well (is_any_chosen w) _ _ any refl
 
--- what may happen is legal if a move is asked for by an owner of its node
+-- a possible event is legal if it isn't a move, or if the student of the move owns its node
 pub owned_legal : (r : RosterValue) (w : World) (e : Event) → has_right_owner r e ≡ true → is_possible w e ≡ true → is_legal r w e ≡ true
 unfolding is_possible is_legal
 owned_legal r w (event.Grant s i q) owner h =
@@ -146,9 +146,9 @@ owned_legal r w (event.Grant s i q) owner h =
     (need-well (owns r (who.Student s) one.0) _ _ (ap (λ j. owns r (who.Student s) j) (sym same) ∙ owner) one.2)
 owned_legal r w _ owner h = h
 
--- ---- an event's own act
+-- ---- the act that asks for an event
 
--- the act that asks for an event lets that event happen, if any
+-- if the clauses of the act that asks for event e hold, they lead to e
 module _ (owned : Who → ℕ → Bool) (w : World) where
   pub own_event : (e : Event) → IfOk (check owned w (asker e) (act_of w e)) (λ f. f ≡ e)
   own_event e = grind (arith, nat_tests, bind-if, need-if, node_in-ok, pointer-ok)
@@ -157,17 +157,17 @@ ok_same : {A E : Type 0} (s : Result A E) (a : A) → is_ok s ≡ true → IfOk 
 ok_same (Ok b) a h same = ap Ok same
 ok_same (Err e) a h same = absurd (false≢true h)
 
--- the act that asks for a legal event lets it happen
+-- the clauses of the act that asks for a legal event hold, and lead to this event
 pub legal_ok : (r : RosterValue) (w : World) (e : Event) → is_legal r w e ≡ true → check (owns r) w (asker e) (act_of w e) ≡ Ok e
 unfolding is_legal
 legal_ok r w e h = ok_same (check (owns r) w (asker e) (act_of w e)) e h (own_event (owns r) w e)
 
--- an event is legal exactly if the clauses of its own act hold
+-- an event is legal exactly if the clauses of the act that asks for it hold
 pub legal_is : (r : RosterValue) (w : World) (e : Event) → is_legal r w e ≡ is_ok (check (owns r) w (asker e) (act_of w e))
 unfolding is_legal
 legal_is r w e = refl
 
--- what the clauses of an act let happen is legal
+-- if the clauses of an act hold, they lead to a legal event
 pub again_legal : (r : RosterValue) (w : World) (x : Who) (a : Act) → AreAllThere (size w) a → IfOk (check (owns r) w x a) (λ e. is_legal r w e ≡ true)
 unfolding is_legal
 again_legal r w x a there = again (owns r) w x a there

@@ -1,4 +1,4 @@
--- For whom the clauses of an act let it happen, and with what they deny it.
+-- To whom an act may be granted, and which denials it may have.
 use Rattle.std.{proofs.lemmas.Bool.Decides.nat_tests, proofs.lemmas.Bool.eq-eqb, specs.Prelude.◌||◌, specs.Option.ok_or, specs.Result.IfOk, specs.Result.IfErr}
 use Rattle.std.proofs.Common.{◌≡◌, ◌⊎◌, ℕ, Bool, true, ◌==◌, Option, Err, refl, subst, arith}
 use Rattle.mml_ids.proofs.GivesLemmas.{bind-if, need-if, bind-deny, need-deny}
@@ -7,13 +7,13 @@ use Rattle.mml_lab.specs.declared.who.Who.{Who}
 use Rattle.mml_board.specs.{declared.act.Act.Act, declared.denial.Denial.Denial, World.World, Clauses.check, Clauses.student, Clauses.pointer, Clauses.is_teacher, Denials.clause_of}
 use Rattle.mml_board.specs.declared.denial.Denial.TheVariants as denial
 
--- a denial of a clause from 1 to 4, which names no number but the world's
+-- a denial with a clause number from 1 to 4; if it names a configuration, this is the world's
 abbrev pub is_of_act : World → Denial → Bool
 is_of_act w (denial.Stale at) = at == w.number
 is_of_act w d = clause_of d == 1 || (clause_of d == 2 || (clause_of d == 3 || clause_of d == 4))
 
 module _ (P : Denial → Type 0) where
-  -- a step that finds nothing answers the denial that it is given
+  -- if a look-up finds nothing, its error is the denial that it was called with
   pub of_err : {A : Type 0} (o : Option A) (d : Denial) → P d → (e : Denial) → ok_or o d ≡ Err e → P e
   of_err o d meets e h = subst P (same o h) meets
     where
@@ -27,11 +27,11 @@ module _ (P : Denial → Type 0) where
   pointer_err p d meets e h = grind (arith, nat_tests)
 
 module _ (owned : Who → ℕ → Bool) (w : World) (x : Who) where
-  -- the one who asks is the teacher, or owns a node
+  -- the asker is the teacher, or owns some node
   abbrev pub HasRight : Type 0
   HasRight = (is_teacher x ≡ true) ⊎ ((i : ℕ) × (owned x i ≡ true))
 
-  -- an act is let happen for the teacher, or for one who owns a node
+  -- if an act is granted, its asker is the teacher, or owns some node
   pub by_right : (a : Act) → IfOk (check owned w x a) (λ e. HasRight)
   by_right a = grind (arith, nat_tests, bind-if, need-if)
 
@@ -47,6 +47,6 @@ module _ (owned : Who → ℕ → Bool) (w : World) (x : Who) where
   rule_err : (o : Option Rule) (d : Denial) → D d → (e : Denial) → ok_or o d ≡ Err e → D e
   rule_err o d = of_err D o d
 
-  -- what the clauses of an act deny with
+  -- each denial of an act has a clause number from 1 to 4, and names no configuration but the world's
   pub denied_of_act : (a : Act) → IfErr (check owned w x a) D
   denied_of_act a = grind (arith, nat_tests, bind-deny, need-deny, node_err, rule_err, (student_err D), (pointer_err D), stale_here)

@@ -1,4 +1,4 @@
--- What the rows of bits beside a network say, and how they follow its changes.
+-- The index of a network gives the right answers, and keeps doing so after each change of the network.
 use Rattle.std.proofs.Common.{◌≡◌, ℕ, ◌<◌, ◌≤◌, ◌+◌, Bool, true, false, cond, not, ◌&&◌, ◌||◌, eqb, ltb, Option, None, Some, is_none, is_some, List, length, set, sym, refl, ap, ◌∙◌, arith, length-set}
 use Rattle.std.specs.{Prelude.replicate, Prelude.IfSome, Prelude.IfNone, FinSet.FinSet, Ordering.nat_cmp, Cmp.nat_cmp_total}
 use Rattle.std.proofs.lemmas.Bool.{cases_eq, cases_lt, eq-eqb, ne_eqb, eqb-true, eqb-false, lt-ltb, le-ltb, and_right, and_parts, and_from, both_ways, false_from_ne_true}
@@ -12,16 +12,16 @@ use Rattle.mml_rules.proofs.NetworkLemmas.{has-with_neighbour, has-without_neigh
 use Rattle.mml_board.specs.inside.Rows.{with_suitor, without_suitor, AreRows}
 use Rattle.std.specs.FinSet as sets
 
--- ---- the row of the nodes that point at one
+-- ---- the nodes that point at a node
 
 turned : (a b : ℕ) → eqb a b ≡ eqb b a
 turned a b = grind (arith, cases_eq, eq-eqb, ne_eqb)
 
--- a suitor more leaves the number of rows
+-- adding a suitor keeps the number of rows
 pub length-with_suitor : (rows : List (FinSet nat_cmp)) (p : Option ℕ) (k : ℕ) → length (with_suitor rows p k) ≡ length rows
 length-with_suitor rows p k = grind (arith, length-with_neighbour)
 
--- a suitor less leaves the number of rows
+-- removing a suitor keeps the number of rows
 pub length-without_suitor : (rows : List (FinSet nat_cmp)) (p : Option ℕ) (k : ℕ) → length (without_suitor rows p k) ≡ length rows
 length-without_suitor rows p k = grind (arith, length-without_neighbour)
 
@@ -33,7 +33,7 @@ pub has-without_suitor : (rows : List (FinSet nat_cmp)) (p : Option ℕ) (k i j 
     → sets.contains (neighbours_at (without_suitor rows p k) i) j ≡ (not (holds p i && eqb j k) && sets.contains (neighbours_at rows i) j)
 has-without_suitor rows p k i j l = grind (arith, has-without_neighbour, turned)
 
--- a test that is false exactly if a register points is true exactly if it is null
+-- if `is_some` is false exactly if b is true, b is `is_none`
 pub none_told : (o : Option ℕ) (b : Bool) → is_some o ≡ not b → b ≡ is_none o
 none_told o b h = grind arith
 
@@ -41,9 +41,9 @@ none_told o b h = grind arith
 pub below_none : (j : ℕ) (b : Bool) → false ≡ (ltb j 0 && b)
 below_none j b = sym (ap (λ x. x && b) (le-ltb j 0 (omega arith)))
 
--- ---- rows that are made
+-- ---- building the rows
 
--- empty rows are those of no rank
+-- if all sets are empty, they are the index of the nodes below rank 0
 pub no_rows : (registers : List Regs) (rows : List (FinSet nat_cmp)) (free believing : FinSet nat_cmp)
     → rows ≡ replicate (length registers) (sets.empty {R = nat_cmp}) → free ≡ sets.empty → believing ≡ sets.empty → AreRows registers 0 rows free believing
 no_rows registers rows free believing is e f = grind (arith, length-replicate, get_or-replicate, has_empty, below_none, is_none)
@@ -54,11 +54,11 @@ next_other j k e = grind (arith, cases_lt, lt-ltb, eqb-false, le-ltb)
 next_here : (j k : ℕ) → eqb j k ≡ true → (ltb j (k + 1) ≡ true) × (ltb j k ≡ false)
 next_here j k e = let s = eqb-true j k e in (lt-ltb j (k + 1) (omega arith), le-ltb j k (omega arith))
 
--- what passes among the ranks below k, and k, are those that pass among the ranks below k + 1
+-- the numbers below k + 1 that pass are those below k that pass, and k if it passes
 pub below_next : (test : ℕ → Bool) (j k : ℕ) (b : Bool) → b ≡ test k → cond (eqb j k) b (ltb j k && test j) ≡ (ltb j (k + 1) && test j)
 below_next test j k b is = grind (arith, eqb-true, next_here, next_other)
 
--- the rows of one node more
+-- if node k is added to the index of the nodes below k, it is the index of the nodes below k + 1
 pub next_rows : (registers : List Regs) (k : ℕ) (p : Option ℕ) (m : Bool) (rows rows' : List (FinSet nat_cmp))
     (free believing free' believing' : FinSet nat_cmp)
     → AreRows registers k rows free believing
@@ -69,9 +69,9 @@ pub next_rows : (registers : List Regs) (k : ℕ) (p : Option ℕ) (m : Bool) (r
 next_rows registers k p m rows rows' free believing free' believing' are l pk mk is f b =
     grind (arith, length-with_suitor, has-with_suitor, is_none, below_next, next_here, eqb-true, and_right, next_other)
 
--- ---- rows that follow a node's registers
+-- ---- the rows after a node's registers have changed
 
--- if registers are set, the node leaves the row of its old pointer and joins that of its new one
+-- if a node gets new registers, it leaves the row of its old pointer and joins that of its new pointer
 pub rows-set : (registers : List Regs) (a : ℕ) (p : Option ℕ) (x : Regs) (rows rows' rows'' : List (FinSet nat_cmp))
     (free believing free' believing' : FinSet nat_cmp)
     → AreRows registers (length registers) rows free believing → a < length registers
@@ -83,7 +83,7 @@ pub rows-set : (registers : List Regs) (a : ℕ) (p : Option ℕ) (x : Regs) (ro
 rows-set registers a p x rows rows' rows'' free believing free' believing' are l pa old new is is' f b =
     grind (arith, length-with_suitor, length-set, has-with_suitor, has-without_suitor, is_none, length-without_suitor, registers_at-set, eqb-true, lt-ltb)
 
--- ---- what looks read from the rows
+-- ---- answers from the rows
 
 -- a node has a suitor exactly if its row isn't empty
 pub suitors-read : (n : Network) (rows : List (FinSet nat_cmp)) (free believing row : FinSet nat_cmp) (i : ℕ) → IsLawful (configuration_of n)
@@ -110,7 +110,7 @@ suitors-read n rows free believing row i lawful are l is false h = go (has_suito
         same_empty : (s : FinSet nat_cmp) → ((j : ℕ) → sets.contains s j ≡ false) → s ≡ sets.empty
         same_empty s f = same_ranks s sets.empty (λ q. f q ∙ sym (has_empty q))
 
--- the ranks of the four rows that a seduction looks at are the candidates
+-- the set from which a seduction chooses has exactly the candidates of the node
 pub candidates-read : (n : Network) (rows : List (FinSet nat_cmp)) (free believing courted candidates s t : FinSet nat_cmp) (i j : ℕ)
     → IsLawful (configuration_of n) → length n.registers ≤ MAX_NODES → AreRows n.registers (length n.registers) rows free believing
     → courted ≡ sets.intersection (neighbours_at n.neighbours i) free → s ≡ sets.difference courted believing
@@ -128,7 +128,7 @@ candidates-read n rows free believing courted candidates s t i j lawful few are 
         ≡ (x && (ltb i j && (is_none (registers_at n.registers j).p && not (registers_at n.registers j).m)))
     go x e = grind (arith, lt-ltb, is_none)
 
--- the greatest of the candidates
+-- the greatest rank in the set of candidates is the greatest candidate
 pub greatest_told : (c : Configuration) (candidates : FinSet nat_cmp) (i : ℕ) (found : Option ℕ) → IsLawful c
     → ((j : ℕ) → sets.contains candidates j ≡ is_candidate c i j)
     → IfNone found (candidates ≡ sets.empty) → IfSome found (λ j. sets.contains candidates j ≡ true)
@@ -149,11 +149,11 @@ greatest_told c candidates i (Some j) lawful is none member greatest =
 
 -- ---- a cut
 
--- a pointer that is dropped isn't dropped again
+-- if a doesn't point at b, removing the pointer from a to b changes nothing
 pub unpointed-again : (registers : List Regs) (a b : ℕ) → holds (registers_at registers a).p b ≡ false → unpointed registers a b ≡ registers
 unpointed-again registers a b e = ap (λ x. cond x (set registers a (record { p = None; m = (registers_at registers a).m })) registers) e
 
--- pointers over a link that are taken back twice are as taken back once
+-- removing the pointers along a link a second time changes nothing
 pub cut-again : (registers : List Regs) (a b : ℕ) → a < length registers → b < length registers
     → unpointed (unpointed (unpointed (unpointed registers a b) b a) a b) b a ≡ unpointed (unpointed registers a b) b a
 cut-again registers a b la lb = ap (λ r. unpointed r b a) (unpointed-again cut a b first) ∙ unpointed-again cut b a second

@@ -1,4 +1,4 @@
--- What events make of a world, and that lawful worlds stay lawful.
+-- The world after an event is lawful if the world before it is.
 use Rattle.std.proofs.Common.{◌≡◌, ℕ, ◌<◌, zero, suc, true, cond, not, ◌&&◌, eqb, ltb, Option, None, Some, is_some, is_none, List, length, get_or, set, replicate, sym, refl, ap, ◌∙◌, subst, arith}
 use Rattle.std.proofs.Common.{length-set, get_or-set_same, get_or-set_other}
 use Rattle.std.proofs.lemmas.Bool.{cases_eq, cases_lt, eq-eqb, ne_eqb, eqb-true, eqb-false, ltb-true, not-true, and_parts, both_ways}
@@ -12,18 +12,18 @@ use Rattle.mml_board.proofs.ClausesLemmas.{is_fit, fit}
 use Rattle.mml_board.specs.Events.{is_possible, may_point, moved_registers, renewed, choosing, after}
 use Rattle.std.specs.FinSet as sets
 
--- moves leave the number of nodes
+-- applying the chosen moves keeps the number of nodes
 pub length-moved_registers : (w : World) → length (moved_registers w) ≡ length w.network.registers
 unfolding moved_registers
 length-moved_registers w = length-map-range_with_len (λ i. moved (configuration w) i (chosen_at w.chosen i)) 0 (size w)
 
--- every register after the moves, also past the last node
+-- the registers of each rank after the chosen moves are applied, even of ranks past the last node
 pub moved_at : (w : World) → length w.chosen ≡ length w.network.registers → (i : ℕ)
     → registers_at (moved_registers w) i ≡ moved (configuration w) i (chosen_at w.chosen i)
 unfolding moved_registers
 moved_at w e i = grind (arith, cases_lt, get_or-map-range_with_len, get_or_past, length-moved_registers)
 
--- a list of registers in which each is the moved one
+-- if each node has its registers after its chosen move, the list of registers is `moved_registers`
 pub moved_registers-is : (w : World) (registers : List Regs) → length registers ≡ size w
     → ((i : ℕ) → registers_at registers i ≡ moved (configuration w) i (chosen_at w.chosen i)) → registers ≡ moved_registers w
 unfolding moved_registers
@@ -33,11 +33,11 @@ moved_registers-is w registers e h = fill_by_all (λ i. moved (configuration w) 
 abbrev pub closed : World → Network
 closed w = record { neighbours = w.network.neighbours; registers = moved_registers w }
 
--- a close is the rules' step
+-- a close is a step of the rules
 pub closed-step : (w : World) → length w.chosen ≡ length w.network.registers → configuration_of (closed w) ≡ step (configuration w) (chosen_at w.chosen)
 closed-step w e = grind (arith, length-moved_registers, moved_at)
 
--- a close leaves the network lawful
+-- the network is lawful after a close
 pub closed-network : (w : World) → IsWorld w → IsNetwork (closed w)
 closed-network w k = record {
   rows = k.network.rows ∙ sym (length-moved_registers w);
@@ -45,12 +45,12 @@ closed-network w k = record {
   lawful = subst (λ c. IsLawful c) (sym (closed-step w k.choices)) (step-lawful (configuration w) (chosen_at w.chosen) k.network.lawful k.hold);
 }
 
--- a list of one choice n times is n long
+-- a list of n equal choices has the length n
 pub length-none : (n : ℕ) (o : Option Rule) → length (replicate n o) ≡ n
 length-none zero o = refl
 length-none (suc k) o = ap suc (length-none k o)
 
--- in a list without a choice, none is chosen for any node
+-- in a list without a chosen move, no node has a chosen move
 pub none_at : (n i : ℕ) → chosen_at (replicate n None) i ≡ None
 none_at n i = go n i None
   where
@@ -63,11 +63,11 @@ none_at n i = go n i None
 pub hold-none : (n : ℕ) (c : Configuration) → AllHold c (chosen_at (replicate n None))
 hold-none n c i r h = let e : None ≡ Some r = sym (none_at n i) ∙ h in cc
 
--- another lawful network of as many nodes makes a lawful world
+-- a world with a lawful network of the same size and without chosen moves is lawful
 pub renewed-world : (w : World) (n : Network) → IsNetwork n → length n.registers ≡ size w → IsWorld (renewed w n)
 renewed-world w n k e = grind (arith, length-none, hold-none)
 
--- a choice that is set stands at its node, and all others are as before
+-- after the choice of node a is set to o, a has this choice, and all others are as before
 pub chosen_at-set : (chosen : List (Option Rule)) (a i : ℕ) (o : Option Rule) → a < length chosen
     → chosen_at (set chosen a o) i ≡ cond (eqb i a) o (chosen_at chosen i)
 chosen_at-set chosen a i o l = grind (arith, cases_eq, get_or-set_same, eq-eqb, get_or-set_other, ne_eqb)
@@ -76,33 +76,33 @@ hold-set : (c : Configuration) (chosen : List (Option Rule)) (a : ℕ) (o : Opti
     → AllHold c (chosen_at chosen) → AllHold c (chosen_at (set chosen a o))
 hold-set c chosen a o l h all i r e = grind (arith, chosen_at-set, eqb-true)
 
--- a lawful world stays so if a node's choice is a move whose guard holds, or none
+-- a lawful world stays lawful if a node gets a move whose guard holds, or no move
 pub choosing-world : (w : World) (a : ℕ) (o : Option Rule) → a < size w → ((r : Rule) → o ≡ Some r → guard (configuration w) a r ≡ true) → IsWorld w
     → IsWorld (choosing w a o)
 choosing-world w a o l h k = grind (arith, length-set, hold-set)
 
--- a node that another may point at is linked to it
+-- if a node's pointer may lead to j, the node is linked to j
 pub may_point-linked : (n : Network) (i j : ℕ) (o : Option ℕ) → may_point (configuration_of n) i o ≡ true → o ≡ Some j
     → sets.contains (neighbours_at n.neighbours i) j ≡ true
 may_point-linked n i j o h e = grind arith
 
--- what has a chosen move has a place in the list
+-- if a rank has a chosen move, it is less than the length of the list
 pub chosen_within : (xs : List (Option Rule)) (i : ℕ) → is_some (chosen_at xs i) ≡ true → i < length xs
 chosen_within xs i h = grind (arith, cases_lt, both_ways, get_or_past)
 
--- what has a chosen move is a node
+-- if a rank has a chosen move, it is a node
 pub chosen_node : (w : World) (i : ℕ) → length w.chosen ≡ size w → is_some (chosen_at w.chosen i) ≡ true → i < size w
 chosen_node w i e h = let l = chosen_within w.chosen i h in omega (arith, e, l)
 
--- the partner that a rule names is a node, if its guard holds
+-- if the guard of a rule holds, the partner that it names is a node
 pub partner_within : (c : Configuration) (i : ℕ) (r : Rule) → IsLawful c → guard c i r ≡ true → IsWithin c.size r
 partner_within c i r l h = grind (arith, effect-linked)
 
--- a cut leaves the number of nodes
+-- a cut keeps the number of nodes
 pub length-without_link : (n : Network) (a b : ℕ) → length (without_link n a b).registers ≡ length n.registers
 length-without_link n a b = length-unpointed (unpointed n.registers a b) b a ∙ length-unpointed n.registers a b
 
--- the same, by the tests that the event passes
+-- the world after an event that passes the tests of `is_fit` is lawful
 after_fit : (w : World) (e : Event) → IsWorld w → is_fit w e ≡ true → IsWorld (after w e)
 after_fit w (Event.Grant s i rule) k h =
     let x = and_parts (ltb i (size w)) (is_none (chosen_at w.chosen i) && guard (configuration w) i rule) h in
@@ -126,16 +126,16 @@ after_fit w (Event.Cut a b) k h =
     let l = k.network.lawful.in_range a b h in
     renewed-world w (without_link w.network a b) (without_link-lawful w.network a b k.network l.0 l.1) (length-without_link w.network a b)
 
--- a lawful world stays lawful
+-- the world after a possible event is lawful
 pub after-world : (w : World) (e : Event) → IsWorld w → is_possible w e ≡ true → IsWorld (after w e)
 after-world w e k h = after_fit w e k (fit w e h)
 
--- two lists with the same elements
+-- two lists of the same length with the same elements are equal
 pub same_lists : {X : Type 0} (d : X) (xs ys : List X) → length xs ≡ length ys → ((k : ℕ) → k < length xs → get_or xs k d ≡ get_or ys k d) → xs ≡ ys
 same_lists d xs ys e h =
     fill_by_all (λ k. get_or ys k d) xs (length ys) d e (λ k l. h k (omega arith)) ∙ sym (fill_by_all (λ k. get_or ys k d) ys (length ys) d refl (λ k l. refl))
 
--- two worlds that have the same numbers, and the same at each node
+-- two worlds with the same numbers, and with the same registers, choices and neighbours at each node, are equal
 pub same_worlds : (v w : World) → IsWorld v → IsWorld w → v.number ≡ w.number → v.place ≡ w.place → size v ≡ size w
     → ((i : ℕ) → i < size v → (registers_at v.network.registers i ≡ registers_at w.network.registers i) × (chosen_at v.chosen i ≡ chosen_at w.chosen i)
     × (neighbours_at v.network.neighbours i ≡ neighbours_at w.network.neighbours i))
@@ -152,6 +152,6 @@ same_worlds v w k l number place size h = λ z. record {
   place = place z;
 }
 
--- an event changes no number of nodes
+-- an event keeps the number of nodes
 pub size-after : (w : World) (e : Event) → size (after w e) ≡ size w
 size-after w e = grind (arith, length-moved_registers, length-set, length-without_link)

@@ -1,14 +1,15 @@
--- That the nodes of an act are there.
+-- The nodes that an act names exist.
 use Rattle.std.specs.Prelude.{ℕ, ◌<◌, IfSome}
 use Rattle.mml_board.specs.declared.act.Act.{Act}
 use Rattle.mml_board.specs.declared.act.Act.TheVariants as act
 
--- the nodes that the clauses look at are among n
+-- if the act is a move whose node was found, this node is one of the n nodes; the clauses of other acts test this
+-- themselves
 abbrev pub AreThere : ℕ → Act → Type 0
 AreThere n (act.Move node rule at) = IfSome node (λ i. i < n)
 AreThere n _ = Unit {0}
 
--- the nodes that were found are among n
+-- all nodes of the act that were found are among the n nodes
 abbrev pub AreAllThere : ℕ → Act → Type 0
 AreAllThere n (act.Move node rule at) = IfSome node (λ i. i < n)
 AreAllThere n act.Close = Unit {0}

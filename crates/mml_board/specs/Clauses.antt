@@ -1,5 +1,5 @@
--- The clauses of each act, in the order in which they are tried. No other place states them: what may happen, what is
--- legal, what is granted and why it is denied follow from them.
+-- The clauses of each act, in the order in which they are tried. Which events are possible or legal, which requests are
+-- granted, and which are denied for which reason is all defined by these clauses.
 use Rattle.std.specs.Prelude.{ℕ, Bool, true, false, not, ◌==◌, nat_lt, Option, None, Some, is_some, is_none, option_map, if◌then◌else◌, Result, Ok, Err}
 use Rattle.std.specs.{List.list_any, Option.ok_or}
 use Rattle.mml_ids.specs.Gives.{◌>>=◌, ◌>>◌, need}
@@ -35,12 +35,12 @@ is_chosen w i = is_some (chosen_at w.chosen i)
 abbrev pub is_any_chosen : World → Bool
 is_any_chosen w = list_any is_some w.chosen
 
--- the student who asks; the denial if the teacher asks
+-- the student who asks, or the denial if the teacher asks
 abbrev pub student : Who → Denial → Result ℕ Denial
 student who.Teacher d = Err d
 student (who.Student s) d = Ok s
 
--- null if p is null, else the node that p names; the denial if it names none
+-- null if p is null, otherwise the node that p names, or the denial if p names no node
 abbrev pub pointer : Option (Option ℕ) → Denial → Result (Option ℕ) Denial
 pointer None d = Ok None
 pointer (Some found) d = do
@@ -49,7 +49,7 @@ pointer (Some found) d = do
 
 -- ---- the clauses
 
--- the event that happens if x asks for the act and all clauses hold, or else the denial of the first that doesn't;
+-- the event of the act if all its clauses hold for the asker x, and otherwise the denial of the first that doesn't;
 -- `owned` says who owns which node
 abbrev pub check : (Who → ℕ → Bool) → World → Who → Act → Result Event Denial
 check owned w x (act.Move node rule at) = do
@@ -96,7 +96,7 @@ check owned w x (act.Release node) = do
 abbrev pub node_in : World → ℕ → Option ℕ
 node_in w i = if is_node w i then Some i else None
 
--- who asks for an event: the student whose move it is, else the teacher
+-- who asks for an event: the student of a move, and the teacher for any other event
 abbrev pub asker : Event → Who
 asker (event.Grant s i q) = who.Student s
 asker (event.Release i) = who.Teacher
@@ -105,7 +105,7 @@ asker (event.Fault i registers) = who.Teacher
 asker (event.Link a b) = who.Teacher
 asker (event.Cut a b) = who.Teacher
 
--- the act that asks for an event, a move at the current number
+-- the act that asks for an event; a move is asked for in the current configuration
 abbrev pub act_of : World → Event → Act
 act_of w (event.Grant s i q) = act.Move (node_in w i) (Some q) w.number
 act_of w (event.Release i) = act.Release (node_in w i)
@@ -114,6 +114,6 @@ act_of w (event.Fault i registers) = act.Fault (node_in w i) (option_map (node_i
 act_of w (event.Link a b) = act.Link (node_in w a) (node_in w b)
 act_of w (event.Cut a b) = act.Cut (node_in w a) (node_in w b)
 
--- anybody owns any node
+-- everybody owns every node
 abbrev pub anybodys : Who → ℕ → Bool
 anybodys x i = true

@@ -1,9 +1,9 @@
--- The effects of events, stated as facts.
+-- The effects of events, as logical statements.
 use Rattle.std.specs.Prelude.{◌≡◌, ℕ, ◌⊎◌, Bool, true, false}
 use Rattle.mml_board.specs.declared.event.Event.{Event}
 use Rattle.mml_board.specs.declared.event.Event.TheVariants as event
 
--- the event makes the next configuration
+-- the event leads to a new configuration
 abbrev pub makes_configuration : Event → Bool
 makes_configuration (event.Grant s i rule) = false
 makes_configuration (event.Release i) = false

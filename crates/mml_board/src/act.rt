@@ -67,20 +67,20 @@ impl Owners for Roster {
     }
 }
 
-/// Owners under whom anybody owns any node, so that an event's clauses hold whoever asks for it.
+/// Owners for whom everybody owns every node. With them, the clause about the owner of a node always holds.
 #[derive(Clone, Copy, Debug)]
 pub struct Anybody;
 
 impl Owners for Anybody {
     ghost owned = { λ _. anybodys };
 
-    // Returns true: anybody owns any node.
+    // Returns true: everybody owns every node.
     fn is_owned(&self, _who: Who, _node: Rank) -> bool {
         true
     }
 }
 
-/// Returns who asks for an event: the student whose move it is, else the teacher.
+/// Returns who asks for an event: the student of a move, and the teacher for any other event.
 pub fn asker(event: &Event) -> Who
     ensures { result ≡ asker event.now }
 {

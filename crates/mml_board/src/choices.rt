@@ -18,9 +18,9 @@ use std::marker::Model;
 /// For each node its chosen move, if it has one. Contracts see the list.
 #[derive(Debug, Drop)]
 pub struct Choices {
-    // by rank
+    // the chosen move of each node, by rank
     rules: Vec<Option<Rule>>,
-    // the nodes that have one
+    // the nodes that have a chosen move
     nodes: NodeSet,
 }
 

@@ -1,4 +1,4 @@
-//! The clauses of each act, in the order in which they are tried. They are stated only here.
+//! The clauses of each act, in the order in which they are tried. No other module tests them.
 //!
 //! An act is a request for an event. A clause is a condition for it; a denial says which clause doesn't hold. A grant
 //! chooses a move for a node, a release drops it, and a close applies all chosen moves at once. A fault sets a node's
@@ -15,8 +15,8 @@ use mml_ids::{Rank, need};
 use mml_lab::{Student, Who};
 use mml_rules::{Regs, Rule};
 
-/// Tries the clauses of an act, the conditions under which it is granted to `who`, in their order. Returns the event
-/// that is granted if all hold, or the denial of the first that doesn't. `owners` says who owns which node.
+/// Tries the clauses of an act, the conditions under which it is granted to `who`, in their order. Returns the granted
+/// event if all hold, and otherwise the denial of the first that doesn't. `owners` says who owns which node.
 #[inline(always)]
 pub fn check<O: Owners>(owners: &O, board: &Board, who: Who, act: &Act) -> Result<Event, Denial>
     requires { AreThere (length board.now.network.registers) act.now }

@@ -42,8 +42,8 @@ pub enum Denial {
 }
 
 impl Denial {
-    /// Returns the number of the clause that doesn't hold. The clauses of the denied request count from 1, in the order
-    /// in which they are tried. 0 is `NotGreeted`, which is tried before them.
+    /// Returns the number of the clause that doesn't hold. The clauses of a request count from 1, in the order in which
+    /// they are tried. `NotGreeted` has the number 0, because it is tried before them.
     pub fn clause(self) -> u8
         ensures { result ≡ clause_of self }
     {

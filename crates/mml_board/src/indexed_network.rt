@@ -18,7 +18,7 @@ use std::marker::Model;
 #[derive(Debug, Drop)]
 pub struct IndexedNetwork {
     network: Network,
-    // by rank: the nodes that point at the node
+    // the nodes that point at each node, by rank
     suitors: Vec<NodeSet>,
     // the nodes that point at no node
     free: NodeSet,
@@ -150,8 +150,8 @@ impl IndexedNetwork {
         self.network.link(a, b);
     }
 
-    /// Removes the link between two nodes, and the pointers over it. The pointers are removed first, which also updates
-    /// the index.
+    /// Removes the link between two nodes, and sets the pointers along it to null. The pointers are set first, which
+    /// also updates the index.
     pub fn cut(&mut self, a: Rank, b: Rank)
         requires a { a < length self.old.registers }
         requires b { b < length self.old.registers }
@@ -182,7 +182,7 @@ impl IndexedNetwork {
 }
 
 /// Moves a node from the suitors of `from`, at which it pointed, to the suitors of `to`, at which it points now. `None`
-/// stands for a null pointer. `suitors` has the nodes that point at each node, by rank.
+/// means a null pointer. `suitors` has the nodes that point at each node, by rank.
 fn move_suitor(suitors: &mut [NodeSet], node: Rank, from: Option<Rank>, to: Option<Rank>)
     requires from { (i : ℕ) → from ≡ Some i → i < length suitors.old }
     requires to { (i : ℕ) → to ≡ Some i → i < length suitors.old }
@@ -192,8 +192,8 @@ fn move_suitor(suitors: &mut [NodeSet], node: Rank, from: Option<Rank>, to: Opti
     put_suitor(suitors, to, node, true);
 }
 
-/// Adds a node to the suitors of the node `p` if `is_in` is true, and else removes it from them. Does nothing if `p` is
-/// `None`. `suitors` has the nodes that point at each node, by rank.
+/// Adds a node to the suitors of the node `p` if `is_in` is true, and otherwise removes it from them. Does nothing if
+/// `p` is `None`. `suitors` has the nodes that point at each node, by rank.
 fn put_suitor(suitors: &mut [NodeSet], p: Option<Rank>, node: Rank, is_in: bool)
     requires { (i : ℕ) → p ≡ Some i → i < length suitors.old }
     ensures { suitors.new ≡

@@ -1,4 +1,4 @@
-//! Operations on sets of nodes whose contracts say more than those of a set.
+//! Operations on sets of nodes, with the contracts that the proofs of their callers need.
 //!
 //! The rank of a node is its index in the rising order of identifiers.
 ghost use Rattle.std.specs.Prelude.{◌≡◌, ◌↔◌, ℕ, ◌==◌, IsTrue, if◌then◌else◌};
@@ -13,7 +13,7 @@ pub fn link_ends(a: Rank, b: Rank) -> NodeSet
     NodeSet::empty().with(a).with(b)
 }
 
-/// Returns the set with `node` in it if `is_in`, and else without it. The other ranks stay as they are.
+/// Returns the set with `node` in it if `is_in` is true, and otherwise without it. The other ranks stay as they are.
 pub fn with_or_without(nodes: NodeSet, node: Rank, is_in: bool) -> NodeSet
     ensures { (j : ℕ) → set.contains result j ≡
         (if j == node then is_in else set.contains nodes j) }

@@ -8,6 +8,6 @@ use Rattle.std.specs.FinSet as set
 abbrev pub AreChosen : List (Option Rule) → FinSet nat_cmp → Type 0
 AreChosen chosen nodes = (i : ℕ) → set.contains nodes i ≡ is_some (chosen_at chosen i)
 
--- the world of a board's parts
+-- the world that the stored parts of a board represent
 abbrev pub kept_world : Network → List (Option Rule) → ℕ → ℕ → World
 kept_world network chosen number place = record { network = network; chosen = chosen; number = number; place = place }

@@ -1,4 +1,4 @@
--- Which nodes are privileged, and which a change leaves as they were.
+-- The set of privileged nodes, and the nodes that a change doesn't affect.
 use Rattle.std.specs.{Prelude.◌≡◌, Prelude.ℕ, Prelude.◌≤◌, Prelude.Bool, Prelude.true, Prelude.false, Prelude.◌&&◌, Prelude.nat_lt, Prelude.List, Prelude.length, FinSet.FinSet, Ordering.nat_cmp}
 use Rattle.mml_ids.specs.Sets.{those_below}
 use Rattle.mml_rules.specs.{declared.regs.Regs.Regs, Configuration.Configuration, Rules.is_privileged}
@@ -19,7 +19,7 @@ pub record IsUntouched (c : Configuration) (changed : FinSet nat_cmp) (j : ℕ) 
   pub near : (k : ℕ) → c.linked j k ≡ true → set.contains changed k ≡ false
 
 -- the world is lawful, with no more configurations than events; there is room for the effect of each node, and the
--- monitor has the privileged nodes
+-- stored set has exactly the privileged nodes
 pub record IsBoard (w : World) (effects : List Regs) (privileged : FinSet nat_cmp) : Type 0 where
   pub world : IsWorld w
   pub room : length effects ≡ length w.network.registers
