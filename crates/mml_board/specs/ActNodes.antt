@@ -3,8 +3,7 @@ use Rattle.std.specs.Prelude.{ℕ, ◌<◌, IfSome}
 use Rattle.mml_board.specs.declared.act.Act.{Act}
 use Rattle.mml_board.specs.declared.act.Act.TheVariants as act
 
--- if the act is a move whose node was found, this node is one of the n nodes; the clauses of other acts test this
--- themselves
+-- if the act is a move whose node was found, this node is one of the n nodes
 abbrev pub AreThere : ℕ → Act → Type 0
 AreThere n (act.Move node rule at) = IfSome node (λ i. i < n)
 AreThere n _ = Unit {0}

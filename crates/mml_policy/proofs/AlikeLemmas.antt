@@ -1,4 +1,4 @@
--- What a student can't see changes nothing for the student.
+-- What a student can't see doesn't change the answers to the student.
 use Rattle.std.{proofs.lemmas.Bool.Decides.nat_tests, proofs.lemmas.Bool.cases_eq, proofs.lemmas.List.get_or-set_other, proofs.lemmas.Grind.get_or-set_at, specs.Result.IfOk}
 use Rattle.std.proofs.Common.{◌≡◌, ℕ, ◌<◌, Bool, true, false, cond, ◌&&◌, ◌||◌, List, [], ◌∷◌, length, map, Option, Some, Result, Ok, Err, refl, sym, ap, nat_le, ◌∙◌, subst, nat_le, arith, inl, inr}
 use Rattle.std.proofs.Common.{slice_set, filter}
@@ -65,20 +65,20 @@ module _ (ids : List ℕ) (r : RosterValue) (limit : ℕ) (is_halted : Bool) (s 
   same_visible : (i : ℕ) → is_visible r c x i ≡ is_visible r d x i
   same_visible i = ap (λ b. owns r x i || b) (same_neighbour i)
 
-  -- the same clauses of a move
+  -- the clauses of a move have the same result in both worlds
   same_move : (m : Act) (id : ℕ) (q : Asked) (at : ℕ) → m ≡ acts.Move (rank_in ids id) (rule_of ids q) at → check (owns r) w x m ≡ check (owns r) v x m
   same_move m id q at is = ap (check (owns r) w x) is ∙ to_same (rank_in ids id) (rule_of ids q) at ∙ ap (check (owns r) v x) (sym is)
     where
       to_same : (found : Option ℕ) (rule : Option Rule) (at : ℕ) → check (owns r) w x (acts.Move found rule at) ≡ check (owns r) v x (acts.Move found rule at)
       to_same found rule at = grind (arith, nat_tests, bind-same, need-same, same_guard, around)
 
-  -- the same verdicts
+  -- the clauses of each command have the same result in both worlds
   same_clauses : (k : Command) → clauses ids r w x k ≡ clauses ids r v x k
   same_clauses (command.See id) = grind (arith, nat_tests, bind-same, need-same, same_visible)
   same_clauses (command.Move id q at) = ap granted (same_move (acts.Move (rank_in ids id) (rule_of ids q) at) id q at refl)
   same_clauses _ = refl
 
-  -- what is shown is the same
+  -- a visible node has the same registers in both worlds
   same_seen : (i : ℕ) → is_visible r c x i ≡ true → registers_at w.network.registers i ≡ registers_at v.network.registers i
   same_seen i h = elim ((visible_means r c x i lawful_w).0 h) [
     | inl t ↦ absurd (grind arith)
@@ -92,7 +92,7 @@ module _ (ids : List ℕ) (r : RosterValue) (limit : ℕ) (is_halted : Bool) (s 
   same_look : (i : ℕ) → owns r x i ≡ true → look_of w i ≡ look_of v i
   same_look i own = grind (arith, nat_tests, same_kind, around, same_near)
 
-  -- a move chosen in both worlds leaves them alike
+  -- ---- if the same move is chosen in both worlds, they still look the same to the student
   room_w : (i : ℕ) → i < length ids → i < length w.chosen
   room_w i l = let e = in_w.nodes in let f = in_w.world.choices in omega arith
 
@@ -105,12 +105,12 @@ module _ (ids : List ℕ) (r : RosterValue) (limit : ℕ) (is_halted : Bool) (s 
   choosing_alike : (i : ℕ) (q : Option Rule) → i < length ids → Alike r s (choosing w i q) (choosing v i q)
   choosing_alike i q l = grind (arith, nat_tests, chosen_alike)
 
-  -- what is shown of what the clauses allow is the same, and the worlds afterwards are alike
+  -- the ruling is the same in both worlds, and the worlds after it look the same to the student
   abbrev Keeps : Leave → Type 0
   Keeps l =
       (ruling_on_leave limit is_halted w l ≡ ruling_on_leave limit is_halted v l) × Alike r s (after_ruling w (ruling_on_leave limit is_halted w l)) (after_ruling v (ruling_on_leave limit is_halted v l))
 
-  -- the event happens in both worlds or in neither
+  -- if two rulings are equal and lead to worlds that look the same, a full run or a halted journal doesn't change this
   entered : (b h : Bool) (g k : Ruling) → g ≡ k → Alike r s (after_ruling w g) (after_ruling v k) →
       (cond b Full (cond h Journal g) ≡ cond b Full (cond h Journal k))
       × Alike r s (after_ruling w (cond b Full (cond h Journal g))) (after_ruling v (cond b Full (cond h Journal k)))
@@ -146,12 +146,12 @@ module _ (ids : List ℕ) (r : RosterValue) (limit : ℕ) (is_halted : Bool) (s 
   both : (k : Command) → Same (clauses ids r w x k) (clauses ids r v x k)
   both k = same _ _ (same_clauses k) (keeps k)
 
--- in worlds that are alike for a student, each command of the student is ruled on alike
+-- if two worlds look the same to a student, each command of the student has the same ruling in both
 pub same_ruling : (ids : List ℕ) (r : RosterValue) (limit : ℕ) (is_halted : Bool) (w v : World) (s : ℕ) (k : Command) → IsWorldOf ids w → IsWorldOf ids v
     → Alike r s w v → ruling ids r limit is_halted w (who.Student s) k ≡ ruling ids r limit is_halted v (who.Student s) k
 same_ruling ids r limit is_halted w v s k in_w in_v a = (both ids r limit is_halted s w v in_w in_v a k).0
 
--- and the worlds are alike for the student afterwards too
+-- the worlds after this ruling look the same to the student, too
 pub alike_afterwards : (ids : List ℕ) (r : RosterValue) (limit : ℕ) (is_halted : Bool) (w v : World) (s : ℕ) (k : Command) → IsWorldOf ids w → IsWorldOf ids v
     → Alike r s w v
     → Alike r s (after_ruling w (ruling ids r limit is_halted w (who.Student s) k)) (after_ruling v (ruling ids r limit is_halted v (who.Student s) k))

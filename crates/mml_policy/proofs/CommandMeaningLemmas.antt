@@ -1,4 +1,4 @@
--- When each command but a move is granted or shown.
+-- When each command other than a move is granted or answered.
 use Rattle.std.proofs.Common.{◌≡◌, ℕ, zero, suc, ◌==◌, Bool, true, not, ◌||◌, List, [], ◌∷◌, Option, Some, is_some, Result, Ok, refl, ap, inl, inr, ◌⊎◌, arith}
 use Rattle.std.specs.{Prelude.◌↔◌, List.list_any}
 use Rattle.std.proofs.lemmas.Bool.{or_cases, or_left, or_right, eqb-false, ne_eqb, not-true, not_from_false}
@@ -19,7 +19,7 @@ use Rattle.mml_policy.specs.declared.verdict.Verdict.TheVariants as verdicts
 pub some-value : {A : Type 0} (o : Option A) → is_some o ≡ true → (x : A) × (o ≡ Some x)
 some-value o h = grind arith
 
--- if some move is chosen, there is a node that has it
+-- if some move is chosen, some node has a chosen move
 pub chosen-some : (chosen : List (Option Rule)) → list_any is_some chosen ≡ true → (i : ℕ) × (q : Rule) × (chosen_at chosen i ≡ Some q)
 chosen-some [] h = absurd (grind arith)
 chosen-some (o ∷ os) h = elim (or_cases (is_some o) (list_any is_some os) h) [
@@ -39,23 +39,23 @@ settled-show s h = grind arith
 event-same : (f e : Event) → (let s : Result Event Denial = Ok f in s ≡ Ok e) → e ≡ f
 event-same f e h = grind arith
 
--- the pointer that a step found is the one that is named
+-- if the step for the pointer finds q, then q is what p names
 pub named-is : (ids : List ℕ) (p q : Option ℕ) → pointer_step ids p BadRegister ≡ Ok q → IsNamed ids p q
 named-is ids p q h = grind (arith, bind-ok, node-ok)
 
--- a pointer that is named is found
+-- if q is what p names, the step for the pointer finds q
 pub named-from : (ids : List ℕ) (p q : Option ℕ) → IsNamed ids p q → pointer_step ids p BadRegister ≡ Ok q
 named-from ids p q h = grind (arith, bind-from)
 
--- a pointer that passes is null or to a neighbour
+-- if a pointer passes the test, it is null or leads to a neighbour
 pub register-is : (w : World) (i : ℕ) (q : Option ℕ) → may_point (configuration w) i q ≡ true → IsRegister w i q
 register-is w i q h = grind arith
 
--- a pointer that is null or to a neighbour passes
+-- if a pointer is null or leads to a neighbour, it passes the test
 pub register-from : (w : World) (i : ℕ) (q : Option ℕ) → IsRegister w i q → may_point (configuration w) i q ≡ true
 register-from w i q h = grind arith
 
--- what comes next of a link and of a cut, once both nodes are found
+-- ---- the clauses of a link and of a cut, after both nodes are found
 abbrev pub link_at : World → ℕ → ℕ → Result Event Denial
 link_at w a b = need (not (a == b)) Loop >> (need (not ((configuration w).linked a b)) Linked >> Ok ((event.Link a b)))
 
@@ -63,15 +63,15 @@ abbrev pub cut_at : World → ℕ → ℕ → Result Event Denial
 cut_at w a b = need ((configuration w).linked a b) NotLinked >> Ok ((event.Cut a b))
 
 module _ (ids : List ℕ) (x : Who) (first second : ℕ) (rest : ℕ → ℕ → Result Event Denial) where
-  -- what the teacher asks of two nodes
+  -- the clauses of a command of the teacher that names two nodes
   abbrev pub asked_of_both : Result Event Denial
   asked_of_both = need (is_teacher x) NotTeacher >> (node ids first NoNode >>= (λ a. node ids second NoNode >>= rest a))
 
-  -- where both are there, what comes next
+  -- if the teacher asks and both nodes exist, the result is that of the remaining clauses
   pub both_ends : (a b : ℕ) (v : Result Event Denial) → IsAskedOfBoth ids x first second a b → rest a b ≡ v → asked_of_both ≡ v
   both_ends a b v asked e = grind (arith, need-from, bind-from)
 
-  -- where it is granted, both are there
+  -- if the command is granted, the teacher asks, both nodes exist, and the remaining clauses grant it
   pub both_found : (l : Event) → asked_of_both ≡ Ok l → (a : ℕ) × (b : ℕ) × IsAskedOfBoth ids x first second a b × (rest a b ≡ Ok l)
   both_found l h = grind (arith, need-ok, bind-ok, teacher_is, node-ok)
 

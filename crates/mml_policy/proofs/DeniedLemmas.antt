@@ -49,16 +49,16 @@ same_pointer : (p q : Option ℕ) → (let s : Result (Option ℕ) Denial = Ok p
 same_pointer p q e = grind arith
 
 module _ (ids : List ℕ) (r : RosterValue) (w : World) (x : Who) where
-  -- who isn't the teacher, whatever comes next
+  -- if the asker isn't the teacher, the denial is `NotTeacher`, whatever the remaining clauses are
   not_teachers : (rest : Result Event Denial) → x ≢ who.Teacher → (need (is_teacher x) NotTeacher >> rest) ≡ Err NotTeacher
   not_teachers rest h = need-fails (is_teacher x) _ rest (from_no_teacher x h)
 
   module _ (id : ℕ) (rest : ℕ → Result Event Denial) where
-    -- where the node isn't there, whatever comes next
+    -- if the teacher asks and no node has the identifier, the denial is `NoNode`, whatever the remaining clauses are
     no_node : (x ≡ who.Teacher) × (rank_in ids id ≡ None) → (need (is_teacher x) NotTeacher >> (node ids id NoNode >>= rest)) ≡ Err NoNode
     no_node h = need-from (is_teacher x) _ _ _ (ap is_teacher h.0) (bind-fails (node ids id NoNode) _ _ (ap (λ o. ok_or o NoNode) h.1))
 
-    -- where it is there, what comes next
+    -- if the teacher asks and node i has the identifier, the result is that of the remaining clauses
     at_node : (i : ℕ) (v : Result Event Denial) → IsAskedOf ids x id i → rest i ≡ v → (need (is_teacher x) NotTeacher >> (node ids id NoNode >>= rest)) ≡ v
     at_node i v asked e = grind (arith, need-from, bind-from)
 
@@ -83,7 +83,7 @@ module _ (ids : List ℕ) (r : RosterValue) (w : World) (x : Who) where
         → ¬ IsRegister w i q
     unfit i q found fails other named fits = grind (arith, same_pointer, named-from, both_ways, register-from)
 
-    -- the clause of the register, and the event
+    -- the clause of the pointer, and the event
     abbrev with_register : ℕ → Option ℕ → Result Event Denial
     with_register i q = need (may_point (configuration w) i q) BadRegister >> Ok ((event.Fault i (record { p = q; m = m })))
 
@@ -104,12 +104,13 @@ module _ (ids : List ℕ) (r : RosterValue) (w : World) (x : Who) where
   -- ---- a link and a cut
 
   module _ (first second : ℕ) where
-    -- what holds of each error that what is asked of two nodes may end in
+    -- if `why` holds of each denial of the clauses for the teacher, for the two nodes and of the rest, it holds of the
+    -- result's denial
     both_deny : (why : Denial → Type 0) (rest : ℕ → ℕ → Result Event Denial) → (x ≢ who.Teacher → why NotTeacher) → (LacksAnEnd ids x first second → why NoNode)
         → ((a b : ℕ) → IsAskedOfBoth ids x first second a b → IfErr (rest a b) why) → IfErr (asked_of_both ids x first second rest) why
     both_deny why rest alone lacks found = grind (arith, need-deny, no_teacher, bind-deny, node-err, teacher_is, node-ok)
 
-    -- where an end isn't there, whatever comes next
+    -- if an end isn't a node, the denial is `NoNode`, whatever the remaining clauses are
     no_end : (rest : ℕ → ℕ → Result Event Denial) → LacksAnEnd ids x first second → asked_of_both ids x first second rest ≡ Err NoNode
     no_end rest h = grind (arith, need-from, bind-fails, bind-from)
 

@@ -1,4 +1,4 @@
--- Identifiers are names of nodes that come in the order of ranks.
+-- The identifiers of nodes are names that are in the order of the ranks.
 use Rattle.std.proofs.Common.{◌≡◌, ℕ, ◌<◌, ◌==◌, true, List, length, Option, None, Some, slice_index, refl, arith}
 use Rattle.std.proofs.lemmas.List.{get_or_default, Quantifiers.position-Some}
 use Rattle.mml_ids.specs.Ids.{IsTable, rank_in}

@@ -1,4 +1,4 @@
--- What a look shows is visible to the one who may look.
+-- A look shows only nodes that are visible to a participant who may look.
 use Rattle.std.proofs.lemmas.{Bool.Decides.nat_tests, Grind.common_steps, List.Elements.All-nil, List.Elements.All-cons, List.Elements.All-append}
 use Rattle.std.proofs.Common.{◌≡◌, ℕ, zero, suc, ◌+◌, Bool, true, false, ◌⊎◌, refl, subst, add-one, arith}
 use Rattle.std.specs.List.{All}
@@ -14,7 +14,7 @@ near_more : (P : ℕ × Regs → Type 0) (w : World) (i n : ℕ) (b : Bool) → 
 near_more P w i n true e each so_far = grind (arith, common_steps, nat_tests, passing_with, All-append, All-cons, All-nil)
 near_more P w i n false e each so_far = grind (arith, nat_tests, passing_without)
 
--- what holds of each neighbour holds of all that are near
+-- a fact that holds of each neighbour of i holds of each item of `near_below`
 near_all_hold : (P : ℕ × Regs → Type 0) (w : World) (i n : ℕ) → ((j : ℕ) → (configuration w).linked i j ≡ true → P (j, registers_at w.network.registers j))
     → All P (near_below w i n)
 near_all_hold P w i zero each = All-nil P

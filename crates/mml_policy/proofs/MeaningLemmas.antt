@@ -29,7 +29,7 @@ student_teacher x s e h = absurd (grind arith)
 some-is : {A : Type 0} (o : Option A) → is_none o ≡ false → (x : A) × (o ≡ Some x)
 some-is o h = grind arith
 
--- the rule that a step found is the one that is asked for
+-- if the step for the rule finds q, q is the rule that is asked for
 pub asked_is : (ids : List ℕ) (a : Asked) (d : Denial) (q : Rule) → rule_step ids a d ≡ Ok q → IsAsked ids a q
 asked_is ids a d q h = grind (arith, bind-ok, node-ok)
 
@@ -42,7 +42,7 @@ ok-same p q e = grind arith
 asked_once : (ids : List ℕ) (a : Asked) (p q : Rule) → rule_step ids a Guard ≡ Ok p → IsAsked ids a q → p ≡ q
 asked_once ids a p q h k = ok-same p q (sym h ∙ asked_from ids a Guard q k)
 
--- where no rule was found the denial is that of the guard, and no rule is asked for
+-- if the step for the rule fails, the denial is `Guard`, and no rule is the one that is asked for
 pub no_rule : (ids : List ℕ) (a : Asked) (d : Denial) → rule_step ids a Guard ≡ Err d → (d ≡ Guard) × ((q : Rule) → ¬ IsAsked ids a q)
 no_rule ids a d h = grind (arith, none_some)
 

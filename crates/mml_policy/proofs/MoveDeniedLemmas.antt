@@ -1,4 +1,4 @@
--- Why a move is denied, both ways.
+-- A move gets a denial exactly if the reason for this denial holds.
 use Rattle.std.proofs.lemmas.Bool.{Decides.nat_tests, false_from_ne_true, eq-eqb, ne_eqb}
 use Rattle.std.proofs.Common.{◌≡◌, ◌↔◌, ℕ, ◌==◌, List, is_none, Result, Ok, Err, refl, ap, ◌∙◌, arith}
 use Rattle.mml_ids.specs.{Gives.◌>>=◌, Gives.◌>>◌, Gives.need, Ids.rank_in}
@@ -23,7 +23,7 @@ module _ (ids : List ℕ) (r : RosterValue) (w : World) (x : Who) (id : ℕ) (a 
   abbrev with_rule : ℕ → ℕ → Rule → Result Event Denial
   with_rule s i q = need (guard (configuration w) i q) Guard >> Ok ((event.Grant s i q))
 
-  -- the clauses after the first
+  -- the clauses after that of the owner
   abbrev owned : ℕ → ℕ → Result Event Denial
   owned s i = need (at == w.number) (Stale w.number) >> (need (is_none (chosen_at w.chosen i)) Chosen >> (rule_step ids a Guard >>= with_rule s i))
 

@@ -1,4 +1,4 @@
--- The nodes linked to a node, one after the other.
+-- The list of the neighbours of a node with their registers, built one neighbour at a time.
 use Rattle.std.proofs.Common.{◌≡◌, ℕ, ◌+◌, [], ◌∷◌, ◌++◌, map, Bool, true, false, cond, ap, ◌∙◌, append-nil}
 use Rattle.std.specs.{Ordering.nat_cmp, FinSet.FinSet}
 use Rattle.mml_ids.proofs.SetsLemmas.{ranks_in, passing, passing_more}
@@ -6,19 +6,19 @@ use Rattle.mml_rules.specs.{declared.regs.Regs.Regs, Network.neighbours_at, Netw
 use Rattle.mml_board.specs.World.{World, size}
 use Rattle.mml_policy.specs.Shown.{near}
 
--- a number that passes has what is made of it put at the end
+-- if n passes, the list for n + 1 is the list for n with f n appended
 pub passing_with : {X : Type 0} (t : ℕ → Bool) (f : ℕ → X) (n : ℕ) → t n ≡ true → passing t f (n + 1) ≡ passing t f n ++ f n ∷ []
 passing_with t f n e = passing_more t f n ∙ ap (λ b. passing t f n ++ map f (cond b (n ∷ []) [])) e
 
--- a number that doesn't pass adds nothing
+-- if n doesn't pass, the list for n + 1 is the list for n
 pub passing_without : {X : Type 0} (t : ℕ → Bool) (f : ℕ → X) (n : ℕ) → t n ≡ false → passing t f (n + 1) ≡ passing t f n
 passing_without t f n e = passing_more t f n ∙ ap (λ b. passing t f n ++ map f (cond b (n ∷ []) [])) e ∙ append-nil (passing t f n)
 
--- what is shown of a node
+-- a neighbour as a look shows it, with its registers
 abbrev pub shown : World → ℕ → ℕ × Regs
 shown w j = (j, registers_at w.network.registers j)
 
--- those of a node's neighbours are what is shown near it
+-- the neighbours of node i, each with its registers, are the list `near`
 pub near-is : (w : World) (i : ℕ) (s : FinSet nat_cmp) → s ≡ neighbours_at w.network.neighbours i → map (shown w) (ranks_in (size w) s) ≡ near w i
 unfolding near
 near-is w i s e = ap (λ (u : FinSet nat_cmp). map (shown w) (ranks_in (size w) u)) e

@@ -1,4 +1,4 @@
--- A privileged node without a chosen move has one that its owners are granted.
+-- At a privileged node without a chosen move, some move is granted to the node's owners.
 use Rattle.std.proofs.Common.{◌≡◌, ℕ, ◌<◌, true, List, None, Some}
 use Rattle.mml_ids.specs.Ids.{IsTable}
 use Rattle.mml_rules.specs.{declared.rule.Rule.Rule, Rules.kind_of, Rules.enabled_kind, Rules.is_privileged}
@@ -13,7 +13,7 @@ use Rattle.mml_board.specs.declared.event.Event.TheVariants as event
 use Rattle.mml_policy.specs.declared.command.Command.TheVariants as command
 use Rattle.mml_policy.specs.declared.verdict.Verdict.TheVariants as verdicts
 
--- a privileged node without a chosen move has a move that each of its owners is granted
+-- at a privileged node without a chosen move, some move is granted to each owner who asks for it
 pub privileged_granted : (ids : List ℕ) (r : RosterValue) (w : World) (i : ℕ) → IsTable ids → IsWorldOf ids w → i < size w
     → is_privileged (configuration w) i ≡ true → chosen_at w.chosen i ≡ None
     → (rule : Rule) × (enabled_kind (configuration w) i ≡ Some (kind_of rule))

@@ -1,4 +1,4 @@
--- What a verdict grants is legal, and what it shows is there; acts alone are granted.
+-- Events that are granted are legal, nodes that are shown exist, and only acts are granted.
 use Rattle.std.proofs.lemmas.{Bool.Decides.nat_tests, Result.IfOk-at_ok, List.Quantifiers.position-Some}
 use Rattle.std.specs.{Prelude.◌||◌, Result.IfOk, Result.IfErr, Option.IfSome}
 use Rattle.std.proofs.Common.{◌≡◌, ℕ, ◌<◌, ◌==◌, Bool, true, false, List, length, Option, None, Some, option_map, Result, Ok, Err, refl, sym, ap, ◌∙◌, arith}
@@ -17,57 +17,58 @@ use Rattle.mml_policy.specs.declared.command.Command.TheVariants as command
 use Rattle.mml_policy.specs.declared.verdict.Verdict.TheVariants as verdicts
 use Rattle.mml_board.specs.declared.act.Act.TheVariants as acts
 
--- a verdict that grants an event comes of clauses that allow that event
+-- if the verdict grants e, the clauses allow e
 pub settled-grant : (s : Result Leave Denial) (e : Event) → settled s ≡ verdicts.Grant e → s ≡ Ok (Grant e)
 settled-grant s e h = grind arith
 
--- a verdict that denies comes of clauses that end in that denial
+-- if the verdict is a denial, the clauses end in this denial
 pub settled-deny : (s : Result Leave Denial) (d : Denial) → settled s ≡ verdicts.Deny d → s ≡ Err d
 settled-deny s d h = grind arith
 
--- a verdict on an act that grants an event comes of clauses that let it happen
+-- if the verdict on an act grants e, the clauses of the act lead to e
 pub act-grant : (s : Result Event Denial) (e : Event) → settled (granted s) ≡ verdicts.Grant e → s ≡ Ok e
 act-grant s e h = grind arith
 
--- a verdict on an act that denies comes of clauses that end in that denial
+-- if the verdict on an act is a denial, the clauses of the act end in this denial
 pub act-deny : (s : Result Event Denial) (d : Denial) → settled (granted s) ≡ verdicts.Deny d → s ≡ Err d
 act-deny s d h = grind arith
 
--- what clauses let happen is given leave to
+-- if P holds of the permission for each event to which the clauses may lead, it holds of what `granted` returns
 pub granted-if : (P : Leave → Type 0) (s : Result Event Denial) → IfOk s (λ e. P (Grant e)) → IfOk (granted s) P
 granted-if P s h = grind arith
 
--- what holds of the denial of clauses holds where they would give leave
+-- if P holds of the denial of the clauses, it holds of the denial that `granted` returns
 pub granted-deny : (P : Denial → Type 0) (s : Result Event Denial) → IfErr s P → IfErr (granted s) P
 granted-deny P s h = grind arith
 
--- what follows from a fact of an error is a fact of it
+-- if P implies Q, and P holds of the error, Q holds of the error
 pub both_err : {A E : Type 0} (P Q : E → Type 0) (s : Result A E) → ((e : E) → P e → Q e) → IfErr s P → IfErr s Q
 both_err P Q s f h = grind arith
 
--- what may be shown is a node, and what may happen is legal
+-- a node that may be shown exists, and an event that may happen is legal
 abbrev pub IsFine : List ℕ → RosterValue → World → Leave → Type 0
 IsFine ids r w (See i) = i < length ids
 IsFine ids r w (Look i) = i < length ids
 IsFine ids r w Report = Unit {0}
 IsFine ids r w (Grant e) = is_legal r w e ≡ true
 
--- one who owns a node, and is a student, owns it as that student
+-- if x is the student s and owns the node, s owns it
 pub owner_is : (r : RosterValue) (x : Who) (s i : ℕ) → x ≡ who.Student s → owns r x i ≡ true → owns r (who.Student s) i ≡ true
 owner_is r x s i e h = ap (λ y. owns r y i) (sym e) ∙ h
 
--- an event is allowed, and nothing to be shown
+-- the permission is for an event, not for showing something
 abbrev pub is_event : Leave → Bool
 is_event (See i) = false
 is_event (Look i) = false
 is_event Report = false
 is_event (Grant e) = true
 
--- an event is allowed exactly if b is true
+-- the permission is for an event exactly if b is true
 abbrev pub IsEvent : Bool → Leave → Type 0
 IsEvent b l = is_event l ≡ b
 
--- an event, or none; and fine, if there are as many identifiers as nodes
+-- the permission is for an event exactly if b is true; with as many identifiers as nodes, it is also fine as `IsFine`
+-- defines
 abbrev Good : List ℕ → RosterValue → World → Bool → Leave → Type 0
 Good ids r w b l = IsEvent b l × (length ids ≡ size w → IsFine ids r w l)
 
@@ -113,14 +114,14 @@ module _ (ids : List ℕ) (r : RosterValue) (w : World) (x : Who) where
   good (command.Release id) = of_act (acts.Release (rank_in ids id)) (λ same. found id same)
   good command.Report = need-if view (is_teacher x) _ _ (λ _. (refl, λ same. tt))
 
-  -- only acts are allowed an event
+  -- only acts may get the permission for an event
   pub of_kind : (c : Command) (b : Bool) → is_act c ≡ b → IfOk (clauses ids r w x c) (IsEvent b)
   of_kind c b h = grind (arith, both_of, good)
 
   abbrev denies : Denial → Type 0
   denies d = is_of_act w d ≡ true
 
-  -- a denial is of a clause from 1 to 4, and names no number but the world's
+  -- each denial has a clause number from 1 to 4, and names no configuration but the world's
   pub denied_of : (c : Command) → IfErr (clauses ids r w x c) denies
   denied_of (command.See id) =
       bind-deny denies (node ids id Hidden) _ (of_err denies (rank_in ids id) Hidden refl) (λ i there.

@@ -1,4 +1,4 @@
--- To whom a node is shown, as tests and as facts.
+-- The test whether a node is visible agrees with the logical statement.
 use Rattle.std.proofs.Common.{◌≡◌, ℕ, ◌<◌, Bool, true, false, ◌&&◌, ◌||◌, eqb, inl, inr, ap, sym, ◌∙◌, arith, Option, None, Some}
 use Rattle.std.specs.{Prelude.◌↔◌, Prelude.IfSome, Prelude.IfNone, Prelude.is_some, Ordering.nat_cmp, Cmp.nat_cmp_total, FinSet.FinSet}
 use Rattle.std.proofs.lemmas.Bool.{eq-eqb, eqb-true, and_parts, and_from, or_cases, or_left, or_right, both_ways, false_from_ne_true, false≢true}
@@ -10,12 +10,12 @@ use Rattle.mml_policy.specs.Visible.{is_teacher, owns_neighbour, is_visible, IsV
 use Rattle.std.specs.FinSet as sets
 use Rattle.mml_lab.specs.declared.who.Who.TheVariants as who
 
--- one who owns a node linked to i is found to own a neighbour of it
+-- if x owns node j, and j is linked to i, `owns_neighbour` is true
 pub owner_found : (r : RosterValue) (c : Configuration) (x : Who) (i j : ℕ) → j < c.size → (c.linked i j && owns r x j) ≡ true → owns_neighbour r c x i ≡ true
 unfolding owns_neighbour
 owner_found r c x i j within e = some_below-at c.size j (λ j. c.linked i j && owns r x j) within e
 
--- whoever is found to be the teacher is
+-- if `is_teacher` is true, x is the teacher
 pub teacher_is : (x : Who) → is_teacher x ≡ true → x ≡ who.Teacher
 teacher_is x h = grind (arith, false≢true)
 
@@ -23,7 +23,7 @@ to_fact : (r : RosterValue) (c : Configuration) (x : Who) (i : ℕ) → is_visib
 unfolding owns_neighbour
 to_fact r c x i h = grind (arith, or_cases, teacher_is, some_below-find, and_parts)
 
--- a node that is visible is found visible
+-- if the node is visible to x, `is_visible` is true
 pub from_fact : (r : RosterValue) (c : Configuration) (x : Who) (i : ℕ) → IsLawful c → IsVisible r c x i → is_visible r c x i ≡ true
 from_fact r c x i l v = elim v [
   | inl t ↦ or_left (is_teacher x || owns r x i) (owns_neighbour r c x i) (or_left (is_teacher x) (owns r x i) (ap is_teacher t))
@@ -34,20 +34,20 @@ from_fact r c x i l v = elim v [
   ]
 ]
 
--- a node is found visible exactly if it is
+-- `is_visible` is true exactly if the node is visible to x
 pub visible_means : (r : RosterValue) (c : Configuration) (x : Who) (i : ℕ) → IsLawful c → (is_visible r c x i ≡ true) ↔ IsVisible r c x i
 visible_means r c x i l = (to_fact r c x i, from_fact r c x i l)
 
--- one who owns no node linked to i is found to own no neighbour of it
+-- if x owns no node linked to i, `owns_neighbour` is false
 pub no_owner : (r : RosterValue) (c : Configuration) (x : Who) (i : ℕ) → ((j : ℕ) → c.linked i j ≡ true → owns r x j ≡ false) → false ≡ owns_neighbour r c x i
 unfolding owns_neighbour
 no_owner r c x i none = grind (arith, false_from_ne_true, some_below-find, and_parts, both_ways)
 
--- the rank is i or linked to it, and x owns it
+-- j is i or linked to i, and x owns j
 abbrev pub owned_around : RosterValue → Configuration → Who → ℕ → ℕ → Bool
 owned_around r c x i j = (eqb j i || c.linked i j) && owns r x j
 
--- a set of a node and its neighbours, in common with a set of owned nodes
+-- the nodes that are in `around` (i and its neighbours) and in `owned` (x's nodes) are those of `owned_around`
 pub has_around : (r : RosterValue) (c : Configuration) (x : Who) (i : ℕ) (near around owned both : FinSet nat_cmp)
     → ((j : ℕ) → sets.contains near j ≡ c.linked i j) → around ≡ sets.insert near i → ((j : ℕ) → sets.contains owned j ≡ owns r x j)
     → both ≡ sets.intersection around owned → (j : ℕ) → sets.contains both j ≡ owned_around r c x i j
@@ -55,17 +55,17 @@ has_around r c x i near around owned both linked is_around mine is_both j =
     ap (λ s. sets.contains s j) is_both ∙ sets.contains-intersection nat_cmp_total around owned j
     ∙ (λ t. sets.contains (is_around t) j && mine j t) ∙ ap (λ b. b && owns r x j) (has_insert near i j ∙ ap (λ b. eqb j i || b) (linked j))
 
--- one who owns a node around i owns i or a neighbour of it
+-- if x owns i itself or a node linked to i, the test of i and its neighbours is true
 around_found : (r : RosterValue) (c : Configuration) (x : Who) (i j : ℕ) → IsLawful c → owned_around r c x i j ≡ true
     → true ≡ (owns r x i || owns_neighbour r c x i)
 around_found r c x i j lawful is = grind (arith, and_parts, or_cases, or_left, eqb-true, or_right, owner_found, and_from)
 
--- one who owns no node around i owns neither i nor a neighbour of it
+-- if x owns neither i nor a node linked to i, the test of i and its neighbours is false
 none_around : (r : RosterValue) (c : Configuration) (x : Who) (i : ℕ) → ((j : ℕ) → owned_around r c x i j ≡ false)
     → false ≡ (owns r x i || owns_neighbour r c x i)
 none_around r c x i none = grind (arith, no_owner, or_right, or_left, eq-eqb, false≢true)
 
--- if a node is found in the set of those around i that x owns, x owns i or a neighbour of it; if none is, neither
+-- a search of the set of x's nodes among i and its neighbours finds one exactly if x owns i or a neighbour of i
 pub around_is_some : (r : RosterValue) (c : Configuration) (x : Who) (i : ℕ) (both : FinSet nat_cmp) (found : Option ℕ) → IsLawful c
     → ((j : ℕ) → sets.contains both j ≡ owned_around r c x i j) → IfSome found (λ j. sets.contains both j ≡ true) → IfNone found (both ≡ sets.empty)
     → is_some found ≡ (owns r x i || owns_neighbour r c x i)

@@ -1,4 +1,4 @@
--- To whom a node is shown is the same under names that keep the order.
+-- If nodes get other names in the same order, they are visible to the same participants.
 use Rattle.std.proofs.{Common.◌≡◌, Common.ℕ, Common.◌<◌, Common.◌&&◌, Common.◌||◌, Common.sym, Common.ap, Common.◌∙◌, Common.arith, lemmas.Bool.and_parts, lemmas.Bool.and_from}
 use Rattle.mml_ids.proofs.SearchLemmas.{same_bool, some_below-find, some_below-at}
 use Rattle.mml_rules.specs.{Configuration.Configuration, Naming.IsRenamed}

@@ -3,7 +3,7 @@ use Rattle.std.specs.Prelude.{Bool, true, false}
 use Rattle.mml_policy.specs.declared.command.Command.{Command}
 use Rattle.mml_policy.specs.declared.command.Command.TheVariants as command
 
--- the command asks for an event, and not to be shown something
+-- the command asks for an event, and doesn't ask to be shown something
 abbrev pub is_act : Command → Bool
 is_act (command.See node) = false
 is_act (command.Look node) = false

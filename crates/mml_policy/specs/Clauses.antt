@@ -1,4 +1,4 @@
--- What a command names, looked up.
+-- Looking up the node or the rule that a command names.
 use Rattle.std.specs.{Prelude.ℕ, Prelude.List, Prelude.Option, Prelude.Some, Prelude.option_map, Prelude.Result, Option.ok_or}
 use Rattle.mml_ids.specs.Ids.{rank_in}
 use Rattle.mml_rules.specs.declared.rule.Rule.{Rule}
@@ -7,7 +7,7 @@ use Rattle.mml_board.specs.declared.denial.Denial.{Denial}
 use Rattle.mml_rules.specs.declared.rule.Rule.TheVariants as rules
 use Rattle.mml_policy.specs.declared.command.Asked.TheVariants as asked
 
--- the node with this identifier; the denial if there is none
+-- the node with this identifier, or the denial if there is none
 abbrev pub node : List ℕ → ℕ → Denial → Result ℕ Denial
 node ids id d = ok_or (rank_in ids id) d
 

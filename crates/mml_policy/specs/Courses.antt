@@ -1,4 +1,4 @@
--- The decision on a command in a course, over what its parts show.
+-- The decision on a command in a course, that is, in a lab and the current state of its run.
 use Rattle.std.specs.Prelude.{ℕ, ◌≡◌, Bool, length, Result, Ok, Err, MatchResult}
 use Rattle.mml_lab.specs.declared.who.Who.{Who}
 use Rattle.mml_policy.specs.{declared.command.Command.Command, declared.course.Course.Course, declared.ruling.Ruling.Ruling, declared.verdict.Leave.Leave, Rulings.ruling, Verdicts.clauses}
@@ -12,7 +12,7 @@ NamesEachNode k = length k.ids.now ≡ length k.board.now.network.registers
 abbrev pub clauses_in : Course → Who → Command → Result Leave Denial
 clauses_in k x c = clauses k.ids.now k.roster.now k.board.now x c
 
--- a function's result says what the clauses of the command decide: `Ok` has what they allow, and `Err` is their denial
+-- a function returns what the clauses of the command decide: `Ok` has what they allow, and `Err` has their denial
 abbrev pub AnswersClauses : {A : Type 0} → Course → Who → Command → (A → Leave) → Result A Denial → Type 0
 AnswersClauses k x c leave found = MatchResult found (λ a. clauses_in k x c ≡ Ok (leave a)) (λ d. clauses_in k x c ≡ Err d)
 

@@ -1,4 +1,5 @@
--- Why a command is denied, stated as facts: the clauses before hold, and this one doesn't.
+-- Why a command is denied, as logical statements: the clause of the denial doesn't hold, and all clauses before it
+-- hold.
 use Rattle.std.specs.Prelude.{◌≡◌, ◌≢◌, ◌↔◌, ◌⊎◌, ℕ, true, false, List, Option, None, Some}
 use Rattle.mml_ids.specs.Ids.{rank_in}
 use Rattle.mml_lab.specs.{declared.who.Who.Who, Rosters.RosterValue}
@@ -8,8 +9,8 @@ use Rattle.mml_lab.specs.declared.who.Who.TheVariants as who
 use Rattle.mml_board.specs.declared.denial.Denial.TheVariants as denial
 use Rattle.mml_policy.specs.declared.verdict.Verdict.TheVariants as verdicts
 
--- the command of x is granted exactly the events of which May holds, if x is the teacher, and denied exactly by the
--- denials of which Denies holds
+-- an event is granted exactly if x is the teacher and May holds of the event; a denial is returned exactly if Denies
+-- holds of it
 pub record IsDecided (ids : List ℕ) (r : RosterValue) (w : World) (x : Who) (c : Command) (May : Event → Type 0) (Denies : Denial → Type 0) : Type 0 where
   pub granted : (e : Event) → (verdict ids r w x c ≡ verdicts.Grant e) ↔ ((x ≡ who.Teacher) × May e)
   pub denied : (d : Denial) → (verdict ids r w x c ≡ verdicts.Deny d) ↔ Denies d
@@ -25,7 +26,7 @@ pub record IsAskedOfBoth (ids : List ℕ) (x : Who) (first second a b : ℕ) : T
   pub node_a : rank_in ids first ≡ Some a
   pub node_b : rank_in ids second ≡ Some b
 
--- why a close is denied: a student asks; or the teacher, if no move is chosen
+-- why a close is denied: a student asks, or the teacher asks and no move is chosen
 abbrev pub DeniesClose : World → Who → Denial → Type 0
 DeniesClose w x denial.NotTeacher = x ≢ who.Teacher
 DeniesClose w x denial.Empty = (x ≡ who.Teacher) × ((i : ℕ) → chosen_at w.chosen i ≡ None)
@@ -42,7 +43,7 @@ DeniesFault ids w x id p _ = ⊥
 abbrev pub LacksAnEnd : List ℕ → Who → ℕ → ℕ → Type 0
 LacksAnEnd ids x first second = (x ≡ who.Teacher) × ((rank_in ids first ≡ None) ⊎ (rank_in ids second ≡ None))
 
--- why a link is denied: a student asks; an end is no node; both ends are one node; or they are linked already
+-- why a link is denied: a student asks; an end is no node; both ends are the same node; or they are linked already
 abbrev pub DeniesLink : List ℕ → World → Who → ℕ → ℕ → Denial → Type 0
 DeniesLink ids w x first second denial.NotTeacher = x ≢ who.Teacher
 DeniesLink ids w x first second denial.NoNode = LacksAnEnd ids x first second

@@ -1,15 +1,15 @@
--- A configuration whose nodes have their identifiers as names.
+-- A configuration in which nodes are named by their identifiers.
 use Rattle.std.specs.{Prelude.ℕ, Prelude.◌+◌, Prelude.Bool, Prelude.false, Prelude.List, Prelude.Option, Prelude.None, Prelude.Some, Prelude.slice_index, Option.option_and_then, Option.option_map_or}
 use Rattle.mml_ids.specs.{declared.TheConstants.MAX_ID, Ids.rank_in}
 use Rattle.mml_rules.specs.{Configuration.Configuration, Naming.renamed}
 
--- two ranks, if there are both, are linked
+-- both ranks exist, and are linked
 abbrev pub are_linked : Configuration → Option ℕ → Option ℕ → Bool
 are_linked c None b = false
 are_linked c (Some i) None = false
 are_linked c (Some i) (Some j) = c.linked i j
 
--- each node by its identifier; a number that is no identifier has no link, points at nobody, and its m is false
+-- the configuration with nodes named by identifiers; other numbers have no link, a null pointer and m false
 abbrev pub with_identifiers : List ℕ → Configuration → Configuration
 with_identifiers ids c = record {
   size = MAX_ID + 1;

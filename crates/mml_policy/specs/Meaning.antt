@@ -28,18 +28,19 @@ pub record IsOwner (ids : List ℕ) (r : RosterValue) (x : Who) (id s i : ℕ) :
 abbrev pub IsGuarded : List ℕ → World → ℕ → Asked → Rule → Type 0
 IsGuarded ids w i asked q = IsAsked ids asked q × MayApply (configuration w) i q
 
--- student s may apply the rule q at the own node i, in the current configuration, and no move is chosen there
+-- student s owns node i, asks in the current configuration, no move is chosen for i, and the rule q may be applied
+-- there
 pub record MayMove (ids : List ℕ) (r : RosterValue) (w : World) (x : Who) (id : ℕ) (asked : Asked) (at s i : ℕ) (q : Rule) : Type 0 where
   pub own : IsOwner ids r x id s i
   pub current : at ≡ w.number
   pub free : chosen_at w.chosen i ≡ None
   pub guard : IsGuarded ids w i asked q
 
--- some move has been chosen for i
+-- node i has a chosen move
 abbrev pub IsChosen : World → ℕ → Type 0
 IsChosen w i = (q : Rule) × (chosen_at w.chosen i ≡ Some q)
 
--- student s owns i, but another number is named than the current one, n
+-- student s owns i, but asks in another configuration than the current one, whose number is n
 pub record IsLate (ids : List ℕ) (r : RosterValue) (w : World) (x : Who) (id at n : ℕ) : Type 0 where
   pub s : ℕ
   pub i : ℕ
@@ -47,7 +48,7 @@ pub record IsLate (ids : List ℕ) (r : RosterValue) (w : World) (x : Who) (id a
   pub late : at ≢ w.number
   pub told : n ≡ w.number
 
--- student s owns i and names the current number, but some move has been chosen for i
+-- student s owns i and asks in the current configuration, but some move is chosen for i
 pub record IsTaken (ids : List ℕ) (r : RosterValue) (w : World) (x : Who) (id at : ℕ) : Type 0 where
   pub s : ℕ
   pub i : ℕ
@@ -55,8 +56,8 @@ pub record IsTaken (ids : List ℕ) (r : RosterValue) (w : World) (x : Who) (id 
   pub current : at ≡ w.number
   pub chosen : IsChosen w i
 
--- student s owns i and names the current number, and no move is chosen for i, but the rule that is asked for may not be
--- applied there
+-- student s owns i and asks in the current configuration, and no move is chosen for i, but the rule that is asked for
+-- may not be applied there
 pub record IsUnguarded (ids : List ℕ) (r : RosterValue) (w : World) (x : Who) (id : ℕ) (asked : Asked) (at : ℕ) : Type 0 where
   pub s : ℕ
   pub i : ℕ
@@ -65,7 +66,7 @@ pub record IsUnguarded (ids : List ℕ) (r : RosterValue) (w : World) (x : Who) 
   pub free : chosen_at w.chosen i ≡ None
   pub unfit : (q : Rule) → ¬ IsGuarded ids w i asked q
 
--- why a move is denied: the clause of the denial doesn't hold, and those that are tried earlier do
+-- why a move is denied: the clause of the denial doesn't hold, and all clauses before it hold
 abbrev pub DeniesMove : List ℕ → RosterValue → World → Who → ℕ → Asked → ℕ → Denial → Type 0
 DeniesMove ids r w x id asked at denial.NotOwner = (s i : ℕ) → ¬ IsOwner ids r x id s i
 DeniesMove ids r w x id asked at (denial.Stale n) = IsLate ids r w x id at n
@@ -81,19 +82,19 @@ MaySee ids r w x id = (i : ℕ) × (rank_in ids id ≡ Some i) × IsVisible r (c
 abbrev pub MayLook : List ℕ → RosterValue → Who → ℕ → Type 0
 MayLook ids r x id = (i : ℕ) × (rank_in ids id ≡ Some i) × ((x ≡ who.Teacher) ⊎ (owns r x i ≡ true))
 
--- the registers of each node are shown, and each of these nodes is visible to x
+-- the look shows the registers of nodes as they are in the world, and each of these nodes is visible to x
 pub record ShowsWhatIsVisible (r : RosterValue) (w : World) (x : Who) (l : Look) : Type 0 where
   pub node : is_visible r (configuration w) x l.node ≡ true
   pub registers : l.regs ≡ registers_at w.network.registers l.node
   pub near : All (λ n. is_visible r (configuration w) x n.0 ≡ true) l.near
   pub near_registers : All (λ n. n.1 ≡ registers_at w.network.registers n.0) l.near
 
--- q is null if p is null, else the node with the identifier p
+-- q is null if p is null, and otherwise q is the node with the identifier p
 abbrev pub IsNamed : List ℕ → Option ℕ → Option ℕ → Type 0
 IsNamed ids None q = q ≡ None
 IsNamed ids (Some id) q = (j : ℕ) × (rank_in ids id ≡ Some j) × (q ≡ Some j)
 
--- null or a neighbour of i
+-- the pointer is null or leads to a neighbour of i
 abbrev pub IsRegister : World → ℕ → Option ℕ → Type 0
 IsRegister w i None = Unit {0}
 IsRegister w i (Some j) = (configuration w).linked i j ≡ true
@@ -105,7 +106,8 @@ pub record MayClose (w : World) (e : Event) : Type 0 where
   pub chosen : chosen_at w.chosen i ≡ Some move
   pub granted : e ≡ event.Close
 
--- there is a node with this identifier, p names null or a neighbour of it, and the event sets its registers to p and m
+-- there is a node with this identifier, p is null or names one of its neighbours, and the event sets its registers to p
+-- and m
 pub record MayFault (ids : List ℕ) (w : World) (id : ℕ) (p : Option ℕ) (m : Bool) (e : Event) : Type 0 where
   pub i : ℕ
   pub q : Option ℕ

@@ -15,7 +15,7 @@ ruling_on_leave limit is_halted w (Look i) = Looked (look_of w i)
 ruling_on_leave limit is_halted w Report = Reported
 ruling_on_leave limit is_halted w (Grant e) = if nat_le limit w.place then Full else (if is_halted then Journal else Granted e (done_by w e))
 
--- the ruling by clauses: that on what they allow, or their denial
+-- the ruling, given what the clauses decide
 abbrev pub ruled : ℕ → Bool → World → Result Leave Denial → Ruling
 ruled limit is_halted w (Ok l) = ruling_on_leave limit is_halted w l
 ruled limit is_halted w (Err d) = Denied d
@@ -25,7 +25,7 @@ ruled limit is_halted w (Err d) = Denied d
 abbrev pub ruling : List ℕ → RosterValue → ℕ → Bool → World → Who → Command → Ruling
 ruling ids r limit is_halted w x c = ruled limit is_halted w (clauses ids r w x c)
 
--- the event that happens, if one does
+-- the event that the ruling grants, if it grants one
 abbrev pub event_of : Ruling → Option Event
 event_of (Denied d) = None
 event_of (Seen s) = None
@@ -39,7 +39,7 @@ event_of (Granted e d) = Some e
 abbrev pub after_ruling : World → Ruling → World
 after_ruling w r = option_map_or (after w) (event_of r) w
 
--- the ruling shows a look: only this ruling needs memory
+-- the ruling shows a look, which is the only ruling that needs memory
 abbrev pub is_look : Ruling → Bool
 is_look (Looked l) = true
 is_look _ = false

@@ -4,7 +4,7 @@ use Rattle.mml_rules.specs.{declared.regs.Regs.Regs, Network.registers_at, Rules
 use Rattle.mml_board.specs.World.{World, size, configuration, chosen_at}
 use Rattle.mml_policy.specs.declared.{see.See.See, look.Look.Look}
 
--- what a see shows: the registers of a node, and the number of the configuration that they are of
+-- what a see shows: the registers of a node, and the number of the configuration to which they belong
 abbrev pub see_of : World → ℕ → See
 see_of w i = record { at = w.number; node = i; regs = registers_at w.network.registers i }
 

@@ -10,13 +10,13 @@ use Rattle.mml_board.specs.declared.act.Act.TheVariants as act
 use Rattle.mml_policy.specs.declared.command.Command.TheVariants as command
 use Rattle.mml_policy.specs.declared.verdict.Verdict.TheVariants as verdicts
 
--- leave for the event that clauses allow, or their denial
+-- the permission for the event that the clauses allow, or their denial
 abbrev pub granted : Result Event Denial → Result Leave Denial
 granted (Ok e) = Ok (Grant e)
 granted (Err d) = Err d
 
--- the clauses of each command, in the order in which they are tried, and what the command is allowed if all hold; those
--- of an act are its clauses on the board
+-- the clauses of each command, in the order in which they are tried, and what the command may do if all hold; for an
+-- act, `check` of `mml_board` defines the clauses
 abbrev pub clauses : List ℕ → RosterValue → World → Who → Command → Result Leave Denial
 clauses ids r w x (command.See id) = do
   i ← node ids id Hidden
@@ -36,7 +36,7 @@ clauses ids r w x (command.Link a b) = granted (check (owns r) w x (act.Link (ra
 clauses ids r w x (command.Cut a b) = granted (check (owns r) w x (act.Cut (rank_in ids a) (rank_in ids b)))
 clauses ids r w x (command.Release id) = granted (check (owns r) w x (act.Release (rank_in ids id)))
 
--- the verdict of clauses: what they allow, or their denial
+-- the verdict, given what the clauses decide
 abbrev pub settled : Result Leave Denial → Verdict
 settled (Ok (See i)) = verdicts.Show
 settled (Ok (Look i)) = verdicts.Show
@@ -44,7 +44,7 @@ settled (Ok Report) = verdicts.Show
 settled (Ok (Grant e)) = verdicts.Grant e
 settled (Err d) = verdicts.Deny d
 
--- the denial of the first clause that doesn't hold; if all hold, the event that the command asks for, or that it is
--- shown what it asks for
+-- `Deny` with the denial of the first clause that doesn't hold; if all hold, `Grant` with the event that the command
+-- asks for, or `Show` if it asks to be shown something
 abbrev pub verdict : List ℕ → RosterValue → World → Who → Command → Verdict
 verdict ids r w x c = settled (clauses ids r w x c)

@@ -32,7 +32,7 @@ pub enum Command {
 #[derive(Clone, Copy, Debug, PartialEq, Eq)]
 pub enum Asked {
     Update,
-    /// With the node with this identifier.
+    /// A marriage with the node that has this identifier.
     Marriage(u64),
     Seduction,
     Abandonment,

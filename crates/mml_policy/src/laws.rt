@@ -1,11 +1,11 @@
 //! Laws of the policy. Each is the contract of a function that does nothing.
 //!
 //! A command asks to be shown something (a see, a look or a report), or for an event. It is granted if all its clauses,
-//! the conditions for it, hold; otherwise it is denied by the first that doesn't. The verdict says which; the ruling is
-//! the verdict, or a refusal in place of a grant. A grant chooses a move for a node, a release drops it, and a close
-//! applies all chosen moves at once. A fault sets a node's registers, a link joins two nodes, and a cut removes a link.
-//! The registers of a node are its pointer p and m, which is true or false. An event is legal if all clauses of its
-//! request hold. A node is privileged if some rule is enabled there.
+//! the conditions for it, hold; otherwise it is denied by the first that doesn't. This decision is the verdict. The
+//! ruling is the verdict, or a refusal in place of a grant. A grant chooses a move for a node, a release drops it, and
+//! a close applies all chosen moves at once. A fault sets a node's registers, a link joins two nodes, and a cut removes
+//! a link. The registers of a node are its pointer p and m, which is true or false. An event is legal if all clauses of
+//! its request hold. A node is privileged if some rule is enabled there.
 ghost use Rattle.std.specs.Prelude.{◌≡◌, ◌≢◌, ◌<◌, ◌↔◌, ◌⊎◌, ℕ, Bool, List, Option, None, Some, true, false, length, slice_index};
 ghost use Rattle.mml_rules.specs.declared.rule.Rule.{Rule};
 ghost use Rattle.mml_rules.specs.Configuration.{Configuration, IsLawful};
@@ -114,8 +114,8 @@ pub fn a_fault_takes_a_neighbour()
         IsDecided ids r w x (command.Fault id p m) (MayFault ids w id p m) (DeniesFault ids w x id p) }
 {}
 
-/// A link is granted exactly if the teacher asks, both identifiers are those of nodes, these differ and they aren't
-/// linked. Otherwise it is denied by the first of the four that doesn't hold.
+/// A link is granted exactly if the teacher asks, both identifiers are those of nodes, and these nodes are different
+/// and aren't linked. Otherwise it is denied by the first of these facts that doesn't hold.
 pub fn a_link_takes_two_unlinked_nodes()
     ensures { (ids : List ℕ) (r : RosterValue) (w : World) (x : Who) (first second : ℕ) →
         IsDecided ids r w x (command.Link first second) (MayLink ids w first second) (DeniesLink ids w x first second) }
@@ -159,8 +159,8 @@ pub fn legal_events_are_granted()
         (verdict ids r w (asker e) (command_of ids w e) ≡ verdicts.Grant e) }
 {}
 
-/// Take a privileged node without a chosen move. Some rule of the kind that a look shows there is granted to each owner
-/// who asks for it with the number of the current configuration.
+/// Let a node be privileged and have no chosen move. A look shows the kind of the rule that is enabled there. Some rule
+/// of this kind is granted to each owner who asks for it with the number of the current configuration.
 pub fn privileged_nodes_are_granted()
     ensures { (ids : List ℕ) (r : RosterValue) (w : World) (i : ℕ) → IsTable ids →
         IsWorldOf ids w → i < size w → is_privileged (configuration w) i ≡ true →

@@ -1,10 +1,10 @@
 //! Refusals: the reasons why an act doesn't happen although all its clauses hold.
 //!
 //! A clause is a condition under which a request is granted; a denial names the first that doesn't hold. An act is a
-//! request for an event. The journal is halted once a line couldn't be written to it.
+//! request for an event. The journal is halted if a line couldn't be written to it.
 use mml_ids::Memory;
 
-/// Why an act that all clauses allow doesn't happen, or the reply to a ruling can't be made.
+/// Why an act doesn't happen although all its clauses hold, or why the reply to a ruling can't be made.
 #[derive(Clone, Copy, Debug, PartialEq, Eq)]
 pub enum Refusal {
     /// The run already has as many events as the lab allows.

@@ -2,7 +2,7 @@
 //!
 //! A clause is a condition under which a request is granted; a denial names the first that doesn't hold. An act is a
 //! request for an event. The verdict is what the clauses decide; the ruling is the verdict, or a refusal in place of a
-//! grant. The journal is halted once a line couldn't be written to it.
+//! grant. The journal is halted if a line couldn't be written to it.
 ghost use Rattle.std.specs.Prelude.{◌≡◌, OnErr, IfOk, true};
 ghost use Rattle.mml_policy.specs.Courses.{NamesEachNode, ruling_in};
 ghost use Rattle.mml_policy.specs.Rulings.{event_of, is_look};
@@ -22,11 +22,11 @@ use std::alloc::Global;
 pub enum Ruling {
     /// A clause doesn't hold.
     Denied(Denial),
-    /// What a node shows to those who may see it.
+    /// All clauses of a see hold. These are the registers that it shows.
     Seen(See),
-    /// What a node shows to its owners and the teacher.
+    /// All clauses of a look hold. This is the node that it shows, with its neighbours.
     Looked(Look),
-    /// The report on the board's configuration is shown.
+    /// All clauses of a report hold. The caller makes the report.
     Reported,
     /// All clauses hold, but the lab allows no more events.
     Full,

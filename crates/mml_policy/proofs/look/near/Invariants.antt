@@ -6,7 +6,7 @@ use Rattle.mml_policy.specs.Shown.{near}
 use Rattle.mml_policy.proofs.NearLemmas.{shown}
 use Rattle.mml_policy.proofs.look.near.Given as goal
 
--- what was put, what is shown of those that are left, and that there is room for them
+-- the neighbours that the loop has appended, followed by those that are left, are all; and there is room for those left
 abbrev pub invariant-loop-other : goal.invariant-loop-other
 invariant-loop-other l = record {
   within : (j : ℕ) → sets.contains l.left j ≡ true → j < length l.board.network.registers;
