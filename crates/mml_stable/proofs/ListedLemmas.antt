@@ -1,4 +1,4 @@
--- What stands in the lists of a report, and in which order.
+-- Which items the lists of a report have, and in which order.
 use Rattle.std.proofs.Common.{◌≡◌, ◌↔◌, ℕ, zero, suc, ◌<◌, Bool, true, ◌&&◌, ltb, List, [], ◌∷◌, ◌++◌, Option, None, Some, inl, inr, arith, refl, sym, ap, ◌∙◌, subst, rules}
 use Rattle.std.specs.List.{All, Contains}
 use Rattle.std.proofs.lemmas.Bool.{and_parts, and_from, ltb-true, lt-ltb, not-true, not_from_false, false_from_ne_true, both_ways, cases_eq, cases_order, Decides.nat_tests}
@@ -11,7 +11,7 @@ use Rattle.mml_stable.specs.Reports.{each_below, listed_if, pair_at, pairs, is_f
 use Rattle.mml_stable.specs.Listed.{IsPairInOrder, IsFreeNode, IsPrivilegedBy, IsOpenLink, Rises, IsLinkBefore, HasEnd, IsMatched, IsMaximalMatching}
 use Rattle.mml_stable.proofs.{MatchingLemmas.maximal, MatchingLemmas.stable-means, NamedLemmas.all_listed, NamedLemmas.all_below}
 
--- ---- what a list has
+-- ---- the items of a list
 
 in_nothing : {X : Type 0} (x : X) → Contains [] x → ⊥
 in_nothing x h = absurd (omega (arith, h.1))
@@ -39,7 +39,7 @@ at_below (suc n) f x i l h = elim (cases_eq i n) [
   | inr ne ↦ Contains-append_left (each_below n f) (f n) x (at_below n f x i (omega (arith, ne)) h)
 ]
 
--- ---- that a list rises
+-- ---- the order of a list
 
 rises_append : {X : Type 0} (R : X → X → Type 0) (xs ys : List X) → Rises R xs → Rises R ys → All (λ x. All (R x) ys) xs → Rises R (xs ++ ys)
 rises_append R [] ys hx hy between = hy
@@ -49,7 +49,8 @@ rises_append R (x ∷ xs) ys hx hy between =
 rises_one : {X : Type 0} (R : X → X → Type 0) (b : Bool) (x : X) → Rises R (listed_if b x)
 rises_one R b x = grind (arith, nat_tests)
 
--- if each item listed for a number has the number as its key, lower keys come first
+-- if the items for each number are in order and have this number as their key, the items for all numbers below n are in
+-- order
 module _ {X : Type 0} (R : X → X → Type 0) (key : X → ℕ) (f : ℕ → List X) (keyed : (i : ℕ) → All (λ x. key x ≡ i) (f i))
     (lower : (x y : X) → key x < key y → R x y) (each : (i : ℕ) → Rises R (f i)) where
   rises_below : (n : ℕ) → Rises R (each_below n f)
@@ -115,7 +116,7 @@ module _ (c : Configuration) (l : IsLawful c) where
   is_open_at : (k : OpenLink) → IsOpenLink c k → is_open c k.a k.b ≡ true
   is_open_at k o = and_from _ _ o.linked (and_from _ _ (lt-ltb k.a k.b o.lower) (and_from _ _ (free_from k.a o.free_a) (free_from k.b o.free_b)))
 
-  -- ends and witness are all that a listed link has
+  -- a link with the ends and the witness of k is k
   is_that_link : (k : OpenLink) (w : ℕ × Kind) → (k.node, k.kind) ≡ w → record { a = k.a; b = k.b; node = w.0; kind = w.1 } ≡ k
   is_that_link k w e = λ z. record { a = k.a; b = k.b; node = (sym e z).0; kind = (sym e z).1 }
 
@@ -174,7 +175,7 @@ module _ (c : Configuration) (l : IsLawful c) where
           both : (p q : ℕ × ℕ) (i : ℕ) → p.0 ≡ i → q.0 ≡ i → p.1 ≡ q.1 → p ≡ q
           both p q i a b e = λ z. ((a ∙ sym b) z, e z)
 
--- ---- each list rises
+-- ---- each list is in rising order
 
 module _ (c : Configuration) where
   pub pairs_rise : Rises (λ p q. p.0 < q.0) (pairs c)
@@ -206,7 +207,7 @@ module _ (c : Configuration) where
       each i None = tt
       each i (Some k) = (All-nil (λ q. i < q.0), tt)
 
-  -- the links of a
+  -- the open links in the list for a have a as their lower end
   links_have_a : (a : ℕ) → All (λ k. k.a ≡ a) (open_links_at c a)
   links_have_a a = search (rules, all_below, all_listed)
 

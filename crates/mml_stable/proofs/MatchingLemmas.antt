@@ -11,7 +11,7 @@ use Rattle.mml_rules.proofs.{ConfigurationLemmas.holds-from, EnabledKindLemmas.i
 use Rattle.mml_rules.proofs.RulesLemmas.{married-partner, married-at, null-none, suitor-find, greatest-none}
 use Rattle.mml_stable.specs.Reports.{is_stable}
 
--- no other rule than a seduction is enabled at i
+-- at a quiet node, no rule other than a seduction is enabled
 pub record IsQuiet (c : Configuration) (i : ℕ) : Type 0 where
   pub only : (r : Rule) → guard c i r ≡ true → kind_of r ≡ Kind.Seduction
 
@@ -28,7 +28,7 @@ quiet-settled c i q =
 pub idle-settled : (c : Configuration) (i : ℕ) → IsLawful c → is_privileged c i ≡ false → c.m i ≡ is_married c i
 idle-settled c i l h = quiet-settled c i (idle-quiet c i l h)
 
--- a quiet node that isn't married points at no node but a higher one with m false
+-- a quiet node that isn't married points only at a higher node with m false
 pub quiet-vain : (c : Configuration) (i j : ℕ) → IsLawful c → IsQuiet c i → c.p i ≡ Some j → is_married c i ≡ false → (c.m j ≡ false) × (i < j)
 quiet-vain c i j l q p free =
     let right : m_is_right c i ≡ true = beq-same _ _ (quiet-settled c i q) in
@@ -44,7 +44,7 @@ quiet-vain c i j l q p free =
     let apart : i ≡ j → ⊥ = λ e. both_ways (c.linked i i) (l.no_loop i) (subst (λ x. c.linked i x ≡ true) (sym e) (l.to_linked i j p)) in
     (parts.0, omega arith)
 
--- a node to which a marriage is offered isn't quiet
+-- if i points at j, and the pointer of j is null, j isn't quiet, since it can point back
 pub quiet-alone : (c : Configuration) (i j : ℕ) → IsLawful c → c.p i ≡ Some j → c.p j ≡ None → IsQuiet c j → ⊥
 quiet-alone c i j l p n q =
     let e : Kind.Marriage ≡ Kind.Seduction = q.only (Rule.Marriage i)
@@ -65,7 +65,7 @@ free-null c l s (suc n) i room in_c free = go (free-null c l s n) (c.p i) refl
         let j_free : is_married c j ≡ false = sym (idle-settled c j l (s j j_in)) ∙ up.0 in
         absurd (quiet-alone c i j l e (further j (omega arith) j_in j_free) (idle-quiet c j l (s j j_in)))
 
--- of two neighbours that point nowhere, with m false at the higher one, the lower one may seduce
+-- if a and its higher neighbour b have null pointers, m is false at b, and a is quiet, a seduction may be applied at a
 pub may_seduce : (c : Configuration) (a b : ℕ) → IsLawful c → c.linked a b ≡ true → a < b → IsQuiet c a → c.p a ≡ None → c.p b ≡ None → c.m b ≡ false
     → guard c a Rule.Seduction ≡ true
 may_seduce c a b l linked lt quiet pa pb mb =
@@ -79,7 +79,7 @@ may_seduce c a b l linked lt quiet pa pb mb =
     some-best None e f = absurd (both_ways (is_candidate c a b) (greatest-none c a b e (l.in_range a b linked).1) f)
     some-best (Some x) e f = refl
 
--- the lower of two linked nodes that both point nowhere is privileged, if m is false at the higher one
+-- if a and its higher neighbour b have null pointers, and m is false at b, then a is privileged
 pub no_open_link : (c : Configuration) (a b : ℕ) → IsLawful c → c.linked a b ≡ true → a < b → is_privileged c a ≡ false → c.p a ≡ None → c.p b ≡ None
     → c.m b ≡ false → ⊥
 no_open_link c a b l linked lt idle pa pb mb =
@@ -88,7 +88,7 @@ no_open_link c a b l linked lt idle pa pb mb =
 pub paired : (c : Configuration) (i : ℕ) → is_married c i ≡ true → (j : ℕ) × IsPair c i j
 paired c i h = let r = married-partner c i h in (r.0, (r.1, r.2))
 
--- if no node is privileged, the matching is maximal
+-- if no node is privileged, the pairs are a maximal matching
 pub maximal : (c : Configuration) → IsLawful c → IsStable c → IsMaximal c
 maximal c l s a b linked = go (is_married c a) (is_married c b) refl refl
   where
@@ -112,7 +112,7 @@ maximal c l s a b linked = go (is_married c a) (is_married c b) refl refl
           ]
         ]
 
--- what the report says of it
+-- `is_stable` is true exactly if no node is privileged
 pub stable-means : (c : Configuration) → (is_stable c ≡ true) ↔ IsStable c
 stable-means c = (to, from)
   where

@@ -1,4 +1,4 @@
--- What a report names are nodes of its world.
+-- A report names only nodes of its world.
 use Rattle.std.proofs.Common.{◌≡◌, ℕ, zero, suc, ◌<◌, Bool, true, ◌&&◌, ltb, List, Option, None, Some, Result, arith, rules}
 use Rattle.std.specs.{Result.IfOk, List.All}
 use Rattle.std.proofs.lemmas.{Bool.and_parts, Bool.ltb-true, Bool.not-true, Bool.Decides.nat_tests, List.Elements.All-nil, List.Elements.All-append}
@@ -9,11 +9,11 @@ use Rattle.mml_stable.specs.declared.stability_report.Report.{Report}
 use Rattle.mml_stable.specs.Reports.{each_below, listed_if, pair_at, privileged_at, is_open, open_link, report_of, IsPairOf, IsOpenLinkOf, NamesNodes}
 use Rattle.mml_stable.proofs.WalkLemmas.{certified}
 
--- a list of one element or none has what the element has if it is listed
+-- if P holds of x in case that the test is true, P holds of each item of `listed_if`
 pub all_listed : {X : Type 0} (P : X → Type 0) (b : Bool) (x : X) → (b ≡ true → P x) → All P (listed_if b x)
 all_listed P b x h = grind (arith, nat_tests)
 
--- what holds in the list of each number below n holds in all these lists together
+-- if P holds of each item of the lists for the numbers below n, P holds of each item of `each_below`
 pub all_below : {X : Type 0} (P : X → Type 0) (n : ℕ) (f : ℕ → List X) → ((i : ℕ) → i < n → All P (f i)) → All P (each_below n f)
 all_below P zero f h = All-nil P
 all_below P (suc n) f h = All-append P (each_below n f) (f n) (all_below P n f (λ i l. h i (omega (arith, l)))) (h n (omega arith))
@@ -38,6 +38,6 @@ module _ (w : World) (is : IsWorld w) where
   pub report_names : NamesNodes (size w) (report_of w)
   report_names = search (rules, all_below, pair_names, all_listed, privileged_names, link_names)
 
--- a report of a lawful world names nodes of that world
+-- a report on a lawful world names only nodes of that world
 pub named : {E : Type 0} (w : World) (told : Result Report E) → IsWorld w → IfOk told (λ r. r ≡ report_of w) → IfOk told (NamesNodes (size w))
 named w told is e = grind (arith, nat_tests, report_names)

@@ -1,4 +1,4 @@
--- The lists of a report: the open links of a node from rows of sets, and that no node is privileged.
+-- The lists of a report, as the loops over sets of nodes build them.
 use Rattle.std.proofs.Common.{◌≡◌, ◌≢◌, ℕ, zero, suc, ◌+◌, ◌<◌, Bool, true, false, cond, not, ◌&&◌, eqb, ltb, [], ◌∷◌, ◌++◌, length, map, sym, refl, ap, ◌∙◌, arith, add-one, Option, length-append}
 use Rattle.std.proofs.lemmas.{List.append-nil, List.Elements.filter_agree, Bool.lt-ltb, Bool.le-ltb, Bool.eq-eqb, Bool.ne_eqb, Bool.and_parts, Bool.cases_eq, Bool.cases_lt, Bool.Decides.nat_tests}
 use Rattle.std.specs.{Prelude.is_some, Ordering.nat_cmp, FinSet.FinSet}
@@ -8,7 +8,7 @@ use Rattle.mml_rules.specs.{declared.rule.Kind.Kind, Configuration.Configuration
 use Rattle.mml_stable.specs.{inside.Rest.IsFreeFrom, Reports.each_below, Reports.listed_if, Reports.privileged_at, Reports.is_free, Reports.is_open, Reports.open_link, Reports.open_links_at}
 use Rattle.std.specs.FinSet as sets
 
--- what is listed of the numbers below n that pass
+-- the values of f at the numbers below n that pass, as `passing` or as `each_below` lists them, are the same list
 listed_below : {A : Type 0} (t : ℕ → Bool) (f : ℕ → A) (n : ℕ) → passing t f n ≡ each_below n (λ b. listed_if (t b) (f b))
 listed_below t f zero = refl
 listed_below t f (suc n) = ap (passing t f) (sym (add-one n)) ∙ passing_more t f n ∙ (λ i. listed_below t f n i ++ one (t n) i)
@@ -17,7 +17,7 @@ listed_below t f (suc n) = ap (passing t f) (sym (add-one n)) ∙ passing_more t
     one true = refl
     one false = refl
 
--- of the ends of the open links of a
+-- the links from a to each node of the set `ends`, the greater ends of its open links, are the open links of a
 pub links_of_ends : (c : Configuration) (a : ℕ) (ends : FinSet nat_cmp) → ((b : ℕ) → sets.contains ends b ≡ is_open c a b)
     → map (open_link c a) (ranks_in c.size ends) ≡ open_links_at c a
 links_of_ends c a ends same = grind (arith, nat_tests, filter_agree, listed_below)
@@ -26,12 +26,12 @@ links_of_ends c a ends same = grind (arith, nat_tests, filter_agree, listed_belo
 pub both_ends : (c : Configuration) (a b : ℕ) → IsLawful c → is_open c a b ≡ true → (a < c.size) × (b < c.size)
 both_ends c a b lawful open_b = lawful.in_range a b (and_parts (c.linked a b) _ open_b).0
 
--- no node is listed with its rule if there is none
+-- the list of privileged nodes is empty exactly if no rule is enabled at any node
 pub none_listed : (n : ℕ) (kind : ℕ → Option Kind) → eqb (length (each_below n (λ i. privileged_at i (kind i)))) 0 ≡ not (some_below n (λ i. is_some (kind i)))
 none_listed zero kind = refl
 none_listed (suc n) kind = grind (arith, nat_tests, append-nil, ne_eqb, length-append, (none_listed n kind))
 
--- all free nodes are left before the first
+-- at the beginning, the rest has all free nodes
 pub all_left : (c : Configuration) (free : FinSet nat_cmp) → free ≡ those_below c.size (is_free c) → IsFreeFrom c 0 free
 all_left c free e b =
     ap (λ s. sets.contains s b) e ∙ has-those_below c.size (is_free c) b
@@ -40,12 +40,12 @@ all_left c free e b =
 past : (a b : ℕ) (x : Bool) → (not (eqb b a) && (not (ltb b a) && x)) ≡ (not (ltb b (a + 1)) && x)
 past a b x = grind (arith, nat_tests, cases_lt, ne_eqb, lt-ltb, cases_eq, eq-eqb, le-ltb)
 
--- the next node is taken out
+-- after node a is removed, the rest has the free nodes from a + 1 on
 pub one_past : (c : Configuration) (a : ℕ) (rest left : FinSet nat_cmp) → IsFreeFrom c a rest → left ≡ sets.remove rest a → IsFreeFrom c (a + 1) left
 one_past c a rest left from e b =
     ap (λ s. sets.contains s b) e ∙ has_remove rest a b ∙ ap (λ t. not (eqb b a) && t) (from b) ∙ past a b (ltb b c.size && is_free c b)
 
--- the rest has the node itself if that is free
+-- the rest of the free nodes from a on has a exactly if a is free
 pub has_self : (c : Configuration) (a : ℕ) (rest : FinSet nat_cmp) → a < c.size → IsFreeFrom c a rest → sets.contains rest a ≡ is_free c a
 has_self c a rest l from = from a ∙ (rw (le-ltb a a (omega arith), lt-ltb a c.size l) refl)
 
@@ -56,11 +56,11 @@ row linked free_b from above in_size free_a within free = grind (arith, nat_test
 apart : (a b : ℕ) → a ≢ b → not (ltb b a) ≡ ltb a b
 apart a b ne = grind (arith, nat_tests, cases_lt, lt-ltb, le-ltb)
 
--- of a free node: its neighbours that are left
+-- if a is free, the greater ends of its open links are its neighbours among the free nodes from a on
 pub open_row : (c : Configuration) (a b : ℕ) → IsLawful c → is_free c a ≡ true
     → (c.linked a b && (not (ltb b a) && (ltb b c.size && is_free c b))) ≡ is_open c a b
 open_row c a b l free = grind (arith, nat_tests, row, apart, lt-ltb)
 
--- a node that is not free has none
+-- a node that isn't free has no open links
 pub no_row : (c : Configuration) (a b : ℕ) → is_free c a ≡ false → false ≡ is_open c a b
 no_row c a b taken = grind (arith, nat_tests)

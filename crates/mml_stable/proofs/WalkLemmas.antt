@@ -1,4 +1,5 @@
--- The walk rises, ends at a privileged node or one that points at no node, and gives an open link its witness.
+-- The walk along the pointers rises and ends at a node that is privileged or points nowhere. It finds the witness of an
+-- open link.
 use Rattle.std.proofs.Common.{◌≡◌, ℕ, zero, suc, ◌<◌, ◌≤◌, ◌+◌, Bool, true, false, cond, ◌⊎◌, inl, inr, Option, None, Some, unwrap_or, sym, refl, ap, ◌∙◌, subst, arith, add-one}
 use Rattle.std.proofs.lemmas.Bool.{both_ways, and_parts, Decides.nat_tests}
 use Rattle.mml_rules.specs.{declared.rule.Rule.Rule, declared.rule.Kind.Kind, Configuration.Configuration, Configuration.IsLawful}
@@ -7,7 +8,7 @@ use Rattle.mml_rules.proofs.{RulesLemmas.none-null, EnabledKindLemmas.guard-kind
 use Rattle.mml_stable.specs.Walk.{climb, top, unless_seduction, walk, certificate, LeadsTo, LeadsTo.privileged, LeadsTo.null, LeadsTo.onward}
 use Rattle.mml_stable.proofs.MatchingLemmas.{IsQuiet, idle-quiet, idle-settled, quiet-settled, quiet-vain, quiet-alone, may_seduce}
 
--- the climb from i is at its end: at i, or at the node that an idle node points at
+-- the walk from i ends at x, which is i or a node at which some node points
 pub record EndsAt (c : Configuration) (i x : ℕ) : Type 0 where
   pub in_range : x < c.size
   pub leads : LeadsTo c i x
@@ -41,7 +42,7 @@ climb-ends c l (suc n) i room i_in free = go (climb-ends c l n) (is_privileged c
               from = elim r.from [ inl s ↦ inr (i, subst (λ x. c.p i ≡ Some x) (sym s) p) | inr y ↦ inr y ];
             }
 
--- the walk from a node that isn't married, or has m false, ends at that node or at one that another points at
+-- the walk from a node that isn't married, or has m false, ends at this node or at a node at which some node points
 pub top-ends : (c : Configuration) → IsLawful c → (i : ℕ) → i < c.size → (is_married c i ≡ false) ⊎ (c.m i ≡ false) → EndsAt c i (top c i)
 unfolding top
 top-ends c l i i_in free = climb-ends c l c.size i (omega arith) i_in free
@@ -51,7 +52,7 @@ leads-null c i x (privileged h) e = absurd (both_ways _ e h)
 leads-null c i x (null h p) e = p
 leads-null c i x (onward h p r) e = leads-null c _ x r e
 
--- a seduction is for a node that points nowhere
+-- if a seduction may be applied at a node, the node's pointer is null
 guard-null : (c : Configuration) (i : ℕ) (r : Rule) → kind_of r ≡ Kind.Seduction → guard c i r ≡ true → c.p i ≡ None
 guard-null c i r e g = grind (arith, nat_tests, none-null, and_parts)
 
@@ -64,11 +65,11 @@ idle_is_quiet c x l h = record { only = λ r g. only_seduction x (kind_of r) (ap
 idle_is_null : (c : Configuration) (i x : ℕ) → IsLawful c → LeadsTo c i x → unless_seduction x (enabled_kind c x) ≡ None → c.p x ≡ None
 idle_is_null c i x l leads h = grind (arith, nat_tests, leads-null, kind-guard, guard-null, only_seduction)
 
--- if the walk from a free node is idle, it has not left the node
+-- if the walk from a free node finds no rule other than a seduction, the free node is quiet and has a null pointer
 pub idle-stays : (c : Configuration) (i : ℕ) → IsLawful c → i < c.size → is_married c i ≡ false → walk c i ≡ None → IsQuiet c i × (c.p i ≡ None)
 idle-stays c i l i_in free h = grind (arith, nat_tests, top-ends, idle_is_quiet, idle_is_null, quiet-alone)
 
--- a node that is there, with a rule whose guard holds at it
+-- a node of the network, with the kind of the rule that is enabled there
 pub record IsWitness (c : Configuration) (e : ℕ × Kind) : Type 0 where
   pub node : e.0 < c.size
   pub kind : enabled_kind c e.0 ≡ Some e.1
@@ -79,7 +80,7 @@ kept-witness c x o e k x_in h = grind (arith, nat_tests)
 pub walk-witness : (c : Configuration) (i : ℕ) (e : ℕ × Kind) → IsLawful c → i < c.size → is_married c i ≡ false → walk c i ≡ Some e → IsWitness c e
 walk-witness c i e l i_in free h = kept-witness c (top c i) (enabled_kind c (top c i)) e refl (top-ends c l i i_in (inl free)).in_range h
 
--- the certificate of an open link names an enabled rule
+-- the witness of an open link is a node with the rule that is enabled there
 pub certified : (c : Configuration) (a b : ℕ) → IsLawful c → c.linked a b ≡ true → a < b → is_married c a ≡ false → is_married c b ≡ false
     → IsWitness c (certificate c a b)
 unfolding certificate
@@ -99,11 +100,11 @@ certified c a b l linked lt free_a free_b = go (walk c a) (walk c b) refl refl
         let qb = idle-stays c b l b_in free_b hb in
         record { node = a_in; kind = guard-kind c a Rule.Seduction l (may_seduce c a b l linked lt qa.0 qa.1 qb.1 (quiet-settled c b qb.0 ∙ free_b)) }
 
--- the rule there has a guard that holds
+-- at a witness, the guard of some rule of the kind that it names holds
 pub witness-guard : (c : Configuration) (e : ℕ × Kind) → IsWitness c e → (r : Rule) × (kind_of r ≡ e.1) × (guard c e.0 r ≡ true)
 witness-guard c e w = kind-guard c e.0 e.1 w.kind
 
--- steps of a climb
+-- a climb stays at a privileged node
 pub climb_stops : (c : Configuration) (n i : ℕ) → is_privileged c i ≡ true → climb c n i ≡ i
 climb_stops c n i h = grind (arith, nat_tests)
 
@@ -116,12 +117,12 @@ climb_null c (suc n) i h p = rw (h, p) (climb_null c n i h p)
 pub climb_onward : (c : Configuration) (n m i j : ℕ) → m ≡ n + 1 → is_privileged c i ≡ false → c.p i ≡ Some j → climb c m i ≡ climb c n j
 climb_onward c n m i j e h p = ap (λ k. climb c k i) (e ∙ add-one n) ∙ rw (h, p) refl
 
--- if a climb stays at a node and reaches the end of the walk, the walk ends at that node
+-- if a climb from x stays at x and ends where the walk from i ends, x is the end of this walk
 pub top_is : (c : Configuration) (i n x : ℕ) → climb c n x ≡ climb c c.size i → climb c n x ≡ x → x ≡ top c i
 unfolding top
 top_is c i n x e stays = sym stays ∙ e
 
--- what the pointers do on the way
+-- each pointer on the way leads to a greater node that has m false
 pub rises : (c : Configuration) (i j : ℕ) → IsLawful c → is_privileged c i ≡ false → (is_married c i ≡ false) ⊎ (c.m i ≡ false) → c.p i ≡ Some j
     → (i < j) × (c.m j ≡ false)
 rises c i j l idle free p =

@@ -1,4 +1,4 @@
--- The witness of an open link is the same node under names that keep the order.
+-- If nodes get other names in the same order, each open link has the same node as its witness.
 use Rattle.std.proofs.Common.{◌≡◌, ◌⊎◌, ℕ, zero, suc, ◌<◌, ◌≤◌, Bool, true, false, Option, None, Some, unwrap_or, is_some, sym, refl, ap, ◌∙◌, subst, arith, inl, inr}
 use Rattle.std.proofs.lemmas.Bool.{and_parts, not-true, Decides.nat_tests}
 use Rattle.mml_rules.specs.{declared.rule.Kind.Kind, Configuration.Configuration, Configuration.IsLawful, Rules.is_married, Rules.is_privileged, Naming.renamed, Naming.IsRenamed}
@@ -10,7 +10,7 @@ module _ (f : ℕ → ℕ) (c d : Configuration) (l : IsLawful c) (r : IsRenamed
   privileged_at : (i : ℕ) → i < c.size → is_privileged d (f i) ≡ is_privileged c i
   privileged_at i a = ap is_some (kind_named f c d l r i a)
 
-  -- there are at least as many names as nodes
+  -- the name of node i is at least i
   rank_first : (i : ℕ) → i < c.size → i ≤ f i
   rank_first zero a = omega arith
   rank_first (suc i) a = let below = rank_first i (omega arith) in let up = r.rising i (suc i) (omega arith) a in omega arith
@@ -18,7 +18,7 @@ module _ (f : ℕ → ℕ) (c d : Configuration) (l : IsLawful c) (r : IsRenamed
   as_many : (n : ℕ) → c.size ≡ n → c.size ≤ d.size
   as_many n e = grind (arith, nat_tests, rank_first)
 
-  -- a walk that comes to its end takes the same way under the names
+  -- if a climb reaches the end of the walk, it reaches the same node under the new names
   climbed : (n m i : ℕ) → n ≤ m → i < c.size → (is_privileged c (climb c n i) ≡ true) ⊎ (c.p (climb c n i) ≡ None) → climb d m (f i) ≡ f (climb c n i)
   climbed n m i room i_in end = at n m i room i_in end (is_privileged c i) refl (c.p i) refl
     where
@@ -45,7 +45,7 @@ module _ (f : ℕ → ℕ) (c d : Configuration) (l : IsLawful c) (r : IsRenamed
   unfolding top
   top_named i i_in free = climbed c.size d.size i (as_many c.size refl) i_in (ends_there i (top c i) (top-ends c l i i_in free).leads)
 
-  -- what a walk found, under the names
+  -- the result of a walk under the new names
   abbrev found : Option (ℕ × Kind) → Option (ℕ × Kind)
   found None = None
   found (Some e) = Some (f e.0, e.1)

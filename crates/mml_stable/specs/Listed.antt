@@ -1,4 +1,4 @@
--- The items of a report's lists, as facts.
+-- The items of a report's lists, as logical statements.
 use Rattle.std.specs.Prelude.{◌≡◌, ℕ, ◌<◌, ◌⊎◌, true, List, [], ◌∷◌, All, Contains}
 use Rattle.mml_rules.specs.{declared.rule.Kind.Kind, declared.rule.Rule.Rule, Configuration.Configuration, Rules.kind_of, Matching.IsPair, Meaning.IsMarried, Meaning.MayApply}
 use Rattle.mml_stable.specs.{declared.open_link.OpenLink.OpenLink, Walk.certificate}
@@ -7,7 +7,7 @@ use Rattle.mml_stable.specs.{declared.open_link.OpenLink.OpenLink, Walk.certific
 abbrev pub IsPairInOrder : Configuration → ℕ × ℕ → Type 0
 IsPairInOrder c p = (p.0 < p.1) × IsPair c p.0 p.1
 
--- a node that is in no pair
+-- the node isn't in a pair
 abbrev pub IsFreeNode : Configuration → ℕ → Type 0
 IsFreeNode c i = (i < c.size) × ¬ IsMarried c i
 
@@ -32,7 +32,7 @@ Rises Before (x ∷ xs) = All (Before x) xs × Rises Before xs
 abbrev pub IsLinkBefore : OpenLink → OpenLink → Type 0
 IsLinkBefore k l = (k.a < l.a) ⊎ ((k.a ≡ l.a) × (k.b < l.b))
 
--- one of the two is i
+-- one of the two nodes is i
 abbrev pub HasEnd : ℕ → ℕ × ℕ → Type 0
 HasEnd i p = (p.0 ≡ i) ⊎ (p.1 ≡ i)
 

@@ -5,12 +5,12 @@ use Rattle.mml_rules.specs.{declared.rule.Kind.Kind, Configuration.Configuration
 use Rattle.mml_board.specs.World.{World, configuration}
 use Rattle.mml_stable.specs.{declared.open_link.OpenLink.OpenLink, declared.stability_report.Report.Report, Walk.certificate}
 
--- the lists of 0, of 1, and so on below n, one after another
+-- the lists for the numbers 0 to n - 1, one after another
 abbrev pub each_below : {A : Type 0} → ℕ → (ℕ → List A) → List A
 each_below zero list = []
 each_below (suc n) list = each_below n list ++ list n
 
--- one thing, if the test holds, or none
+-- a list of only x if the test is true, and otherwise an empty list
 abbrev pub listed_if : {A : Type 0} → Bool → A → List A
 listed_if true x = x ∷ []
 listed_if false x = []
@@ -41,7 +41,7 @@ privileged_at i (Some kind) = (i, kind) ∷ []
 abbrev pub privileged_nodes : Configuration → List (ℕ × Kind)
 privileged_nodes c = each_below c.size (λ i. privileged_at i (enabled_kind c i))
 
--- a link between a and a greater b, both of them free
+-- a and b are linked, b is greater than a, and both are free
 abbrev pub is_open : Configuration → ℕ → ℕ → Bool
 is_open c a b = c.linked a b && (nat_lt a b && (is_free c a && is_free c b))
 
@@ -72,15 +72,15 @@ report_of w = record {
   stable = is_stable (configuration w);
 }
 
--- two nodes below n
+-- both nodes are below n
 abbrev pub IsPairOf : ℕ → ℕ × ℕ → Type 0
 IsPairOf n p = (p.0 < n) × (p.1 < n)
 
--- ends and witness are below n
+-- both ends and the witness are below n
 abbrev pub IsOpenLinkOf : ℕ → OpenLink → Type 0
 IsOpenLinkOf n l = (l.a < n) × (l.b < n) × (l.node < n)
 
--- each node that is named is below n
+-- each node that the report names is below n
 pub record NamesNodes (n : ℕ) (r : Report) : Type 0 where
   pub pairs : All (IsPairOf n) r.pairs
   pub free : All (λ i. i < n) r.free

@@ -1,8 +1,8 @@
--- From a node along the pointers, to one at which a rule may be applied.
+-- The walk from a node along the pointers, to a node at which a rule may be applied.
 use Rattle.std.specs.Prelude.{◌≡◌, ℕ, zero, suc, true, false, if◌then◌else◌, Option, None, Some, unwrap_or}
 use Rattle.mml_rules.specs.{declared.rule.Kind.Kind, Configuration.Configuration, Rules.enabled_kind, Rules.is_privileged}
 
--- the first of i, p(i), p(p(i)), .. that is privileged or points at no node; if none comes within n steps, the node
+-- the first of i, p(i), p(p(i)), .. that is privileged or points at no node; if there is none within n steps, the node
 -- after n steps
 abbrev pub climb : Configuration → ℕ → ℕ → ℕ
 climb c zero i = i
@@ -12,7 +12,7 @@ climb c (suc n) i = if is_privileged c i then i else climb c n (unwrap_or (c.p i
 unfoldable pub top : Configuration → ℕ → ℕ
 top c i = climb c c.size i
 
--- the node with the rule enabled there; none if no rule is enabled, or a seduction
+-- the node with the rule enabled there; none if no rule is enabled, or if it is a seduction
 abbrev pub unless_seduction : ℕ → Option Kind → Option (ℕ × Kind)
 unless_seduction i None = None
 unless_seduction i (Some Kind.Update) = Some (i, Kind.Update)
@@ -20,7 +20,8 @@ unless_seduction i (Some Kind.Marriage) = Some (i, Kind.Marriage)
 unless_seduction i (Some Kind.Seduction) = None
 unless_seduction i (Some Kind.Abandonment) = Some (i, Kind.Abandonment)
 
--- the node at which the walk from i ends, with the rule enabled there; none if no rule is enabled there, or a seduction
+-- the node at which the walk from i ends, with the rule enabled there; none if no rule is enabled, or if it is a
+-- seduction
 abbrev pub walk : Configuration → ℕ → Option (ℕ × Kind)
 walk c i = unless_seduction (top c i) (enabled_kind c (top c i))
 

@@ -52,8 +52,8 @@ pub(crate) fn witness(board: &Board, kinds: &[Option<Kind>], a: Rank, b: Rank) -
 }
 
 /// Follows the pointers from `node` to the first node that is privileged or points at no node, as `end_of_walk` does.
-/// Returns this node with the rule that is enabled there. Returns `None` if no rule is enabled there, or a seduction.
-/// `kinds` has the rule that is enabled at each node, by rank.
+/// Returns this node with the rule that is enabled there. Returns `None` if no rule is enabled there, or if the rule is
+/// a seduction. `kinds` has the rule that is enabled at each node, by rank.
 fn witness_from(board: &Board, kinds: &[Option<Kind>], node: Rank) -> Option<(Rank, Kind)>
     requires kinds { AreKinds (configuration board.now) kinds.now }
     requires node { node < length board.now.network.registers }
@@ -67,8 +67,8 @@ fn witness_from(board: &Board, kinds: &[Option<Kind>], node: Rank) -> Option<(Ra
 }
 
 /// Follows the pointers from `node` to the first node that is privileged or points at no node. Returns this node, with
-/// the rule that is enabled there, if one is. If no such node comes in as many steps as there are nodes, returns the
-/// node that the last step reached. `kinds` has the rule that is enabled at each node, by rank.
+/// the rule that is enabled there, if one is. If there is no such node within as many steps as there are nodes, returns
+/// the node that the last step reached. `kinds` has the rule that is enabled at each node, by rank.
 fn end_of_walk(board: &Board, kinds: &[Option<Kind>], node: Rank) -> (Rank, Option<Kind>)
     requires kinds { AreKinds (configuration board.now) kinds.now }
     requires node { node < length board.now.network.registers }

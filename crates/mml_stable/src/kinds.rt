@@ -10,7 +10,7 @@ use mml_board::Board;
 use mml_ids::{MAX_NODES, Rank};
 use mml_rules::{Kind, Scene};
 
-/// The most nodes that there may be, as the length of a list.
+/// The greatest number of nodes that a network may have, as the length of a list.
 pub(crate) const PLACES: usize = MAX_NODES as usize;
 
 /// Finds the rule that is enabled at each node, if one is, and writes it into `kinds`, by rank.

@@ -18,7 +18,7 @@ ghost use Rattle.mml_stable.specs.Listed.{IsPairInOrder, IsFreeNode, IsPrivilege
 ghost use Rattle.mml_stable.specs.Walk.{top, certificate, LeadsTo};
 
 /// A report says `stable` exactly if no node is privileged. Then the pairs are a maximal matching, and m is true
-/// exactly at the married nodes.
+/// exactly at the nodes that are in a pair.
 pub fn stable_is_maximal()
     ensures told { (c : Configuration) → (is_stable c ≡ true) ↔ IsStable c }
     ensures matching { (c : Configuration) → IsMatching c }

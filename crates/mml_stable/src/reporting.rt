@@ -1,4 +1,4 @@
-//! The making of a report.
+//! Making a report.
 //!
 //! A node is privileged if some rule is enabled there. A free node is in no pair of nodes that point at each other. A
 //! link is open if both its ends are free. The witness of an open link is a privileged node that the report names for

@@ -1,4 +1,4 @@
--- The free nodes that are left, while the open links are listed.
+-- The free nodes that are left while the open links are listed.
 use Rattle.std.specs.{Prelude.◌≡◌, Prelude.ℕ, Prelude.not, Prelude.◌&&◌, Prelude.nat_lt, Ordering.nat_cmp, FinSet.FinSet}
 use Rattle.mml_rules.specs.Configuration.{Configuration}
 use Rattle.mml_stable.specs.Reports.{is_free}

@@ -5,7 +5,7 @@ use Rattle.mml_board.specs.World.{size, configuration}
 use Rattle.mml_stable.specs.Reports.{is_open, open_link, open_links_at}
 use Rattle.mml_stable.proofs.reporting.put_open_links.Given as goal
 
--- what was put, and the links of those that are left
+-- the links that the loop has appended, followed by those to the nodes that are left, are all open links of a
 abbrev pub invariant-loop-b : goal.invariant-loop-b
 invariant-loop-b l = record {
   each : (b : ℕ) → sets.contains l.left b ≡ true → is_open (configuration l.board) l.a b ≡ true;
