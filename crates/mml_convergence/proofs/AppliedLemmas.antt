@@ -1,4 +1,4 @@
--- Over grants, releases and closes the moves are paid for by the potential.
+-- A number that falls in each step by at least the number of moves is a bound on the moves of a run.
 use Rattle.std.proofs.Common.{◌≡◌, ℕ, ◌+◌, ◌*◌, ◌≤◌, true, cond, List, [], ◌∷◌, length, Option, None, is_some, ap, ◌∙◌, arith}
 use Rattle.std.{specs.List.list_all, proofs.lemmas.Bool.false≢true, proofs.lemmas.Bool.Decides.nat_tests, proofs.lemmas.List.get_or_default, proofs.lemmas.List.Folds.Any-from_list_any}
 use Rattle.mml_ids.specs.Search.{count_below}
@@ -11,11 +11,11 @@ use Rattle.mml_convergence.specs.{Runs.is_of_step, Potential.whole_potential, Mo
 use Rattle.mml_convergence.proofs.{SumsLemmas.count_some, WholePotentialLemmas.whole_fell, WholePotentialLemmas.whole_most}
 use Rattle.mml_board.specs.declared.event.Event.TheVariants as event
 
--- what falls in each step by the moves at least
+-- P falls in each step by at least the number of moves
 abbrev pub Falls : (Configuration → ℕ) → Type 0
 Falls P = (c : Configuration) (chosen : ℕ → Option Rule) → IsLawful c → AllHold c chosen → P (step c chosen) + count_below c.size (moves chosen) ≤ P c
 
--- pays for the moves of a close
+-- if P falls so, it also falls in a close by at least the number of the close's moves
 pub close_paid : (P : Configuration → ℕ) → Falls P → (w : World) → IsWorld w → chosen_count w + P (configuration (after w event.Close)) ≤ P (configuration w)
 unfolding chosen_count
 close_paid P falls w k = grind (arith, nat_tests, closed-step)
@@ -27,22 +27,22 @@ event_pays P falls w (event.Release i) k of_step = omega arith
 event_pays P falls w event.Close k of_step = close_paid P falls w k
 event_pays P falls w _ k of_step = absurd (false≢true of_step)
 
--- and for those of a list
+-- if P falls so, grants, releases and closes apply at most as many moves as P is at their beginning
 pub moves_paid : (P : Configuration → ℕ) → Falls P → (r : RosterValue) (w : World) (es : List Event) → IsWorld w → is_legal_list r w es ≡ true
     → list_all is_of_step es ≡ true → applied_over w es ≤ P (configuration w)
 moves_paid P falls r w [] k legal steps = omega arith
 moves_paid P falls r w (e ∷ es) k legal steps = grind (arith, event_pays P falls w e k, moves_paid P falls r (after w e) es, after-world w e k, legal_possible r w e)
 
--- a close pays for its moves
+-- in a close, the sum of all potentials falls by at least the number of moves
 pub close_pays : (w : World) → IsWorld w → chosen_count w + whole_potential (configuration (after w event.Close)) ≤ whole_potential (configuration w)
 close_pays w k = close_paid whole_potential whole_fell w k
 
--- all potentials of a network together are at most 2 for each link and 3 for each node
+-- the sum of all potentials of a network is at most 2 for each link and 3 for each node
 pub network_most : (n : Network) → IsNetwork n → whole_potential (configuration_of n) ≤ 2 * link_count n + 3 * length n.registers
 unfolding link_count
 network_most n k = whole_most (configuration_of n) k.lawful
 
--- over grants, releases and closes, at most 2 moves for each link and 3 for each node are applied
+-- grants, releases and closes apply at most 2 moves for each link and 3 for each node
 pub moves_bounded : (r : RosterValue) (w : World) (es : List Event) → IsWorld w → is_legal_list r w es ≡ true → list_all is_of_step es ≡ true
     → applied_over w es ≤ 2 * link_count w.network + 3 * size w
 moves_bounded r w es k legal steps = omega (arith, moves_paid whole_potential whole_fell r w es k legal steps, network_most w.network k.network)
@@ -65,7 +65,7 @@ closes_fewer r w (e ∷ es) k legal = grind (arith, one e, closes_fewer r (after
     one event.Close p = close_moves w k (fit w event.Close p)
     one _ p = omega arith
 
--- over grants, releases and closes, there are at most 2 closes for each link and 3 for each node
+-- among grants, releases and closes, there are at most 2 closes for each link and 3 for each node
 pub closes_bounded : (r : RosterValue) (w : World) (es : List Event) → IsWorld w → is_legal_list r w es ≡ true → list_all is_of_step es ≡ true
     → count_closes es ≤ 2 * link_count w.network + 3 * size w
 closes_bounded r w es k legal steps = omega (arith, closes_fewer r w es k legal, moves_bounded r w es k legal steps)

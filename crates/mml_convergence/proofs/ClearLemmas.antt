@@ -1,5 +1,5 @@
--- A run from a world in which each node points somewhere or nowhere, with m true: each in turn updates, and abandons if
--- it points.
+-- A run from a world in which m is true at each node. One node after another updates, and then drops its pointer if it
+-- has one.
 use Rattle.std.proofs.Common.{◌≡◌, ℕ, zero, suc, ◌+◌, ◌<◌, ◌⊎◌, Bool, true, false, cond, not, Option, None, Some, is_some, sym, refl, ap, ◌∙◌, subst, arith}
 use Rattle.std.proofs.lemmas.Bool.{cases_lt, cases_eq, Decides.nat_tests}
 use Rattle.mml_rules.specs.{declared.rule.Rule.Rule, Configuration.Configuration, Configuration.IsLawful, Configuration.holds, Rules.is_married}
@@ -10,17 +10,18 @@ use Rattle.mml_convergence.proofs.MoveLemmas.{IsQuiet, IsMoved, Holds, is, stays
 use Rattle.mml_convergence.proofs.IdleLemmas.{may_update, may_abandon}
 use Rattle.mml_lab.specs.declared.who.Who.TheVariants as who
 
--- the moves of those from i on, and a more
+-- the number of moves of the `left` nodes from i on, plus a
 abbrev pub cleared : (f : ℕ → Option ℕ) (left i a : ℕ) → ℕ
 cleared f zero i a = a
 cleared f (suc left) i a = suc (cond (is_some (f i)) 1 0 + cleared f left (suc i) a)
 
--- the registers f in which each node points as at first, at another node that doesn't point back; what Shape says stays
--- in each step
+-- at first, node i has the pointer f i, which leads to another node that doesn't point back, or is null; `Shape` is a
+-- fact about the network that each step keeps
 module _ (n : ℕ) (f : ℕ → Option ℕ) (Shape : Configuration → Type 0) (sized : (c : Configuration) → Shape c → (c.size ≡ n) × IsLawful c)
     (shaped : (c d : Configuration) (x : ℕ) (rule : Rule) → Shape c → IsMoved c d (is x) rule → Shape d)
     (points : (i j : ℕ) → i < n → f i ≡ Some j → (j < n) × (i ≡ j → ⊥) × (holds (f j) i ≡ false)) where
-  -- those below i are done, those above still point as at first, and i holds this
+  -- the nodes below i have a null pointer and m false, node i has the registers p and m, and the nodes above i are as
+  -- at first
   pub record Cleared (i : ℕ) (p : Option ℕ) (m : Bool) (c : Configuration) : Type 0 where
     pub shape : Shape c
     pub done : (j : ℕ) → j < i → Holds c j None false
@@ -36,11 +37,11 @@ module _ (n : ℕ) (f : ℕ → Option ℕ) (Shape : Configuration → Type 0) (
     todo = λ j more j_in. stays n i c d rule (sized c k.shape).0 e j (f j) true j_in (λ same. omega (arith, same, more)) (k.todo j more j_in);
   }
 
-  -- the next one's turn
+  -- if node i has made its moves, it is the turn of the next node
   advance : (i : ℕ) (c : Configuration) → i < n → Cleared i None false c → Cleared (suc i) (f (suc i)) true c
   advance i c lt k = grind (arith, nat_tests, cases_eq, Holds)
 
-  -- the node that i points at doesn't point back
+  -- the node at which i points at first doesn't point back, and has m true or is lower
   unanswered : (i j : ℕ) (p : Option ℕ) (m : Bool) (c : Configuration) → i < n → f i ≡ Some j → Cleared i p m c → (holds (c.p j) i ≡ false) × ((c.m j ≡ true) ⊎ (j < i))
   unanswered i j p m c lt e k = grind (arith, nat_tests, points i j lt e, cases_lt)
 

@@ -1,4 +1,4 @@
--- If each close finds a chosen move at every privileged node, it ends a round.
+-- If every privileged node has a chosen move at each close, each close ends a round.
 use Rattle.std.proofs.Common.{◌≡◌, ℕ, zero, suc, ◌<◌, ◌≤◌, inl, inr, Bool, true, false, cond, List, [], ◌∷◌, ◌++◌, refl, ap, subst, arith}
 use Rattle.std.specs.List.{list_all}
 use Rattle.std.proofs.lemmas.Bool.{and_from, or_left, or_right, both_ways, cases_Bool, cases_lt, Decides.nat_tests}
@@ -9,11 +9,11 @@ use Rattle.mml_convergence.specs.{Runs.is_of_step, Moves.is_close, Moves.count_c
 use Rattle.mml_convergence.proofs.{RestLemmas.stable_final, RoundsLemmas.rounds_end}
 use Rattle.mml_convergence.proofs.ServedLemmas.{IsRun, first_legal, first_of_step, run_parts, run_end}
 
--- a round is one with an event before it
+-- a round with one more event before it is a round
 longer_round : (w : World) (e : Event) (es : List Event) → IsRound (after w e) es → IsRound w (e ∷ es)
 longer_round w e es round i lt = or_right _ _ (or_right _ _ (round i (omega (arith, lt, size-after w e))))
 
--- k rounds, and an event after them, if there are more than k closes
+-- the list has k rounds, followed by at least one event
 abbrev Cut : ℕ → World → List Event → Type 0
 Cut k w es = (fs : List Event) × (e : Event) × (gs : List Event) × (es ≡ fs ++ (e ∷ gs)) × Rounds k w fs
 
@@ -38,7 +38,7 @@ cut (suc k) w (e ∷ es) full less = go (cut k (after w e) es full.1) (cut (suc 
         let rounds = rest.4 in
         (e ∷ rest.0, rest.1, rest.2, ap (λ z. e ∷ z) rest.3, (e ∷ rounds.0, rounds.1, ap (λ z. e ∷ z) rounds.2, longer_round w e rounds.0 rounds.3, rounds.4))
 
--- if closes find all privileged nodes chosen, there are at most 4 for each two nodes, and 1 for one left over
+-- if every privileged node has a chosen move at each close, the number of closes is at most the bound on rounds
 pub closes_few : (r : RosterValue) (w : World) (es : List Event) → IsWorld w → is_legal_list r w es ≡ true → list_all is_of_step es ≡ true
     → ClosesFull w es → count_closes es ≤ rounds_for (size w)
 closes_few r w es k legal of_step full = elim (cases_lt (rounds_for (size w)) (count_closes es)) [

@@ -1,4 +1,4 @@
--- The comb at first, and what stays in each step.
+-- The comb at the beginning, and what each step keeps.
 use Rattle.std.proofs.Common.{◌≡◌, ℕ, ◌+◌, ◌*◌, ◌<◌, ◌≤◌, true, false, Some, sym, ap, ◌∙◌, arith}
 use Rattle.std.proofs.lemmas.{Bool.Decides.nat_tests, List.FromFn.get_or-map-range_with_len, List.FromFn.length-map-range_with_len}
 use Rattle.mml_ids.specs.declared.TheConstants.{MAX_NODES}
@@ -13,22 +13,22 @@ use Rattle.mml_convergence.proofs.OpeningLemmas as opening
 abbrev pub Points : (n i j : ℕ) → Type 0
 Points n i j = first_pointer n i ≡ Some j
 
--- at a higher node, and nobody points back
+-- at the beginning, each pointer leads to a higher node, which doesn't point back
 pub points : (n i j : ℕ) → Points n i j → (i < j) × (j < n) × (holds (first_pointer n j) i ≡ false)
 points n i j e = grind (arith, nat_tests)
 
--- first with last
+-- in the first half, node i points at node n - 1 - i
 pub halfway : (n i j : ℕ) → 2 * i + 2 ≤ n → i + j + 1 ≡ n → Points n i j
 halfway n i j first at = grind (arith, nat_tests)
 
--- a node with the next
+-- in the second half, each node but the last points at the next one
 pub next_to : (n i j : ℕ) → n < 2 * i + 2 → j ≡ i + 1 → i + 1 < n → Points n i j
 next_to n i j second at more = grind (arith, nat_tests)
 
 comb_from : (n i j : ℕ) → Points n i j → is_comb n i j ≡ true
 comb_from n i j e = grind (arith, nat_tests)
 
--- n nodes, and the comb's links
+-- a lawful configuration of n nodes with the comb's links
 pub record Shape (n : ℕ) (c : Configuration) : Type 0 where
   pub size : c.size ≡ n
   pub lawful : IsLawful c

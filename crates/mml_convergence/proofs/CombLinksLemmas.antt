@@ -1,4 +1,4 @@
--- The comb joins all its nodes by as few links as can: each node but the last is linked to one higher node.
+-- The comb has one link less than nodes, and each node but the last is linked to a higher node.
 use Rattle.std.proofs.Common.{◌≡◌, ℕ, zero, suc, ◌+◌, ◌-◌, ◌<◌, ◌*◌, ◌≤◌, ◌&&◌, ◌==◌, inl, inr, Bool, true, Some, ◌∙◌, sym, refl, ap, arith}
 use Rattle.std.proofs.lemmas.Bool.{cases_lt, false_from_ne_true, lt-ltb, Decides.nat_tests}
 use Rattle.mml_ids.specs.Search.{count_below}
@@ -10,7 +10,7 @@ use Rattle.mml_convergence.proofs.SumsLemmas.{count_none, count_same, sum_turned
 use Rattle.mml_convergence.proofs.{CountLemmas.count_one, CombLemmas.at_first, CombLemmas.comb_size, CombLemmas.halfway, CombLemmas.next_to, CombLemmas.linked-from}
 use Rattle.mml_convergence.proofs.OpeningLemmas as opening
 
--- if no number from h on passes
+-- if only numbers below h pass, as many numbers below m pass as below h
 count_further : (m h : ℕ) (t : ℕ → Bool) → h ≤ m → ((i : ℕ) → t i ≡ true → i < h) → count_below m t ≡ count_below h t
 count_further zero zero t le only = refl
 count_further zero (suc h) t le only = absurd (omega (arith, le))
@@ -20,7 +20,7 @@ count_further (suc m) h t le only = elim (cases_lt m h) [
 ]
 
 module _ (n : ℕ) where
-  -- i points at h at first
+  -- node i points at node h at the beginning
   abbrev up : ℕ → ℕ → Bool
   up h i = holds (first_pointer n i) h
 
@@ -30,7 +30,7 @@ module _ (n : ℕ) where
   at_higher : (h i : ℕ) → i < h → is_comb n h i ≡ up h i
   at_higher h i lt = grind (arith, nat_tests)
 
-  -- h's links to lower nodes
+  -- node h has as many links to lower nodes as nodes point at it at the beginning
   links_at : (h : ℕ) → h < n → count_below h ((at_first n).linked h) ≡ count_below n (up h)
   links_at h lt =
       count_same h ((at_first n).linked h) (up h) (λ i below.
@@ -42,7 +42,7 @@ module _ (n : ℕ) where
   links_sum zero le = refl
   links_sum (suc m) le = omega (arith, links_sum m (omega (arith, le)), links_at m (omega (arith, le)))
 
-  -- i points at one node, if it isn't the last
+  -- each node but the last points at one higher node
   mate : (i : ℕ) → i + 1 < n → (j : ℕ) × (j < n) × (i < j) × (first_pointer n i ≡ Some j)
   mate i lt = elim (cases_lt (2 * i + 1) n) [
     | inl half ↦ (n - (i + 1), omega (arith, half), omega (arith, half), halfway n i (n - (i + 1)) (omega (arith, half)) (omega (arith, half)))
@@ -69,6 +69,6 @@ comb_links (suc k) some =
     let n = suc k in
     omega (arith, ap (links_below (at_first n)) (comb_size n), links_sum n n (omega arith), sum_turned (up n) n n, sum_of_ones n k (omega arith), last_none n k (omega arith))
 
--- so each node is joined to the last
+-- each node but the last is linked to a higher node
 pub comb_joined : (n i : ℕ) → i + 1 < n → (j : ℕ) × (i < j) × ((configuration (comb_world n)).linked i j ≡ true)
 comb_joined n i lt = let x = mate n i lt in (x.0, x.2, linked-from n i x.0 x.3)

@@ -1,4 +1,4 @@
--- The phases in the comb, each move in a close of its own, and the moves of the whole run.
+-- The phases of a run on the comb in which each close applies one move, and the number of all moves.
 use Rattle.std.proofs.Common.{◌≡◌, ℕ, zero, suc, ◌+◌, ◌*◌, ◌-◌, ◌<◌, ◌≤◌, ◌⊎◌, inl, inr, Bool, true, false, cond, not, ◌==◌, Option, None, Some, length, rules, sym, refl, ap, ◌∙◌, arith}
 use Rattle.std.proofs.lemmas.Bool.{cases_lt, cases_eq, eq-eqb, ne_eqb, Decides.nat_tests}
 use Rattle.mml_ids.specs.declared.TheConstants.{MAX_NODES}
@@ -14,20 +14,20 @@ use Rattle.mml_convergence.proofs.{PhaseLemmas.mate, PhaseLemmas.couples_kept, P
 use Rattle.mml_convergence.proofs.CombLemmas.{Points, points, halfway, next_to, Shape, shaped, first_registers, first_shape, comb_is_world}
 use Rattle.mml_lab.specs.declared.who.Who.TheVariants as who
 
--- before phase r: a node that isn't married points nowhere
+-- before phase r, each node that isn't married has a null pointer and m false
 record Seated (n r : ℕ) (c : Configuration) : Type 0 where
   shape : Shape n c
   couples : Couples n r c
   free : (i : ℕ) → r ≤ i → i + r < n → Holds c i None false
 
--- nobody between points anywhere
+-- all pointers of the nodes between r and b are null
 abbrev nowhere : ℕ → Option ℕ
 nowhere i = None
 
--- ---- phase r, in which b, the highest free node, is married to r
+-- ---- phase r, in which r marries b, the highest node that isn't married
 
 module _ (n r b : ℕ) (sum : r + b + 1 ≡ n) (room : 2 * r + 2 ≤ n) where
-  -- what r holds, and b, and where those between point
+  -- r has the registers g and mg, and b has h and mh; each node i between them has the pointer at i, and m false
   record Stage (g : Option ℕ) (mg : Bool) (h : Option ℕ) (mh : Bool) (at : ℕ → Option ℕ) (c : Configuration) : Type 0 where
     shape : Shape n c
     couples : Couples n r c
@@ -35,14 +35,14 @@ module _ (n r b : ℕ) (sum : r + b + 1 ≡ n) (room : 2 * r + 2 ≤ n) where
     bride : Holds c b h mh
     between : (i : ℕ) → r < i → i < b → Holds c i (at i) false
 
-  -- only the one before b points, at b
+  -- among the nodes between r and b, only the one before b points, and it points at b
   abbrev last : ℕ → Option ℕ
   last i = cond (i + 1 == b) (Some b) None
 
   begin : (c : Configuration) → Seated n r c → Stage None false None false nowhere c
   begin c k = grind (arith, nat_tests)
 
-  -- what a step of one node leaves
+  -- what a step of one node keeps
   module _ (g : Option ℕ) (mg : Bool) (h : Option ℕ) (mh : Bool) (at : ℕ → Option ℕ) (c d : Configuration) (rule : Rule) (k : Stage g mg h mh at c) where
     couples_stay : (x : ℕ) → r ≤ x → x ≤ b → IsMoved c d (is x) rule → Couples n r d
     couples_stay x from upto e =
@@ -77,7 +77,7 @@ module _ (n r b : ℕ) (sum : r + b + 1 ≡ n) (room : 2 * r + 2 ≤ n) where
       between = grind (arith, nat_tests, cases_eq, Holds, stays);
     }
 
-  -- ---- who seduces b
+  -- ---- the nodes that seduce b
 
   above_b : (c : Configuration) → Couples n r c → (j : ℕ) → b < j → j < n → c.p j ≡ None → ⊥
   above_b c couples j above lt null =
@@ -85,7 +85,7 @@ module _ (n r b : ℕ) (sum : r + b + 1 ≡ n) (room : 2 * r + 2 ≤ n) where
       let to = (mate n r j (n - (j + 1)) c couples e (inr (omega (arith, above, sum, lt)))).0 in
       cc
 
-  -- nobody points at a free node but b
+  -- no node points at an unmarried node other than b
   nobody : (g : Option ℕ) (c : Configuration) → Stage g false None false nowhere c → ((g ≡ None) ⊎ (g ≡ Some b)) → (i : ℕ) → r ≤ i → i < b → (j : ℕ) → c.p j ≡ Some i → ⊥
   nobody g c k free i from below j e =
       let range = k.shape.lawful.in_range j i (k.shape.lawful.to_linked j i e) in
@@ -128,7 +128,7 @@ module _ (n r b : ℕ) (sum : r + b + 1 ≡ n) (room : 2 * r + 2 ≤ n) where
   groom_updates : (at : ℕ → Option ℕ) (c : Configuration) → Stage (Some b) false (Some r) true at c → guard c r Rule.Update ≡ true
   groom_updates at c k = may_update c k.shape.lawful r (k.groom.1 ∙ sym (ap not (married-from c r b k.shape.lawful k.groom.0 k.bride.0)))
 
-  -- and so before the next phase, if nobody else points
+  -- the next phase can begin if no node between r and b points anywhere
   end : (at : ℕ → Option ℕ) (c : Configuration) → Stage (Some b) true (Some r) true at c → ((i : ℕ) → r < i → i < b → at i ≡ None) → Seated n (suc r) c
   end at c k none = record {
     shape = k.shape;
@@ -175,12 +175,12 @@ module _ (n r b : ℕ) (sum : r + b + 1 ≡ n) (room : 2 * r + 2 ≤ n) where
         (at_groom None false None false nowhere (configuration w) (configuration u) Rule.Seduction k (Some b) false e
         (courted None (configuration w) (configuration u) k r below at k.groom e)))
 
-    -- two free nodes alone
+    -- a phase in which r and b are the only nodes that aren't married
     short : (a : ℕ) (w : World) → 2 * r + 2 ≡ n → IsWorld w → IsQuiet w → Seated n r (configuration w)
         → ((u : World) → IsWorld u → IsQuiet u → Seated n (suc r) (configuration u) → Goes a o u) → Goes (suc (suc (suc (suc a)))) o w
     short a w two world quiet seated next = search (rules, court, wed, end)
 
-    -- the one before b seduces it too, and abandons it
+    -- the node before b also seduces b, and abandons it later
     module _ (x : ℕ) (before : x + 1 ≡ b) (more : r < x) where
       at_b : Points n x b
       at_b = next_to n x b (omega (arith, before, more, sum)) (omega (arith, before)) (omega (arith, before, sum))
@@ -219,7 +219,7 @@ module _ (n r b : ℕ) (sum : r + b + 1 ≡ n) (room : 2 * r + 2 ≤ n) where
 
 -- ---- the whole run
 
--- the moves of the phases: of one, and of q more before it
+-- the number of moves of the last phase and of q phases before it
 abbrev moves_of : ℕ → Bool → ℕ
 moves_of zero false = 4
 moves_of zero true = 6

@@ -1,5 +1,5 @@
--- In a step each node pays for its move by its part, unless some nodes are newly married: then each of these is lent 1,
--- and each other 2.
+-- How the part of each node changes in a step. If no node is newly married, the part of each node that moves falls by
+-- at least 1. In any other step this holds if 1 is added for a newly married node, and 2 for a node that isn't married.
 use Rattle.std.proofs.Common.{◌≡◌, ℕ, ◌+◌, ◌<◌, ◌≤◌, true, false, cond, inl, inr, Option, None, Some, is_some, refl, ap, ◌∙◌, arith}
 use Rattle.std.proofs.lemmas.Bool.{and_parts, both_ways, ltb-true, cases_Bool, false_from_ne_true, not-true, Decides.nat_tests}
 use Rattle.mml_rules.specs.{declared.rule.Rule.Rule, Configuration.Configuration, Configuration.IsLawful, Configuration.holds, Rules.is_married, Rules.moved, Rules.step, Rules.AllHold}
@@ -22,7 +22,7 @@ wed_part d i e = ap (λ b. cond b (cond (d.m i) 0 1) (cond (d.m i) 1 0 + pointer
 null_part : (d : Configuration) (i : ℕ) → d.p i ≡ None → pointer_part d i ≡ 1
 null_part d i e = grind (arith, nat_tests)
 
--- what courting means
+-- if i points at a higher node with m false that isn't married, the part of i's pointer is 0
 court : (d : Configuration) (i j : ℕ) → d.p i ≡ Some j → i < j → d.m j ≡ false → is_married d j ≡ false → pointer_part d i ≡ 0
 court d i j e lt off free = grind (arith, nat_tests)
 
@@ -85,7 +85,7 @@ module _ (c : Configuration) (chosen : ℕ → Option Rule) (l : IsLawful c) (h 
       grind (arith, free_part c i a, free_part next i b, pointer_most next i, null_part c i (seducing i e).null, m_after i (Some Rule.Seduction) e)
   free_pays i (Some Rule.Abandonment) e a b = grind (arith, nat_tests, null_part, p_after, free_part, m_after)
 
-  -- ---- if no node is newly married
+  -- ---- a step in which no node is newly married
 
   module _ (calm : Calm c chosen) where
     stays_free : (j : ℕ) → is_married c j ≡ false → is_married next j ≡ false
@@ -97,11 +97,11 @@ module _ (c : Configuration) (chosen : ℕ → Option Rule) (l : IsLawful c) (h 
     after_free : (i : ℕ) → is_married c i ≡ false → node_part next i ≡ cond (next.m i) 1 0 + pointer_part next i
     after_free i a = free_part next i (stays_free i a)
 
-    -- a node that points at such a node courts it after the step
+    -- if after the step i points at a higher node that had m false and wasn't married, the part of i's pointer is 0
     courts_then : (i j : ℕ) → next.p i ≡ Some j → i < j → is_married c j ≡ false → c.m j ≡ false → pointer_part next i ≡ 0
     courts_then i j e lt a off = court next i j e lt (stays_off j a off) (stays_free j a)
 
-    -- a pointer that stays
+    -- if the pointer of a node stays the same, its part doesn't rise
     pointer_kept : (i : ℕ) → next.p i ≡ c.p i → pointer_part next i ≤ pointer_part c i
     pointer_kept i same = grind (arith, nat_tests, null_part, courts_then, pointer_most)
 
@@ -154,11 +154,11 @@ module _ (c : Configuration) (chosen : ℕ → Option Rule) (l : IsLawful c) (h 
           m_after,
         )
 
-    -- each node pays for its own move
+    -- the part of each node that moves falls by at least 1, and no other part rises
     pub calm_pays : (i : ℕ) → node_part next i + cond (is_some (chosen i)) 1 0 ≤ node_part c i
     calm_pays i = elim (cases_Bool (is_married c i)) [ inl on ↦ wed_pays i (chosen i) refl on | inr off ↦ calm_free i (chosen i) refl off ]
 
-  -- ---- each node pays for its own move, with what it is lent
+  -- ---- any step: the same with 1 added for a newly married node, and 2 for a node that isn't married
 
   pub lent_pays : (i : ℕ) → node_part next i + cond (is_some (chosen i)) 1 0 ≤ node_part c i + cond (is_married next i) (cond (is_married c i) 0 1) 2
   lent_pays i = grind (arith, nat_tests, wed_pays, newly_pays, free_pays)

@@ -1,4 +1,4 @@
--- The dense network at first.
+-- The dense network at the beginning.
 use Rattle.std.proofs.Common.{◌≡◌, ℕ, ◌<◌, ◌≤◌, Bool, true, false, Some, sym, refl, ap, ◌∙◌, subst, arith}
 use Rattle.std.proofs.lemmas.{Bool.Decides.nat_tests, List.FromFn.get_or-map-range_with_len, List.FromFn.length-map-range_with_len}
 use Rattle.mml_ids.specs.declared.TheConstants.{MAX_NODES}
@@ -8,11 +8,11 @@ use Rattle.mml_convergence.specs.Crowd.{is_near, first_pointer, crowd, crowd_wor
 use Rattle.mml_convergence.proofs.PhaseLemmas.{Shape, some_same}
 use Rattle.mml_convergence.proofs.OpeningLemmas as opening
 
--- every node is low
+-- every node of the dense network is a low node, as `PhaseLemmas` uses the word
 abbrev pub all : ℕ → Bool
 all i = true
 
--- each node points at another that is close enough, and no node points back
+-- at the beginning, each node points at another node, which doesn't point back
 pub points : (n i j : ℕ) → 4 ≤ n → i < n → Some (first_pointer n i) ≡ Some j → (j < n) × (i ≡ j → ⊥) × (holds (Some (first_pointer n j)) i ≡ false)
 points n i j four lt e = grind (arith, nat_tests)
 

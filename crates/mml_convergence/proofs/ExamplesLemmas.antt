@@ -17,17 +17,17 @@ use Rattle.std.specs.FinSet as sets
 use Rattle.mml_lab.specs.declared.who.Who.TheVariants as who
 use Rattle.mml_board.specs.declared.event.Event.TheVariants as event
 
--- ---- a run, computed over registers: the links are a test, instead of sets
+-- ---- a run that is computed from a list of registers and a test of links, which is simpler than sets
 
--- the configuration of these links and registers
+-- the configuration with these links and registers
 abbrev shape : (ℕ → ℕ → Bool) → List Regs → Configuration
 shape linked registers = record { size = length registers; linked = linked; p = λ i. (registers_at registers i).p; m = λ i. (registers_at registers i).m }
 
--- how many moves are chosen
+-- the number of chosen moves
 abbrev chosen_among : List Regs → List (Option Rule) → ℕ
 chosen_among registers chosen = count_below (length registers) (λ i. is_some (chosen_at chosen i))
 
--- the events are grants of student 0 and closes, legal if this student owns the nodes, and apply n moves
+-- the events are grants of student 0 and closes; they are legal if this student owns the nodes, and they apply n moves
 abbrev tells : (ℕ → ℕ → Bool) → List Regs → List (Option Rule) → List Event → ℕ → Bool
 tells linked registers chosen [] n = n == 0
 tells linked registers chosen (event.Grant s i rule ∷ es) n =
@@ -44,7 +44,7 @@ none_is : (o : Option Rule) → is_none o ≡ true → o ≡ None
 none_is None h = refl
 none_is (Some rule) h = absurd (false≢true h)
 
--- what it tells holds of a world with these links, registers and choices
+-- if `tells` is true, it is right about each world with these links, registers and choices
 sound : (r : RosterValue) (w : World) (es : List Event) (n : ℕ) → ((i : ℕ) → i < size w → owns r (who.Student 0) i ≡ true)
     → tells (configuration w).linked w.network.registers w.chosen es n ≡ true
     → (is_legal_list r w es ≡ true) × (applied_over w es ≡ n)
@@ -73,7 +73,7 @@ sound r w (_ ∷ es) n owned t = absurd (false≢true t)
 
 -- ---- the triangle with a tail
 
--- what a link between a and b adds to these
+-- the links with one more, between a and b
 abbrev linking : (a b : ℕ) → (ℕ → ℕ → Bool) → ℕ → ℕ → Bool
 linking a b linked i j = ((i == b) && (j == a)) || (((i == a) && (j == b)) || linked i j)
 
@@ -151,7 +151,7 @@ world = record {
   hold = hold-none 4 (configuration triangle_world);
 }
 
--- its potentials are 20 together
+-- the sum of its potentials is 20
 pub triangle_potential : whole_potential (configuration triangle_world) ≡ 20
 unfolding potential whole_potential is_married
 triangle_potential = ap (λ linked. whole_potential (shape linked triangle_world.network.registers)) same_links
@@ -173,19 +173,19 @@ run : (is_legal_list sole_owner triangle_world twenty_moves ≡ true) × (applie
 run = sound sole_owner triangle_world twenty_moves 20 owns_all
     (subst (λ linked. tells linked triangle_world.network.registers triangle_world.chosen twenty_moves 20 ≡ true) (sym same_links) told)
 
--- the list of twenty moves is legal there
+-- the list of twenty moves is legal on the triangle with a tail
 pub legal : is_legal_list sole_owner triangle_world twenty_moves ≡ true
 legal = run.0
 
--- its closes apply 20 moves
+-- the closes of this list apply 20 moves
 pub applied : applied_over triangle_world twenty_moves ≡ 20
 applied = run.1
 
--- four links
+-- the triangle with a tail has four links
 pub four : link_count triangle_world.network ≡ 4
 unfolding link_count
 four = ap (λ linked. links_below (shape linked triangle_world.network.registers) 4) same_links
 
--- as many as the bound: 2 for each link and 3 for each node
+-- the number of moves is the bound: 2 for each link and 3 for each node
 pub as_many : applied_over triangle_world twenty_moves ≡ 2 * link_count triangle_world.network + 3 * size triangle_world
 as_many = omega (arith, applied, four)

@@ -1,4 +1,4 @@
--- Over grants, releases and closes the moves are paid for by the courting potential.
+-- The courting potential bounds the moves of grants, releases and closes.
 use Rattle.std.proofs.{lemmas.Bool.Decides.nat_tests, Common.◌≡◌, Common.◌+◌, Common.◌*◌, Common.◌≤◌, Common.min, Common.true, Common.List, Common.arith}
 use Rattle.std.specs.List.{list_all}
 use Rattle.mml_lab.specs.{Labs.link_count, Rosters.RosterValue}
@@ -6,7 +6,7 @@ use Rattle.mml_board.specs.{declared.event.Event.Event, World.World, World.size,
 use Rattle.mml_convergence.specs.{Runs.is_of_step, Moves.applied_over, Courtships.most_courtships, Courtships.courting_potential}
 use Rattle.mml_convergence.proofs.{AppliedLemmas.moves_paid, AppliedLemmas.moves_bounded, WholeLemmas.courting_fell, WholeLemmas.courting_most}
 
--- both bounds together
+-- the number of moves is at most the smaller of the two bounds
 pub moves_few : (r : RosterValue) (w : World) (es : List Event) → IsWorld w → is_legal_list r w es ≡ true → list_all is_of_step es ≡ true
     → applied_over w es ≤ 3 * size w + 2 * min (link_count w.network) (most_courtships (size w))
 moves_few r w es k legal steps = grind (arith, nat_tests, moves_paid courting_potential courting_fell r w es k legal steps, courting_fell, moves_bounded, courting_most)

@@ -1,4 +1,4 @@
--- Nodes at which no rule may be applied, and nodes at which a certain one may.
+-- Nodes at which no rule is enabled, and nodes at which a certain rule is.
 use Rattle.std.proofs.Common.{◌≡◌, ℕ, ◌<◌, ◌≤◌, ◌⊎◌, true, false, not, None, Some, sym, ap, ◌∙◌, arith}
 use Rattle.std.proofs.lemmas.Bool.{both_ways, false_from_ne_true, Decides.nat_tests}
 use Rattle.mml_rules.specs.{declared.rule.Rule.Rule, Configuration.Configuration, Configuration.IsLawful, Configuration.holds, Meaning.IsMRight, Meaning.IsCandidate}
@@ -8,22 +8,23 @@ use Rattle.mml_rules.proofs.MeaningLemmas.{beq-same, right-means, guard-means, g
 use Rattle.mml_convergence.proofs.MovesLemmas.{updates, marries, seduces, seduced, abandons, abandoned}
 
 module _ (c : Configuration) (l : IsLawful c) where
-  -- no rule's guard holds
+  -- if no rule's guard holds at a node, it isn't privileged
   idle : (i : ℕ) → ((rule : Rule) → guard c i rule ≡ true → ⊥) → is_privileged c i ≡ false
   idle i none = false_from_ne_true (is_privileged c i) (λ e. let x = (privileged-means c i l).0 e in none x.0 x.1)
 
   pub privileged : (i : ℕ) (rule : Rule) → guard c i rule ≡ true → is_privileged c i ≡ true
   privileged i rule g = (privileged-means c i l).1 (rule, g)
 
-  -- a node of a pair whose m is true
+  -- a node of a pair with m true isn't privileged
   pub settled : (i j : ℕ) → c.p i ≡ Some j → c.p j ≡ Some i → c.m i ≡ true → is_privileged c i ≡ false
   settled i j a b m = grind (arith, nat_tests, idle, updates, married-from, marries, seduced, seduces, abandons, holds-from)
 
-  -- a node that points at a higher one, which doesn't point back and has m false
+  -- a node isn't privileged if it points at a higher node, which doesn't point back, and both have m false
   pub waiting : (i j : ℕ) → c.p i ≡ Some j → holds (c.p j) i ≡ false → c.m i ≡ false → c.m j ≡ false → i < j → is_privileged c i ≡ false
   waiting i j a off m n lt = grind (arith, nat_tests, idle, updates, married-at, marries, seduced, seduces, abandons)
 
-  -- a node that points nowhere, at which nobody points, and of whose higher neighbours each points somewhere
+  -- a node isn't privileged if its pointer is null, m is false, no node points at it, and each higher neighbour points
+  -- at some node
   pub lonely : (i : ℕ) → c.p i ≡ None → c.m i ≡ false → ((j : ℕ) → c.p j ≡ Some i → ⊥) → ((j : ℕ) → c.linked i j ≡ true → i < j → c.p j ≡ None → ⊥) → is_privileged c i ≡ false
   lonely i a m none top = idle i go
     where

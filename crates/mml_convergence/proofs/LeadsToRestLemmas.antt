@@ -1,4 +1,4 @@
--- From every world, a grant and a close for each move lead to a state with no node privileged.
+-- From every world, a grant and a close for each move lead to a world in which no node is privileged.
 use Rattle.std.proofs.Common.{◌≡◌, ℕ, zero, suc, ◌+◌, ◌*◌, ◌≤◌, ◌⊎◌, Bool, true, false, List, [], ◌∷◌, set, None, Some, is_some, inl, inr, refl, ap, arith}
 use Rattle.std.proofs.lemmas.{Bool.and_from, Bool.Decides.nat_tests, List.get_or-set_same}
 use Rattle.mml_ids.specs.Search.{some_below}
@@ -16,7 +16,7 @@ use Rattle.mml_board.specs.declared.event.Event.TheVariants as event
 abbrev IsQuiet : World → Type 0
 IsQuiet w = (i : ℕ) → chosen_at w.chosen i ≡ None
 
--- a world before a step, and what lets the run go on there
+-- a lawful world in which each node has an owner
 record IsReady (r : RosterValue) (w : World) : Type 0 where
   world : IsWorld w
   owned : EachHasOwner r (size w)
@@ -29,7 +29,7 @@ ready_after r w e k legal =
 may_close : (r : RosterValue) (w : World) → is_any_chosen w ≡ true → is_legal r w event.Close ≡ true
 may_close r w any = owned_legal r w event.Close refl (close_possible w any)
 
--- a move that can be granted, and closed at once
+-- a move that can be granted, and can then be applied by a close
 record NextMove (r : RosterValue) (w : World) : Type 0 where
   owner : ℕ
   node : ℕ
@@ -57,7 +57,7 @@ next_move r w k quiet = go (some_below (size w) (is_privileged (configuration w)
           close = may_close r (after w (event.Grant owner.0 i move.0)) (any_chosen (set w.chosen i (Some move.0)) i (ap is_some here));
         })
 
--- a close takes at least 1 from the potential
+-- a close lowers the sum of all potentials by at least 1
 close_lowers : (r : RosterValue) (w : World) → IsWorld w → is_legal r w event.Close ≡ true
     → whole_potential (configuration (after w event.Close)) + 1 ≤ whole_potential (configuration w)
 close_lowers r w k legal = let pays = close_pays w k in let moves = close_moves w k (fit w event.Close (legal_possible r w event.Close legal)) in omega (arith, pays, moves)
@@ -75,7 +75,8 @@ Reached r w n = (es : List Event) × LeadsToRest r w n es
 at_rest : (r : RosterValue) (w : World) (n : ℕ) → IsStable (configuration w) → Reached r w n
 at_rest r w n stable = ([], record { legal = refl; forward = refl; stable = stable; few = omega arith })
 
--- two events for each unit of the potential
+-- if no move is chosen, two events for each unit of the sum of potentials lead to a world in which no node is
+-- privileged
 by_moves : (n : ℕ) (r : RosterValue) (w : World) → IsReady r w → IsQuiet w → whole_potential (configuration w) ≤ n → Reached r w (2 * n)
 by_moves zero r w k quiet le = elim (next_move r w k quiet) [
   | inl stable ↦ at_rest r w 0 stable
@@ -97,7 +98,7 @@ by_moves (suc n) r w k quiet le = elim (next_move r w k quiet) [
       )
 ]
 
--- first a close, if something is chosen
+-- from every world, 4 events for each link and 6 for each node lead to a world in which no node is privileged
 pub reached : (r : RosterValue) (w : World) → IsWorld w → EachHasOwner r (size w) → Reached r w (4 * link_count w.network + 6 * size w)
 reached r w k owned = go (is_any_chosen w) refl
   where

@@ -1,4 +1,4 @@
--- How many nodes are married: they come in pairs, so a step makes two more or none.
+-- The number of married nodes. In a step it grows by at least two, or no node is newly married.
 use Rattle.std.proofs.Common.{◌≡◌, ℕ, zero, suc, ◌+◌, ◌<◌, ◌≤◌, ◌⊎◌, Bool, true, false, Option, Some, refl, sym, ◌∙◌, subst, arith}
 use Rattle.std.proofs.lemmas.Bool.{both_ways, false≢true, false_from_ne_true, Decides.nat_tests}
 use Rattle.mml_ids.specs.Search.{count_below}
@@ -28,18 +28,18 @@ count_all (suc n) = let rest = count_all n in omega (arith, rest)
 
 -- ---- married nodes
 
--- how many nodes are married
+-- the number of married nodes
 abbrev pub married_count : Configuration → ℕ
 married_count c = count_below c.size (is_married c)
 
--- linked nodes differ
+-- linked nodes are different
 pub apart : (c : Configuration) (i j : ℕ) → IsLawful c → c.linked i j ≡ true → i ≡ j → ⊥
 apart c i j l linked e = both_ways (c.linked i i) (l.no_loop i) (subst (λ x. c.linked i x ≡ true) (sym e) linked)
 
 pub married_in : (c : Configuration) (i : ℕ) → IsLawful c → is_married c i ≡ true → i < c.size
 married_in c i l e = let r = married-partner c i e in (l.in_range i r.0 (l.to_linked i r.0 r.1)).0
 
--- one married node makes two
+-- if some node is married, at least two nodes are
 pub pair_counts : (c : Configuration) (i : ℕ) → IsLawful c → is_married c i ≡ true → 2 ≤ married_count c
 pair_counts c i l e =
     let r = married-partner c i e in
@@ -50,27 +50,27 @@ pair_counts c i l e =
     (married-from c r.0 i l r.2 r.1) in
     omega (arith, two)
 
--- two linked nodes that aren't married leave room for two
+-- if two linked nodes aren't married, there are at least two more nodes than married ones
 pub open_counts : (c : Configuration) (a b : ℕ) → IsLawful c → c.linked a b ≡ true → is_married c a ≡ false → is_married c b ≡ false → married_count c + 2 ≤ c.size
 open_counts c a b l linked ea eb =
     let range = l.in_range a b linked in
     grind (arith, nat_tests, count_two c.size a b (is_married c) (λ j. true) (λ j e. refl) (apart c a b l linked) range.0 range.1 ea eb refl refl, apart, count_all)
 
--- if some node isn't married, fewer than all nodes are
+-- if some node isn't married, there are more nodes than married ones
 pub single_counts : (c : Configuration) (i : ℕ) → i < c.size → is_married c i ≡ false → married_count c + 1 ≤ c.size
 single_counts c i lt e = omega (arith, count_more c.size i (is_married c) (λ j. true) (λ j e. refl) lt e refl, count_all c.size)
 
--- no more nodes are married than there are
+-- there are at most as many married nodes as nodes
 pub most : (c : Configuration) → married_count c ≤ c.size
 most c = omega (arith, count_kept c.size (is_married c) (λ j. true) (λ j e. refl), count_all c.size)
 
 -- ---- a step
 
--- no node is newly married
+-- in this step no node is newly married; such a step is called calm
 abbrev pub Calm : Configuration → (ℕ → Option Rule) → Type 0
 Calm c chosen = (i : ℕ) → is_married (step c chosen) i ≡ true → is_married c i ≡ true
 
--- a step leaves no fewer nodes married
+-- a step doesn't lower the number of married nodes
 pub married_kept : (c : Configuration) (chosen : ℕ → Option Rule) → IsLawful c → AllHold c chosen → married_count c ≤ married_count (step c chosen)
 married_kept c chosen l h = count_kept c.size (is_married c) (is_married (step c chosen)) (step-married c chosen l h)
 
@@ -94,6 +94,6 @@ new_pair c chosen l h x new old =
     back : (z y : ℕ) → z ≡ x → c.p y ≡ Some z → c.p z ≡ Some y → is_married c x ≡ true
     back z y e a b = married-from c x y l (subst (λ v. c.p v ≡ Some y) e b) (subst (λ v. c.p y ≡ Some v) e a)
 
--- two more nodes are married, or none
+-- in a step the number of married nodes grows by at least two, or the step is calm
 pub grows : (c : Configuration) (chosen : ℕ → Option Rule) → IsLawful c → AllHold c chosen → (married_count c + 2 ≤ married_count (step c chosen)) ⊎ Calm c chosen
 grows c chosen l h = grind (arith, nat_tests, some_below-find, new_pair, married_in, step-lawful)

@@ -1,4 +1,4 @@
--- A node's move in a close of its own, and ways on by such moves.
+-- Runs in which each close applies only one move.
 use Rattle.std.{proofs.lemmas.Bool.Decides.nat_tests, proofs.lemmas.Bool.and_from, proofs.lemmas.Bool.eq-eqb, proofs.lemmas.Bool.ne_eqb, specs.List.list_all}
 use Rattle.std.proofs.Common.{◌≡◌, ℕ, suc, ◌<◌, Bool, true, false, cond, ◌==◌, Option, None, Some, is_some, List, [], ◌∷◌, refl, ap, ◌∙◌, arith}
 use Rattle.mml_rules.specs.{declared.regs.Regs.Regs, declared.rule.Rule.Rule, Configuration.Configuration, Configuration.IsLawful, Rules.guard, Rules.effect, Rules.moved, Network.registers_at}
@@ -12,7 +12,8 @@ use Rattle.mml_convergence.proofs.{RestLemmas.any_chosen, SumsLemmas.count_same,
 use Rattle.mml_lab.specs.declared.who.Who.TheVariants as who
 use Rattle.mml_board.specs.declared.event.Event.TheVariants as event
 
--- a way on from a world by closes of one move each: k rounds, and an end of which A holds and of how many moves there were
+-- a legal list of grants and closes from w in which each close applies one move; it has k rounds, and A holds of the
+-- world after it and of its number of moves
 pub record GoesOn (A : World → ℕ → Type 0) (r : RosterValue) (w : World) (k : ℕ) : Type 0 where
   pub events : List Event
   pub legal : is_legal_list r w events ≡ true
@@ -21,22 +22,22 @@ pub record GoesOn (A : World → ℕ → Type 0) (r : RosterValue) (w : World) (
   pub rounds : Rounds k w events
   pub ends : A (world_of w events) (applied_over w events)
 
--- no way at all
+-- the empty list
 pub stop : (A : World → ℕ → Type 0) (r : RosterValue) (w : World) → A w 0 → GoesOn A r w 0
 stop A r w ends = record { events = []; legal = refl; forward = refl; alone = refl; rounds = tt; ends = ends }
 
--- whatever its rounds
+-- if A implies B, a list that A allows is also one that B allows, and no round is required of it
 pub unrounded : (A B : World → ℕ → Type 0) (r : RosterValue) (w : World) (k : ℕ) → ((u : World) (x : ℕ) → A u x → B u x) → GoesOn A r w k → GoesOn B r w 0
 unrounded A B r w k so g = grind (arith, nat_tests)
 
--- a way of so many moves
+-- such a list with a moves
 abbrev pub Goes : ℕ → RosterValue → World → Type 0
 Goes a r w = GoesOn (λ u x. x ≡ a) r w 0
 
 abbrev pub IsQuiet : World → Type 0
 IsQuiet w = (i : ℕ) → chosen_at w.chosen i ≡ None
 
--- what a step leaves in which a rule is applied at each node that passes
+-- d is the configuration after a step from c that applies the rule at each node that passes the test
 pub record IsMoved (c d : Configuration) (t : ℕ → Bool) (rule : Rule) : Type 0 where
   pub size : d.size ≡ c.size
   pub lawful : IsLawful d
@@ -44,7 +45,7 @@ pub record IsMoved (c d : Configuration) (t : ℕ → Bool) (rule : Rule) : Type
   pub p : (i : ℕ) → i < c.size → d.p i ≡ (moved c i (cond (t i) (Some rule) None)).p
   pub m : (i : ℕ) → i < c.size → d.m i ≡ (moved c i (cond (t i) (Some rule) None)).m
 
--- at the nodes at which the rule is applied, and elsewhere
+-- nodes at which the rule isn't applied keep their registers, and the others have those that the rule writes
 module _ (c d : Configuration) (t : ℕ → Bool) (rule : Rule) (e : IsMoved c d t rule) where
   pub kept : (i : ℕ) → i < c.size → t i ≡ false → (d.p i ≡ c.p i) × (d.m i ≡ c.m i)
   kept i lt off = grind (arith, nat_tests)
@@ -52,14 +53,14 @@ module _ (c d : Configuration) (t : ℕ → Bool) (rule : Rule) (e : IsMoved c d
   pub turned : (i : ℕ) → i < c.size → t i ≡ true → (d.p i ≡ (effect c i rule).p) × (d.m i ≡ (effect c i rule).m)
   turned i lt on = grind (arith, nat_tests)
 
--- what a node holds
+-- node i has the registers p and m
 abbrev pub Holds : Configuration → ℕ → Option ℕ → Bool → Type 0
 Holds c i p m = (c.p i ≡ p) × (c.m i ≡ m)
 
 abbrev pub is : ℕ → ℕ → Bool
 is i j = j == i
 
--- a step of x alone
+-- a step of node x only
 module _ (n x : ℕ) (c d : Configuration) (rule : Rule) (sized : c.size ≡ n) (e : IsMoved c d (is x) rule) where
   pub stays : (i : ℕ) (p : Option ℕ) (m : Bool) → i < n → (i ≡ x → ⊥) → Holds c i p m → Holds d i p m
   stays i p m lt other at = let y = kept c d (is x) rule e i (omega (arith, lt, sized)) (ne_eqb i x other) in (y.0 ∙ at.0, y.1 ∙ at.1)
@@ -129,7 +130,8 @@ move r s w x rule world quiet lt owner holds = record { legal = legal; chosen = 
       m = λ i lt. ap (λ (g : Regs). g.m) (registers i);
     }
 
--- a move, and a way on
+-- if the rule's guard holds at x, and a list of a moves is possible after this move, a list of a + 1 moves is possible
+-- before it
 pub single : (n : ℕ) (r : RosterValue) (s : ℕ) → ((i : ℕ) → i < n → owns r (who.Student s) i ≡ true) → (x a : ℕ) (rule : Rule) (w : World) → IsWorld w →
     IsQuiet w
     → size w ≡ n → x < n → guard (configuration w) x rule ≡ true

@@ -1,4 +1,4 @@
--- What guards say, and over which links a move makes or takes back a pointer.
+-- What follows if the guard of a rule holds, and which pointers a move makes or drops.
 use Rattle.std.proofs.Common.{◌≡◌, ◌==◌, ℕ, ◌<◌, Bool, true, false, not, ◌&&◌, ◌⊎◌, Option, None, Some, is_some, is_none, refl, nat_lt, arith}
 use Rattle.std.proofs.lemmas.Bool.{and_parts, or_cases, not-true, both_ways, false≢true, ltb-true, eqb-true, Decides.nat_tests}
 use Rattle.mml_rules.specs.{declared.rule.Rule.Rule, Configuration.Configuration, Configuration.holds}
@@ -6,11 +6,11 @@ use Rattle.mml_rules.specs.Rules.{is_married, has_suitor, greatest_candidate, m_
 use Rattle.mml_rules.proofs.{ConfigurationLemmas.holds-true, ConfigurationLemmas.holds-from, RulesLemmas.none-null, RulesLemmas.greatest-is, MeaningLemmas.beq-true}
 use Rattle.mml_convergence.proofs.StepLemmas.{beq-false}
 
--- the guard of a move holds, if there is one
+-- if a move is chosen, its guard holds
 abbrev pub Holds : Configuration → ℕ → Option Rule → Type 0
 Holds c i o = (r : Rule) → o ≡ Some r → guard c i r ≡ true
 
--- ---- what the guards say
+-- ---- what follows from the guards
 
 pub record Marries (c : Configuration) (i j : ℕ) : Type 0 where
   pub right : c.m i ≡ is_married c i
@@ -18,7 +18,7 @@ pub record Marries (c : Configuration) (i j : ℕ) : Type 0 where
   pub linked : c.linked i j ≡ true
   pub suitor : c.p j ≡ Some i
 
--- a node that may marry points nowhere, its m is right, and its partner is linked to it and points at it
+-- if i may marry j, the pointer of i is null, its m is right, and j is linked to i and points at i
 pub marries : (c : Configuration) (i j : ℕ) → guard c i (Rule.Marriage j) ≡ true → Marries c i j
 marries c i j h = grind (arith, nat_tests, and_parts, beq-true, none-null, holds-true)
 
@@ -30,7 +30,7 @@ pub record Seduces (c : Configuration) (i j : ℕ) : Type 0 where
   pub free : c.p j ≡ None
   pub m : c.m j ≡ false
 
--- a node that may seduce has m right and points nowhere; its greatest candidate is higher, and points nowhere too
+-- if i may seduce j, its greatest candidate, then m of i is right, j is higher, and the pointers of both are null
 pub seduces : (c : Configuration) (i j : ℕ) → guard c i Rule.Seduction ≡ true → greatest_candidate c i ≡ Some j → Seduces c i j
 seduces c i j h e =
     grind (
@@ -54,7 +54,7 @@ pub record Abandons (c : Configuration) (i j : ℕ) : Type 0 where
   pub unanswered : holds (c.p j) i ≡ false
   pub vain : (c.m j ≡ true) ⊎ (j < i)
 
--- a node that may abandon has m right, and the one it points at doesn't point back, and has m true or is lower
+-- if i may abandon j, then m of i is right, and j doesn't point back, and has m true or is lower
 pub abandons : (c : Configuration) (i j : ℕ) → guard c i Rule.Abandonment ≡ true → c.p i ≡ Some j → Abandons c i j
 abandons c i j h e = grind (arith, nat_tests, and_parts, beq-true, not-true, or_cases, ltb-true)
 
@@ -62,7 +62,7 @@ abandons c i j h e = grind (arith, nat_tests, and_parts, beq-true, not-true, or_
 pub abandoned : (c : Configuration) (i : ℕ) → guard c i Rule.Abandonment ≡ true → (j : ℕ) × (c.p i ≡ Some j)
 abandoned c i h = grind (arith, nat_tests, and_parts, false≢true)
 
--- ---- who is charged for a move
+-- ---- which node is charged for a move
 
 -- a node is charged for its own move, but not for a marriage with a lower node
 abbrev pub pays : Option Rule → ℕ → Bool
@@ -72,7 +72,7 @@ pays (Some (Rule.Marriage j)) i = not (nat_lt j i)
 pays (Some Rule.Seduction) i = true
 pays (Some Rule.Abandonment) i = true
 
--- that marriage of k is charged to the lower i
+-- k marries the lower node i, so this move of k is charged to i
 abbrev pub marries_lower : Option Rule → (k i : ℕ) → Bool
 marries_lower None k i = false
 marries_lower (Some Rule.Update) k i = false
@@ -80,7 +80,7 @@ marries_lower (Some (Rule.Marriage j)) k i = (j == i) && nat_lt i k
 marries_lower (Some Rule.Seduction) k i = false
 marries_lower (Some Rule.Abandonment) k i = false
 
--- a marriage that is charged to a lower node is one with that node
+-- if `marries_lower` is true, k marries i, and i is lower than k
 pub marries_lower-means : (o : Option Rule) (k i : ℕ) → marries_lower o k i ≡ true → (o ≡ Some (Rule.Marriage i)) × (i < k)
 marries_lower-means o k i e = grind (arith, nat_tests, false≢true, and_parts, eqb-true, ltb-true)
 
@@ -90,13 +90,14 @@ marries_lower-means o k i e = grind (arith, nat_tests, false≢true, and_parts, 
 pub updates : (c : Configuration) (i : ℕ) → guard c i Rule.Update ≡ true → c.m i ≡ not (is_married c i)
 updates c i h = beq-false (c.m i) (is_married c i) (not-true _ h)
 
--- a pointer that i has not before the move and has after it: i points nowhere before, its m is right, and j is its suitor or its candidate
+-- what holds if a move of i makes a pointer at j: before, the pointer of i is null, m of i is right, and j points at i
+-- or is a candidate
 pub record Makes (c : Configuration) (i j : ℕ) : Type 0 where
   pub right : c.m i ≡ is_married c i
   pub null : c.p i ≡ None
   pub partner : (c.p j ≡ Some i) ⊎ ((i < j) × (c.p j ≡ None) × (c.m j ≡ false))
 
--- if a move makes a pointer, the node pointed nowhere, its m is right, and it now points at a suitor or a candidate
+-- if i points at j after its move and not before it, `Makes` holds
 pub makes : (c : Configuration) (i j : ℕ) (o : Option Rule) → Holds c i o → holds (c.p i) j ≡ false → (moved c i o).p ≡ Some j → Makes c i j
 makes c i j None h off e = absurd (both_ways (holds (c.p i) j) off (holds-from (c.p i) j e))
 makes c i j (Some Rule.Update) h off e = absurd (both_ways (holds (c.p i) j) off (holds-from (c.p i) j e))
@@ -104,7 +105,7 @@ makes c i j (Some (Rule.Marriage k)) h off e = grind (arith, nat_tests, marries 
 makes c i j (Some Rule.Seduction) h off e = grind (arith, nat_tests, seduces c i j (h Rule.Seduction refl) e)
 makes c i j (Some Rule.Abandonment) h off e = cc
 
--- a pointer that i has before the move and has not after it: i abandons j
+-- if i points at j before its move and not after it, the move is an abandonment of j, and keeps m
 pub drops : (c : Configuration) (i j : ℕ) (o : Option Rule) → Holds c i o → c.p i ≡ Some j → holds (moved c i o).p j ≡ false → Abandons c i j × ((moved c i o).m ≡ c.m i)
 drops c i j None h e off = absurd (both_ways (holds (c.p i) j) off (holds-from (c.p i) j e))
 drops c i j (Some Rule.Update) h e off = absurd (both_ways (holds (c.p i) j) off (holds-from (c.p i) j e))

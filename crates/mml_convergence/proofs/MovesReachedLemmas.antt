@@ -1,4 +1,4 @@
--- The run in the dense network, and its moves: as many as any may take.
+-- The run in the dense network, and the number of its moves.
 use Rattle.std.proofs.Common.{◌≡◌, ℕ, zero, suc, ◌+◌, ◌*◌, ◌-◌, ◌<◌, ◌≤◌, Bool, true, false, cond, ◌==◌, Some, List, length, refl, ap, arith}
 use Rattle.std.{specs.List.list_all, proofs.lemmas.Bool.eqb-true, proofs.lemmas.Bool.ne_eqb, proofs.lemmas.Bool.Decides.nat_tests}
 use Rattle.mml_ids.specs.{declared.TheConstants.MAX_NODES, Search.count_below}
@@ -13,7 +13,7 @@ use Rattle.mml_convergence.proofs.PhaseLemmas.{Shape, Seated, shaped, courts, ma
 use Rattle.mml_convergence.proofs.CrowdLemmas.{all, points, first_registers, first_shape, crowd_is_world}
 use Rattle.mml_lab.specs.declared.who.Who.TheVariants as who
 
--- how many move in each round of a phase
+-- the number of nodes that move in each of the four rounds of a phase
 counts : (n p b : ℕ) (sum : p + b + 1 ≡ n) (room : 2 * p + 2 ≤ n)
     → (p + count_below n (courts n all p b sum room) ≡ b) × (count_below n (marries_now n all p b sum room) ≡ 1)
     × (count_below n (learns n all p b sum room) ≡ 2) × (suc p + count_below n (leaves n all p b sum room) ≡ b)
@@ -28,7 +28,7 @@ counts n p b sum room =
           (λ i on. let x = leaves-means n all p b sum room i on in (x.0, x.1)) n (omega (arith, sum)),
     )
 
--- the moves of the phases: of one, and of q more before it
+-- the number of moves of the last phase and of q phases before it
 abbrev moves_of : ℕ → Bool → ℕ
 moves_of zero odd = 4 + 2 * cond odd 1 0
 moves_of (suc q) odd = 4 * q + 8 + 2 * cond odd 1 0 + moves_of q odd
@@ -51,7 +51,7 @@ module _ (r : RosterValue) (s n : ℕ) (owned : (i : ℕ) → i < n → owns r (
       unrounded (λ u x. x ≡ moves_of q odd) _ r u 0 (λ v x e. omega (arith, e, counts n p b sum room, whole, sum))
       (phases q odd (suc p) (n - (p + 2)) (omega (arith, whole)) (omega (arith, whole)) (omega (arith, whole)) u ku qu seated)))
 
--- the moves of the phases, and n, are n and twice the courtships
+-- all phases have n moves and two for each of the greatest number of courtships, minus one if n is odd
 moves_sum : (q : ℕ) (odd : Bool) → moves_of q odd + cond odd 1 0 ≡ 2 * q + 2 + cond odd 1 0 + 2 * most_courtships (2 * q + 2 + cond odd 1 0)
 moves_sum zero false = refl
 moves_sum zero true = refl

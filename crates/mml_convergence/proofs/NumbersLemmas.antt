@@ -1,28 +1,29 @@
--- Sums, counts, and how the most courtships grow with the number of nodes.
+-- Sums, counts, and how the greatest number of courtships grows with the number of nodes.
 use Rattle.std.proofs.Common.{◌≡◌, ℕ, zero, suc, ◌+◌, ◌*◌, ◌≤◌, ◌-◌, Bool, true, cond, not, refl, subst, arith}
 use Rattle.std.proofs.lemmas.Bool.Decides.{nat_tests}
 use Rattle.mml_ids.specs.Search.{count_below}
 use Rattle.mml_convergence.specs.{Potential.sum_below, Courtships.most_courtships}
 
--- each falls by what is charged to it, less what it is lent
+-- if f j + t j is at most g j + b j for each j, the same holds of the sums
 pub sum_lent : (n : ℕ) (f t g b : ℕ → ℕ) → ((j : ℕ) → f j + t j ≤ g j + b j) → sum_below n f + sum_below n t ≤ sum_below n g + sum_below n b
 sum_lent zero f t g b le = omega arith
 sum_lent (suc n) f t g b le = omega (arith, sum_lent n f t g b le, le n)
 
--- numbers pass a test or don't
+-- each number passes the test or doesn't
 pub count_both : (n : ℕ) (t : ℕ → Bool) → count_below n t + count_below n (λ i. not (t i)) ≡ n
 count_both zero t = refl
 count_both (suc n) t = grind (arith, count_both n t)
 
--- 1 for what passes newly, and 2 for what doesn't pass
+-- if t implies u, the sum of 1 for each number that passes only u, and 2 for each that doesn't pass u, follows from the
+-- counts
 pub count_lent : (n : ℕ) (t u : ℕ → Bool) → ((j : ℕ) → t j ≡ true → u j ≡ true)
     → sum_below n (λ i. cond (u i) (cond (t i) 0 1) 2) + count_below n t ≡ count_below n u + 2 * count_below n (λ i. not (u i))
 count_lent zero t u kept = refl
 count_lent (suc n) t u kept = grind (arith, count_lent n t u kept, kept n)
 
--- ---- the most courtships
+-- ---- the greatest number of courtships
 
--- one node more leaves no fewer
+-- with one node more, the greatest number of courtships isn't lower
 pub courtships_rise : (n : ℕ) → most_courtships n ≤ most_courtships (suc n)
 courtships_rise zero = omega arith
 courtships_rise (suc zero) = omega arith
@@ -32,19 +33,21 @@ courtships_between : (n k : ℕ) → most_courtships n ≤ most_courtships (n + 
 courtships_between n zero = grind (arith, nat_tests)
 courtships_between n (suc k) = grind (arith, nat_tests, courtships_rise, courtships_between n k)
 
--- no fewer nodes have no fewer
+-- with more nodes, the greatest number of courtships isn't lower
 pub courtships_kept : (n u : ℕ) → n ≤ u → most_courtships n ≤ most_courtships u
 courtships_kept n u le = let e : n + (u - n) ≡ u = omega (arith, le) in subst (λ z. most_courtships n ≤ most_courtships z) e (courtships_between n (u - n))
 
 courtships_more : (n : ℕ) → 1 ≤ n → most_courtships n + 1 ≤ most_courtships (suc n)
 courtships_more n le = grind (arith, nat_tests, courtships_rise)
 
--- two nodes more, and others, pay 1 for each that is gone and 2 for each that is left
+-- if n + 2 + k nodes become n, twice the greatest number of courtships falls by at least 1 for each node gone, and 2
+-- for each left
 couples_pay : (n k : ℕ) → 2 * most_courtships n + (n + (n + 2 + k)) ≤ 2 * most_courtships (n + 2 + k)
 couples_pay n zero = grind (arith, nat_tests)
 couples_pay n (suc k) = grind (arith, nat_tests, courtships_more, couples_pay n k)
 
--- if at least two nodes are gone, the courtships pay 1 for each that is gone and 2 for each that is left
+-- if u nodes become at least two fewer, twice the greatest number of courtships falls by 1 for each node gone, and 2
+-- for each left
 pub marriages_pay : (n u : ℕ) → n + 2 ≤ u → 2 * most_courtships n + (n + u) ≤ 2 * most_courtships u
 marriages_pay n u le =
     let e : n + 2 + (u - (n + 2)) ≡ u = omega (arith, le) in

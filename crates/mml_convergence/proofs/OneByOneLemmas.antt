@@ -1,4 +1,4 @@
--- The rules of a phase stand while others of its nodes have moved.
+-- In a phase, a rule may still be applied at a node, with the same effect, after other nodes have moved.
 use Rattle.std.proofs.Common.{◌≡◌, ℕ, suc, ◌+◌, ◌*◌, ◌<◌, ◌≤◌, inl, inr, Bool, true, false, None, Some, sym, ◌∙◌, arith}
 use Rattle.std.proofs.lemmas.Bool.{cases_Bool, cases_lt, ne_eqb, eqb-true, or_cases, false_from_ne_true, Decides.nat_tests}
 use Rattle.mml_rules.specs.{declared.rule.Rule.Rule, Configuration.Configuration, Meaning.IsCandidate}
@@ -8,7 +8,7 @@ use Rattle.mml_convergence.proofs.IdleLemmas.{may_update, may_marry, may_abandon
 use Rattle.mml_convergence.proofs.PhaseLemmas.{Seated, Courted, Engaged, Wed, courts, marries_now, learns, leaves, courts-means, leaves-means, shaped, owner_in, some_same, seated_free, candidate, greatest}
 use Rattle.mml_convergence.proofs.PhaseLemmas.{wed_pair, groom}
 
--- all nodes update that point nowhere, with m true
+-- this holds of the update of nodes that have a null pointer and m true
 pub first_updates_stand : (c : Configuration) (t : ℕ → Bool) → ((i : ℕ) → i < c.size → (c.p i ≡ None) × (c.m i ≡ true)) → Stands c t Rule.Update
 first_updates_stand c t all d i lt on e = grind (arith, nat_tests, kept, above, above_off, married-null, may_update)
 
@@ -32,7 +32,7 @@ module _ (n : ℕ) (low : ℕ → Bool) (r b : ℕ) (sum : r + b + 1 ≡ n) (roo
       still : (j : ℕ) → j < c.size → above t (suc i) j ≡ false → (d.p j ≡ c.p j) × (d.m j ≡ c.m j)
       still j j_in off = kept c d (above t (suc i)) Rule.Seduction e j j_in off
 
-      -- b and what is above it don't move
+      -- b and the nodes above it don't move
       high_off : (j : ℕ) → b ≤ j → above t (suc i) j ≡ false
       high_off j ge = above_out t (suc i) j (false_from_ne_true (t j) (λ is. let y = courts-means n low r b sum room j is in omega (arith, y.1, ge)))
 
@@ -65,7 +65,7 @@ module _ (n : ℕ) (low : ℕ → Bool) (r b : ℕ) (sum : r + b + 1 ≡ n) (roo
   pub marriage_stands : (c : Configuration) → Courted n low r b sum room c → Stands c (marries_now n low r b sum room) (Rule.Marriage r)
   marriage_stands c k d i lt on e = grind (arith, nat_tests, may_marry, marries_now, kept, above, above_in)
 
-  -- who learns points at the other, which points back
+  -- i and its partner point at each other
   record Paired (c : Configuration) (i : ℕ) : Type 0 where
     mate : ℕ
     i_in : i < n

@@ -1,4 +1,4 @@
--- A world at the beginning whose links a test gives.
+-- A world at the beginning, with links that a test defines.
 use Rattle.std.proofs.Common.{◌≡◌, ℕ, ◌<◌, ◌≤◌, Bool, true, false, ◌&&◌, nat_lt, nat_cmp, None, Some, List, length, map, ap, ◌∙◌, arith}
 use Rattle.std.specs.List.{range_with_len}
 use Rattle.std.proofs.lemmas.{Bool.and_from, Bool.lt-ltb, Bool.Decides.nat_tests, List.get_or_past, List.FromFn.get_or-map-range_with_len, List.FromFn.length-map-range_with_len}
@@ -32,7 +32,7 @@ module _ (n : ℕ) (test : ℕ → ℕ → Bool) (registers : List Regs) (sized 
   pub linked-from : (i j : ℕ) → i < n → j < n → test i j ≡ true → at_first.linked i j ≡ true
   linked-from i j a b e = first_linked i j a ∙ and_from _ _ (lt-ltb j n b) e
 
-  -- beyond the last node nothing points
+  -- past the last node, all pointers are null
   pub null_past : (i : ℕ) → n ≤ i → at_first.p i ≡ None
   null_past i past = ap (λ (g : Regs). g.p) (get_or_past registers i no_regs (omega (arith, past, sized)))
 

@@ -1,4 +1,5 @@
--- A phase of four steps: the low nodes seduce the highest free node, it marries the lowest, both update, the others abandon it.
+-- A phase of four steps: the low nodes seduce the highest free node, b; b marries the lowest, r; both update; and the
+-- others abandon b. Which nodes are low is a parameter. A free node isn't married.
 use Rattle.std.proofs.Common.{not, ◌≡◌, ℕ, suc, ◌+◌, ◌*◌, ◌-◌, ◌<◌, ◌≤◌, ◌⊎◌, inl, inr, Bool, true, false, ◌&&◌, ◌||◌, ◌==◌, nat_lt, Option, None, Some, sym, refl, ap, ◌∙◌, subst, arith}
 use Rattle.std.proofs.lemmas.Bool.{both_ways, false_from_ne_true, and_from, or_cases, or_left, or_right, or_from, cases_lt, cases_eq, cases_Bool, lt-ltb, eqb-true, eq-eqb, ne_eqb, Decides.nat_tests}
 use Rattle.mml_rules.specs.{declared.rule.Rule.Rule, Configuration.Configuration, Configuration.IsLawful, Configuration.holds, Rules.guard, Rules.is_privileged, Meaning.IsCandidate}
@@ -6,7 +7,8 @@ use Rattle.mml_rules.proofs.RulesLemmas.{married-from}
 use Rattle.mml_convergence.proofs.MoveLemmas.{IsMoved, kept, turned}
 use Rattle.mml_convergence.proofs.IdleLemmas.{settled, waiting, lonely, may_update, may_marry, may_abandon, may_seduce, seduces_greatest}
 
--- n nodes of which some are low: before phase r each low node that is free is linked to the highest free node, and only low nodes are linked to higher ones
+-- a network of n nodes: in each phase r, each free low node is linked to the highest free node; only low nodes are
+-- linked to higher ones
 pub record Shape (n : ℕ) (low : ℕ → Bool) (c : Configuration) : Type 0 where
   pub size : c.size ≡ n
   pub lawful : IsLawful c
@@ -14,21 +16,21 @@ pub record Shape (n : ℕ) (low : ℕ → Bool) (c : Configuration) : Type 0 whe
   pub upward : (i j : ℕ) → c.linked i j ≡ true → i < j → low i ≡ true
   pub lowest : (r : ℕ) → 2 * r + 2 ≤ n → low r ≡ true
 
--- the first r nodes and the last r are pairs, first with last, with m true
+-- the first r nodes and the last r are married, i to n - 1 - i, with m true
 abbrev pub Couples : (n r : ℕ) → Configuration → Type 0
 Couples n r c = (i j : ℕ) → i < r → i + j + 1 ≡ n → (c.p i ≡ Some j) × (c.p j ≡ Some i) × (c.m i ≡ true) × (c.m j ≡ true)
 
--- these nodes from r on and below b hold that
+-- the nodes from r on and below b that are low (or aren't, if is_low is false) have the pointer `at` and m false
 abbrev pub Between : (r b : ℕ) (low : ℕ → Bool) (is_low : Bool) → Option ℕ → Configuration → Type 0
 Between r b low is_low at c = (i : ℕ) → r ≤ i → i < b → low i ≡ is_low → (c.p i ≡ at) × (c.m i ≡ false)
 
--- before phase r: a node that isn't married points nowhere
+-- before phase r, each node that isn't married has a null pointer and m false
 pub record Seated (n : ℕ) (low : ℕ → Bool) (r : ℕ) (c : Configuration) : Type 0 where
   pub shape : Shape n low c
   pub couples : Couples n r c
   pub free : (i : ℕ) → r ≤ i → i + r < n → (c.p i ≡ None) × (c.m i ≡ false)
 
--- each node is one of a couple, or free
+-- each node is in one of the r couples, or is free
 abbrev pub Class : (n r i : ℕ) → Type 0
 Class n r i = ((j : ℕ) × (i + j + 1 ≡ n) × ((i < r) ⊎ (j < r))) ⊎ ((r ≤ i) × (i + r < n))
 
@@ -38,7 +40,7 @@ class n r i lt = elim (cases_lt i r) [
   | inr ge ↦ elim (cases_lt (i + r) n) [ inr far ↦ inl (n - (i + 1), omega (arith, lt), inr (omega (arith, far, lt))) | inl near ↦ inr (ge, near) ]
 ]
 
--- what a couple's node holds
+-- a node of a couple points at its partner, the partner points back, and m is true
 pub mate : (n r i j : ℕ) (c : Configuration) → Couples n r c → i + j + 1 ≡ n → (i < r) ⊎ (j < r) → (c.p i ≡ Some j) × (c.p j ≡ Some i) × (c.m i ≡ true)
 mate n r i j c couples e (inl lt) = let x = couples i j lt e in (x.0, x.1, x.2)
 mate n r i j c couples e (inr lt) = let x = couples j i lt (omega (arith, e)) in (x.1, x.0, x.3)
@@ -56,7 +58,7 @@ module _ (c d : Configuration) (t : ℕ → Bool) (rule : Rule) (e : IsMoved c d
     lowest = s.lowest;
   }
 
--- couples that stand if the rule isn't applied
+-- if the rule isn't applied at nodes of couples, these couples stay
 pub couples_kept : (n r : ℕ) (c d : Configuration) (t : ℕ → Bool) (rule : Rule) → IsMoved c d t rule → c.size ≡ n → 2 * r ≤ n → Couples n r c
     → ((i : ℕ) → i < n → (i < r) ⊎ (n ≤ i + r) → t i ≡ false) → Couples n r d
 couples_kept n r c d t rule e size few couples off i j lt sum =
@@ -73,11 +75,11 @@ between_kept : (n r b q : ℕ) (low : ℕ → Bool) (is_low : Bool) (at : Option
     → b < n → r ≤ q → Between r b low is_low at c → ((i : ℕ) → q ≤ i → i < b → low i ≡ is_low → t i ≡ false) → Between q b low is_low at d
 between_kept n r b q low is_low at c d t rule e size b_in le between off i from below is = grind (arith, nat_tests, kept)
 
--- a pointer's owner is a node
+-- a number that has a pointer is a node
 pub owner_in : (n : ℕ) (low : ℕ → Bool) (c : Configuration) → Shape n low c → (j i : ℕ) → c.p j ≡ Some i → j < n
 owner_in n low c s j i e = let range = s.lawful.in_range j i (s.lawful.to_linked j i e) in omega (arith, range.0, s.size)
 
--- a node that isn't low, and at which nobody points
+-- a node that isn't low isn't privileged if its pointer is null, m is false, and no node points at it
 high_idle : (n : ℕ) (low : ℕ → Bool) (c : Configuration) → Shape n low c → (i : ℕ) → low i ≡ false → c.p i ≡ None → c.m i ≡ false
     → ((j : ℕ) → c.p j ≡ Some i → ⊥) → is_privileged c i ≡ false
 high_idle n low c s i high null off none = lonely c s.lawful i null off none (λ j linked lt free. both_ways (low i) high (s.upward i j linked lt))
@@ -85,10 +87,10 @@ high_idle n low c s i high null off none = lonely c s.lawful i null off none (λ
 couple_idle : (n r : ℕ) (low : ℕ → Bool) (c : Configuration) → Shape n low c → Couples n r c → (i j : ℕ) → i + j + 1 ≡ n → (i < r) ⊎ (j < r) → is_privileged c i ≡ false
 couple_idle n r low c s couples i j e side = let x = mate n r i j c couples e side in settled c s.lawful i j x.0 x.1 x.2
 
--- ---- phase r, in which b, the highest free node, is married to r
+-- ---- phase r, in which r marries b, the highest free node
 
 module _ (n : ℕ) (low : ℕ → Bool) (r b : ℕ) (sum : r + b + 1 ≡ n) (room : 2 * r + 2 ≤ n) where
-  -- the low nodes court b
+  -- the free low nodes point at b, and the other free nodes have null pointers
   pub record Courted (c : Configuration) : Type 0 where
     pub shape : Shape n low c
     pub couples : Couples n r c
@@ -96,7 +98,7 @@ module _ (n : ℕ) (low : ℕ → Bool) (r b : ℕ) (sum : r + b + 1 ≡ n) (roo
     pub rest : Between r b low false None c
     pub bride : (c.p b ≡ None) × (c.m b ≡ false)
 
-  -- b has married r
+  -- b has married r, but m is still false at both
   pub record Engaged (c : Configuration) : Type 0 where
     pub shape : Shape n low c
     pub couples : Couples n r c
@@ -104,14 +106,14 @@ module _ (n : ℕ) (low : ℕ → Bool) (r b : ℕ) (sum : r + b + 1 ≡ n) (roo
     pub rest : Between r b low false None c
     pub bride : (c.p b ≡ Some r) × (c.m b ≡ false)
 
-  -- both know it
+  -- r and b are married, with m true at both
   pub record Wed (c : Configuration) : Type 0 where
     pub shape : Shape n low c
     pub couples : Couples n (suc r) c
     pub courting : Between (suc r) b low true (Some b) c
     pub rest : Between (suc r) b low false None c
 
-  -- ---- who seduces, marries, updates and abandons
+  -- ---- the nodes that seduce, marry, update and abandon
 
   abbrev pub courts : ℕ → Bool
   courts i = nat_lt r (i + 1) && (nat_lt i b && low i)
@@ -196,7 +198,7 @@ module _ (n : ℕ) (low : ℕ → Bool) (r b : ℕ) (sum : r + b + 1 ≡ n) (roo
     bride = grind (arith, nat_tests, kept, false_from_ne_true, courts-means);
   }
 
-  -- ---- who points at a node that isn't low, once b is courted
+  -- ---- after b is seduced, no node points at a node that isn't low
 
   nobody : (c : Configuration) → Shape n low c → Couples n r c → Between r b low true (Some b) c → Between r b low false None c
       → ((c.p b ≡ None) ⊎ (c.p b ≡ Some r)) → (i j : ℕ) → r ≤ i → i < b → low i ≡ false → c.p j ≡ Some i → ⊥
@@ -212,7 +214,7 @@ module _ (n : ℕ) (low : ℕ → Bool) (r b : ℕ) (sum : r + b + 1 ≡ n) (roo
       at_b f (inl null) = cc
       at_b f (inr to) = let same = some_same r i (sym to ∙ f) in both_ways (low i) high (subst (λ z. low z ≡ true) same (low_r s))
 
-  -- once b is courted, whoever isn't b is idle, if those who court b are
+  -- after b is seduced, each node other than b isn't privileged, if this holds of those that point at b
   others_idle : (c : Configuration) → Shape n low c → Couples n r c → Between r b low true (Some b) c → Between r b low false None c
       → ((c.p b ≡ None) ⊎ (c.p b ≡ Some r)) → (i : ℕ) → i < c.size → (i ≡ b → ⊥)
       → (i < b → (c.p i ≡ Some b) × (c.m i ≡ false) → is_privileged c i ≡ false) → is_privileged c i ≡ false
@@ -334,7 +336,7 @@ module _ (n : ℕ) (low : ℕ → Bool) (r b : ℕ) (sum : r + b + 1 ≡ n) (roo
         ]
   ]
 
-  -- what is left is as before the next phase
+  -- after the abandonments, the next phase can begin
   pub then_free : (c d : Configuration) → Wed c → IsMoved c d leaves Rule.Abandonment → Seated n low (suc r) d
   then_free c d k e = record {
     shape = shaped c d leaves Rule.Abandonment e n low k.shape;

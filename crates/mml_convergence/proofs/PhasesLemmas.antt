@@ -1,4 +1,4 @@
--- What a node's turn brings, while no more nodes are married, or at any time.
+-- What holds after a node's turn: in any run, or as long as the number of married nodes doesn't grow.
 use Rattle.std.proofs.Common.{◌≡◌, ℕ, ◌+◌, ◌<◌, ◌≤◌, ◌⊎◌, inl, inr, false, Option, Some, arith, rules}
 use Rattle.std.proofs.lemmas.Bool.Decides.{nat_tests}
 use Rattle.mml_rules.specs.{declared.rule.Rule.Rule, Configuration.Configuration, Configuration.IsLawful, Rules.is_privileged, Rules.step, Rules.AllHold}
@@ -7,21 +7,21 @@ use Rattle.mml_convergence.proofs.StagesLemmas.{Modest, Upward, Aware, Hopeful, 
 use Rattle.mml_convergence.proofs.StagesLemmas.{lone_stays, modest_idle, upward_idle, aware_idle, hopeful_idle, courting_idle, courted_idle, modest_stays, modest_moves, upward_stays, upward_moves}
 use Rattle.mml_convergence.proofs.StagesLemmas.{aware_stays, aware_moves, hopeful_stays, hopeful_moves, open_stays, courting_stays, courting_moves, courted_moves, courted_kept}
 
--- ---- at any time
+-- ---- steps of any kind
 
--- no step ends it
+-- P holds after each step before which it holds
 abbrev pub Stays : (Configuration → Type 0) → Type 0
 Stays P = (c : Configuration) (chosen : ℕ → Option Rule) → IsLawful c → AllHold c chosen → P c → P (step c chosen)
 
--- while P holds, Q stays, and holds once i isn't privileged or has moved
+-- if P holds: Q stays true in each step, and becomes true if i isn't privileged or has moved
 pub record Brings (P Q : Configuration → Type 0) (i : ℕ) : Type 0 where
   pub stays : (c : Configuration) (chosen : ℕ → Option Rule) → IsLawful c → AllHold c chosen → P c → Q c → Q (step c chosen)
   pub idle : (c : Configuration) → IsLawful c → P c → is_privileged c i ≡ false → Q c
   pub moves : (c : Configuration) (chosen : ℕ → Option Rule) (r : Rule) → IsLawful c → AllHold c chosen → P c → chosen i ≡ Some r → Q (step c chosen)
 
--- ---- while no more nodes are married
+-- ---- as long as the number of married nodes doesn't grow
 
--- no step ends it while no more nodes are married
+-- P holds after each calm step (in which no node is newly married) before which it holds
 abbrev pub CalmStays : (Configuration → Type 0) → Type 0
 CalmStays P = (c : Configuration) (chosen : ℕ → Option Rule) → IsLawful c → AllHold c chosen → Calm c chosen → P c → P (step c chosen)
 
@@ -31,64 +31,64 @@ pub record CalmBrings (P Q : Configuration → Type 0) (i : ℕ) : Type 0 where
   pub moves : (c : Configuration) (chosen : ℕ → Option Rule) (r : Rule) → IsLawful c → AllHold c chosen → Calm c chosen → P c → chosen i ≡ Some r
       → Q (step c chosen)
 
--- of k married nodes there are two more, or P holds
+-- at least k + 2 nodes are married; or at least k nodes are married, and P holds
 abbrev pub Within : ℕ → (Configuration → Type 0) → Configuration → Type 0
 Within k P c = (k + 2 ≤ married_count c) ⊎ ((k ≤ married_count c) × P c)
 
--- what stays while no more nodes are married, stays until two more are
+-- if P stays true in calm steps, `Within k P` stays true in all steps
 pub calm_stays : (k : ℕ) (P : Configuration → Type 0) → CalmStays P → Stays (Within k P)
 calm_stays k P stays c chosen l h p = grind (arith, nat_tests, married_kept, grows)
 
--- what a turn brings while no more nodes are married, it brings unless two more are
+-- if a turn of i makes Q true as long as the steps are calm, it makes `Within k Q` true in all steps
 pub calm_brings : (k : ℕ) (P Q : Configuration → Type 0) (i : ℕ) → CalmBrings P Q i → Brings (Within k P) (Within k Q) i
 calm_brings k P Q i b = grind (arith, nat_tests, married_kept, grows)
 
--- ---- the phases
+-- ---- the stages of a run
 
--- nothing yet
+-- a fact that always holds
 abbrev pub Any : Configuration → Type 0
 Any c = Unit {0}
 
--- what says nothing is ended by no step
+-- a fact that always holds stays true in each step
 pub any_stays : Stays Any
 any_stays c chosen l h p = tt
 
--- after its turn a node has m false, unless it is married
+-- after its turn, a node has m false or is married
 pub modest_brings : (i : ℕ) → Brings Any (Modest i) i
 modest_brings i = grind (arith, nat_tests, modest_stays, modest_idle, modest_moves)
 
--- no step makes m true at a node that isn't married, if it was true at none
+-- if m is false at each node that isn't married, this is also so after each step
 pub modest_each : Stays (Each Modest)
 modest_each c chosen l h p i lt = modest_stays c chosen l h i (p i lt)
 
 pub upward_each : Stays (Each Upward)
 upward_each c chosen l h p i lt = upward_stays c chosen l h i (p i lt)
 
--- no node that isn't married has m true, or points downwards
+-- each node that isn't married has m false, and points at no lower node
 pub record IsSettled (c : Configuration) : Type 0 where
   pub modest : Each Modest c
   pub upward : Each Upward c
 
--- no step ends that a configuration is settled
+-- a settled configuration stays settled in each step
 pub settled_stays : Stays IsSettled
 settled_stays c chosen l h p = record { modest = modest_each c chosen l h p.modest; upward = upward_each c chosen l h p.upward }
 
--- and every married node has m true
+-- the configuration is settled, and each married node has m true
 pub record IsAware (c : Configuration) : Type 0 where
   pub settled : IsSettled c
   pub aware : Each Aware c
 
--- and no node that isn't married points at a married one
+-- the configuration is aware, and no node that isn't married points at a married one
 pub record IsHopeful (c : Configuration) : Type 0 where
   pub settled : IsSettled c
   pub aware : Each Aware c
   pub hopeful : Each Hopeful c
 
--- so a settled one stays so while no more nodes are married
+-- a settled configuration stays settled as long as the number of married nodes doesn't grow
 pub settled_calm : CalmStays IsSettled
 settled_calm c chosen l h calm p = settled_stays c chosen l h p
 
--- an aware configuration stays so while no more nodes are married
+-- an aware configuration stays aware as long as the number of married nodes doesn't grow
 pub aware_calm : CalmStays IsAware
 aware_calm c chosen l h calm p = record { settled = settled_stays c chosen l h p.settled; aware = λ i lt. aware_stays c chosen l h calm i (p.aware i lt) }
 
@@ -99,41 +99,44 @@ hopeful_calm c chosen l h calm p = record {
   hopeful = λ i lt. hopeful_stays c chosen l h calm i (p.hopeful i lt);
 }
 
--- two linked nodes that aren't married
+-- the configuration is hopeful, and the linked nodes a and b aren't married
 pub record IsReady (a b : ℕ) (c : Configuration) : Type 0 where
   pub before : IsHopeful c
   pub link : IsOpen a b c
 
--- two linked nodes that aren't married stay so while no more nodes are married
+-- this stays so as long as the number of married nodes doesn't grow
 pub ready_calm : (a b : ℕ) → CalmStays (IsReady a b)
 ready_calm a b c chosen l h calm p = record { before = hopeful_calm c chosen l h calm p.before; link = open_stays c chosen l h calm a b p.link }
 
--- a node with a suitor
+-- the configuration is hopeful, and s points at t, whose pointer is null
 pub record IsWooed (s t : ℕ) (c : Configuration) : Type 0 where
   pub before : IsHopeful c
   pub pair : IsCourted s t c
 
--- a node that points nowhere and has a suitor keeps it while no more nodes are married
+-- this stays so as long as the number of married nodes doesn't grow
 pub wooed_calm : (s t : ℕ) → CalmStays (IsWooed s t)
 wooed_calm s t c chosen l h calm p = search (rules, hopeful_calm, courted_kept)
 
--- what holds nowhere
+-- a fact that never holds
 abbrev pub Never : Configuration → Type 0
 Never c = ⊥
 
--- if only married nodes have m true, after its turn a node points at no lower one, unless it is married
+-- if only married nodes have m true, a node that isn't married points at no lower node after its turn
 pub upward_brings : (i : ℕ) → Brings (Each Modest) (λ c. i < c.size → Upward i c) i
 upward_brings i = grind (arith, nat_tests, upward_stays, upward_idle, upward_moves)
 
--- after its turn a married node has m true, while no more nodes are married
+-- in a settled configuration, a married node has m true after its turn, as long as the number of married nodes doesn't
+-- grow
 pub aware_brings : (i : ℕ) → CalmBrings IsSettled (λ c. i < c.size → Aware i c) i
 aware_brings i = grind (arith, nat_tests, aware_stays, aware_idle, aware_moves)
 
--- after its turn an unmarried node points at no married one, while no more nodes are married
+-- in an aware configuration, an unmarried node points at no married node after its turn, as long as the number of
+-- married nodes doesn't grow
 pub hopeful_brings : (i : ℕ) → CalmBrings IsAware (λ c. i < c.size → Hopeful i c) i
 hopeful_brings i = grind (arith, nat_tests, hopeful_stays, hopeful_idle, hopeful_moves)
 
--- after the turn of the lower of two linked nodes that aren't married, some node that isn't married points at one
+-- if a and its higher neighbour b aren't married, then after the turn of a some unmarried node points at a node, as
+-- long as the number of married nodes doesn't grow
 pub courting_brings : (a b : ℕ) → CalmBrings (IsReady a b) IsCourting a
 courting_brings a b = record {
   stays = λ c chosen l h calm p q. let k = p.before.settled in courting_stays c chosen l h calm k.modest k.upward p.before.hopeful q;
@@ -141,7 +144,7 @@ courting_brings a b = record {
   moves = λ c chosen r l h calm p e. let k = p.before.settled in courting_moves c chosen l h calm k.modest k.upward p.before.hopeful a b p.link r e;
 }
 
--- a node with a suitor has no turn without more nodes being married
+-- if t has a null pointer and a suitor, it can't have its turn without the number of married nodes growing
 pub wedding_brings : (s t : ℕ) → CalmBrings (IsWooed s t) Never t
 wedding_brings s t = record {
   stays = λ c chosen l h calm p q. q;
@@ -151,17 +154,19 @@ wedding_brings s t = record {
 
 -- ---- if no node is married
 
--- a pointer leads upwards, or a lower node points nowhere, and a higher one linked to it nowhere else
+-- no node is married, and m is false at each; some node points at a higher node, or a and its higher neighbour b are
+-- about to, as `IsFacing` defines
 pub record IsDawning (a b : ℕ) (c : Configuration) : Type 0 where
   pub modest : Each Modest c
   pub lone : IsLone c
   pub either : IsRising c ⊎ IsFacing a b c
 
--- a dawning configuration stays so while no more nodes are married
+-- a dawning configuration stays so as long as the number of married nodes doesn't grow
 pub dawning_calm : (a b : ℕ) → CalmStays (IsDawning a b)
 dawning_calm a b c chosen l h calm p = grind (arith, nat_tests, modest_each, lone_stays, rising_stays, facing_stays)
 
--- and there, after the lower node's turn, a pointer leads upwards
+-- in a dawning configuration, some node points at a higher node after the turn of a, as long as the number of married
+-- nodes doesn't grow
 pub dawning_brings : (a b : ℕ) → CalmBrings (IsDawning a b) IsRising a
 dawning_brings a b = record {
   stays = λ c chosen l h calm p q. rising_stays c chosen l h calm p.modest p.lone q;

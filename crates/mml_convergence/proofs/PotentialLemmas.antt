@@ -1,4 +1,5 @@
--- In a step each node's potential falls by what is charged to it: its own move, but for a marriage with a lower node, and a marriage of a higher node with it.
+-- In a step the potential of each node falls by the number of moves that are charged to it. These are the node's own
+-- move, if it isn't a marriage with a lower node, and each marriage of a higher node with it.
 use Rattle.std.proofs.Common.{◌≡◌, ℕ, ◌+◌, ◌<◌, ◌≤◌, Bool, true, false, cond, not, inl, inr, Option, None, Some, sym, refl, ap, ◌∙◌, subst, arith, nat_lt}
 use Rattle.std.specs.Option.{option_map_or}
 use Rattle.std.proofs.lemmas.Bool.{and_parts, and_from, both_ways, false≢true, ltb-true, lt-ltb, cases_Bool, cases_order, Decides.nat_tests}
@@ -32,15 +33,15 @@ module _ (c : Configuration) (chosen : ℕ → Option Rule) (l : IsLawful c) (h 
   m_moved : (i : ℕ) → IsMoved (is_married c i) (c.m i) (next.m i)
   m_moved i = moved-m c i (chosen i) (h i)
 
-  -- who points at a higher node with m false, stays
+  -- if j points at a higher node with m false, it still does so after the step
   pub suitor_kept : (i j : ℕ) → c.p j ≡ Some i → c.m i ≡ false → j < i → holds (next.p j) i ≡ true
   suitor_kept i j e off lt = grind (arith, nat_tests, drops)
 
-  -- a marriage with a lower node makes a pair
+  -- a node that marries a lower node is married after the step
   lower_pair : (i j : ℕ) → c.m i ≡ false → c.p j ≡ Some i → next.p i ≡ Some j → j < i → is_married next i ≡ true
   lower_pair i j off e to lt = married-from next i j lawful to (holds-true (next.p j) i (suitor_kept i j e off lt))
 
-  -- a free node points down only if it did
+  -- a node that isn't married points at a lower node after the step only if it did so before
   down_kept : (i : ℕ) → is_married next i ≡ false → points_down next i ≡ true → points_down c i ≡ true
   down_kept i unmarried down = go (next.p i) refl down
     where
@@ -88,7 +89,7 @@ module _ (c : Configuration) (chosen : ℕ → Option Rule) (l : IsLawful c) (h 
         above_lt i j e,
       )))
 
-  -- the parts of the links of i to higher nodes, before the step and after it
+  -- the sum of the parts of the links from i to higher nodes, before the step (and below, after it)
   abbrev links_before : ℕ → ℕ
   links_before i = sum_below c.size (λ j. cond (is_above c i j) (link_part c i j) 0)
 
@@ -127,13 +128,13 @@ module _ (c : Configuration) (chosen : ℕ → Option Rule) (l : IsLawful c) (h 
   apart : (i j : ℕ) → c.linked i j ≡ true → i ≡ j → ⊥
   apart i j linked e = both_ways (c.linked i i) (l.no_loop i) (subst (λ x. c.linked i x ≡ true) (sym e) linked)
 
-  -- ---- a node pays for its own move, but not for a marriage with a lower node
+  -- ---- a node's own move is charged to it, if it isn't a marriage with a lower node
 
   own_part_updated : (i : ℕ) → chosen i ≡ Some Rule.Update → own_part next i + 1 ≤ own_part c i
   own_part_updated i e = own_updated (is_married c i) (c.m i) (points_down c i) (is_married next i) (next.m i) (points_down next i) (married i)
       (updates c i (h i Rule.Update e)) (ap (λ o. (moved c i o).m) e) (ap (λ o. option_map_or (λ j. nat_lt j i) (moved c i o).p false) e)
 
-  -- the parts of i fall by n
+  -- the own part of i and the parts of its links fall together by at least n
   abbrev Pays : ℕ → ℕ → Type 0
   Pays i n = own_part next i + links_after i + n ≤ own_part c i + links_before i
 
@@ -177,13 +178,13 @@ module _ (c : Configuration) (chosen : ℕ → Option Rule) (l : IsLawful c) (h 
         lt-ltb,
       )
 
-  -- by the four rules
+  -- the parts of i fall by 1 for a move that is charged to it, whichever rule it applies
   move_paid : (i : ℕ) (o : Option Rule) → chosen i ≡ o → Pays i (cond (pays o i) 1 0)
   move_paid i o e = grind (arith, nat_tests, pays_nothing, by_own_part, own_part_updated, marriage_paid, seduction_paid, abandonment_paid)
 
-  -- ---- a node pays for a marriage of a higher node with it
+  -- ---- a marriage of a higher node with i is charged to i
 
-  -- what it means that k marries a lower i
+  -- k marries the lower node i, and wasn't married before
   record MarriesLower (k i : ℕ) : Type 0 where
     higher : i < k
     chooses : chosen k ≡ Some (Rule.Marriage i)
@@ -193,11 +194,11 @@ module _ (c : Configuration) (chosen : ℕ → Option Rule) (l : IsLawful c) (h 
   lower_marriage : (k i : ℕ) → marries_lower (chosen k) k i ≡ true → MarriesLower k i
   lower_marriage k i e = let w = marries_lower-means (chosen k) k i e in grind (arith, nat_tests, marries c k i (h k (Rule.Marriage i) w.0), married-null)
 
-  -- i goes on pointing at k, which points back: the link's part falls from 1 to 0
+  -- if k marries the lower node i, the part of their link falls from 1 to 0
   answer_lowers : (k i : ℕ) → MarriesLower k i → links_after i + 1 ≤ links_before i
   answer_lowers k i w = grind (arith, nat_tests, links_fell, link_answered, holds-from, suitor_kept)
 
-  -- what i may do in the same step is an update
+  -- if k marries the lower node i, the parts of i fall by 1 more than for its own move, which can only be an update
   both_paid : (k i : ℕ) → MarriesLower k i → (o : Option Rule) → chosen i ≡ o → Pays i (cond (pays o i) 1 0 + 1)
   both_paid k i w None e = by_links i (answer_lowers k i w)
   both_paid k i w (Some Rule.Update) e = let own = own_part_updated i e in let links = answer_lowers k i w in omega (arith, own, links)
@@ -208,7 +209,7 @@ module _ (c : Configuration) (chosen : ℕ → Option Rule) (l : IsLawful c) (h 
     | inr lt ↦ let gt = w.higher in absurd (omega arith)
   ]
 
-  -- at most one node marries i
+  -- the number of higher nodes that marry i, which is at most one
   abbrev marriages_with : ℕ → ℕ
   marriages_with i = count_below c.size (λ k. marries_lower (chosen k) k i)
 
@@ -234,7 +235,7 @@ module _ (c : Configuration) (chosen : ℕ → Option Rule) (l : IsLawful c) (h 
           let found = some_below-find c.size (λ k. marries_lower (chosen k) k i) e in
           grind (arith, nat_tests, lower_marriage found.0 i found.2, one_marriage, both_paid)
 
-  -- the potential of i falls by what is charged to it
+  -- the potential of i falls by at least the number of moves that are charged to it
   pub potential_fell : (i : ℕ) → potential next i + (cond (pays (chosen i) i) 1 0 + count_below c.size (λ k. marries_lower (chosen k) k i)) ≤ potential c i
   unfolding potential
   potential_fell i = let paid = all_paid i in omega (arith, paid)

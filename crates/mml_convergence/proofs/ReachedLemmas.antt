@@ -1,4 +1,4 @@
--- The run in two halves, each move in a close of its own, and its rounds.
+-- The run in the network of two halves in which each close applies one move, and its number of rounds.
 use Rattle.std.{proofs.lemmas.Grind.common_steps, proofs.lemmas.List.get_or-replicate, proofs.lemmas.List.length-replicate, specs.List.list_all}
 use Rattle.std.proofs.Common.{◌≡◌, ℕ, zero, suc, ◌+◌, ◌*◌, ◌-◌, ◌<◌, ◌≤◌, Bool, true, false, cond, nat_lt, None, List, length, refl, ap, subst, arith}
 use Rattle.std.proofs.lemmas.Bool.{both_ways, eq-eqb, or_left, cases_lt, lt-ltb, ltb-true, Decides.nat_tests}
@@ -29,7 +29,7 @@ rests r w a lt on = stop Restless r w (λ stable. both_ways (is_privileged (conf
 
 -- ---- the phases
 
--- the rounds of the phases: of one, and of q more before it
+-- the number of rounds of the last phase and of q phases before it
 abbrev rounds_of : ℕ → Bool → ℕ
 rounds_of zero odd = suc (suc (cond odd 1 0))
 rounds_of (suc q) odd = suc (suc (suc (suc (rounds_of q odd))))
@@ -103,7 +103,7 @@ module _ (n : ℕ) where
   pub first_world : n ≤ MAX_NODES → IsWorld (halves_world n)
   first_world few = opening.first_world n (is_joined n) (halves n).registers first_size first_lawful few
 
-  -- first all nodes update
+  -- after each node has updated, phase 0 can begin
   seated : (d : Configuration) → IsMoved at_first d (λ i. nat_lt i n) Rule.Update → Seated n (lower n) 0 d
   seated d e = record {
     shape = shaped at_first d (λ i. nat_lt i n) Rule.Update e n (lower n) first_shape;

@@ -1,4 +1,4 @@
--- A run that is over has ended with no node privileged; each run can be led there.
+-- If each node has an owner, a run can go on as long as some node is privileged. So in a run that is over, no node is.
 use Rattle.std.proofs.Common.{◌≡◌, ℕ, zero, suc, ◌<◌, true, false, ◌==◌, List, [], ◌∷◌, length, Option, None, Some, is_some, sym, refl, ap, ◌∙◌, arith}
 use Rattle.std.specs.List.{list_any}
 use Rattle.std.proofs.lemmas.Bool.{false≢true, both_ways, or_left, eq-eqb, false_from_ne_true, Decides.nat_tests}
@@ -16,7 +16,7 @@ use Rattle.mml_board.specs.declared.event.Event.TheVariants as event
 
 -- ---- what is chosen
 
--- if no move is chosen, none is chosen for any one node
+-- if no move is chosen, node i has no chosen move
 pub none_chosen : (xs : List (Option Rule)) (i : ℕ) → list_any is_some xs ≡ false → chosen_at xs i ≡ None
 none_chosen [] i e = refl
 none_chosen (Some r ∷ xs) i e = absurd (false≢true (sym e))
@@ -30,9 +30,9 @@ any_chosen (Some r ∷ xs) i e = refl
 any_chosen (None ∷ xs) zero e = absurd (false≢true e)
 any_chosen (None ∷ xs) (suc i) e = any_chosen xs i e
 
--- ---- a privileged node may move
+-- ---- a privileged node has a move that may be granted
 
--- a privileged node for which no move is chosen has a rule that may be granted to each of its owners
+-- at a privileged node without a chosen move, some rule may be granted to each owner of the node
 pub may_move : (r : RosterValue) (w : World) (i : ℕ) → IsWorld w → i < size w → is_privileged (configuration w) i ≡ true → chosen_at w.chosen i ≡ None
     → (rule : Rule) × ((s : ℕ) → owns r (who.Student s) i ≡ true → is_legal r w (event.Grant s i rule) ≡ true)
 may_move r w i k lt privileged none =
@@ -69,7 +69,7 @@ stable_final r w e k stable of_step =
 
 -- ---- a run that is over
 
--- a node with an owner is owned by some student
+-- if a node has an owner, some student owns it
 pub first_owner : (r : RosterValue) (i : ℕ) → 0 < length (owners_of r i) → (s : ℕ) × (owns r (who.Student s) i ≡ true)
 first_owner r i some = go (owners_of r i) refl some
   where
@@ -85,12 +85,12 @@ over_stable r w k owned over i lt = false_from_ne_true (is_privileged (configura
     let owner = first_owner r i (owned i lt) in
     both_ways (is_legal r w (event.Grant owner.0 i move.0)) (over.no_grant owner.0 i move.0) (move.1 owner.0 owner.1))
 
--- events leave the number of nodes
+-- events keep the number of nodes
 pub same_size : (w : World) (es : List Event) → size (world_of w es) ≡ size w
 same_size w [] = refl
 same_size w (e ∷ es) = same_size (after w e) es ∙ size-after w e
 
--- a run that is over has ended with no node privileged, and each link has an end in a pair
+-- if a run is over, no node is privileged, and each link has an end in a pair
 pub ended : (r : RosterValue) (w : World) (es : List Event) → IsWorld w → EachHasOwner r (size w) → is_legal_list r w es ≡ true → IsOver r (world_of w es)
     → IsStable (configuration (world_of w es)) × IsMaximal (configuration (world_of w es))
 ended r w es k owned legal over =

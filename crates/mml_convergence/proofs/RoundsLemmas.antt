@@ -1,4 +1,5 @@
--- Four rounds make two more nodes married, so four for each two nodes lead to a state with no node privileged.
+-- In four rounds at least two more nodes marry, or no node is left that is privileged. So four rounds for each two
+-- nodes are enough.
 use Rattle.std.proofs.Common.{◌≡◌, ℕ, zero, suc, ◌+◌, ◌*◌, ◌-◌, ◌<◌, ◌≤◌, ◌⊎◌, inl, inr, Bool, true, false, not, List, [], ◌∷◌, Option, None, Some, sym, refl, ap, ◌∙◌, subst, arith}
 use Rattle.std.specs.List.{list_all}
 use Rattle.std.proofs.lemmas.{List.append-nil, Bool.or_right, Bool.both_ways, Bool.false_from_ne_true, Bool.cases_lt, Bool.cases_order, Bool.Decides.nat_tests}
@@ -68,19 +69,19 @@ turn r w es (suc k) lt run rounds = grind (arith, nat_tests, run_parts r w round
 abbrev EndsStable : World → List Event → Type 0
 EndsStable w es = IsStable (configuration (world_of w es))
 
--- the rest ends stable, so all does
+-- if no node is privileged after the rest of the events, none is privileged after all of them
 ends : (r : RosterValue) (w : World) (es : List Event) (k : ℕ) (u : IsTurn r w es k) → EndsStable (world_of w u.first) u.rest → EndsStable w es
 ends r w es k u e = subst (λ x. IsStable (configuration x)) u.same e
 
--- from any settled world of n nodes, m of them married, b rounds are enough
+-- from a settled world of n nodes, at least m of them married, b rounds are enough: then no node is privileged
 abbrev Enough : RosterValue → ℕ → ℕ → ℕ → Type 0
 Enough r n m b =
     (w : World) (es : List Event) (k : ℕ) → IsRun r w es → IsSettled (configuration w) → size w ≡ n → m ≤ married_count (configuration w) → b ≤ k
     → Rounds k w es → EndsStable w es
 
--- if m are married, and b rounds are enough for two more
+-- `enough` says that b rounds are enough if at least m + 2 nodes are married
 module _ (r : RosterValue) (n m b : ℕ) (enough : Enough r n (m + 2) b) where
-  -- two more are married after the round
+  -- if at least m + 2 nodes are married after the first round, the remaining rounds are enough
   grown : (w : World) (es : List Event) (k : ℕ) (u : IsTurn r w es k) → IsSettled (configuration w) → size w ≡ n → (m + 2 ≤ n → b + 1 ≤ k)
       → m + 2 ≤ married_count (configuration (world_of w u.first)) → EndsStable (world_of w u.first) u.rest
   grown w es k u settled here room more =
@@ -91,7 +92,7 @@ module _ (r : RosterValue) (n m b : ℕ) (enough : Enough r n (m + 2) b) where
       enough (world_of w u.first) u.rest u.left u.on (stays_over IsSettled settled_stays r w u.first u.here settled) (same ∙ here) more
       (omega (arith, fits, is)) u.rounds
 
-  -- a node with a suitor: one round
+  -- if some node with a null pointer has a suitor, b + 1 rounds are enough
   from_wooed : (s t : ℕ) (w : World) (es : List Event) (k : ℕ) → IsRun r w es → size w ≡ n → m ≤ married_count (configuration w)
       → IsWooed s t (configuration w) → b + 1 ≤ k → Rounds k w es → EndsStable w es
   from_wooed s t w es k run here le wooed room rounds =
@@ -103,7 +104,7 @@ module _ (r : RosterValue) (n m b : ℕ) (enough : Enough r n (m + 2) b) where
         | inr never ↦ absurd never.1.1
       ])
 
-  -- an open link: two
+  -- if two linked nodes aren't married in a hopeful configuration, b + 2 rounds are enough
   from_ready : (x y : ℕ) (w : World) (es : List Event) (k : ℕ) → IsRun r w es → size w ≡ n → m ≤ married_count (configuration w)
       → IsReady x y (configuration w) → b + 2 ≤ k → Rounds k w es → EndsStable w es
   from_ready x y w es k run here le ready room rounds =
@@ -158,7 +159,7 @@ module _ (r : RosterValue) (n m b : ℕ) (enough : Enough r n (m + 2) b) where
             (λ fits. let fit = room fits in omega (arith, fit, is)) u.rounds
       ])
 
-  -- if all are married: one round
+  -- if all nodes are married, one round is enough
   from_all : (w : World) (es : List Event) (k : ℕ) → IsRun r w es → size w ≡ n → m ≤ married_count (configuration w) → n ≤ m
       → IsSettled (configuration w) → 0 < k → Rounds k w es → EndsStable w es
   from_all w es k run here le full settled some rounds =
@@ -175,7 +176,7 @@ module _ (r : RosterValue) (n m b : ℕ) (enough : Enough r n (m + 2) b) where
             }) (λ fits. absurd (omega (arith, fits, full))) u.rounds
       ])
 
--- one round more than for the nodes that aren't married
+-- if at most d nodes aren't married, `rounds_for d + 1` rounds are enough
 settled_runs : (d : ℕ) (r : RosterValue) (n m : ℕ) → n ≤ m + d → Enough r n m (rounds_for d + 1)
 settled_runs zero r n m room w es k run settled here le enough rounds =
     from_all r n m 0 (λ w es k run settled here le enough rounds. let all = most (configuration w) in absurd (omega (arith, all, le, here, room))) w
@@ -196,7 +197,8 @@ record IsDawn (c : Configuration) : Type 0 where
   within : high < c.size
   either : IsRising c ⊎ IsFacing low high c
 
--- from any pointer down along the pointers, to one upwards or a node that points nowhere
+-- the pointers lead from x to a pointer at a higher node, or to a node with a null pointer at which a higher node
+-- points
 descend : (n x z : ℕ) (c : Configuration) → IsLawful c → x < n → c.p x ≡ Some z → IsDawn c
 descend zero x z c l room e = absurd (omega arith)
 descend (suc n) x z c l room e = go (λ y. descend n z y c l) (c.p z) refl (cases_order x z)
@@ -231,7 +233,7 @@ stable_or_dawn c l modest lone = go (some_below c.size (is_privileged c)) refl
 
 -- ---- from any world
 
--- what holds after the first round
+-- after the first round m is false at each unmarried node; then `rounds_for d + 3` rounds are enough for d + 2 nodes
 from_modest : (r : RosterValue) (w : World) (es : List Event) (k : ℕ) → IsRun r w es → Each Modest (configuration w)
     → ((d : ℕ) → size w ≡ d + 2 → rounds_for d + 3 ≤ k) → Rounds k w es → EndsStable w es
 from_modest r w es k run modest room rounds = elim (cases_lt (married_count (configuration w)) 2) [
@@ -290,7 +292,7 @@ from_modest r w es k run modest room rounds = elim (cases_lt (married_count (con
 some_rounds : (n : ℕ) → 0 < n → 1 ≤ rounds_for n
 some_rounds n lt = grind (arith, nat_tests)
 
--- after 4 rounds for each two nodes, and 1 for one left over, no node is privileged
+-- after 4 rounds for each two nodes, and 1 for a node left over, no node is privileged
 pub rounds_end : (r : RosterValue) (w : World) (es : List Event) (k : ℕ) → IsRun r w es → rounds_for (size w) ≤ k → Rounds k w es → EndsStable w es
 rounds_end r w es k run room rounds = elim (cases_lt 0 (size w)) [
   | inr none ↦ λ i lt. let same = same_size w es in absurd (omega (arith, none, same, lt))
@@ -305,23 +307,23 @@ rounds_end r w es k run room rounds = elim (cases_lt 0 (size w)) [
       omega (arith, ap rounds_for two, room, is)) u.rounds)
 ]
 
--- that is at most two rounds for each node
+-- this is at most two rounds for each node
 pub most_rounds : (n : ℕ) → rounds_for n ≤ 2 * n
 most_rounds zero = omega arith
 most_rounds (suc zero) = omega arith
 most_rounds (suc (suc n)) = let rest = most_rounds n in omega (arith, rest)
 
--- for an even number of nodes it is two rounds for each
+-- for an even number of nodes, it is two rounds for each node
 pub for_even : (k : ℕ) → rounds_for (2 * k) ≡ 4 * k
 for_even zero = refl
 for_even (suc k) = grind (arith, nat_tests, for_even k)
 
--- for an odd number of nodes it is one round less than two for each
+-- for an odd number of nodes, it is one round less than two for each node
 pub for_odd : (k : ℕ) → rounds_for (2 * k + 1) ≡ 4 * k + 1
 for_odd zero = refl
 for_odd (suc k) = grind (arith, nat_tests, for_odd k)
 
--- after two rounds for each node no node is privileged, and each link has an end in a pair
+-- after two rounds for each node, no node is privileged, and each link has an end in a pair
 pub rounds_bounded : (r : RosterValue) (w : World) (es : List Event) → IsWorld w → is_legal_list r w es ≡ true → list_all is_of_step es ≡ true
     → Rounds (2 * size w) w es
     → IsStable (configuration (world_of w es)) × IsMaximal (configuration (world_of w es))
@@ -330,7 +332,7 @@ rounds_bounded r w es k legal of_step rounds =
     let stable = rounds_end r w es (2 * size w) run (most_rounds (size w)) rounds in
     (stable, maximal (configuration (world_of w es)) (run_end r w es run).network.lawful stable)
 
--- so a run that goes on has had fewer
+-- if some node is still privileged, there were fewer rounds than that
 pub rounds_fewer : (r : RosterValue) (w : World) (es : List Event) (k : ℕ) → IsWorld w → is_legal_list r w es ≡ true → list_all is_of_step es ≡ true
     → Rounds k w es → ¬ IsStable (configuration (world_of w es)) → k < rounds_for (size w)
 rounds_fewer r w es k world legal of_step rounds goes_on = elim (cases_lt k (rounds_for (size w))) [
@@ -338,13 +340,13 @@ rounds_fewer r w es k world legal of_step rounds goes_on = elim (cases_lt k (rou
   | inr room ↦ absurd (goes_on (rounds_end r w es k (record { world = world; legal = legal; of_step = of_step }) room rounds))
 ]
 
--- ---- if no node is privileged, there are as many rounds as one likes
+-- ---- if no node is privileged, any number of empty rounds can follow
 
 last_round : (w : World) (es : List Event) → IsStable (configuration (world_of w es)) → IsRound w es
 last_round w [] stable i lt = ap not (stable i lt)
 last_round w (e ∷ es) stable i lt = or_right _ _ (or_right _ _ (last_round (after w e) es stable i (omega (arith, lt, size-after w e))))
 
--- events that end with no node privileged are as many rounds as one likes
+-- events after which no node is privileged have any number of rounds
 pub stable_rounds : (k : ℕ) (w : World) (es : List Event) → IsStable (configuration (world_of w es)) → Rounds k w es
 stable_rounds zero w es stable = tt
 stable_rounds (suc k) w es stable = (es, [], sym (append-nil es), last_round w es stable, stable_rounds k (world_of w es) [] stable)

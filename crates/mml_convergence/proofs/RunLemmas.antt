@@ -1,4 +1,4 @@
--- The four rounds of a phase, each move in a close of its own.
+-- The four rounds of a phase, in which each close applies one move.
 use Rattle.std.proofs.Common.{◌≡◌, ℕ, suc, ◌+◌, ◌*◌, ◌<◌, ◌≤◌, Bool, true}
 use Rattle.mml_ids.specs.Search.{count_below}
 use Rattle.mml_rules.specs.{declared.rule.Rule.Rule, Configuration.Configuration}
@@ -10,12 +10,12 @@ use Rattle.mml_convergence.proofs.PhaseLemmas.{wed_others, then_free}
 use Rattle.mml_convergence.proofs.OneByOneLemmas.{courts_stand, marriage_stands, updates_stand, abandonments_stand}
 use Rattle.mml_lab.specs.declared.who.Who.TheVariants as who
 
--- what is left to hold after a round of those that pass
+-- A, with the moves of one round added: one for each node below n that passes the test
 abbrev pub Later : (World → ℕ → Type 0) → ℕ → (ℕ → Bool) → World → ℕ → Type 0
 Later A n t u x = A u (count_below n t + x)
 
 module _ (r : RosterValue) (s n : ℕ) (low : ℕ → Bool) (owned : (i : ℕ) → i < n → owns r (who.Student s) i ≡ true) where
-  -- from each world of this kind k rounds lead on
+  -- from each world of which P holds, a run with k rounds leads to a world of which A holds
   abbrev pub Onward : (World → ℕ → Type 0) → ℕ → (Configuration → Type 0) → Type 0
   Onward A k P = (u : World) → IsWorld u → IsQuiet u → P (configuration u) → GoesOn A r u k
 
@@ -45,13 +45,13 @@ module _ (r : RosterValue) (s n : ℕ) (low : ℕ → Bool) (owned : (i : ℕ) �
           (abandonments_stand n low p b sum room (configuration w) at) (wed_others n low p b sum room (configuration w) at)
           (λ u ku qu moved. next u ku qu (then_free n low p b sum room (configuration w) (configuration u) at moved))
 
-    -- what is left to hold after a whole phase
+    -- A, with the moves of a whole phase added
     abbrev pub AfterPhase : World → ℕ → Type 0
     AfterPhase u x =
         A u (count_below n (courts n low p b sum room) + (count_below n (marries_now n low p b sum room)
         + (count_below n (learns n low p b sum room) + (count_below n (leaves n low p b sum room) + x))))
 
-  -- a whole phase
+  -- if k rounds lead on from the world after a phase, k + 4 rounds lead on from the world before it
   pub phase : (p b : ℕ) (sum : p + b + 1 ≡ n) (room : 2 * p + 2 ≤ n) (A : World → ℕ → Type 0) (k : ℕ) (w : World) → IsWorld w → IsQuiet w
       → Seated n low p (configuration w) → Onward (AfterPhase p b sum room A) k (Seated n low (suc p)) → GoesOn A r w (suc (suc (suc (suc k))))
   phase p b sum room A k w world quiet at next =

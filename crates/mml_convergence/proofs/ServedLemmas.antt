@@ -1,4 +1,4 @@
--- Over grants, releases and closes: what stays, and what a round brings.
+-- Grants, releases and closes: which facts they keep, and what holds after a round of them.
 use Rattle.std.proofs.Common.{◌≡◌, ℕ, ◌+◌, ◌<◌, inl, inr, true, ◌&&◌, List, [], ◌∷◌, ◌++◌, Option, None, Some, is_some, sym, refl, subst, arith}
 use Rattle.std.specs.List.{list_all}
 use Rattle.std.proofs.lemmas.Bool.{and_parts, or_cases, not-true, false≢true, both_ways, cases_lt, Decides.nat_tests}
@@ -33,7 +33,7 @@ run_on r w e es k = record {
   of_step = (and_parts (is_of_step e) (list_all is_of_step es) k.of_step).1;
 }
 
--- a run is two, one after the other
+-- if two joined lists are a run, each of them is a run
 pub run_parts : (r : RosterValue) (w : World) (es fs : List Event) → IsRun r w (es ++ fs) → IsRun r w es × IsRun r (world_of w es) fs
 run_parts r w [] fs k = (record { world = k.world; legal = refl; of_step = refl }, k)
 run_parts r w (e ∷ es) fs k = grind (arith, nat_tests, run_parts r (after w e) es fs (run_on r w e (es ++ fs) k))
@@ -43,12 +43,12 @@ pub run_end : (r : RosterValue) (w : World) (es : List Event) → IsRun r w es �
 run_end r w [] k = k.world
 run_end r w (e ∷ es) k = run_end r (after w e) es (run_on r w e es k)
 
--- if no node is privileged no event goes on
+-- if no node is privileged before a run, none is privileged after it
 pub stable_end : (r : RosterValue) (w : World) (es : List Event) → IsRun r w es → IsStable (configuration w) → IsStable (configuration (world_of w es))
 stable_end r w [] k stable = stable
 stable_end r w (e ∷ es) k stable = absurd (both_ways (is_legal r w e) (stable_final r w e k.world stable (first_of_step r w e es k)) (first_legal r w e es k))
 
--- ---- what stays
+-- ---- facts that stay true
 
 stays_after : (P : Configuration → Type 0) → Stays P → (w : World) (e : Event) → IsWorld w → is_of_step e ≡ true → P (configuration w) → P (configuration (after w e))
 stays_after P stays w (event.Grant s i rule) k of_step p = p
@@ -56,13 +56,13 @@ stays_after P stays w (event.Release i) k of_step p = p
 stays_after P stays w event.Close k of_step p = subst P (sym (closed-step w k.choices)) (stays (configuration w) (chosen_at w.chosen) k.network.lawful k.hold p)
 stays_after P stays w _ k of_step p = absurd (false≢true of_step)
 
--- what no step ends, no run ends
+-- a fact that stays true in each step stays true over a run
 pub stays_over : (P : Configuration → Type 0) → Stays P → (r : RosterValue) (w : World) (es : List Event) → IsRun r w es → P (configuration w)
     → P (configuration (world_of w es))
 stays_over P stays r w [] k p = p
 stays_over P stays r w (e ∷ es) k p = stays_over P stays r (after w e) es (run_on r w e es k) (stays_after P stays w e k.world (first_of_step r w e es k) p)
 
--- ---- what a turn brings
+-- ---- what holds after a turn
 
 both_stay : (P Q : Configuration → Type 0) (i : ℕ) → Stays P → Brings P Q i → Stays (λ c. P c × Q c)
 both_stay P Q i stays b c chosen l h p = (stays c chosen l h p.0, b.stays c chosen l h p.0 p.1)
@@ -90,18 +90,18 @@ served P Q i stays b r w (e ∷ es) k p turn = elim (or_cases _ _ turn) [
       ]
 ]
 
--- ---- what a round brings
+-- ---- what holds after a round
 
 abbrev End : World → List Event → Configuration
 End w es = configuration (world_of w es)
 
--- at each node
+-- after a round, Q i holds of each node i, if a turn of i makes it true
 pub round_brings : (P : Configuration → Type 0) (Q : ℕ → Configuration → Type 0) → Stays P → ((i : ℕ) → Brings P (Q i) i)
     → (r : RosterValue) (w : World) (es : List Event) → IsRun r w es → IsRound w es → P (configuration w) → (i : ℕ) → i < size (world_of w es)
     → Q i (configuration (world_of w es))
 round_brings P Q stays b r w es k round p i lt = served P (Q i) i stays (b i) r w es k p (round i (omega (arith, lt, same_size w es)))
 
--- at each node, unless more nodes are married
+-- after a round, Q i holds of each node i, or the number of married nodes has grown by two
 pub calm_round : (n : ℕ) (P : Configuration → Type 0) (Q : ℕ → Configuration → Type 0) → CalmStays P → ((i : ℕ) → CalmBrings P (Q i) i)
     → (r : RosterValue) (w : World) (es : List Event) → IsRun r w es → IsRound w es → Within n P (configuration w)
     → Within n (λ c. P c × ((i : ℕ) → i < c.size → Q i c)) (configuration (world_of w es))
@@ -116,7 +116,7 @@ calm_round n P Q stays b r w es k round p =
       ]
     ]
 
--- at one node
+-- after a round, Q holds if a turn of i makes it true, or the number of married nodes has grown by two
 pub calm_turn : (n : ℕ) (P Q : Configuration → Type 0) (i : ℕ) → CalmStays P → CalmBrings P Q i
     → (r : RosterValue) (w : World) (es : List Event) → IsRun r w es → IsRound w es → i < size w → Within n P (configuration w)
     → Within n (λ c. P c × Q c) (configuration (world_of w es))

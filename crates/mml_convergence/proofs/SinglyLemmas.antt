@@ -1,4 +1,5 @@
--- A round of one rule in which each node that passes a test moves in a close of its own, from the highest to the lowest.
+-- A round in which one rule is applied at each node that passes a test, from the highest node to the lowest. Each close
+-- applies one move.
 use Rattle.std.proofs.Common.{sym, refl, subst, ◌≡◌, ℕ, zero, suc, ◌+◌, ◌<◌, ◌≤◌, inl, inr, Bool, true, false, cond, not, ◌&&◌, nat_le, None, Some, List, [], ◌∷◌, ◌++◌, ap, arith}
 use Rattle.std.specs.List.{list_all}
 use Rattle.std.proofs.lemmas.Bool.{and_from, or_left, or_right, cases_Bool, cases_eq, le-leb, eq-eqb, ne_eqb, Decides.nat_tests}
@@ -11,7 +12,7 @@ use Rattle.mml_convergence.proofs.MoveLemmas.{GoesOn, IsQuiet, IsMoved, Move, mo
 use Rattle.mml_lab.specs.declared.who.Who.TheVariants as who
 use Rattle.mml_board.specs.declared.event.Event.TheVariants as event
 
--- who passes, from n on
+-- i passes the test, and is at least n
 abbrev pub above : (ℕ → Bool) → ℕ → ℕ → Bool
 above t n i = t i && nat_le n i
 
@@ -24,32 +25,33 @@ above_out t n i off = ap (λ b. b && nat_le n i) off
 pub above_in : (t : ℕ → Bool) (n i : ℕ) → above t n i ≡ true → (t i ≡ true) × (n ≤ i)
 above_in t n i e = grind (arith, nat_tests)
 
--- the rule may be applied at n once it was applied at all that pass and are higher, and does what it would have done before
+-- after the rule was applied at all higher nodes that pass, it may be applied at n, and has the same effect as before
 abbrev pub Stands : (c : Configuration) (t : ℕ → Bool) (rule : Rule) → Type 0
 Stands c t rule = (d : Configuration) (n : ℕ) → n < c.size → t n ≡ true → IsMoved c d (above t (suc n)) rule
     → (guard d n rule ≡ true) × ((effect d n rule).p ≡ (effect c n rule).p) × ((effect d n rule).m ≡ (effect c n rule).m)
 
--- what a step leaves at i
+-- node i has the registers that the rule writes if i passes the test, and otherwise its old registers
 abbrev Turned : (c u : Configuration) (t : ℕ → Bool) (rule : Rule) → ℕ → Type 0
 Turned c u t rule i = (u.p i ≡ (moved c i (cond (t i) (Some rule) None)).p) × (u.m i ≡ (moved c i (cond (t i) (Some rule) None)).m)
 
--- who isn't privileged has had its turn
+-- a node that isn't privileged at the beginning has its turn
 pub idle_served : (i : ℕ) (w : World) (es : List Event) → is_privileged (configuration w) i ≡ false → is_served i w es ≡ true
 idle_served i w [] e = ap not e
 idle_served i w (x ∷ es) e = or_left _ _ (ap not e)
 
--- an event later
+-- a node that has its turn in a list has it also in the list with one more event before it
 served_later : (i : ℕ) (w : World) (e : Event) (es : List Event) → is_served i (after w e) es ≡ true → is_served i w (e ∷ es) ≡ true
 served_later i w e es h = or_right _ _ (or_right _ _ h)
 
--- by a close that applies its move
+-- a node has its turn if a close applies its move
 served_now : (i : ℕ) (w : World) (e : Event) (es : List Event) → is_close e ≡ true → is_chosen w i ≡ true → is_served i w (e ∷ es) ≡ true
 served_now i w e es close chosen = or_right _ _ (or_left _ _ (and_from _ _ close chosen))
 
 module _ (A : World → ℕ → Type 0) (r : RosterValue) (s k n : ℕ) (c : Configuration) (t : ℕ → Bool) (rule : Rule) (sized : c.size ≡ n)
     (owned : (i : ℕ) → i < n → owns r (who.Student s) i ≡ true) (stands : Stands c t rule)
     (next : (u : World) → IsWorld u → IsQuiet u → IsMoved c (configuration u) t rule → GoesOn A r u k) where
-  -- what is left of the round once all from m on have moved, and what comes after it
+  -- the rest of the round (front), in which the nodes below m that pass still move, and the events after the round
+  -- (back)
   record Part (m : ℕ) (v : World) : Type 0 where
     front : List Event
     back : List Event
@@ -61,7 +63,7 @@ module _ (A : World → ℕ → Type 0) (r : RosterValue) (s k n : ℕ) (c : Con
     ends : A (world_of v (front ++ back)) (applied_over (world_of v front) back)
     turns : (i : ℕ) → i < m → t i ≡ true → is_served i v front ≡ true
 
-  -- the move of m by itself
+  -- if the rest of the round is possible after the move of m, the rest that begins with this move is possible before it
   with_one : (m : ℕ) (v : World) → Move r s v m rule → t m ≡ true → Part m (after_move s v m rule) → Part (suc m) v
   with_one m v o on rest =
       let counted : cond {A = ℕ} (t m) 1 0 ≡ 1 = ap (λ b. cond b 1 0) on in
@@ -117,7 +119,8 @@ module _ (A : World → ℕ → Type 0) (r : RosterValue) (s k n : ℕ) (c : Con
       other : (i : ℕ) → i < suc m → t i ≡ true → t m ≡ false → i < m
       other i lt is off = grind (arith, nat_tests)
 
--- a round of moves by one rule, each in a close of its own, if no other node is privileged
+-- a round in which the rule is applied at each node that passes, one node for each close, if no other node is
+-- privileged
 pub single_round : (A : World → ℕ → Type 0) (r : RosterValue) (s k n : ℕ) (t : ℕ → Bool) (rule : Rule) (w : World) → IsWorld w → IsQuiet w → size w ≡ n
     → ((i : ℕ) → i < n → owns r (who.Student s) i ≡ true) → Stands (configuration w) t rule
     → ((i : ℕ) → i < size w → t i ≡ false → is_privileged (configuration w) i ≡ false)

@@ -1,4 +1,4 @@
--- What one step does to a free node, and to a married one.
+-- What a step does to a node that isn't married, and to a married one.
 use Rattle.std.proofs.Common.{◌≡◌, ℕ, zero, suc, ◌+◌, ◌<◌, ◌≤◌, ◌⊎◌, inl, inr, Bool, true, false, not, Option, None, Some, sym, refl, ap, ◌∙◌, arith}
 use Rattle.std.proofs.lemmas.Bool.{both_ways, false≢true, false_from_ne_true, cases_Bool, cases_order, Decides.nat_tests}
 use Rattle.mml_rules.specs.{declared.rule.Rule.Rule, Configuration.Configuration, Configuration.IsLawful, Configuration.holds}
@@ -9,29 +9,29 @@ use Rattle.mml_convergence.proofs.{StepLemmas.step-free, StepLemmas.moved-m, Pot
 use Rattle.mml_stable.proofs.MatchingLemmas.{idle-quiet, idle-settled, quiet-vain, quiet-alone, no_open_link}
 use Rattle.mml_convergence.proofs.MovesLemmas.{updates, marries, seduces, seduced, abandons, abandoned, makes}
 
--- ---- what may be so of a node
+-- ---- facts about a node
 
--- m false, unless married
+-- if node i isn't married, m is false
 abbrev pub Modest : ℕ → Configuration → Type 0
 Modest i c = is_married c i ≡ false → c.m i ≡ false
 
--- pointing at no lower node, unless married
+-- if node i isn't married, it points at no lower node
 abbrev pub Upward : ℕ → Configuration → Type 0
 Upward i c = is_married c i ≡ false → (j : ℕ) → c.p i ≡ Some j → i < j
 
--- m true, if married
+-- if node i is married, m is true
 abbrev pub Aware : ℕ → Configuration → Type 0
 Aware i c = is_married c i ≡ true → c.m i ≡ true
 
--- pointing at no married node, unless married itself
+-- if node i isn't married, it points at no married node
 abbrev pub Hopeful : ℕ → Configuration → Type 0
 Hopeful i c = is_married c i ≡ false → (j : ℕ) → c.p i ≡ Some j → is_married c j ≡ false
 
--- it is so of each node
+-- P holds of each node
 abbrev pub Each : (ℕ → Configuration → Type 0) → Configuration → Type 0
 Each P c = (i : ℕ) → i < c.size → P i c
 
--- two linked nodes, neither of them married
+-- a is linked to the higher node b, and neither is married
 pub record IsOpen (a b : ℕ) (c : Configuration) : Type 0 where
   pub linked : c.linked a b ≡ true
   pub up : a < b
@@ -45,7 +45,7 @@ pub record IsCourting (c : Configuration) : Type 0 where
   pub free : is_married c who ≡ false
   pub points : c.p who ≡ Some whom
 
--- s points at t, which points nowhere
+-- s points at t, and the pointer of t is null
 pub record IsCourted (s t : ℕ) (c : Configuration) : Type 0 where
   pub suitor : c.p s ≡ Some t
   pub null : c.p t ≡ None
@@ -61,7 +61,7 @@ pub record IsRising (c : Configuration) : Type 0 where
   pub points : c.p who ≡ Some whom
   pub up : who < whom
 
--- a points nowhere, and a higher b linked to it nowhere else
+-- the pointer of a is null, and its higher neighbour b points at a or at no node
 pub record IsFacing (a b : ℕ) (c : Configuration) : Type 0 where
   pub linked : c.linked a b ≡ true
   pub up : a < b
@@ -74,20 +74,20 @@ pub record IsFacing (a b : ℕ) (c : Configuration) : Type 0 where
 pub self : (b : Bool) → b ≡ not b → ⊥
 self b e = grind (arith, nat_tests, false≢true)
 
--- a rule is applied if m is right, or makes it so
+-- after a move of i, m says whether i was married before it
 effect_right : (c : Configuration) (i : ℕ) (r : Rule) → guard c i r ≡ true → (effect c i r).m ≡ is_married c i
 effect_right c i r g = grind (arith, nat_tests, marries, seduced, seduces, abandoned, abandons)
 
--- a node that isn't married, with m false, takes its pointer back if it moves
+-- if an unmarried node with m false points at j, its pointer is null after its move
 lets_go : (c : Configuration) (i j k : ℕ) (r : Rule) → guard c i r ≡ true → is_married c i ≡ false → c.m i ≡ false → c.p i ≡ Some j → (effect c i r).p ≡ Some k → ⊥
 lets_go c i j k r g free off e to = grind (arith, nat_tests, self, updates, marries, seduced, seduces)
 
--- ---- pointers, upwards
+-- ---- following pointers upwards
 
 pub courted_free : (c : Configuration) (s t : ℕ) → IsLawful c → IsCourted s t c → is_married c s ≡ false
 courted_free c s t l k = married-at c s t l k.suitor ∙ ap (λ o. holds o s) k.null
 
--- along the pointers to a node that points nowhere
+-- following the pointers from x leads to a node with a null pointer and a suitor
 pub climb : (n x y : ℕ) (c : Configuration) → IsLawful c → Each Upward c → Each Hopeful c → c.size ≤ x + n → is_married c x ≡ false → c.p x ≡ Some y
     → (s : ℕ) × (t : ℕ) × IsCourted s t c
 climb zero x y c l upward hopeful room free e = let range = l.in_range x y (l.to_linked x y e) in absurd (omega (arith, range.0))
@@ -98,17 +98,18 @@ climb (suc n) x y c l upward hopeful room free e = go (λ z. climb n y z c l upw
     go further None f = (x, y, record { suitor = e; null = f })
     go further (Some z) f = grind (arith, nat_tests, l.in_range x y (l.to_linked x y e))
 
--- if free nodes point only upwards and at free ones, and one does point, some node that points nowhere has a suitor
+-- if unmarried nodes point only at higher, unmarried nodes, and one of them does point, some node with a null pointer
+-- has a suitor
 pub courted : (c : Configuration) → IsLawful c → Each Upward c → Each Hopeful c → IsCourting c → (s : ℕ) × (t : ℕ) × IsCourted s t c
 courted c l upward hopeful k = climb c.size k.who k.whom c l upward hopeful (omega arith) k.free k.points
 
--- ---- if no rule may be applied at i
+-- ---- if node i isn't privileged
 
--- a node that isn't privileged has m false, unless it is married
+-- if node i isn't privileged and isn't married, m is false
 pub modest_idle : (c : Configuration) (i : ℕ) → IsLawful c → is_privileged c i ≡ false → Modest i c
 modest_idle c i l idle free = idle-settled c i l idle ∙ free
 
--- a node that isn't privileged points at no lower one, unless it is married
+-- if node i isn't privileged and isn't married, it points at no lower node
 pub upward_idle : (c : Configuration) (i : ℕ) → IsLawful c → is_privileged c i ≡ false → Upward i c
 upward_idle c i l idle free j e = (quiet-vain c i j l (idle-quiet c i l idle) e free).1
 
@@ -121,15 +122,16 @@ pub hopeful_idle : (c : Configuration) (i : ℕ) → IsLawful c → Each Aware c
 hopeful_idle c i l aware idle free j e = false_from_ne_true (is_married c j) (λ on.
     both_ways (c.m j) (quiet-vain c i j l (idle-quiet c i l idle) e free).0 (aware j (pointee_in c i j l e) on))
 
--- of two linked nodes that aren't married, one points at a node, if the lower one isn't privileged
+-- if a and its higher neighbour b aren't married, and a isn't privileged, some unmarried node points at a node
 pub courting_idle : (c : Configuration) (a b : ℕ) → IsLawful c → Each Modest c → IsOpen a b c → is_privileged c a ≡ false → IsCourting c
 courting_idle c a b l modest k idle = grind (arith, nat_tests, no_open_link)
 
--- a node that points nowhere and has a suitor is privileged
+-- a node with a null pointer and a suitor is privileged
 pub courted_idle : (c : Configuration) (s t : ℕ) → IsLawful c → IsCourted s t c → is_privileged c t ≡ false → ⊥
 courted_idle c s t l k idle = quiet-alone c s t l k.suitor k.null (idle-quiet c t l idle)
 
--- if no node is married, one that points nowhere and faces a higher one that points nowhere else is privileged
+-- if no node is married, the pointer of a is null, and its higher neighbour b points at a or at no node, then a is
+-- privileged
 pub facing_idle : (c : Configuration) (a b : ℕ) → IsLawful c → Each Modest c → IsLone c → IsFacing a b c → is_privileged c a ≡ false → ⊥
 facing_idle c a b l modest lone k idle = grind (arith, nat_tests, no_open_link, quiet-alone, idle-quiet)
 
@@ -143,18 +145,18 @@ module _ (c : Configuration) (chosen : ℕ → Option Rule) (l : IsLawful c) (h 
   free_before : (i : ℕ) → is_married next i ≡ false → is_married c i ≡ false
   free_before = step-free c chosen l h
 
-  -- m stays, or was wrong and becomes right
+  -- m stays the same, or was wrong and becomes right
   m_moved : (i : ℕ) → (next.m i ≡ c.m i) ⊎ ((next.m i ≡ is_married c i) × (c.m i ≡ not (is_married c i)))
   m_moved i = moved-m c i (chosen i) (h i)
 
   right_after : (i : ℕ) (r : Rule) → chosen i ≡ Some r → next.m i ≡ is_married c i
   right_after i r e = ap (λ o. (moved c i o).m) e ∙ effect_right c i r (h i r e)
 
-  -- who points at a higher node with m false, stays
+  -- a node that points at a higher node with m false keeps its pointer
   suitor_stays : (i j : ℕ) → c.p j ≡ Some i → c.m i ≡ false → j < i → next.p j ≡ Some i
   suitor_stays i j e off lt = holds-true (next.p j) i (suitor_kept c chosen l h i j e off lt)
 
-  -- a new pointer leads upwards, or makes a pair
+  -- a new pointer of a node that isn't married after the step leads to a higher node
   made_up : (i j : ℕ) → is_married next i ≡ false → holds (c.p i) j ≡ false → next.p i ≡ Some j → i < j
   made_up i j free off to =
       let made = makes c i j (chosen i) (h i) off to in
@@ -171,13 +173,13 @@ module _ (c : Configuration) (chosen : ℕ → Option Rule) (l : IsLawful c) (h 
         ]
       ]
 
-  -- a node that moved and isn't married has no pointer but a new one
+  -- if a node moved and isn't married after the step, its pointer is null or new
   pointer_new : (i j : ℕ) (r : Rule) → Modest i c → chosen i ≡ Some r → is_married next i ≡ false → next.p i ≡ Some j → holds (c.p i) j ≡ false
   pointer_new i j r modest e free to = false_from_ne_true (holds (c.p i) j) (λ on.
       let alone = free_before i free in
       lets_go c i j j r (h i r e) alone (modest alone) (holds-true (c.p i) j on) (sym (ap (λ o. (moved c i o).p) e) ∙ to))
 
-  -- ---- m false
+  -- ---- m is false at unmarried nodes
 
   pub modest_stays : (i : ℕ) → Modest i c → Modest i next
   modest_stays i modest free = grind (arith, nat_tests, free_before, m_moved)
@@ -185,7 +187,7 @@ module _ (c : Configuration) (chosen : ℕ → Option Rule) (l : IsLawful c) (h 
   pub modest_moves : (i : ℕ) (r : Rule) → chosen i ≡ Some r → Modest i next
   modest_moves i r e free = right_after i r e ∙ free_before i free
 
-  -- ---- upwards
+  -- ---- unmarried nodes point at no lower node
 
   pub upward_stays : (i : ℕ) → Upward i c → Upward i next
   upward_stays i upward free j to = elim (cases_Bool (holds (c.p i) j)) [
@@ -196,7 +198,7 @@ module _ (c : Configuration) (chosen : ℕ → Option Rule) (l : IsLawful c) (h 
   pub upward_moves : (i : ℕ) (r : Rule) → Modest i c → chosen i ≡ Some r → Upward i next
   upward_moves i r modest e free j to = made_up i j free (pointer_new i j r modest e free to) to
 
-  -- ---- while no more nodes are married
+  -- ---- steps in which no node is newly married
 
   module _ (calm : Calm c chosen) where
     free_after : (i : ℕ) → is_married c i ≡ false → is_married next i ≡ false
@@ -220,7 +222,7 @@ module _ (c : Configuration) (chosen : ℕ → Option Rule) (l : IsLawful c) (h 
     pub open_stays : (a b : ℕ) → IsOpen a b c → IsOpen a b next
     open_stays a b k = record { linked = k.linked; up = k.up; low = free_after a k.low; high = free_after b k.high }
 
-    -- the suitor of a node that points nowhere stays
+    -- if the pointer of t is null, its suitor keeps pointing at t
     courted_stays : Each Modest c → Each Upward c → (s t : ℕ) → IsCourted s t c → next.p s ≡ Some t
     courted_stays modest upward s t k =
         let range = l.in_range s t (l.to_linked s t k.suitor) in
@@ -243,7 +245,7 @@ module _ (c : Configuration) (chosen : ℕ → Option Rule) (l : IsLawful c) (h 
         go (Some y) f = record { who = a; whom = y; free = free_after a k.low; points = f }
         go None f = by_rule r (h a r e) (sym (ap (λ o. (moved c a o).p) e) ∙ f)
 
-    -- a node with a suitor marries if it moves
+    -- a node with a null pointer and a suitor can't move without being newly married
     pub courted_moves : Each Modest c → Each Upward c → (s t : ℕ) → IsCourted s t c → (r : Rule) → chosen t ≡ Some r → ⊥
     courted_moves modest upward s t k r e = by_rule r (h t r e) (ap (λ o. (moved c t o).p) e)
       where
@@ -267,15 +269,16 @@ module _ (c : Configuration) (chosen : ℕ → Option Rule) (l : IsLawful c) (h 
     pub courted_kept : Each Modest c → Each Upward c → (s t : ℕ) → IsCourted s t c → IsCourted s t next
     courted_kept modest upward s t k = grind (arith, nat_tests, courted_stays, courted_moves)
 
-    -- ---- while no node is married
+    -- ---- no node is married
 
-    -- a pointer upwards stays
+    -- a pointer at a higher node stays
     pub rising_stays : Each Modest c → IsLone c → IsRising c → IsRising next
     rising_stays modest lone k =
         let range = l.in_range k.who k.whom (l.to_linked k.who k.whom k.points) in
         record { who = k.who; whom = k.whom; points = suitor_stays k.whom k.who k.points (modest k.whom range.1 (lone k.whom)) k.up; up = k.up }
 
-    -- and a node that pointed nowhere points upwards once it has moved
+    -- if the pointer of a is null, its higher neighbour b points at a or at no node, and a moves, some node then points
+    -- at a higher one
     pub facing_moves : Each Modest c → IsLone c → (a b : ℕ) → IsFacing a b c → (r : Rule) → chosen a ≡ Some r → IsRising next
     facing_moves modest lone a b k r e = go (next.p a) refl
       where

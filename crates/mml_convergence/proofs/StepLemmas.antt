@@ -1,15 +1,15 @@
--- What a step does to the pairs and to m.
+-- What a step does to pairs and to m.
 use Rattle.std.proofs.Common.{◌≡◌, ℕ, ◌≤◌, ◌+◌, Bool, true, false, cond, not, ◌⊎◌, Option, Some, arith}
 use Rattle.std.{specs.Bool.beq, proofs.lemmas.Bool.not-true, proofs.lemmas.Bool.both_ways, proofs.lemmas.Bool.false_from_ne_true, proofs.lemmas.Bool.Decides.nat_tests}
 use Rattle.mml_rules.specs.{declared.rule.Rule.Rule, Configuration.Configuration, Configuration.IsLawful, Matching.IsPair}
 use Rattle.mml_rules.specs.Rules.{is_married, guard, effect, moved, step, AllHold}
 use Rattle.mml_rules.proofs.{ConfigurationLemmas.holds-from, RulesLemmas.married-partner, RulesLemmas.married-from, RulesLemmas.none-null, StepLemmas.step-lawful}
 
--- tests that are found different are opposites
+-- if `beq` is false, one truth value is the opposite of the other
 pub beq-false : (a b : Bool) → beq a b ≡ false → a ≡ not b
 beq-false a b h = grind arith
 
--- a move at a node whose pointer is answered leaves the pointer
+-- a node of a pair keeps its pointer if it moves
 pub answered-keeps : (c : Configuration) (i j : ℕ) (r : Rule) → c.p i ≡ Some j → c.p j ≡ Some i → guard c i r ≡ true → (effect c i r).p ≡ Some j
 answered-keeps c i j r a b h = grind (arith, nat_tests, none-null, holds-from)
 
@@ -20,13 +20,13 @@ moved-keeps c i j o h a b = grind (arith, nat_tests, answered-keeps)
 pub step-keeps : (c : Configuration) (chosen : ℕ → Option Rule) → AllHold c chosen → (i j : ℕ) → IsPair c i j → IsPair (step c chosen) i j
 step-keeps c chosen h i j e = (moved-keeps c i j (chosen i) (h i) e.0 e.1, moved-keeps c j i (chosen j) (h j) e.1 e.0)
 
--- how often m may still change at a node: by m, and whether it is married
+-- an upper bound on how often m may still change at a node, given its m and whether it is married
 abbrev pub weight : Bool → Bool → ℕ
 weight true true = 0
 weight true false = 2
 weight false x = 1
 
--- 1 where m changes
+-- 1 if m changes, and otherwise 0
 abbrev pub change : Bool → Bool → ℕ
 change m n = cond (beq m n) 0 1
 
@@ -46,11 +46,11 @@ step-married c chosen l h i e =
 pub step-free : (c : Configuration) (chosen : ℕ → Option Rule) → IsLawful c → AllHold c chosen → (i : ℕ) → is_married (step c chosen) i ≡ false → is_married c i ≡ false
 step-free c chosen l h i e = false_from_ne_true (is_married c i) (λ m. both_ways (is_married (step c chosen) i) e (step-married c chosen l h i m))
 
--- each change of m at a step is paid for
+-- if a step changes m at a node, the weight of the node falls by at least 1
 pub step-weight : (c : Configuration) (chosen : ℕ → Option Rule) → IsLawful c → AllHold c chosen → (i : ℕ)
     → change (c.m i) ((step c chosen).m i) + weight ((step c chosen).m i) (is_married (step c chosen) i) ≤ weight (c.m i) (is_married c i)
 step-weight c chosen l h i = grind (arith, nat_tests, step-married, moved-m)
 
--- a node's weight is 2 at most
+-- a node's weight is at most 2
 pub weight_at_most : (m x : Bool) → weight m x ≤ 2
 weight_at_most m x = grind arith

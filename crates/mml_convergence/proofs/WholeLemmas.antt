@@ -1,4 +1,4 @@
--- In a step the courting potential falls by the nodes that move.
+-- In a step the courting potential falls by at least the number of nodes that move.
 use Rattle.std.proofs.Common.{ℕ, zero, suc, ◌+◌, ◌*◌, ◌≤◌, cond, not, inl, inr, Option, arith}
 use Rattle.mml_ids.specs.Search.{count_below}
 use Rattle.mml_rules.specs.{declared.rule.Rule.Rule, Configuration.Configuration, Configuration.IsLawful, Rules.is_married, Rules.step, Rules.AllHold}
@@ -7,7 +7,7 @@ use Rattle.mml_convergence.proofs.{StepLemmas.step-married, SumsLemmas.sum_charg
 use Rattle.mml_convergence.proofs.NumbersLemmas.{sum_lent, count_both, count_lent, courtships_kept, marriages_pay}
 use Rattle.mml_convergence.proofs.CourtshipLemmas.{pointer_most, calm_pays, lent_pays}
 
--- how many nodes aren't married
+-- the number of nodes that aren't married
 abbrev pub free_count : Configuration → ℕ
 free_count c = count_below c.size (λ i. not (is_married c i))
 

@@ -1,4 +1,5 @@
--- All potentials together: they fall by the moves of a step, and are 2 for each link and 3 for each node at most.
+-- The sum of all potentials falls in a step by at least the number of moves. It is at most 2 for each link and 3 for
+-- each node.
 use Rattle.std.proofs.Common.{◌≡◌, ◌==◌, ℕ, zero, suc, ◌+◌, ◌*◌, ◌<◌, ◌≤◌, Bool, true, false, cond, not, ◌&&◌, Option, None, Some, is_some, inl, inr, refl, sym, ap, arith, nat_lt}
 use Rattle.std.specs.Option.{option_map_or}
 use Rattle.std.proofs.lemmas.Bool.{and_parts, and_from, and_right, ltb-true, lt-ltb, le-ltb, eqb-true, eq-eqb, false_from_ne_true, cases_Bool, Decides.nat_tests}
@@ -12,11 +13,12 @@ use Rattle.mml_convergence.proofs.SumsLemmas.{sum_kept, sum_charged, sum_most, s
 
 -- ---- a step
 
--- what is charged to i in a network of n nodes: its own move, but for a marriage with a lower node, and those of higher nodes with it
+-- the moves that are charged to i in a network of n nodes: its own move, if it isn't a marriage with a lower node, and
+-- each marriage of a higher node with i
 abbrev charge : (ℕ → Option Rule) → ℕ → ℕ → ℕ
 charge chosen n i = cond (pays (chosen i) i) 1 0 + count_below n (λ k. marries_lower (chosen k) k i)
 
--- each move is charged, to its node or to the lower node that it marries
+-- each move is charged to its node, or to the lower node that it marries
 one_charged : (o : Option Rule) (k n : ℕ) → k < n → cond (is_some o) 1 0 ≤ cond (pays o k) 1 0 + count_below n (marries_lower o k)
 one_charged (Some (Rule.Marriage j)) k n lt = go (nat_lt j k) refl
   where
@@ -44,7 +46,7 @@ all_charged chosen n =
     (λ k lt. one_charged (chosen k) k n lt) in
     omega (arith, split, turned, joined, each, sum_of_tests n (moves chosen))
 
--- in a step all potentials together fall by the number of moves at least
+-- in a step the sum of all potentials falls by at least the number of moves
 pub whole_fell : (c : Configuration) (chosen : ℕ → Option Rule) → IsLawful c → AllHold c chosen
     → whole_potential (step c chosen) + count_below c.size (moves chosen) ≤ whole_potential c
 unfolding whole_potential
@@ -52,7 +54,7 @@ whole_fell c chosen l h = grind (arith, nat_tests, sum_charged, potential_fell, 
 
 -- ---- the bound
 
--- a pointer leads to one higher node or to a lower one
+-- the pointer of a node leads to at most one higher neighbour, and not also to a lower node
 one_pointer : (c : Configuration) (i n : ℕ) (o : Option ℕ) → count_below n (λ j. is_above c i j && holds o j) + cond (option_map_or (λ j. nat_lt j i) o false) 1 0 ≤ 1
 one_pointer c i n None = let none = count_none n (λ j. is_above c i j && false) (λ j lt. and_right (is_above c i j) false refl) in omega (arith, none)
 one_pointer c i n (Some k) = elim (cases_Bool (nat_lt k i)) [
@@ -80,7 +82,7 @@ potential_most c i =
 and_on : (x y : Bool) → y ≡ true → (x && y) ≡ x
 and_on x y e = grind (arith, nat_tests)
 
--- each link is counted at its lower end as often as at its higher
+-- counting the links at their lower ends gives the same number as counting them at their higher ends
 pub counted_above : (c : Configuration) (n : ℕ) → IsLawful c → sum_below n (λ i. count_below n (is_above c i)) ≡ links_below c n
 counted_above c zero l = refl
 counted_above c (suc n) l =
@@ -98,7 +100,7 @@ counted_above c (suc n) l =
       same_bool,
     )
 
--- all potentials together are 2 for each link and 3 for each node at most
+-- the sum of all potentials is at most 2 for each link and 3 for each node
 pub whole_most : (c : Configuration) → IsLawful c → whole_potential c ≤ 2 * links_below c c.size + 3 * c.size
 unfolding whole_potential
 whole_most c l = let most = sum_most c.size (potential c) (λ i. count_below c.size (is_above c i)) (potential_most c) in omega (arith, most, counted_above c c.size l)

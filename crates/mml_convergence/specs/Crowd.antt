@@ -1,4 +1,5 @@
--- The dense network: each two nodes are linked that are close enough. A run on it may take as many moves as any.
+-- The dense network, or crowd. A run on it can have as many moves as the bound allows, or one less if the number of
+-- nodes is odd.
 use Rattle.std.specs.Prelude.{ℕ, ◌+◌, ◌*◌, ◌-◌, Bool, true, not, ◌&&◌, ◌==◌, nat_lt, nat_le, Some, map, if◌then◌else◌}
 use Rattle.std.specs.List.{range_with_len}
 use Rattle.mml_ids.specs.Sets.{those_below}
@@ -9,11 +10,12 @@ use Rattle.mml_board.specs.World.{World, opening_of}
 abbrev pub is_near : ℕ → ℕ → ℕ → Bool
 is_near n i j = not (i == j) && (nat_lt i n && (nat_lt j n && nat_le n (i + j + 1)))
 
--- where i points at the beginning: at n - 1 - i in the first half, where 2i + 1 < n; else at i + 1; the last at 1
+-- the node at which i points at the beginning: n - 1 - i if 2i + 1 < n, and otherwise i + 1; the last node points at
+-- node 1
 abbrev pub first_pointer : ℕ → ℕ → ℕ
 first_pointer n i = if nat_lt (2 * i + 1) n then n - (i + 1) else if nat_lt (i + 1) n then i + 1 else 1
 
--- n nodes, linked if they are near; each points by first_pointer, with m true
+-- n nodes, of which two are linked if `is_near` is true; each points by first_pointer, and m is true at each
 abbrev pub crowd : ℕ → Network
 crowd n = record {
   neighbours = map (λ i. those_below n (is_near n i)) (range_with_len 0 n);

@@ -1,4 +1,4 @@
--- When a run is over, and events that lead there.
+-- When a run is over, and lists of events that lead to its end.
 use Rattle.std.specs.{Prelude.◌≡◌, Prelude.ℕ, Prelude.◌<◌, Prelude.◌≤◌, Prelude.Bool, Prelude.true, Prelude.false, Prelude.List, Prelude.length, List.list_all}
 use Rattle.mml_rules.specs.{declared.rule.Rule.Rule, Matching.IsStable}
 use Rattle.mml_lab.specs.Rosters.{RosterValue, owners_of}
@@ -14,7 +14,7 @@ pub record IsOver (r : RosterValue) (w : World) : Type 0 where
   pub no_grant : (s i : ℕ) (rule : Rule) → is_legal r w (event.Grant s i rule) ≡ false
   pub no_close : is_legal r w event.Close ≡ false
 
--- a grant or a close
+-- the event is a grant or a close
 abbrev pub is_grant_or_close : Event → Bool
 is_grant_or_close (event.Grant s i rule) = true
 is_grant_or_close event.Close = true

@@ -1,4 +1,4 @@
--- Rounds of a run: in each, every node has its turn.
+-- Rounds of a run: in each round, every node has its turn.
 use Rattle.std.specs.Prelude.{◌≡◌, ℕ, zero, suc, ◌+◌, ◌<◌, true, not, ◌&&◌, ◌||◌, Bool, List, [], ◌∷◌, ◌++◌}
 use Rattle.mml_rules.specs.Rules.{is_privileged}
 use Rattle.mml_board.specs.{declared.event.Event.Event, World.World, World.size, World.configuration, Events.is_chosen, Events.after, Runs.world_of}
@@ -13,12 +13,12 @@ is_served i w (e ∷ es) = not (is_privileged (configuration w) i) || ((is_close
 abbrev pub IsRound : World → List Event → Type 0
 IsRound w es = (i : ℕ) → i < size w → is_served i w es ≡ true
 
--- the events are k rounds, one after another, and a rest
+-- the events are k rounds, one after another, followed by any other events
 abbrev pub Rounds : ℕ → World → List Event → Type 0
 Rounds zero w es = Unit {0}
 Rounds (suc k) w es = (fs : List Event) × (gs : List Event) × (es ≡ fs ++ gs) × IsRound w fs × Rounds k (world_of w fs) gs
 
--- 4 for each two of n nodes, and 1 for one left over: 2n, or for odd n 1 less
+-- the bound on rounds: 4 for each two of n nodes, and 1 for a node left over; that is 2n, or 2n - 1 if n is odd
 abbrev pub rounds_for : ℕ → ℕ
 rounds_for zero = 0
 rounds_for (suc zero) = 1

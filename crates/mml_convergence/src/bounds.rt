@@ -1,14 +1,15 @@
-//! Laws of the most moves and rounds that a run has. Each is the contract of a function that does nothing.
+//! Laws about the greatest numbers of moves and rounds of a run. Each is the contract of a function that does nothing.
 //!
 //! A world is a network with its registers, its chosen moves, the number of its configuration, and the number of events
 //! so far. The registers of a node are its pointer p and m, which is true or false. A node is privileged if some rule
-//! is enabled there. A list of events is legal if each event is allowed in the world after the earlier ones. A grant
-//! chooses a move for a node, a release drops it, and a close applies all chosen moves at once, which is a step. A
-//! fault sets a node's registers, a link joins two nodes, and a cut removes a link.
+//! is enabled there. A node is married if it and another node point at each other. A list of events is legal if each
+//! event is allowed in the world after the earlier ones. A grant chooses a move for a node, a release drops it, and a
+//! close applies all chosen moves at once, which is a step. A fault sets a node's registers, a link joins two nodes,
+//! and a cut removes a link.
 //!
 //! A round is a list of events in which each node has its turn: at some point it isn't privileged, or a close applies
-//! its move. The worlds `halves_world`, `crowd_world` and `comb_world` are networks on which runs can take longest,
-//! with registers to begin from.
+//! its move. The worlds `halves_world`, `crowd_world` and `comb_world` have networks with long runs, and registers from
+//! which these runs begin.
 ghost use Rattle.std.specs.Prelude.{◌≡◌, ℕ, ◌+◌, ◌-◌, ◌*◌, ◌<◌, ◌≤◌, true, List, Option};
 ghost use Rattle.std.specs.List.{list_all};
 ghost use Rattle.mml_ids.specs.Search.{count_below};
@@ -41,8 +42,8 @@ pub fn moves_are_few()
         applied_over w es ≤ most_moves (size w) (link_count w.network) }
 {}
 
-/// A courtship is a pointer of an unmarried node at a higher unmarried node whose m is false. Among n unmarried nodes
-/// there are at most n²/4, rounded down.
+/// A courtship is a pointer of an unmarried node at a higher unmarried node whose m is false. `most_courtships n` is
+/// the greatest number of courtships among n unmarried nodes: n²/4, rounded down.
 pub fn courtships_in_numbers()
     ensures even { (k : ℕ) → most_courtships (2 * k) ≡ k * k }
     ensures odd { (k : ℕ) → most_courtships (2 * k + 1) ≡ k * k + k }
@@ -58,10 +59,10 @@ pub fn step_lowers_courting_potential()
         courting_potential c ≤ 3 * c.size + 2 * most_courtships c.size }
 {}
 
-/// The bound on rounds is 2n for n nodes, or 2n - 1 if n is odd. It can't be lowered for any number of nodes from 2 on
-/// that a lab may have. Take the network of `halves_world`, with one student who owns each node. Some legal list of
-/// grants and closes has one round less than the bound, and some node is still privileged after it. There is also such
-/// a list in which each close applies only one move.
+/// The bound on rounds is 2n for n nodes, or 2n - 1 if n is odd. For no number of nodes from 2 to 256 can it be
+/// lowered. Let one student own all nodes of the network `halves_world`. Then some legal list of grants and closes has
+/// one round less than the bound, and some node is still privileged after it. There is also such a list in which each
+/// close applies only one move.
 pub fn rounds_are_reached()
     ensures world { (n : ℕ) → n ≤ MAX_NODES →
         IsWorld (halves_world n) × (size (halves_world n) ≡ n) }
@@ -79,9 +80,9 @@ pub fn rounds_are_reached()
         (¬ IsStable (configuration (world_of (halves_world n) es))) }
 {}
 
-/// The bound on moves is 3n + 2k for n nodes, if k is n²/4, rounded down. For each even n from 4 on that a lab may
-/// have, a run reaches it. For each odd n from 5 on, a run applies one move less. The run is a legal list of grants and
-/// closes in the dense network (`crowd_world`), in which one student owns each node.
+/// The bound on moves is 3n + 2k for n nodes, if k is n²/4, rounded down. For each even n from 4 to 256, a run reaches
+/// it. For each odd n from 5 to 255, a run applies one move less. The run is a legal list of grants and closes in the
+/// dense network (`crowd_world`), in which one student owns all nodes.
 pub fn moves_are_reached()
     ensures world { (n : ℕ) → 4 ≤ n → n ≤ MAX_NODES →
         IsWorld (crowd_world n) × (size (crowd_world n) ≡ n) }
@@ -99,8 +100,8 @@ pub fn moves_are_reached()
 
 /// The comb (`comb_world`) of 4 nodes or more is a tree. It has one link less than nodes, and each node but the last is
 /// linked to a higher one. No legal list of grants, releases and closes applies more than 3 moves for each node and 2
-/// for each link. If one student owns each node, some legal list of grants and closes applies one move less than that,
-/// or two less if the number of nodes is odd. The law doesn't say that no other tree takes more moves.
+/// for each link. If one student owns all nodes, some legal list of grants and closes applies one move less than that,
+/// or two less if the number of nodes is odd. The law doesn't say whether other trees allow more moves.
 pub fn a_comb_takes_nearly_the_most_moves()
     ensures world { (n : ℕ) → 4 ≤ n → n ≤ MAX_NODES →
         IsWorld (comb_world n) × (size (comb_world n) ≡ n) }

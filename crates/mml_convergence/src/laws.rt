@@ -8,7 +8,8 @@
 //! fault sets a node's registers, a link joins two nodes, and a cut removes a link.
 //!
 //! A round is a list of events in which each node has its turn: at some point it isn't privileged, or a close applies
-//! its move. A potential is a number that is computed from a configuration; the sum over all nodes falls in each step.
+//! its move. The potential of a node is a number that is computed from a configuration. The sum of all potentials falls
+//! in each step.
 ghost use Rattle.std.specs.Prelude.{◌≡◌, ℕ, ◌+◌, ◌*◌, ◌<◌, ◌≤◌, true, false, Option, None, Some, List, length};
 ghost use Rattle.std.specs.List.{list_all};
 ghost use Rattle.mml_ids.specs.Search.{count_below};
@@ -84,7 +85,7 @@ pub fn bound_is_reached()
         2 * link_count triangle_world.network + 3 * size triangle_world }
 {}
 
-/// A privileged node without a chosen move has a rule whose grant is legal for each of its owners.
+/// At a privileged node without a chosen move, the grant of some rule is legal for each owner of the node.
 pub fn privileged_nodes_may_move()
     ensures { (r : RosterValue) (w : World) (i : ℕ) → IsWorld w → i < size w →
         is_privileged (configuration w) i ≡ true → chosen_at w.chosen i ≡ None →
@@ -112,7 +113,7 @@ pub fn rounds_in_numbers()
     ensures odd { (k : ℕ) → rounds_for (2 * k + 1) ≡ 4 * k + 1 }
 {}
 
-/// A list that ends with no node privileged has any number of rounds, of which the later ones are empty.
+/// If no node is privileged after a list of events, the list has any number of rounds: the last of them are empty.
 pub fn stable_lists_have_rounds()
     ensures { (w : World) (es : List Event) (k : ℕ) → IsStable (configuration (world_of w es)) →
         Rounds k w es }
@@ -126,7 +127,7 @@ pub fn full_closes_are_few()
         count_closes es ≤ rounds_for (size w) }
 {}
 
-/// If no node is privileged, no grant, no release and no close is legal: only a fault, a link or a cut is.
+/// If no node is privileged, no grant, no release and no close is legal. Only a fault, a link or a cut can be legal.
 pub fn stable_is_final()
     ensures { (r : RosterValue) (w : World) (e : Event) → IsWorld w → IsStable (configuration w) →
         is_of_step e ≡ true → is_legal r w e ≡ false }
@@ -143,10 +144,10 @@ pub fn runs_end_stable()
         (es : List Event) × LeadsToRest r w (4 * link_count w.network + 6 * size w) es }
 {}
 
-/// Potentials of nodes that were counted by hand, to see that the definition of `potential` is the intended one. Two
-/// linked nodes are tried in four states. In `apart` neither points at the other, and in `asked` the second points at
-/// the first. In `refused` the first points at the second, whose m is true. In `paired` they are a pair, with m true at
-/// both. For a triangle with a tail, the sum over all nodes is 20, the most that its 4 links and 4 nodes may have.
+/// The potentials of some nodes, counted by hand to check the definition of `potential`. Two linked nodes are tried in
+/// four states. In `apart` neither points at the other, and in `asked` the second points at the first. In `refused` the
+/// first points at the second, whose m is true. In `paired` they are a pair, with m true at both. For a triangle with a
+/// tail, the sum over all nodes is 20, the greatest sum for 4 links and 4 nodes.
 pub fn potentials_by_hand()
     ensures apart { (potential (two_nodes None false None false) 0 ≡ 3) ×
         (potential (two_nodes None false None false) 1 ≡ 1) }

@@ -1,5 +1,5 @@
-//! Why a run ends, in which configuration, and how soon: only laws, on which no code depends. Those in `bounds` name
-//! the greatest numbers of moves and rounds.
+//! Laws about the end of a run: why it ends, in which configuration, and how soon. No code depends on them. The laws in
+//! `bounds` state the greatest numbers of moves and rounds.
 #![tactic(auto)]
 
 pub mod bounds;
