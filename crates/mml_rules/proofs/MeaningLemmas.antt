@@ -124,7 +124,7 @@ vain-to c i h = grind (arith, nat_lt, false≢true, and_parts, both_ways, not-tr
 vain-back : (c : Configuration) (i : ℕ) → PointsInVain c i → points_in_vain c i ≡ true
 vain-back c i h = grind (arith, nat_lt, and_from, false_from_ne_true, holds-true, or_left, or_right, lt-ltb)
 
--- `points_in_vain` is true exactly if the node points in vain
+-- `points_in_vain` is true exactly if `PointsInVain` holds
 pub vain-means : (c : Configuration) (i : ℕ) → (points_in_vain c i ≡ true) ↔ PointsInVain c i
 vain-means c i = (vain-to c i, vain-back c i)
 

@@ -47,7 +47,7 @@ some-null o h = grind arith
 pub null-some : (o : Option ℕ) → is_none o ≡ true → is_some o ≡ false
 null-some o h = grind (arith, false≢true)
 
--- a node that points in vain points at some node
+-- if `points_in_vain` is true, the node points at some node
 pub vain-some : (c : Configuration) (i : ℕ) → points_in_vain c i ≡ true → is_some (c.p i) ≡ true
 vain-some c i h = grind (arith, nat_lt, false≢true)
 
