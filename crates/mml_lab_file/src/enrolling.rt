@@ -38,8 +38,8 @@ pub(crate) fn students_map(
 }
 
 /// Puts the students' names and keys into an empty map, in order. Stops at the first student whose name the teacher or
-/// an earlier student has. Returns `NameTwice` with the index of this student, where the first student has the index 1.
-/// Returns `Memory` if memory runs out.
+/// an earlier student has. Returns `NameTwice` with the index of this student, counted from 1. Returns `Memory` if
+/// memory runs out.
 fn fill(
     found: &mut IndexMap<String, String>,
     teacher: &Account,
