@@ -117,7 +117,7 @@ climb_null c (suc n) i h p = rw (h, p) (climb_null c n i h p)
 pub climb_onward : (c : Configuration) (n m i j : ℕ) → m ≡ n + 1 → is_privileged c i ≡ false → c.p i ≡ Some j → climb c m i ≡ climb c n j
 climb_onward c n m i j e h p = ap (λ k. climb c k i) (e ∙ add-one n) ∙ rw (h, p) refl
 
--- if a climb from x stays at x and ends where the walk from i ends, x is the end of this walk
+-- if a climb from x stays at x, and reaches the end of the walk from i, then x is this end
 pub top_is : (c : Configuration) (i n x : ℕ) → climb c n x ≡ climb c c.size i → climb c n x ≡ x → x ≡ top c i
 unfolding top
 top_is c i n x e stays = sym stays ∙ e
