@@ -15,7 +15,7 @@ use Rattle.mml_board.specs.declared.event.Event.TheVariants as event
 abbrev pub Falls : (Configuration → ℕ) → Type 0
 Falls P = (c : Configuration) (chosen : ℕ → Option Rule) → IsLawful c → AllHold c chosen → P (step c chosen) + count_below c.size (moves chosen) ≤ P c
 
--- if P falls so, it also falls in a close by at least the number of the close's moves
+-- if P falls in this way, a close lowers P by at least the number of its moves
 pub close_paid : (P : Configuration → ℕ) → Falls P → (w : World) → IsWorld w → chosen_count w + P (configuration (after w event.Close)) ≤ P (configuration w)
 unfolding chosen_count
 close_paid P falls w k = grind (arith, nat_tests, closed-step)
@@ -27,13 +27,13 @@ event_pays P falls w (event.Release i) k of_step = omega arith
 event_pays P falls w event.Close k of_step = close_paid P falls w k
 event_pays P falls w _ k of_step = absurd (false≢true of_step)
 
--- if P falls so, grants, releases and closes apply at most as many moves as P is at their beginning
+-- if P falls in this way, grants, releases and closes apply at most as many moves as P has at their beginning
 pub moves_paid : (P : Configuration → ℕ) → Falls P → (r : RosterValue) (w : World) (es : List Event) → IsWorld w → is_legal_list r w es ≡ true
     → list_all is_of_step es ≡ true → applied_over w es ≤ P (configuration w)
 moves_paid P falls r w [] k legal steps = omega arith
 moves_paid P falls r w (e ∷ es) k legal steps = grind (arith, event_pays P falls w e k, moves_paid P falls r (after w e) es, after-world w e k, legal_possible r w e)
 
--- in a close, the sum of all potentials falls by at least the number of moves
+-- a close lowers the sum of all potentials by at least the number of its moves
 pub close_pays : (w : World) → IsWorld w → chosen_count w + whole_potential (configuration (after w event.Close)) ≤ whole_potential (configuration w)
 close_pays w k = close_paid whole_potential whole_fell w k
 

@@ -10,12 +10,12 @@ use Rattle.mml_convergence.proofs.MoveLemmas.{IsQuiet, IsMoved, Holds, is, stays
 use Rattle.mml_convergence.proofs.IdleLemmas.{may_update, may_abandon}
 use Rattle.mml_lab.specs.declared.who.Who.TheVariants as who
 
--- the number of moves of the `left` nodes from i on, plus a
+-- the number of moves of the nodes from i on (there are `left` of them), plus a
 abbrev pub cleared : (f : ℕ → Option ℕ) (left i a : ℕ) → ℕ
 cleared f zero i a = a
 cleared f (suc left) i a = suc (cond (is_some (f i)) 1 0 + cleared f left (suc i) a)
 
--- at first, node i has the pointer f i, which leads to another node that doesn't point back, or is null; `Shape` is a
+-- at first, node i has the pointer `f i`, which is null or leads to another node that doesn't point back; `Shape` is a
 -- fact about the network that each step keeps
 module _ (n : ℕ) (f : ℕ → Option ℕ) (Shape : Configuration → Type 0) (sized : (c : Configuration) → Shape c → (c.size ≡ n) × IsLawful c)
     (shaped : (c d : Configuration) (x : ℕ) (rule : Rule) → Shape c → IsMoved c d (is x) rule → Shape d)

@@ -9,7 +9,7 @@ use Rattle.mml_convergence.specs.{Runs.is_of_step, Moves.is_close, Moves.count_c
 use Rattle.mml_convergence.proofs.{RestLemmas.stable_final, RoundsLemmas.rounds_end}
 use Rattle.mml_convergence.proofs.ServedLemmas.{IsRun, first_legal, first_of_step, run_parts, run_end}
 
--- a round with one more event before it is a round
+-- an event followed by a round is a round
 longer_round : (w : World) (e : Event) (es : List Event) → IsRound (after w e) es → IsRound w (e ∷ es)
 longer_round w e es round i lt = or_right _ _ (or_right _ _ (round i (omega (arith, lt, size-after w e))))
 

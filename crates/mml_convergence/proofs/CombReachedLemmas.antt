@@ -27,7 +27,8 @@ nowhere i = None
 -- ---- phase r, in which r marries b, the highest node that isn't married
 
 module _ (n r b : ℕ) (sum : r + b + 1 ≡ n) (room : 2 * r + 2 ≤ n) where
-  -- r has the registers g and mg, and b has h and mh; each node i between them has the pointer at i, and m false
+  -- node r has the registers `g` and `mg`, node b has `h` and `mh`, and each node i between them has the pointer `at i`
+  -- and m false
   record Stage (g : Option ℕ) (mg : Bool) (h : Option ℕ) (mh : Bool) (at : ℕ → Option ℕ) (c : Configuration) : Type 0 where
     shape : Shape n c
     couples : Couples n r c

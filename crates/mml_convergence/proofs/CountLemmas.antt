@@ -4,7 +4,7 @@ use Rattle.std.proofs.lemmas.Bool.Decides.{nat_tests}
 use Rattle.mml_ids.specs.Search.{count_below}
 
 module _ (a z : ℕ) (t : ℕ → Bool) (le : a ≤ z) (on : (i : ℕ) → a ≤ i → i < z → t i ≡ true) (only : (i : ℕ) → t i ≡ true → (a ≤ i) × (i < z)) where
-  -- the numbers below n that pass (those from a on and below z), and those that don't pass, are n together
+  -- below n, the numbers that pass (those from a on and below z) and the numbers that don't pass are n together
   within : (n : ℕ) → count_below n t + cond (nat_lt n a) n (cond (nat_lt n z) a (n - (z - a))) ≡ n
   within zero = grind (arith, nat_tests)
   within (suc n) = grind (arith, nat_tests, within n, on n, only n)
@@ -23,7 +23,7 @@ count_one i n lt = omega (arith, count_between i (suc i) (λ j. j == i) (omega a
     means : (j : ℕ) → (j == i) ≡ true → (i ≤ j) × (j < suc i)
     means j e = grind (arith, nat_tests)
 
--- if no number passes both tests, the count for "one of the tests" is the sum of the two counts
+-- if no number passes both tests, the count of the numbers that pass either test is the sum of the two counts
 pub count_either : (n : ℕ) (t u : ℕ → Bool) → ((i : ℕ) → t i ≡ true → u i ≡ false) → count_below n (λ i. t i || u i) ≡ count_below n t + count_below n u
 count_either zero t u apart = refl
 count_either (suc n) t u apart = grind (arith, count_either n t u apart, apart n)

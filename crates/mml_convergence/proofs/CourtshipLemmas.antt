@@ -1,5 +1,6 @@
--- How the part of each node changes in a step. If no node is newly married, the part of each node that moves falls by
--- at least 1. In any other step this holds if 1 is added for a newly married node, and 2 for a node that isn't married.
+-- How the part of each node, which `node_part` defines, changes in a step. If no node is newly married, the part of
+-- each node that moves falls by at least 1. In any other step this holds if 1 is added for a newly married node, and 2
+-- for a node that isn't married.
 use Rattle.std.proofs.Common.{◌≡◌, ℕ, ◌+◌, ◌<◌, ◌≤◌, true, false, cond, inl, inr, Option, None, Some, is_some, refl, ap, ◌∙◌, arith}
 use Rattle.std.proofs.lemmas.Bool.{and_parts, both_ways, ltb-true, cases_Bool, false_from_ne_true, not-true, Decides.nat_tests}
 use Rattle.mml_rules.specs.{declared.rule.Rule.Rule, Configuration.Configuration, Configuration.IsLawful, Configuration.holds, Rules.is_married, Rules.moved, Rules.step, Rules.AllHold}

@@ -44,7 +44,7 @@ none_is : (o : Option Rule) → is_none o ≡ true → o ≡ None
 none_is None h = refl
 none_is (Some rule) h = absurd (false≢true h)
 
--- if the test is true, the events are as it says in each world with these links, registers and choices
+-- if the test is true, the events are legal and apply n moves in each world with these links, registers and choices
 sound : (r : RosterValue) (w : World) (es : List Event) (n : ℕ) → ((i : ℕ) → i < size w → owns r (who.Student 0) i ≡ true)
     → tells (configuration w).linked w.network.registers w.chosen es n ≡ true
     → (is_legal_list r w es ≡ true) × (applied_over w es ≡ n)

@@ -26,11 +26,11 @@ pub record GoesOn (A : World → ℕ → Type 0) (r : RosterValue) (w : World) (
 pub stop : (A : World → ℕ → Type 0) (r : RosterValue) (w : World) → A w 0 → GoesOn A r w 0
 stop A r w ends = record { events = []; legal = refl; forward = refl; alone = refl; rounds = tt; ends = ends }
 
--- if A implies B, a list that A allows is also one that B allows, and no round is required of it
+-- if A implies B, a run for A (as `GoesOn` defines it) is also a run for B, with at least 0 rounds
 pub unrounded : (A B : World → ℕ → Type 0) (r : RosterValue) (w : World) (k : ℕ) → ((u : World) (x : ℕ) → A u x → B u x) → GoesOn A r w k → GoesOn B r w 0
 unrounded A B r w k so g = grind (arith, nat_tests)
 
--- such a list with a moves
+-- such a run with exactly a moves
 abbrev pub Goes : ℕ → RosterValue → World → Type 0
 Goes a r w = GoesOn (λ u x. x ≡ a) r w 0
 
@@ -130,8 +130,8 @@ move r s w x rule world quiet lt owner holds = record { legal = legal; chosen = 
       m = λ i lt. ap (λ (g : Regs). g.m) (registers i);
     }
 
--- if the rule's guard holds at x, and a list of a moves is possible after this move, a list of a + 1 moves is possible
--- before it
+-- if the rule's guard holds at x, and `Goes a` holds of each world after this move, `Goes` with one move more holds of
+-- the world before it
 pub single : (n : ℕ) (r : RosterValue) (s : ℕ) → ((i : ℕ) → i < n → owns r (who.Student s) i ≡ true) → (x a : ℕ) (rule : Rule) (w : World) → IsWorld w →
     IsQuiet w
     → size w ≡ n → x < n → guard (configuration w) x rule ≡ true

@@ -14,8 +14,8 @@ pub count_both : (n : ℕ) (t : ℕ → Bool) → count_below n t + count_below 
 count_both zero t = refl
 count_both (suc n) t = grind (arith, count_both n t)
 
--- if t implies u, the sum of 1 for each number that passes only u, and 2 for each that doesn't pass u, follows from the
--- counts
+-- if t implies u, the numbers that pass only u and the numbers that pass t are together as many as the numbers that pass
+-- u; both sides also count 2 for each number that fails u
 pub count_lent : (n : ℕ) (t u : ℕ → Bool) → ((j : ℕ) → t j ≡ true → u j ≡ true)
     → sum_below n (λ i. cond (u i) (cond (t i) 0 1) 2) + count_below n t ≡ count_below n u + 2 * count_below n (λ i. not (u i))
 count_lent zero t u kept = refl
@@ -40,14 +40,14 @@ courtships_kept n u le = let e : n + (u - n) ≡ u = omega (arith, le) in subst 
 courtships_more : (n : ℕ) → 1 ≤ n → most_courtships n + 1 ≤ most_courtships (suc n)
 courtships_more n le = grind (arith, nat_tests, courtships_rise)
 
--- if n + 2 + k nodes become n, twice the greatest number of courtships falls by at least 1 for each node gone, and 2
--- for each left
+-- twice the greatest number of courtships is lower for n nodes than for n + 2 + k, by at least 1 for each of the 2 + k
+-- nodes and 2 for each of the n
 couples_pay : (n k : ℕ) → 2 * most_courtships n + (n + (n + 2 + k)) ≤ 2 * most_courtships (n + 2 + k)
 couples_pay n zero = grind (arith, nat_tests)
 couples_pay n (suc k) = grind (arith, nat_tests, courtships_more, couples_pay n k)
 
--- if u nodes become at least two fewer, twice the greatest number of courtships falls by 1 for each node gone, and 2
--- for each left
+-- if n is at most u - 2, twice the greatest number of courtships is lower for n nodes than for u, by at least 1 for
+-- each of the u - n nodes and 2 for each of the n
 pub marriages_pay : (n u : ℕ) → n + 2 ≤ u → 2 * most_courtships n + (n + u) ≤ 2 * most_courtships u
 marriages_pay n u le =
     let e : n + 2 + (u - (n + 2)) ≡ u = omega (arith, le) in

@@ -8,7 +8,7 @@ use Rattle.mml_convergence.proofs.IdleLemmas.{may_update, may_marry, may_abandon
 use Rattle.mml_convergence.proofs.PhaseLemmas.{Seated, Courted, Engaged, Wed, courts, marries_now, learns, leaves, courts-means, leaves-means, shaped, owner_in, some_same, seated_free, candidate, greatest}
 use Rattle.mml_convergence.proofs.PhaseLemmas.{wed_pair, groom}
 
--- this holds of the update of nodes that have a null pointer and m true
+-- nodes with a null pointer and m true may still update after other nodes have updated
 pub first_updates_stand : (c : Configuration) (t : ℕ → Bool) → ((i : ℕ) → i < c.size → (c.p i ≡ None) × (c.m i ≡ true)) → Stands c t Rule.Update
 first_updates_stand c t all d i lt on e = grind (arith, nat_tests, kept, above, above_off, married-null, may_update)
 

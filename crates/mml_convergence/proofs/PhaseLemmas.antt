@@ -1,5 +1,5 @@
 -- A phase of four steps: the low nodes seduce the highest free node, b; b marries the lowest, r; both update; and the
--- others abandon b. Which nodes are low is a parameter. A free node isn't married.
+-- others abandon b. Which nodes are low is a parameter. A free node is one that isn't married.
 use Rattle.std.proofs.Common.{not, ◌≡◌, ℕ, suc, ◌+◌, ◌*◌, ◌-◌, ◌<◌, ◌≤◌, ◌⊎◌, inl, inr, Bool, true, false, ◌&&◌, ◌||◌, ◌==◌, nat_lt, Option, None, Some, sym, refl, ap, ◌∙◌, subst, arith}
 use Rattle.std.proofs.lemmas.Bool.{both_ways, false_from_ne_true, and_from, or_cases, or_left, or_right, or_from, cases_lt, cases_eq, cases_Bool, lt-ltb, eqb-true, eq-eqb, ne_eqb, Decides.nat_tests}
 use Rattle.mml_rules.specs.{declared.rule.Rule.Rule, Configuration.Configuration, Configuration.IsLawful, Configuration.holds, Rules.guard, Rules.is_privileged, Meaning.IsCandidate}

@@ -1,4 +1,5 @@
--- What holds after a node's turn: in any run, or as long as the number of married nodes doesn't grow.
+-- What holds after a node's turn: in any run, or as long as the number of married nodes doesn't grow. A node has its
+-- turn if it isn't privileged at some moment, or moves. A suitor of a node is a node that points at it.
 use Rattle.std.proofs.Common.{◌≡◌, ℕ, ◌+◌, ◌<◌, ◌≤◌, ◌⊎◌, inl, inr, false, Option, Some, arith, rules}
 use Rattle.std.proofs.lemmas.Bool.Decides.{nat_tests}
 use Rattle.mml_rules.specs.{declared.rule.Rule.Rule, Configuration.Configuration, Configuration.IsLawful, Rules.is_privileged, Rules.step, Rules.AllHold}
@@ -104,7 +105,7 @@ pub record IsReady (a b : ℕ) (c : Configuration) : Type 0 where
   pub before : IsHopeful c
   pub link : IsOpen a b c
 
--- this stays so as long as the number of married nodes doesn't grow
+-- `IsReady` stays true as long as the number of married nodes doesn't grow
 pub ready_calm : (a b : ℕ) → CalmStays (IsReady a b)
 ready_calm a b c chosen l h calm p = record { before = hopeful_calm c chosen l h calm p.before; link = open_stays c chosen l h calm a b p.link }
 
@@ -113,7 +114,7 @@ pub record IsWooed (s t : ℕ) (c : Configuration) : Type 0 where
   pub before : IsHopeful c
   pub pair : IsCourted s t c
 
--- this stays so as long as the number of married nodes doesn't grow
+-- `IsWooed` stays true as long as the number of married nodes doesn't grow
 pub wooed_calm : (s t : ℕ) → CalmStays (IsWooed s t)
 wooed_calm s t c chosen l h calm p = search (rules, hopeful_calm, courted_kept)
 
@@ -154,8 +155,8 @@ wedding_brings s t = record {
 
 -- ---- if no node is married
 
--- no node is married, and m is false at each; some node points at a higher node, or a and its higher neighbour b are
--- about to, as `IsFacing` defines
+-- no node is married, and m is false at each; some node points at a higher node, or the pointer of a is null and its
+-- higher neighbour b points at a or at no node
 pub record IsDawning (a b : ℕ) (c : Configuration) : Type 0 where
   pub modest : Each Modest c
   pub lone : IsLone c

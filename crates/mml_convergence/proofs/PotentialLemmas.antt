@@ -134,7 +134,7 @@ module _ (c : Configuration) (chosen : ℕ → Option Rule) (l : IsLawful c) (h 
   own_part_updated i e = own_updated (is_married c i) (c.m i) (points_down c i) (is_married next i) (next.m i) (points_down next i) (married i)
       (updates c i (h i Rule.Update e)) (ap (λ o. (moved c i o).m) e) (ap (λ o. option_map_or (λ j. nat_lt j i) (moved c i o).p false) e)
 
-  -- the own part of i and the parts of its links fall together by at least n
+  -- the sum of the own part of i and the parts of its links falls by at least n
   abbrev Pays : ℕ → ℕ → Type 0
   Pays i n = own_part next i + links_after i + n ≤ own_part c i + links_before i
 
@@ -178,7 +178,7 @@ module _ (c : Configuration) (chosen : ℕ → Option Rule) (l : IsLawful c) (h 
         lt-ltb,
       )
 
-  -- the parts of i fall by 1 for a move that is charged to it, whichever rule it applies
+  -- whichever rule a move of i applies, the parts of i fall by 1 if the move is charged to i
   move_paid : (i : ℕ) (o : Option Rule) → chosen i ≡ o → Pays i (cond (pays o i) 1 0)
   move_paid i o e = grind (arith, nat_tests, pays_nothing, by_own_part, own_part_updated, marriage_paid, seduction_paid, abandonment_paid)
 

@@ -1,5 +1,6 @@
--- In four rounds at least two more nodes marry, or no node is left that is privileged. So four rounds for each two
--- nodes are enough.
+-- In four rounds at least two more nodes marry, unless no node is privileged afterwards. So four rounds for each two
+-- nodes are enough. Rounds are called enough if no node is privileged after them. `PhasesLemmas` defines which
+-- configurations are settled or hopeful.
 use Rattle.std.proofs.Common.{◌≡◌, ℕ, zero, suc, ◌+◌, ◌*◌, ◌-◌, ◌<◌, ◌≤◌, ◌⊎◌, inl, inr, Bool, true, false, not, List, [], ◌∷◌, Option, None, Some, sym, refl, ap, ◌∙◌, subst, arith}
 use Rattle.std.specs.List.{list_all}
 use Rattle.std.proofs.lemmas.{List.append-nil, Bool.or_right, Bool.both_ways, Bool.false_from_ne_true, Bool.cases_lt, Bool.cases_order, Bool.Decides.nat_tests}
@@ -73,7 +74,7 @@ EndsStable w es = IsStable (configuration (world_of w es))
 ends : (r : RosterValue) (w : World) (es : List Event) (k : ℕ) (u : IsTurn r w es k) → EndsStable (world_of w u.first) u.rest → EndsStable w es
 ends r w es k u e = subst (λ x. IsStable (configuration x)) u.same e
 
--- from a settled world of n nodes, at least m of them married, b rounds are enough: then no node is privileged
+-- from each settled world of n nodes, of which at least m are married, b rounds are enough
 abbrev Enough : RosterValue → ℕ → ℕ → ℕ → Type 0
 Enough r n m b =
     (w : World) (es : List Event) (k : ℕ) → IsRun r w es → IsSettled (configuration w) → size w ≡ n → m ≤ married_count (configuration w) → b ≤ k
@@ -233,7 +234,7 @@ stable_or_dawn c l modest lone = go (some_below c.size (is_privileged c)) refl
 
 -- ---- from any world
 
--- after the first round m is false at each unmarried node; then `rounds_for d + 3` rounds are enough for d + 2 nodes
+-- if m is false at each node that isn't married, `rounds_for d + 3` rounds are enough for d + 2 nodes
 from_modest : (r : RosterValue) (w : World) (es : List Event) (k : ℕ) → IsRun r w es → Each Modest (configuration w)
     → ((d : ℕ) → size w ≡ d + 2 → rounds_for d + 3 ≤ k) → Rounds k w es → EndsStable w es
 from_modest r w es k run modest room rounds = elim (cases_lt (married_count (configuration w)) 2) [
@@ -307,18 +308,18 @@ rounds_end r w es k run room rounds = elim (cases_lt 0 (size w)) [
       omega (arith, ap rounds_for two, room, is)) u.rounds)
 ]
 
--- this is at most two rounds for each node
+-- the bound `rounds_for` is at most two rounds for each node
 pub most_rounds : (n : ℕ) → rounds_for n ≤ 2 * n
 most_rounds zero = omega arith
 most_rounds (suc zero) = omega arith
 most_rounds (suc (suc n)) = let rest = most_rounds n in omega (arith, rest)
 
--- for an even number of nodes, it is two rounds for each node
+-- for an even number of nodes, the bound is two rounds for each node
 pub for_even : (k : ℕ) → rounds_for (2 * k) ≡ 4 * k
 for_even zero = refl
 for_even (suc k) = grind (arith, nat_tests, for_even k)
 
--- for an odd number of nodes, it is one round less than two for each node
+-- for an odd number of nodes, the bound is one round less than two for each node
 pub for_odd : (k : ℕ) → rounds_for (2 * k + 1) ≡ 4 * k + 1
 for_odd zero = refl
 for_odd (suc k) = grind (arith, nat_tests, for_odd k)
@@ -332,7 +333,7 @@ rounds_bounded r w es k legal of_step rounds =
     let stable = rounds_end r w es (2 * size w) run (most_rounds (size w)) rounds in
     (stable, maximal (configuration (world_of w es)) (run_end r w es run).network.lawful stable)
 
--- if some node is still privileged, there were fewer rounds than that
+-- if some node is privileged after k rounds, k is less than the bound
 pub rounds_fewer : (r : RosterValue) (w : World) (es : List Event) (k : ℕ) → IsWorld w → is_legal_list r w es ≡ true → list_all is_of_step es ≡ true
     → Rounds k w es → ¬ IsStable (configuration (world_of w es)) → k < rounds_for (size w)
 rounds_fewer r w es k world legal of_step rounds goes_on = elim (cases_lt k (rounds_for (size w))) [

@@ -13,7 +13,7 @@ use Rattle.mml_board.specs.declared.event.Event.TheVariants as event
 abbrev weight_at : World → ℕ → ℕ
 weight_at w i = weight ((configuration w).m i) (is_married (configuration w) i)
 
--- each change of m lowers this number by at least 1
+-- each change of m lowers this upper bound by at least 1
 step_pays : (w : World) (e : Event) (i : ℕ) → IsWorld w → is_of_step e ≡ true
     → change ((configuration w).m i) ((configuration (after w e)).m i) + weight_at (after w e) i ≤ weight_at w i
 step_pays w (event.Grant s node rule) i k of_step = grind arith

@@ -63,7 +63,8 @@ module _ (A : World → ℕ → Type 0) (r : RosterValue) (s k n : ℕ) (c : Con
     ends : A (world_of v (front ++ back)) (applied_over (world_of v front) back)
     turns : (i : ℕ) → i < m → t i ≡ true → is_served i v front ≡ true
 
-  -- if the rest of the round is possible after the move of m, the rest that begins with this move is possible before it
+  -- the move of m, followed by the rest of the round for the nodes below m, is the rest of the round for the nodes
+  -- below m + 1
   with_one : (m : ℕ) (v : World) → Move r s v m rule → t m ≡ true → Part m (after_move s v m rule) → Part (suc m) v
   with_one m v o on rest =
       let counted : cond {A = ℕ} (t m) 1 0 ≡ 1 = ap (λ b. cond b 1 0) on in
