@@ -14,7 +14,8 @@ same_from : (t u : ℕ → Bool) (k n : ℕ) → ((q : ℕ) → k ≤ q → t q 
 same_from t u k zero h = refl
 same_from t u k (suc n) h = grind (arith, same_from t u (k + 1) n)
 
--- if t and u differ only at a, the first number that passes t, then the numbers that pass t are a and those that pass u
+-- if a is the first number that passes t, and fails u, and t and u agree on all other numbers, the numbers that pass t
+-- are a, followed by those that pass u
 first_passes : (t u : ℕ → Bool) (k n a : ℕ) → k ≤ a → a < k + n → t a ≡ true → u a ≡ false → ((q : ℕ) → q ≢ a → t q ≡ u q) → ((q : ℕ) → q < a → t q ≡ false)
     → filter t (range_with_len k n) ≡ a ∷ filter u (range_with_len k n)
 first_passes t u k zero a from below here gone others before = absurd (omega arith)
