@@ -83,7 +83,7 @@ file : (bytes : List ℕ) → OfResult (spelled bytes)
 unfolding spelled
 file bytes = then (ok_or (table_in bytes) fault.NotToml) raw_of (or_fault (table_in bytes) fault.NotToml tt) raw
 
--- if bytes are refused, either their contents can't be read, for that reason, or they are a file with this error
+-- if bytes are refused with an error, it is an error of reading their contents, or the error of a file
 refused : (bytes : List ℕ) (f : LabFault) → lab_of bytes ≡ Err f → (spelled bytes ≡ Err f) ⊎ ((raw : RawSpec) × (lab_fault raw ≡ Some f))
 unfolding lab_of
 refused bytes f = grind (arith, raw, refuses)

@@ -8,11 +8,8 @@ use Rattle.mml_lab_file.specs.Reading.{name_twice, is_within, both_fault, ids_fa
 use Rattle.mml_lab.specs.declared.lab_fault.LabFault.TheVariants as fault
 use Rattle.mml_lab.specs.declared.lab_fault.Key.TheVariants as key
 
--- the index of an error, from 0, in the order in which the errors of a file are reported if all its keys are there and
--- of their kinds: both keys for owners, identifiers, forms of names and keys, names that occur twice, owners that
--- aren't students, a student who is an owner of a node twice, ends of links that aren't nodes, links of a node to
--- itself, links that occur twice, pointers, and the numbers of events, of sessions and of students; any other error has
--- the index 13
+-- the index of an error, from 0, in the order in which the errors of a file are reported. Any other error has the index
+-- 13: that the file isn't TOML, that a key is missing or of another kind, or that memory ran out
 abbrev pub order_of : LabFault → ℕ
 order_of (fault.BothOwners i) = 0
 order_of (fault.Id f) = 1
