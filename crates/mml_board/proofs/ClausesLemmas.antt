@@ -41,7 +41,7 @@ is_fit w (event.Fault i registers) = is_node w i && may_point (configuration w) 
 is_fit w (event.Link a b) = (is_node w a && is_node w b) && (not (a == b) && not ((configuration w).linked a b))
 is_fit w (event.Cut a b) = (configuration w).linked a b
 
--- if s succeeds, and P holds of whatever value s returns, P holds
+-- if s succeeds, and P holds in case that s succeeds, P holds
 if_ok : {A E : Type 0} (P : Type 0) (s : Result A E) → is_ok s ≡ true → IfOk s (λ a. P) → P
 if_ok P (Ok a) h p = p
 if_ok P (Err e) h p = absurd (false≢true h)
