@@ -104,8 +104,8 @@ module _ (ids : List ℕ) (r : RosterValue) (w : World) (x : Who) where
   -- ---- a link and a cut
 
   module _ (first second : ℕ) where
-    -- if `why` holds of each denial of the clauses for the teacher, for the two nodes and of the rest, it holds of the
-    -- result's denial
+    -- if `why` holds of each denial that the clauses about the teacher, about the two nodes and after them can have, it
+    -- holds of the denial of the command
     both_deny : (why : Denial → Type 0) (rest : ℕ → ℕ → Result Event Denial) → (x ≢ who.Teacher → why NotTeacher) → (LacksAnEnd ids x first second → why NoNode)
         → ((a b : ℕ) → IsAskedOfBoth ids x first second a b → IfErr (rest a b) why) → IfErr (asked_of_both ids x first second rest) why
     both_deny why rest alone lacks found = grind (arith, need-deny, no_teacher, bind-deny, node-err, teacher_is, node-ok)

@@ -42,7 +42,7 @@ ok-same p q e = grind arith
 asked_once : (ids : List ℕ) (a : Asked) (p q : Rule) → rule_step ids a Guard ≡ Ok p → IsAsked ids a q → p ≡ q
 asked_once ids a p q h k = ok-same p q (sym h ∙ asked_from ids a Guard q k)
 
--- if the step for the rule fails, the denial is `Guard`, and no rule is the one that is asked for
+-- if the step for the rule fails, the denial is `Guard`, and no rule matches the request
 pub no_rule : (ids : List ℕ) (a : Asked) (d : Denial) → rule_step ids a Guard ≡ Err d → (d ≡ Guard) × ((q : Rule) → ¬ IsAsked ids a q)
 no_rule ids a d h = grind (arith, none_some)
 
