@@ -14,8 +14,8 @@ pub count_both : (n : ℕ) (t : ℕ → Bool) → count_below n t + count_below 
 count_both zero t = refl
 count_both (suc n) t = grind (arith, count_both n t)
 
--- if t implies u, the numbers that pass only u and the numbers that pass t are together as many as the numbers that pass
--- u; both sides also count 2 for each number that fails u
+-- if t implies u, the numbers that pass only u and the numbers that pass t are together as many as the numbers that
+-- pass u; both sides also count 2 for each number that fails u
 pub count_lent : (n : ℕ) (t u : ℕ → Bool) → ((j : ℕ) → t j ≡ true → u j ≡ true)
     → sum_below n (λ i. cond (u i) (cond (t i) 0 1) 2) + count_below n t ≡ count_below n u + 2 * count_below n (λ i. not (u i))
 count_lent zero t u kept = refl
