@@ -26,7 +26,7 @@ find-some p (y ∷ ys) h = by (p y) refl (find-some p ys)
     by true is rest = (y, ap (λ b. cond b (Some y) (find p ys)) is)
     by false is rest = grind arith
 
--- if some element passes the test, there is such an element with its index in the list
+-- if `list_any` is true, the element at some index of the list passes the test
 pub list_any-found : {X : Type 0} (p : X → Bool) (xs : List X) → list_any p xs ≡ true → (x : X) × IsFound p xs x
 list_any-found p xs h = let r = find-some p xs h in (r.0, find-is p xs r.0 r.1)
 
