@@ -52,7 +52,7 @@ pub enum LabFault {
     NameTwice(usize),
     /// A node's owners include a name that no student has.
     NoOwner(usize),
-    /// Both owners of a node are one student.
+    /// Both owners of a node are the same student.
     OwnerTwice(usize),
     /// An end of a link isn't a node of the file.
     LinkEnd(usize),
