@@ -21,7 +21,7 @@ Link = ℤ × ℤ
 abbrev end_of : List ℕ → ℕ → ℤ
 end_of ids i = pos (slice_index ids i)
 
--- the link joins the nodes of two ranks, the greater of which is a
+-- the link joins the nodes with the ranks a and b, and a is the greater rank
 record JoinsRanks (ids : List ℕ) (link : Link) (a b : ℕ) : Type 0 where
   within : a < length ids
   less : b < a
