@@ -18,7 +18,7 @@ pub are_chosen-set : (xs : List (Option Rule)) (s s' : FinSet nat_cmp) (a : ℕ)
     → ((i : ℕ) → sets.contains s' i ≡ cond (eqb i a) (is_some o) (sets.contains s i)) → AreChosen (set xs a o) s'
 are_chosen-set xs s s' a o l are h i = grind (arith, chosen_at-set)
 
--- if no move is chosen, the set is empty
+-- in a list without chosen moves, the nodes with a chosen move are the empty set
 pub are_chosen-none : (n : ℕ) (s : FinSet nat_cmp) → s ≡ sets.empty → AreChosen (replicate n None) s
 are_chosen-none n s e i = ap (λ t. sets.contains t i) e ∙ has_empty i ∙ sym (ap is_some (none_at n i))
 

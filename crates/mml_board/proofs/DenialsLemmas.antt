@@ -7,7 +7,7 @@ use Rattle.mml_lab.specs.declared.who.Who.{Who}
 use Rattle.mml_board.specs.{declared.act.Act.Act, declared.denial.Denial.Denial, World.World, Clauses.check, Clauses.student, Clauses.pointer, Clauses.is_teacher, Denials.clause_of}
 use Rattle.mml_board.specs.declared.denial.Denial.TheVariants as denial
 
--- a denial with a clause number from 1 to 4; if it names a configuration, this is the world's
+-- a denial with a clause number from 1 to 4; if it names a configuration, this is the current one
 abbrev pub is_of_act : World → Denial → Bool
 is_of_act w (denial.Stale at) = at == w.number
 is_of_act w d = clause_of d == 1 || (clause_of d == 2 || (clause_of d == 3 || clause_of d == 4))
@@ -47,6 +47,6 @@ module _ (owned : Who → ℕ → Bool) (w : World) (x : Who) where
   rule_err : (o : Option Rule) (d : Denial) → D d → (e : Denial) → ok_or o d ≡ Err e → D e
   rule_err o d = of_err D o d
 
-  -- each denial of an act has a clause number from 1 to 4, and names no configuration but the world's
+  -- each denial of an act has a clause number from 1 to 4, and can name only the current configuration
   pub denied_of_act : (a : Act) → IfErr (check owned w x a) D
   denied_of_act a = grind (arith, nat_tests, bind-deny, need-deny, node_err, rule_err, (student_err D), (pointer_err D), stale_here)

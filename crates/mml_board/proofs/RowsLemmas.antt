@@ -1,4 +1,5 @@
--- The index of a network gives the right answers, and keeps doing so after each change of the network.
+-- The index of a network gives the right answers, and keeps doing so after each change of the network. The suitors of a
+-- node are the nodes that point at it; the index has a row for each node, the set of its suitors.
 use Rattle.std.proofs.Common.{◌≡◌, ℕ, ◌<◌, ◌≤◌, ◌+◌, Bool, true, false, cond, not, ◌&&◌, ◌||◌, eqb, ltb, Option, None, Some, is_none, is_some, List, length, set, sym, refl, ap, ◌∙◌, arith, length-set}
 use Rattle.std.specs.{Prelude.replicate, Prelude.IfSome, Prelude.IfNone, FinSet.FinSet, Ordering.nat_cmp, Cmp.nat_cmp_total}
 use Rattle.std.proofs.lemmas.Bool.{cases_eq, cases_lt, eq-eqb, ne_eqb, eqb-true, eqb-false, lt-ltb, le-ltb, and_right, and_parts, and_from, both_ways, false_from_ne_true}

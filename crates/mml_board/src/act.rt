@@ -49,7 +49,7 @@ pub enum Act {
     },
 }
 
-/// An answer to the question who owns which node.
+/// The owners of the nodes: for each participant and each node, whether the participant owns it.
 pub trait Owners {
     ghost owned: { Self → Who → ℕ → Bool };
 
