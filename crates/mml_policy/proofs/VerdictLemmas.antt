@@ -67,8 +67,7 @@ is_event (Grant e) = true
 abbrev pub IsEvent : Bool → Leave → Type 0
 IsEvent b l = is_event l ≡ b
 
--- the permission is for an event exactly if b is true; with as many identifiers as nodes, it is also fine as `IsFine`
--- defines
+-- the permission is for an event exactly if b is true; if there are as many identifiers as nodes, `IsFine` holds, too
 abbrev Good : List ℕ → RosterValue → World → Bool → Leave → Type 0
 Good ids r w b l = IsEvent b l × (length ids ≡ size w → IsFine ids r w l)
 
@@ -121,7 +120,7 @@ module _ (ids : List ℕ) (r : RosterValue) (w : World) (x : Who) where
   abbrev denies : Denial → Type 0
   denies d = is_of_act w d ≡ true
 
-  -- each denial has a clause number from 1 to 4, and names no configuration but the world's
+  -- each denial has a clause number from 1 to 4, and can name only the current configuration
   pub denied_of : (c : Command) → IfErr (clauses ids r w x c) denies
   denied_of (command.See id) =
       bind-deny denies (node ids id Hidden) _ (of_err denies (rank_in ids id) Hidden refl) (λ i there.

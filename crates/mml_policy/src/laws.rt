@@ -135,8 +135,8 @@ pub fn a_release_takes_a_chosen_node()
         IsDecided ids r w x (command.Release id) (MayRelease ids w id) (DeniesRelease ids w x id) }
 {}
 
-/// A command that asks for an event is never shown something, and a command that asks to be shown something is never
-/// granted an event.
+/// The verdict on a command that asks for an event is never `Show`. The verdict on a command that asks to be shown
+/// something never grants an event.
 pub fn no_act_is_shown_and_no_view_is_granted()
     ensures acts { (ids : List ℕ) (r : RosterValue) (w : World) (x : Who) (c : Command) →
         is_act c ≡ true → verdict ids r w x c ≢ verdicts.Show }

@@ -17,7 +17,7 @@ use mml_ids::Memory;
 use mml_lab::Who;
 use std::alloc::Global;
 
-/// The ruling on a command: what its clauses, the conditions for it, decide, or a refusal in place of a grant.
+/// The ruling on a command: the decision of its clauses (the conditions for it), or a refusal in place of a grant.
 #[derive(Debug, Drop)]
 pub enum Ruling {
     /// A clause doesn't hold.
