@@ -52,7 +52,7 @@ quiet-alone c i j l p n q =
     (and_from _ _ (null-none (c.p j) n)
     (and_from _ _ (l.symmetric i j (l.to_linked i j p)) (holds-from (c.p i) j p)))) in cc
 
--- if no node is privileged, a free node points nowhere
+-- if no node is privileged, a node that isn't married has a null pointer
 pub free-null : (c : Configuration) → IsLawful c → IsStable c → (n i : ℕ) → c.size ≤ i + n → i < c.size → is_married c i ≡ false → c.p i ≡ None
 free-null c l s zero i room in_c free = absurd (omega arith)
 free-null c l s (suc n) i room in_c free = go (free-null c l s n) (c.p i) refl
