@@ -163,7 +163,7 @@ module _ (n r b : ℕ) (sum : r + b + 1 ≡ n) (room : 2 * r + 2 ≤ n) where
             next v kv qv
             (at_groom (Some b) false (Some r) true at (configuration u) (configuration v) Rule.Update k2 (Some b) true f (z.0 ∙ k2.groom.0, z.1 ∙ both))))
 
-    -- r seduces b
+    -- the first move of phase r: node r seduces b
     court : (a : ℕ) (w : World) → IsWorld w → IsQuiet w → Seated n r (configuration w)
         → ((u : World) → IsWorld u → IsQuiet u → Stage (Some b) false None false nowhere (configuration u) → Goes a o u) → Goes (suc a) o w
     court a w world quiet seated next =

@@ -4,7 +4,7 @@ use Rattle.std.proofs.lemmas.Bool.Decides.{nat_tests}
 use Rattle.mml_ids.specs.Search.{count_below}
 use Rattle.mml_convergence.specs.Potential.{sum_below}
 
--- a sum is at most another if each of its terms is
+-- if each term f j is at most g j, the sum of f is at most the sum of g
 pub sum_kept : (n : ℕ) (f g : ℕ → ℕ) → ((j : ℕ) → j < n → f j ≤ g j) → sum_below n f ≤ sum_below n g
 sum_kept zero f g le = omega arith
 sum_kept (suc n) f g le = omega (arith, sum_kept n f g (λ j lt. le j (omega arith)), le n)
@@ -41,7 +41,7 @@ pub count_one_at_most : (n k : ℕ) (t : ℕ → Bool) → ((j : ℕ) → t j �
 count_one_at_most zero k t only = omega arith
 count_one_at_most (suc n) k t only = grind (arith, count_one_at_most n k t only, count_none n t, only n)
 
--- two tests that agree below n count the same
+-- two tests that agree on the numbers below n have the same count
 pub count_same : (n : ℕ) (s t : ℕ → Bool) → ((j : ℕ) → j < n → s j ≡ t j) → count_below n s ≡ count_below n t
 count_same zero s t same = refl
 count_same (suc n) s t same = grind (arith, count_same n s t, same)
