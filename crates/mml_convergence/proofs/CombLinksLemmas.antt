@@ -30,7 +30,7 @@ module _ (n : ℕ) where
   at_higher : (h i : ℕ) → i < h → is_comb n h i ≡ up h i
   at_higher h i lt = grind (arith, nat_tests)
 
-  -- node h has as many links to lower nodes as nodes point at it at the beginning
+  -- at the beginning, the number of links from h to lower nodes is the number of nodes that point at h
   links_at : (h : ℕ) → h < n → count_below h ((at_first n).linked h) ≡ count_below n (up h)
   links_at h lt =
       count_same h ((at_first n).linked h) (up h) (λ i below.

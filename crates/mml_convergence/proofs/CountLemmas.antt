@@ -4,7 +4,7 @@ use Rattle.std.proofs.lemmas.Bool.Decides.{nat_tests}
 use Rattle.mml_ids.specs.Search.{count_below}
 
 module _ (a z : ℕ) (t : ℕ → Bool) (le : a ≤ z) (on : (i : ℕ) → a ≤ i → i < z → t i ≡ true) (only : (i : ℕ) → t i ≡ true → (a ≤ i) × (i < z)) where
-  -- below n, the numbers that pass (those from a on and below z) and the numbers that don't pass are n together
+  -- of the n numbers below n, those pass that are at least a and below z, and all others don't pass
   within : (n : ℕ) → count_below n t + cond (nat_lt n a) n (cond (nat_lt n z) a (n - (z - a))) ≡ n
   within zero = grind (arith, nat_tests)
   within (suc n) = grind (arith, nat_tests, within n, on n, only n)

@@ -10,7 +10,7 @@ use Rattle.mml_convergence.proofs.StagesLemmas.{aware_stays, aware_moves, hopefu
 
 -- ---- steps of any kind
 
--- P holds after each step before which it holds
+-- if P holds before a step, it holds after it
 abbrev pub Stays : (Configuration → Type 0) → Type 0
 Stays P = (c : Configuration) (chosen : ℕ → Option Rule) → IsLawful c → AllHold c chosen → P c → P (step c chosen)
 
@@ -22,7 +22,7 @@ pub record Brings (P Q : Configuration → Type 0) (i : ℕ) : Type 0 where
 
 -- ---- as long as the number of married nodes doesn't grow
 
--- P holds after each calm step (in which no node is newly married) before which it holds
+-- if P holds before a calm step, in which no node is newly married, it holds after it
 abbrev pub CalmStays : (Configuration → Type 0) → Type 0
 CalmStays P = (c : Configuration) (chosen : ℕ → Option Rule) → IsLawful c → AllHold c chosen → Calm c chosen → P c → P (step c chosen)
 
