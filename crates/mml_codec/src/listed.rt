@@ -18,7 +18,7 @@ const ITEM_ROOM: usize = 64;
 
 /// One item of a list in a reply.
 pub(crate) trait Listed {
-    // The item names nodes that have identifiers.
+    // The item names only nodes that have identifiers.
     ghost names: { List ℕ → Self → Type 0 };
 
     // The item's text, in a lab with these identifiers.
@@ -203,7 +203,8 @@ impl Listed for (Rank, Kind) {
     }
 }
 
-// A link between two free nodes, its witness and the rule that is enabled there, written as an array.
+// A link between two nodes that aren't in a pair, its witness (a privileged node, which shows that the run isn't over) and the rule that is enabled
+// at the witness, written as an array.
 impl Listed for OpenLink {
     ghost names = { λ ids l. IsOpenLinkOf (length ids) l };
 
