@@ -203,8 +203,8 @@ impl Listed for (Rank, Kind) {
     }
 }
 
-// A link between two nodes that aren't in a pair, its witness (a privileged node, which shows that the run isn't over) and the rule that is enabled
-// at the witness, written as an array.
+// A link between two nodes that aren't in a pair, its witness (a privileged node, which shows that the run isn't over)
+// and the rule that is enabled at the witness, written as an array.
 impl Listed for OpenLink {
     ghost names = { λ ids l. IsOpenLinkOf (length ids) l };
 
