@@ -56,7 +56,7 @@ fourth_is None = refl
 fourth_is (Some named.Guard) = refl
 fourth_is (Some _) = refl
 
--- a line that was denied by the clause of its named denial is counted for the same clause by both
+-- if a line was denied by the clause of its named denial, it is counted for the same clause as this denial
 clause_is : (c : ℕ) (denied : Option ℕ) (n : Option StudentDenial) → denied ≡ option_map clause_named n
     → one (is_clause c denied) ≡ one (is_clause c (option_map clause_named n))
 clause_is c denied n e = λ k. one (is_clause c (e k))
@@ -72,7 +72,7 @@ sums_more a own e rest =
       omega (arith, rest.3, clause 4, clause_is 4 a.denied a.named e, fourth_is a.named, name named.Guard),
     )
 
--- if a line of student s has a denial, it was denied by the clause of this denial
+-- a line of student s was denied by the clause of its named denial, or by none if it has none
 own_named : (s : ℕ) (w denied : Option ℕ) (n : Option StudentDenial) → IsNamed w denied n → is_student s w ≡ true → denied ≡ option_map clause_named n
 own_named s w denied n h b = grind (arith, nat_tests)
 

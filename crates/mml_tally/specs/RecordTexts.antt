@@ -43,7 +43,7 @@ record_line f = codes "record" ++ (numbers_text (f.sessions ∷ f.lines ∷ []) 
 abbrev pub record_text : LabValue → Findings → List Ask → List ℕ
 record_text lab f asks = denied_text lab asks (length lab.roster.students) ++ (asked_text lab asks (length lab.ids) ++ record_line f)
 
--- the lines of a run with a record, up to those of its participants
+-- the first lines of the tally of a run with a record, up to the line `run`
 abbrev pub recorded_run_text : LabValue → World → List Event → Findings → List Ask → List ℕ
 recorded_run_text lab w es f asks =
     students_text lab es (length lab.roster.students) ++ (nodes_text lab es (length lab.ids) ++ (record_text lab f asks ++ ends_text w es))
