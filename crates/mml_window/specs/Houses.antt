@@ -23,11 +23,11 @@ pub record ResumedValue : Type 0 where
 abbrev pub resumed_of : Ptr → LabValue → List Event → ResumedValue
 resumed_of name lab begun = record { name = name; lab = lab; begun = begun }
 
--- the name of the house that names none
+-- a name that no house has
 abbrev pub no_name : Ptr
 no_name = block_ptr 0 0
 
--- the lab of the house that names none: it has no nodes
+-- the lab for this name: it has no nodes
 abbrev pub no_lab : LabValue
 no_lab = record {
   ids = [];

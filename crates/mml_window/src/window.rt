@@ -1,4 +1,4 @@
-//! Windows: what each session has of a house.
+//! Windows: the part of a house that belongs to each session.
 //!
 //! A window is one session's view of the published events and board. The place of an event is its number in the list of
 //! events, from 1. An act is a request for an event.

@@ -1,4 +1,4 @@
--- What a window is made of.
+-- The seats, of which windows are made.
 use Rattle.std.specs.{Prelude.◌≡◌, Prelude.◌≤◌, Prelude.[], Prelude.vec_capacity, Arc.arc_value}
 use Rattle.mml_lab.specs.Labs.{LabValue}
 use Rattle.mml_window.specs.declared.window.Seat.{Seat}
