@@ -1,6 +1,5 @@
 -- If a line is read as an object in the usual layout, member by member, its tokens are those of this object.
--- A spaced token is a token with the white space before it, and `told` removes this white space. A byte is bare if it
--- may be in a string without escapes.
+-- A spaced token is a token with the white space before it. A byte is bare if it may be in a string without escapes.
 use Rattle.std.proofs.lemmas.{Bool.Decides.nat_tests, Bool.and_parts, Bool.and_from, Bool.eq-eqb, Bool.both_ways, Bool.not-true, Grind.common_steps, List.take_more, List.take_all, Nat.be_bytes_4}
 use Rattle.std.proofs.lemmas.{Fmt.decimal_digit, Fmt.decimal_step, Fmt.IsAscii-decimal, Str.IsUtf8-append, Str.IsUtf8-nil, Str.IsUtf8-from_ascii}
 use Rattle.std.proofs.Common.{◌≡◌, ℕ, suc, ◌+◌, ◌-◌, ◌<◌, List, [], ◌∷◌, ◌++◌, length, take, get_or, Bool, true, false, fold, map, not, ◌==◌, Some, refl, sym, ap, inl, ◌∙◌, subst, append_assoc}
