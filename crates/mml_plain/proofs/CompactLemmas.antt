@@ -20,6 +20,7 @@ use Rattle.serde_json.specs.Data as serde
 abbrev SpacedTokens : Type 0
 SpacedTokens = List (List ℕ × Token)
 
+-- the tokens, without their white space
 abbrev pub told : SpacedTokens → List Token
 told [] = []
 told (p ∷ ps) = p.1 ∷ told ps
@@ -32,6 +33,7 @@ told_append : (ps qs : SpacedTokens) → told (ps ++ qs) ≡ told ps ++ told qs
 told_append [] qs = refl
 told_append (p ∷ ps) qs = ap (λ ts. p.1 ∷ ts) (told_append ps qs)
 
+-- these tokens, without white space before them, and then the spaced tokens
 abbrev close : SpacedTokens → List Token → SpacedTokens
 close ps [] = ps
 close ps (t ∷ ts) = ([], t) ∷ close ps ts
