@@ -1,4 +1,5 @@
--- The participant that a connection is known as after a reply.
+-- The participant that a connection is known as after a reply. A participant is known on a connection from a granted
+-- hello to the bye.
 use Rattle.std.proofs.{lemmas.Bool.Decides.nat_tests, Common.◌≡◌, Common.◌↔◌, Common.ℕ, Common.List, Common.Option, Common.None, Common.Some, Common.sym, Common.ap, Common.◌∙◌, Common.arith}
 use Rattle.mml_lab.specs.{declared.who.Who.Who, Rosters.RosterValue, Rosters.IsRoster, Rosters.principal, RosterMeaning.IsKnownAs}
 use Rattle.mml_lab.proofs.RosterMeaningLemmas.{principal-one}

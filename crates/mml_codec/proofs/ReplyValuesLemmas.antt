@@ -1,4 +1,4 @@
--- The text of a reply is read as the reply's JSON value, and is one line.
+-- The text of a reply is read as the reply's JSON value, and is one line. A fact is the value of a key in a reply.
 use Rattle.std.proofs.lemmas.Bool.{Decides.nat_tests, and_parts, and_from}
 use Rattle.std.proofs.Common.{◌≡◌, ◌≢◌, ℕ, ◌<◌, List, [], ◌∷◌, Bool, true, false, ◌&&◌, Option, None, Some, IfSome, All, codes, length, nat_lt, refl, ap, ◌∙◌, arith, ltb-true, lit≤, slice_index}
 use Rattle.std.proofs.Common.{zero-add}

@@ -1,4 +1,5 @@
--- The facts (values of keys) in replies: the text of each, and the JSON value that has this text.
+-- The facts (values of keys) in replies: the text of each, and the JSON value that has this text. A node is privileged
+-- if some rule is enabled there.
 use Rattle.std.specs.Prelude.{ℕ, ◌<◌, ◌^◌, List, [], ◌∷◌, ◌++◌, length, map, filter, flat_map, Bool, Option, None, Some, codes, decimal, slice_index}
 use Rattle.std.specs.{List.concat, List.range_with_len, List.AllByRecursion, Ordering.nat_cmp, FinSet.FinSet}
 use Rattle.serde_json.specs.Data.{Data, null, boolean, number, unsigned, string, array}

@@ -1,4 +1,5 @@
--- The participant that a connection is known as, and the replies that depend only on this.
+-- The participant that a connection is known as, and the replies that depend only on this. A participant is known on a
+-- connection from a granted hello to the bye.
 use Rattle.std.specs.Prelude.{ℕ, List, Option, None, Some, IfSome}
 use Rattle.mml_lab.specs.{declared.who.Who.Who, Rosters.RosterValue, Rosters.principal, Rosters.IsPrincipal}
 use Rattle.mml_board.specs.declared.denial.Denial.{Denial}

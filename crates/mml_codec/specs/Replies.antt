@@ -1,4 +1,6 @@
--- The keys of each reply and their facts (values). The text of a reply and its JSON value are made from these.
+-- The keys of each reply and their facts (values). The text of a reply and its JSON value are made from these. A clause
+-- is a condition under which a request is granted. The roster has the participants of the lab, and the owners of each
+-- node.
 use Rattle.std.specs.Prelude.{◌≡◌, ◌⊎◌, ℕ, ◌<◌, List, [], ◌∷◌, ◌++◌, length, Bool, true, false, Option, None, Some, codes}
 use Rattle.mml_board.specs.{declared.done.Done.Done, declared.denial.Denial.Denial, Denials.clause_of, Denials.text_of}
 use Rattle.mml_lab.specs.Rosters.{RosterValue, name_of, IsPrincipal}

@@ -1,4 +1,5 @@
--- The JSON value of each reply.
+-- The JSON value of each reply. A clause is a condition under which a request is granted. The roster has the
+-- participants of the lab, and the owners of each node.
 use Rattle.std.specs.{Prelude.ℕ, Prelude.List, Prelude.Bool, Prelude.true, Prelude.◌&&◌, Ordering.nat_cmp, Ordering.is_lt, Cmp.Lexicographic.slice_cmp}
 use Rattle.serde_json.specs.Data.{Data, null, boolean, number, string, array, object, Items, no_items, item, Members, no_members, member}
 use Rattle.mml_lab.specs.Rosters.{RosterValue}

@@ -1,4 +1,5 @@
--- The reply to a command that was judged.
+-- The reply to a command that was judged. A clause is a condition under which a request is granted. A ruling is what
+-- the policy decides about a command. The place of an event is its number in the list of events, from 1.
 use Rattle.std.specs.Prelude.{ℕ}
 use Rattle.mml_board.specs.{declared.done.Done.Done, World.World}
 use Rattle.mml_stable.specs.Reports.{report_of}
