@@ -1,4 +1,5 @@
 -- The effect of a turn, for any engine. A turn is a line with its reply, and with the states before and after the line.
+-- The place of an event is its number in the list of events, from 1.
 use Rattle.std.proofs.Common.{◌≡◌, ◌⊎◌, ◌∙◌, ℕ, true, List, Option, Some, None, Result, Ok, Err, refl, ap, inl, inr}
 use Rattle.mml_lab.specs.{declared.who.Who.Who, Rosters.RosterValue, Rosters.principal}
 use Rattle.mml_board.specs.declared.denial.Denial.{Denial}

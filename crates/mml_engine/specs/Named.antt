@@ -1,4 +1,4 @@
--- The event that a reply of any engine names.
+-- The event that a reply of any engine names. The place of an event is its number in the list of events, from 1.
 use Rattle.std.specs.Prelude.{◌≡◌, ℕ, true, List, [], ◌∷◌, ◌++◌, Option, Some, Ok}
 use Rattle.mml_lab.specs.{declared.who.Who.Who, Labs.LabValue}
 use Rattle.mml_board.specs.{declared.done.Done.Done, declared.event.Event.Event, Events.after, Lists.is_legal_in, Lists.world_in}

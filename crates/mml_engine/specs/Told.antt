@@ -1,5 +1,7 @@
 -- The reply to a command, and the events that its session has seen then. A ruling is what the policy decides about a
--- command.
+-- command. A world is a network with its registers, its chosen moves, the number of its configuration, and the number
+-- of events so far. After a write of a line has failed, the journal is halted, and takes no more lines. A list of
+-- events is legal if the rules allow each event after the earlier ones.
 use Rattle.std.specs.Prelude.{◌≡◌, ◌⊎◌, true, false, List, [], ◌∷◌, ◌++◌, Option, None, Some}
 use mathlib.Core.List.{IsPrefix}
 use Rattle.mml_lab.specs.{declared.who.Who.Who, Labs.LabValue}
