@@ -1,5 +1,8 @@
 -- The number of moves that closes apply: counted in the worlds before the closes, and in the list of granted moves.
--- A move of a node is pending if it is chosen and a later close applies it.
+-- A move of a node is pending if it is chosen and a later close applies it. A world is a network with its registers,
+-- its chosen moves, the number of its configuration, and the number of events so far. A list of events is legal if the
+-- rules allow each event after the earlier ones. A grant chooses a move for a node, a release drops it, and a close
+-- applies all chosen moves at once. A fault sets a node's registers, a link joins two nodes, and a cut removes a link.
 use Rattle.std.proofs.Common.{◌≡◌, ℕ, ◌+◌, ◌<◌, ◌≤◌, zero, suc, Bool, true, false, cond, ◌&&◌, eqb, List, [], ◌∷◌, Some, None, is_some, is_none, replicate, refl, ap, ◌∙◌, arith}
 use Rattle.std.{specs.Prelude.count_by, proofs.lemmas.Bool.and_parts, proofs.lemmas.Bool.and_right, proofs.lemmas.Bool.ltb-true, proofs.lemmas.Bool.Decides.nat_tests}
 use Rattle.mml_ids.specs.Search.{count_below}

@@ -1,4 +1,5 @@
--- The closes that applied moves come in the order of these moves, so one pass counts each close once.
+-- The closes that applied moves come in the order of these moves, so one pass counts each close once. The place of an
+-- event is its number in the list of events, from 1.
 use Rattle.std.proofs.Common.{◌≡◌, ◌⊎◌, ℕ, ◌+◌, ◌<◌, ◌≤◌, Bool, true, false, cond, ◌&&◌, ◌||◌, eqb, ltb, List, [], ◌∷◌, length, inl, inr, refl, ap, ◌∙◌, sym, arith}
 use Rattle.std.specs.List.{filter, list_any}
 use Rattle.std.proofs.lemmas.Bool.{cases_eq, or_cases, eqb-true, and_right, Decides.nat_tests}

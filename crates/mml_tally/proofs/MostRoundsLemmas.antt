@@ -1,6 +1,6 @@
 -- If a node is privileged at the end of a run, the run has no more rounds than are counted: by the end of each of its
 -- rounds, one more counted round has ended.
--- A node is served as soon as it has had its turn in a round.
+-- A node is served as soon as it has had its turn in a round. A node is privileged if some rule is enabled there.
 use Rattle.std.proofs.Common.{◌≡◌, ℕ, zero, suc, ◌+◌, ◌≤◌, Bool, true, false, not, cond, List, [], ◌∷◌, ◌++◌, refl, sym, ap, ◌∙◌, subst, arith, append_assoc}
 use Rattle.std.proofs.lemmas.Bool.{or_right, eq-eqb, not-true}
 use Rattle.mml_rules.specs.Matching.{IsStable}

@@ -1,4 +1,6 @@
--- Each close, fault, link and cut leads to a new configuration, and no other event does.
+-- Each close, fault, link and cut leads to a new configuration, and no other event does. A grant chooses a move for a
+-- node, a release drops it, and a close applies all chosen moves at once. A fault sets a node's registers, a link joins
+-- two nodes, and a cut removes a link.
 use Rattle.std.{proofs.Common.◌≡◌, proofs.Common.ℕ, proofs.Common.◌+◌, proofs.Common.List, proofs.Common.[], proofs.Common.◌∷◌, proofs.Common.arith, specs.Prelude.count_by}
 use Rattle.mml_board.specs.{declared.event.Event.Event, World.World, Events.after, Runs.world_of}
 use Rattle.mml_convergence.specs.Moves.{is_close}

@@ -1,5 +1,9 @@
 -- The moves since the last fault, link or cut are those of a run of grants, releases and closes. So they are within the
--- bound for moves.
+-- bound for moves. A world is a network with its registers, its chosen moves, the number of its configuration, and the
+-- number of events so far. The place of an event is its number in the list of events, from 1. A node is privileged if
+-- some rule is enabled there. A list of events is legal if the rules allow each event after the earlier ones. A grant
+-- chooses a move for a node, a release drops it, and a close applies all chosen moves at once. A fault sets a node's
+-- registers, a link joins two nodes, and a cut removes a link.
 use Rattle.std.proofs.Common.{◌≡◌, ℕ, ◌+◌, ◌*◌, ◌≤◌, Bool, true, false, cond, eqb, ltb, List, [], ◌∷◌, None, Some, is_some, refl, ap, sym, ◌∙◌, arith, inl, inr, min, ◌⊎◌, unwrap_or, subst}
 use Rattle.std.specs.{Prelude.count_by, List.list_all}
 use Rattle.std.proofs.lemmas.Bool.{and_parts, cases_Bool, eqb-true, eq-eqb, false≢true, false_from_ne_true, Decides.nat_tests}

@@ -1,5 +1,5 @@
 -- The number of lines that a clause denied is the sum over the denials of this clause. Also the text about denials, to
--- which the line of the next student is appended.
+-- which the line of the next student is appended. A clause is a condition under which a request is granted.
 use Rattle.std.proofs.Common.{◌≡◌, ℕ, ◌+◌, add-one, Bool, true, false, cond, List, [], ◌∷◌, ◌++◌, append_assoc, Option, None, Some, refl, sym, ap, ◌∙◌, arith}
 use Rattle.std.{specs.Prelude.option_map, proofs.lemmas.Bool.Decides.nat_tests}
 use Rattle.mml_lab.specs.{Labs.LabValue, Rosters.RosterValue, Rosters.name_of}

@@ -1,5 +1,5 @@
 -- The nodes that wait are those that have had no turn in the round so far. A node is served as soon as it has had its
--- turn.
+-- turn. A node is privileged if some rule is enabled there.
 use Rattle.std.proofs.Common.{◌≡◌, ◌≢◌, ℕ, suc, ◌+◌, Bool, true, false, not, ◌&&◌, ◌||◌, cond, eqb, ltb, List, [], ◌∷◌, ◌++◌, refl, sym, ap, ◌∙◌, arith}
 use Rattle.std.{proofs.lemmas.Bool.eq-eqb, proofs.lemmas.Bool.ne_eqb, specs.Ordering.nat_cmp, specs.Cmp.nat_cmp_total, specs.FinSet.FinSet}
 use Rattle.mml_ids.specs.{Sets.those_below, inside.WordsLemmas.has_empty, inside.WordsLemmas.same_ranks, inside.WordsLemmas.has-those_below}

@@ -1,5 +1,5 @@
 -- Definitions with which the laws describe lines that were asked and denied. A clause is a condition under which a
--- request is granted.
+-- request is granted. A participant is known on a connection from a granted hello to the bye.
 use Rattle.std.specs.Prelude.{ℕ, ◌+◌, ◌<◌, ◌≡◌, ◌==◌, ◌||◌, Bool, true, List, [], ◌∷◌, Option, None, Some, is_some, is_none, option_map}
 use Rattle.std.specs.List.{filter}
 use Rattle.mml_tally.specs.declared.ask.{Ask.Ask, Denials.Denials}

@@ -1,5 +1,5 @@
 -- The requests in a student's lines, and the clauses that denied them. A clause is a condition under which a request is
--- granted.
+-- granted. A participant is known on a connection from a granted hello to the bye.
 use Rattle.std.specs.{Prelude.ℕ, Prelude.◌==◌, Prelude.◌&&◌, Prelude.Bool, Prelude.true, Prelude.false, Prelude.List, Prelude.Option, Prelude.None, Prelude.Some, Prelude.count_by, List.filter}
 use Rattle.mml_rules.specs.declared.rule.Kind.{Kind}
 use Rattle.mml_tally.specs.{declared.ask.Ask.Ask, declared.ask.Line.Line, declared.ask.Denials.Denials, declared.marks.ByRule.ByRule, Marks.is_kind}

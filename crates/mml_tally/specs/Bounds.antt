@@ -1,4 +1,7 @@
--- The most moves, rounds and events of a run, from a world until no node is privileged, without a fault, link or cut.
+-- The most moves, rounds and events of a run, from a world until no node is privileged, without a fault, link or cut. A
+-- world is a network with its registers, its chosen moves, the number of its configuration, and the number of events so
+-- far. A node is privileged if some rule is enabled there. A round is a list of events in which each node has its turn:
+-- at some point it isn't privileged, or a close applies its move.
 use Rattle.std.specs.Prelude.{ℕ}
 use Rattle.mml_lab.specs.Labs.{link_count}
 use Rattle.mml_board.specs.World.{World, size}

@@ -1,4 +1,5 @@
--- The participants whose lines are all recorded.
+-- The participants whose lines are all recorded. A participant is known on a connection from a granted hello to the
+-- bye.
 use Rattle.std.specs.Prelude.{◌<◌, ℕ, Bool, ◌&&◌, not, List, [], ◌++◌, length, codes, if◌then◌else◌}
 use Rattle.mml_ids.specs.declared.TheConstants.{MAX_NODES}
 use Rattle.mml_lab.specs.{declared.who.Who.Who, Labs.LabValue, Rosters.RosterValue, Rosters.name_of}

@@ -1,4 +1,5 @@
--- The marks of a student, counted in a list of events.
+-- The marks of a student, counted in a list of events. The place of an event is its number in the list of events, from
+-- 1.
 use Rattle.std.specs.Prelude.{ℕ, ◌+◌, ◌-◌, ◌==◌, Bool, true, false, List, length, Option, option_map, count_by}
 use Rattle.std.specs.List.{filter, list_any, slice_get}
 use Rattle.mml_ids.specs.Search.{count_below}

@@ -1,4 +1,6 @@
--- Definitions with which the laws describe what the tally counts.
+-- Definitions with which the laws describe what the tally counts. The place of an event is its number in the list of
+-- events, from 1. A grant chooses a move for a node, a release drops it, and a close applies all chosen moves at once.
+-- A fault sets a node's registers, a link joins two nodes, and a cut removes a link.
 use Rattle.std.specs.{Prelude.◌≡◌, Prelude.ℕ, Prelude.◌+◌, Prelude.◌==◌, Prelude.Bool, Prelude.true, Prelude.false, Prelude.not, Prelude.List, Prelude.◌∷◌, Prelude.◌++◌, Prelude.length, List.list_all}
 use Rattle.mml_board.specs.declared.event.Event.{Event}
 use Rattle.mml_tally.specs.declared.{fate.Fate.Fate, granted_move.Move.Move, marks.ByRule.ByRule}

@@ -1,4 +1,7 @@
--- The moves that were granted, and what happened to each, found in the list of events alone. Places count from 1.
+-- The moves that were granted, and what happened to each, found in the list of events alone. The
+-- place of an event is its number in the list of events, from 1. A grant chooses a move for a node, a release drops it,
+-- and a close applies all chosen moves at once. A fault sets a node's registers, a link joins two nodes, and a cut
+-- removes a link.
 use Rattle.std.specs.Prelude.{ℕ, ◌+◌, ◌==◌, if◌then◌else◌, List, [], ◌∷◌, Option, None, Some, unwrap_or}
 use Rattle.mml_rules.specs.Rules.{kind_of}
 use Rattle.mml_board.specs.declared.event.Event.{Event}

@@ -1,4 +1,5 @@
--- The lines about a record, which stand between the lines of the nodes and the end of the tally.
+-- The lines about a record, which stand between the lines of the nodes and the end of the tally. A clause is a
+-- condition under which a request is granted.
 use Rattle.std.specs.Prelude.{ℕ, Bool, true, false, List, [], ◌∷◌, ◌++◌, length, codes, slice_index, if◌then◌else◌}
 use Rattle.mml_lab.specs.{Labs.LabValue, Rosters.RosterValue, Rosters.name_of}
 use Rattle.mml_board.specs.{declared.event.Event.Event, World.World}

@@ -1,4 +1,7 @@
--- The rounds of a run since its last fault, link or cut.
+-- The rounds of a run since its last fault, link or cut. A world is a network with its registers, its chosen moves, the
+-- number of its configuration, and the number of events so far. A grant chooses a move for a node, a release drops it,
+-- and a close applies all chosen moves at once. A fault sets a node's registers, a link joins two nodes, and a cut
+-- removes a link.
 use Rattle.std.specs.Prelude.{ℕ, ◌+◌, ◌==◌, Bool, not, if◌then◌else◌, List, [], ◌∷◌, ◌++◌, take, drop, codes}
 use Rattle.mml_ids.specs.Search.{count_below}
 use Rattle.mml_lab.specs.Labs.{LabValue}

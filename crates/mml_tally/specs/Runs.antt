@@ -1,4 +1,6 @@
--- The counts of a run, from its list of events.
+-- The counts of a run, from its list of events. The place of an event is its number in the list of events, from 1. A
+-- grant chooses a move for a node, a release drops it, and a close applies all chosen moves at once. A fault sets a
+-- node's registers, a link joins two nodes, and a cut removes a link.
 use Rattle.std.specs.Prelude.{ℕ, ◌+◌, Bool, true, false, not, nat_lt, if◌then◌else◌, List, [], ◌∷◌, drop, count_by}
 use Rattle.mml_board.specs.declared.event.Event.{Event}
 use Rattle.mml_convergence.specs.{Runs.is_of_step, Moves.is_close}

@@ -1,5 +1,5 @@
 -- The denials of a student's lines by name and by clause, and the student's line in the tally. A clause is a condition
--- under which a request is granted.
+-- under which a request is granted. A participant is known on a connection from a granted hello to the bye.
 use Rattle.std.specs.Prelude.{◌≡◌, ◌+◌, ℕ, Bool, true, false, List, [], ◌∷◌, ◌++◌, codes, Option, None, Some, option_map, count_by}
 use Rattle.mml_lab.specs.{Labs.LabValue, Rosters.name_of}
 use Rattle.mml_board.specs.declared.denial.Denial.{Denial}

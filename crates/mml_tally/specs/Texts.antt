@@ -1,4 +1,6 @@
--- The tally of a run: lines of words with one space between them.
+-- The tally of a run: lines of words with one space between them. A world is a network with its registers, its chosen
+-- moves, the number of its configuration, and the number of events so far. The place of an event is its number in the
+-- list of events, from 1. A node is privileged if some rule is enabled there.
 use Rattle.std.specs.Prelude.{ℕ, ◌==◌, Bool, true, false, List, [], ◌∷◌, ◌++◌, length, codes, decimal, slice_index, Option, None, Some, if◌then◌else◌}
 use Rattle.mml_lab.specs.{Labs.LabValue, Rosters.RosterValue, Rosters.name_of}
 use Rattle.mml_board.specs.{declared.event.Event.Event, World.World, World.configuration, World.privileged_count}

@@ -62,7 +62,7 @@ fn replay(lab: &Lab, events: &[Event], board: &mut Board, count: usize)
     }
 }
 
-/// Returns how many rounds end after the first `since` events, counted from there. `board` must be the world after
+/// Returns how many rounds end after the first `since` events, counted from there. `board` must be the state after
 /// these events. The later events are applied to it.
 fn count_rounds(lab: &Lab, events: &[Event], board: &mut Board, since: usize) -> u64
     requires legal { is_legal_in lab.now events.now ≡ true }

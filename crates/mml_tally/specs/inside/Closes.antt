@@ -1,4 +1,5 @@
--- The closes that applied moves, counted in one pass over the moves.
+-- The closes that applied moves, counted in one pass over the moves. The place of an event is its number in the list of
+-- events, from 1.
 use Rattle.std.specs.Prelude.{ℕ, ◌+◌, ◌==◌, if◌then◌else◌, List, [], ◌∷◌}
 use Rattle.mml_tally.specs.declared.{fate.Fate.Fate, granted_move.Move.Move}
 use Rattle.mml_tally.specs.declared.fate.Fate.TheVariants as fate

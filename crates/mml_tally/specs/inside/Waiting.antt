@@ -1,4 +1,5 @@
--- Rounds, counted by the nodes that wait for their turn.
+-- Rounds, counted by the nodes that wait for their turn. A node is privileged if some rule is enabled there. A round is
+-- a list of events in which each node has its turn: at some point it isn't privileged, or a close applies its move.
 use Rattle.std.specs.{Prelude.ℕ, Prelude.◌+◌, Prelude.◌==◌, Prelude.if◌then◌else◌, Prelude.List, Prelude.[], Prelude.◌∷◌, Ordering.nat_cmp, FinSet.FinSet}
 use Rattle.mml_ids.specs.Sets.{those_below}
 use Rattle.mml_rules.specs.Rules.{is_privileged}
