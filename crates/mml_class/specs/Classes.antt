@@ -1,5 +1,6 @@
 -- The record of a class: a text for each seat, which is compared with one list of events, and the number of events
--- before the record.
+-- before the record. The place of an event is its number in the list of events, from 1. A seat serves one connection
+-- after another.
 use Rattle.std.specs.Prelude.{◌≡◌, ◌≤◌, ◌+◌, ◌-◌, ◌^◌, min, ℕ, suc, Bool, true, List, [], ◌∷◌, ◌++◌, length, Option, None, Some}
 use Rattle.std.specs.List.{list_all, list_any, sum_by, flat_map}
 use Rattle.mml_lab.specs.{declared.who.Who.Who, Labs.LabValue, Rosters.RosterValue}

@@ -1,4 +1,5 @@
--- Whether the places that records grant are those of a journal's events, each once.
+-- Whether the places that records grant are those of a journal's events, each once. The place of an event is its number
+-- in the list of events, from 1.
 use Rattle.std.specs.Prelude.{◌≡◌, ◌≤◌, ◌<◌, ℕ, Bool, true, List, ◌∷◌, ◌++◌, Option, None, Some}
 use Rattle.mml_window.specs.Tallies.{times, once_from, IsEachOnceFrom}
 use Rattle.mml_class.specs.declared.granting.Misgranted.{Misgranted, TheVariants.Early, TheVariants.Twice, TheVariants.Nowhere}

@@ -1,4 +1,5 @@
--- Marks of places: a list of flags, one for each place from 0 on.
+-- Marks of places: a list of flags, one for each place from 0 on. The place of an event is its number in the list of
+-- events, from 1.
 use Rattle.std.specs.Prelude.{◌≡◌, ◌⊎◌, ◌≤◌, ◌<◌, ◌+◌, ℕ, Bool, true, false, List, [], ◌∷◌, length, Option, None, Some, if◌then◌else◌}
 use Rattle.std.specs.List.{slice_index_or}
 use Rattle.mml_window.specs.Tallies.{times}

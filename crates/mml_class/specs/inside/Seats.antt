@@ -1,4 +1,5 @@
--- The records of the seats, which are read one after another.
+-- The records of the seats, which are read one after another. The place of an event is its number in the list of
+-- events, from 1.
 use Rattle.std.specs.Prelude.{◌≡◌, ◌+◌, ◌&&◌, ◌||◌, ℕ, Bool, true, false, List, ◌++◌, length}
 use Rattle.mml_lab.specs.{declared.who.Who.Who, Labs.LabValue}
 use Rattle.mml_board.specs.declared.event.Event.{Event}
