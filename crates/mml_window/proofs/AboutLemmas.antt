@@ -1,4 +1,6 @@
--- The results of windows name only nodes of the lab.
+-- The results of windows name only nodes of the lab. A ruling is what the policy decides about a command. A window is
+-- one session's view of the published events and board. A list of events is legal if the rules allow each event after
+-- the earlier ones.
 use Rattle.std.proofs.Common.{◌≡◌, ℕ, true, false, None, List, length, Result, Ok, Err, sym, subst}
 use Rattle.std.specs.Result.{IfOk}
 use Rattle.mml_lab.specs.{declared.who.Who.Who, Labs.LabValue, Labs.IsLab}

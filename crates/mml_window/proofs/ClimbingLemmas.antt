@@ -1,4 +1,5 @@
--- Places that climb: each is greater than the one before it.
+-- Places that climb: each is greater than the one before it. The place of an event is its number in the list of events,
+-- from 1.
 use Rattle.std.proofs.Common.{ℕ, ◌+◌, ◌<◌, ◌≤◌, List, [], ◌∷◌, ◌++◌, length, arith, le_refl}
 use mathlib.Core.List.{IsPrefix}
 use Rattle.mml_board.specs.declared.event.Event.{Event}

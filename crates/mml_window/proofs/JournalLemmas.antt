@@ -1,4 +1,7 @@
--- The bytes that the sink of a house has taken: at the beginning, after a grant, and after the journal halted.
+-- The bytes that the sink of a house has taken: at the beginning, after a grant, and after the journal halted. After a
+-- write of a line has failed, the journal is halted, and takes no more lines. A sink is the destination of a journal's
+-- bytes. A house is one run of a lab that threads share: its list of granted events, the board after them, and their
+-- journal.
 use Rattle.std.proofs.lemmas.Bool.Decides.{nat_tests}
 use Rattle.std.proofs.Common.{◌≡◌, ℕ, ◌<◌, true, false, List, [], ◌∷◌, ◌++◌, ◌∙◌, append-nil, length, take, sym, ap, subst, Option, None, Some, arith}
 use Rattle.mml_lab.specs.Labs.{LabValue}

@@ -1,5 +1,7 @@
 -- How often a place is among the places of windows that aren't counted off yet.
--- The cursor of a window is the index of the first of its places that is left, that is, not counted off yet.
+-- The cursor of a window is the index of the first of its places that is left, that is, not counted off yet. The place
+-- of an event is its number in the list of events, from 1. A window is one session's view of the published events and
+-- board.
 use Rattle.std.{proofs.lemmas.Bool.Decides.nat_tests, proofs.lemmas.Bool.ne_eqb, proofs.lemmas.List.take_more, proofs.lemmas.List.drop_more, proofs.lemmas.List.drop_all, specs.Prelude.MatchBool}
 use Rattle.std.proofs.Common.{◌≡◌, ◌⊎◌, ℕ, zero, suc, ◌+◌, ◌<◌, ◌≤◌, Bool, List, [], ◌∷◌, ◌++◌, length, take, drop, set, get_or, replicate, add-one, refl, sym, ap, ◌∙◌, subst, ⊎_elim, inl, inr, arith}
 use Rattle.std.proofs.Common.{append_assoc, append-nil, cond, leb, leb-true, leb-false, length-append}

@@ -1,4 +1,6 @@
--- The answers to views (requests to be shown something), and the events that a window has seen then.
+-- The answers to views (requests to be shown something), and the events that a window has seen then. A ruling is what
+-- the policy decides about a command. The place of an event is its number in the list of events, from 1. A window is
+-- one session's view of the published events and board.
 use Rattle.std.proofs.Common.{◌≡◌, ℕ, List, length, Option, Result, Ok, Err, refl, ap, ◌∙◌, sym, subst}
 use Rattle.mml_lab.specs.{declared.who.Who.Who, Labs.LabValue, Labs.IsLab}
 use Rattle.mml_board.specs.{declared.event.Event.Event, World.World, World.size, Lists.world_in}

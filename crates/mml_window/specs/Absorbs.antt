@@ -1,4 +1,5 @@
--- The effect of absorbing (applying) an event on a copy of the published data.
+-- The effect of absorbing (applying) an event on a copy of the published data. A house publishes its events and board
+-- in two copies: readers see one of them while the writer changes the other.
 use Rattle.std.specs.Prelude.{ℕ, ◌&&◌, nat_lt, if◌then◌else◌, List, [], ◌∷◌, ◌++◌, length}
 use Rattle.mml_board.specs.{declared.event.Event.Event, World.World, Events.can_absorb, Events.after}
 use Rattle.mml_window.specs.declared.published.Common.{Common}

@@ -1,4 +1,7 @@
--- The answer to an act, a request for an event.
+-- The answer to an act, a request for an event. A world is a network with its registers, its chosen moves, the number
+-- of its configuration, and the number of events so far. The place of an event is its number in the list of events,
+-- from 1. A window is one session's view of the published events and board. A list of events is legal if the rules
+-- allow each event after the earlier ones.
 use Rattle.std.specs.Prelude.{◌≡◌, ◌⊎◌, ℕ, ◌+◌, true, false, List, [], ◌∷◌, ◌++◌, length, Option, Some}
 use mathlib.Core.List.{IsPrefix}
 use Rattle.mml_lab.specs.{declared.who.Who.Who, Labs.LabValue}

@@ -1,4 +1,6 @@
--- The rulings in a world of a lab.
+-- The rulings in a world of a lab. A world is a network with its registers, its chosen moves, the number of its
+-- configuration, and the number of events so far. A ruling is what the policy decides about a command. After a write of
+-- a line has failed, the journal is halted, and takes no more lines.
 use Rattle.std.specs.Prelude.{Bool, false}
 use Rattle.mml_lab.specs.{declared.who.Who.Who, Labs.LabValue}
 use Rattle.mml_board.specs.World.{World}

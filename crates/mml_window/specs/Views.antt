@@ -1,4 +1,5 @@
--- The results of views, which are requests to be shown something.
+-- The results of views, which are requests to be shown something. A ruling is what the policy decides about a command.
+-- A window is one session's view of the published events and board.
 use Rattle.std.specs.Prelude.{◌≡◌, ℕ, Result, Ok, Err}
 use Rattle.mml_lab.specs.{declared.who.Who.Who, Labs.LabValue}
 use Rattle.mml_policy.specs.declared.{command.Command.Command, ruling.Ruling.Ruling, ruling.Ruling.TheVariants.Denied}

@@ -1,4 +1,6 @@
--- The state of a window, as contracts see it.
+-- The state of a window, as contracts see it. The place of an event is its number in the list of events, from 1. A
+-- window is one session's view of the published events and board. A list of events is legal if the rules allow each
+-- event after the earlier ones.
 use Rattle.std.specs.Prelude.{◌≡◌, ◌≤◌, ℕ, true, List, length, Option, None}
 use mathlib.Core.List.{IsPrefix}
 use Rattle.mml_lab.specs.Labs.{LabValue, IsLab}

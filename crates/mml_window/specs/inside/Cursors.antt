@@ -1,5 +1,5 @@
 -- The places of windows that aren't counted off yet. The cursor of a window is the index of the first of its places
--- that is left.
+-- that is left. The place of an event is its number in the list of events, from 1.
 use Rattle.std.specs.Prelude.{ℕ, ◌<◌, List, [], ◌∷◌, ◌++◌, drop}
 use Rattle.mml_window.specs.{Windows.WindowValue, Tallies.times}
 

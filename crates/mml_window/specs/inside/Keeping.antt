@@ -1,4 +1,5 @@
--- The part of an answer that a window keeps.
+-- The part of an answer that a window keeps. The place of an event is its number in the list of events, from 1. An act
+-- is a request for an event. A window is one session's view of the published events and board.
 use Rattle.std.specs.Prelude.{◌≡◌, ◌≤◌, ◌+◌, List, [], ◌∷◌, ◌++◌, length, Some}
 use Rattle.mml_lab.specs.Labs.{LabValue}
 use Rattle.mml_board.specs.declared.event.Event.{Event}

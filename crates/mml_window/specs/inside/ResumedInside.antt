@@ -1,4 +1,7 @@
--- A house that continues a run, before it is started.
+-- A house that continues a run, before it is started. A sink is the destination of a journal's bytes. A house is one
+-- run of a lab that threads share: its list of granted events, the board after them, and their journal. A list of
+-- events is legal if the rules allow each event after the earlier ones. A house publishes its events and board in two
+-- copies: readers see one of them while the writer changes the other.
 use Rattle.std.specs.Prelude.{◌≡◌, ◌≤◌, true, false, ℕ, Bool, List, length, Option}
 use Rattle.mml_lab.specs.Labs.{LabValue, IsLab}
 use Rattle.mml_window.specs.{declared.published.Published.Published, Journals.TellsJournal}
