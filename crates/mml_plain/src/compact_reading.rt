@@ -13,8 +13,8 @@ ghost use Rattle.mml_plain.specs.declared.member_value.MemberValue.TheVariants.{
 use crate::fields::Fields;
 use crate::member_value::MemberValue;
 
-// The first four bytes of each frequent key, after its quotation mark. The quotation mark and the colon after a short
-// key count, too.
+// The first four bytes of each frequent key, after its quotation mark. They include the quotation mark and the colon
+// that come after a shorter key.
 const DO: u32 = 0x646f_223a;
 
 const NODE: u32 = 0x6e6f_6465;
