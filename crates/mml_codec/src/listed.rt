@@ -33,7 +33,7 @@ pub(crate) trait Listed {
 }
 
 /// Appends the texts of the items to `out`, with commas between them and without brackets. If memory runs out, returns
-/// `Memory`, and only the items before the one without room are appended, each whole.
+/// `Memory`, and only the items before the first one without room are appended, each whole.
 pub(crate) fn put_list<T: Listed>(
     ids: &IdTable,
     items: &[T],
@@ -114,7 +114,7 @@ impl Listed for Rank {
     }
 }
 
-// A node that is linked to the one that is looked at, written as an object with its registers.
+// A neighbour of the node that is looked at, written as an object with its registers.
 impl Listed for (Rank, Regs) {
     ghost names = { IsNear };
 
