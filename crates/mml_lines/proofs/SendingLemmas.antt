@@ -27,7 +27,7 @@ sends_on a b c lines held left h k = (
 pub sends_before : (a b : Option (List ℕ)) (lines held more : List (List ℕ)) → Sends a b lines held → Sends a b (lines ++ more) (held ++ more)
 sends_before a b lines held more h = (h.0, ap (λ t. t ++ more) h.1 ∙ append_assoc h.0 held more, h.2)
 
--- what was held goes on to be sent, and more after it
+-- if some of the held lines, and then of `more`, are written next, only the others are still held
 pub sends_more : (a b c : Option (List ℕ)) (lines held more left : List (List ℕ)) → Sends a b lines held → Sends b c (held ++ more) left
     → Sends a c (lines ++ more) left
 sends_more a b c lines held more left h k = sends_on a b c (lines ++ more) (held ++ more) left (sends_before a b lines held more h) k
