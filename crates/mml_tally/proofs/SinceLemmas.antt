@@ -96,7 +96,7 @@ whole r w last q es k legal steps = record {
   moves = let few = fewer (last_change last q es) (moves_from q es) in omega (arith, applied_is r w q es k legal, few);
 }
 
--- if one more event comes first, and the counts are equal, `Since` holds for the longer list, too
+-- if m is n, and `Since` holds after the first event, it holds before this event, too
 pass : (r : RosterValue) (w : World) (e : Event) (es : List Event) (n m : ℕ) → m ≡ n → Since r (after w e) es n → Since r w (e ∷ es) m
 pass r w e es n m same s = record {
   from = s.from;
@@ -108,7 +108,7 @@ pass r w e es n m same s = record {
   moves = omega (arith, same, s.moves);
 }
 
--- after the first event of a legal list, the world is lawful, and the rest of the list is legal
+-- after the first event of a legal list, the world is lawful (`IsWorld`), and the rest of the list is legal
 rest_of : (r : RosterValue) (w : World) (e : Event) (es : List Event) → IsWorld w → is_legal_list r w (e ∷ es) ≡ true
     → IsWorld (after w e) × (is_legal_list r (after w e) es ≡ true)
 rest_of r w e es k legal =
@@ -161,10 +161,11 @@ paid P falls r w (e ∷ es) k legal steps =
     let rest = paid P falls r (after w e) es on.0 on.1 both.1 in
     omega (arith, event_pays P falls w e k both.0, rest)
 
--- if the potential is 0, no node is privileged
+-- if rule q is enabled at node i, a step in which only i moves, by q, applies only enabled rules
 alone : (c : Configuration) (i : ℕ) (q : Rule) → guard c i q ≡ true → AllHold c (λ j. cond (eqb i j) (Some q) None)
 alone c i q g j r e = grind (arith, nat_tests, eqb-true i j, g)
 
+-- if the potential is 0, no node is privileged
 resting : (P : Configuration → ℕ) → Falls P → (c : Configuration) → IsLawful c → P c ≡ 0 → IsStable c
 resting P falls c l none i lt = false_from_ne_true (is_privileged c i) (λ on.
     let g = (privileged-means c i l).0 on in

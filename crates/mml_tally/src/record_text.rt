@@ -85,8 +85,8 @@ fn put_recorded_run(
     put_ends(out, board, events, &all)
 }
 
-/// Appends the tally's lines about a record: each student's denials by clause, what was asked for at nodes that several
-/// students own, and the summary. Returns `Memory` if memory runs out.
+/// Appends the tally's lines about a record: each student's denials by clause, the moves that were asked for at nodes
+/// that several students own, and the summary. Returns `Memory` if memory runs out.
 fn put_record(
     out: &mut Vec<u8>,
     alloc: Global,
