@@ -66,7 +66,7 @@ some_behind (p ∷ ps) (suc n) lt = some_behind ps n (omega arith)
 pub at_end : (b : Bool) (ps : List ℕ) (n : ℕ) → leb (length ps) n ≡ b → MatchBool b (drop n ps ≡ []) ((p : ℕ) × (0 < times p (drop n ps)))
 at_end x0 ps n is = grind (arith, nat_tests, drop_all, leb-true, some_behind, leb-false)
 
--- if each of two lists with this place also has a smaller one, so do both lists together
+-- if `IsStuck` holds for two lists, it holds for one list after the other
 pub stuck_append : (place : ℕ) (xs ys : List ℕ) → IsStuck place xs → IsStuck place ys → IsStuck place (xs ++ ys)
 stuck_append place xs ys f h some = ⊎_elim
     (λ (l : 0 < times place xs). let t = f l in (t.0, t.1, t.2, omega (arith, t.3, times_append t.0 xs ys)))
