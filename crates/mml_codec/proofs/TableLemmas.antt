@@ -6,7 +6,7 @@ pub on_ok : {T E P Q : Type 0} (r : Result T E) → (P → Q) → OnOk r P → O
 on_ok (Ok x) f h = f h
 on_ok (Err e) f h = tt
 
--- if x is appended to a, and then y, the result is a, x and y
+-- if x is appended to a, and then y, the result is a, followed by x and y
 pub then_put : (a b c x y : List ℕ) → b ≡ a ++ x → c ≡ b ++ y → c ≡ a ++ (x ++ y)
 then_put a b c x y first second = second ∙ ap (λ t. t ++ y) first ∙ append_assoc a x y
 

@@ -21,8 +21,7 @@ refusal_of fault.Memory = refused.Memory
 abbrev pub denied : Denial → Option Who → Greeting
 denied d known = Answered (replies.Deny d) known
 
--- the result of a hello while nobody is known: the participant with its name and key is granted it; if there is none,
--- it is denied
+-- the result of a hello while nobody is known: granted if a participant has its name and key, and otherwise denied
 abbrev pub admitted : Option Who → Greeting
 admitted None = denied denial.Unknown None
 admitted (Some who) = Answered (replies.Hello who) (Some who)
