@@ -11,7 +11,7 @@ one b = cond b 1 0
 pub more : {A : Type 0} (p : A → Bool) (x : A) (xs : List A) → count_by p (x ∷ xs) ≡ one (p x) + count_by p xs
 more p x xs = sum_by-cons (λ x. cond (p x) 1 0) x xs
 
--- if t holds exactly if one of u and v does, and never both, the count for t is the sum of those for u and v
+-- if u and v never hold together, and t holds exactly if one of them does, the count for t is the sum of theirs
 pub count_split : (n : ℕ) (t u v : ℕ → Bool) → ((j : ℕ) → j < n → one (t j) ≡ one (u j) + one (v j)) → count_below n t ≡ count_below n u + count_below n v
 count_split zero t u v apart = refl
 count_split (suc n) t u v apart = omega (arith, count_split n t u v (λ j lt. apart j (omega arith)), apart n (omega arith))

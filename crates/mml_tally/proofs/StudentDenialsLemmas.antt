@@ -56,7 +56,7 @@ fourth_is None = refl
 fourth_is (Some named.Guard) = refl
 fourth_is (Some _) = refl
 
--- if a line was denied by the clause of its named denial, it is counted for the same clause as this denial
+-- if a line was denied by the clause of its named denial, it is counted for a clause exactly if this denial is
 clause_is : (c : ℕ) (denied : Option ℕ) (n : Option StudentDenial) → denied ≡ option_map clause_named n
     → one (is_clause c denied) ≡ one (is_clause c (option_map clause_named n))
 clause_is c denied n e = λ k. one (is_clause c (e k))
