@@ -60,7 +60,8 @@ pub record IsClassRecord (lab : LabValue) (l : List Event) (with_asks : Bool) (s
   pub once : list_all are_whole entries ≡ true → IsEachOnceFrom c.begun (length l) places
   pub asked : with_asks ≡ true → c.asks.items ≡ all_asks lab.roster entries
 
--- the texts of all seats before this one are records; its own text is a record up to this entry, which can't come next
+-- the texts of all seats before this one are records; the text of this seat is a record up to `entry`, which can't come
+-- next
 pub record IsBadSeat (lab : LabValue) (l : List Event) (texts : ℕ → List ℕ) (seat : ℕ) (entry : BadEntry) : Type 0 where
   pub entries : List (List Entry)
   pub places : List ℕ
