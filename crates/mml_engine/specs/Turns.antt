@@ -8,8 +8,8 @@ use Rattle.mml_codec.specs.declared.greeting.Greeting.{Greeting, TheVariants.Ans
 use Rattle.mml_codec.specs.declared.reply.Refused.TheVariants as refused
 use Rattle.mml_codec.specs.declared.reply.Reply.TheVariants as reply
 
--- the result of a request: either it is answered by its greeting, and the engine stays as it was, or the engine answers
--- its command
+-- the result of a request: if it is a command to judge, the engine answers it; otherwise the rules of greeting give the
+-- reply, and the engine stays as it was
 abbrev pub Settles : {E V : Type 0} → (E → V → Who → Command → Reply → E → V → Type 0) → Option Who → E → V → Greeting → Reply → Option Who → E → V → Type 0
 Settles tells known e v (Answered r x) r' known' e' v' = (r' ≡ r) × (known' ≡ x) × (e' ≡ e) × (v' ≡ v)
 Settles tells known e v (LeftToJudge who c) r' known' e' v' = (known' ≡ known) × tells e v who c r' e' v'
