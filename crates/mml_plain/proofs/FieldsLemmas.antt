@@ -1,4 +1,4 @@
--- A member that is added to the fields changes them as it changes the object.
+-- Adding a member has the same effect on the fields as on the object.
 use Rattle.std.proofs.Common.{◌≡◌, ℕ, List, Bool, false, codes, bytes_eq, cond, Bor, Option, Some, option_map, option_and_then, true≢false, refl, sym, ◌∙◌, arith}
 use Rattle.std.proofs.lemmas.Slice.Eq.{bytes_eq-Decides}
 use Rattle.serde_json.specs.{Data.Data, Data.object, Data.Members, Data.put, Find.get_member, Find.as_str, Find.as_bool, Find.as_number, Find.as_u64}
