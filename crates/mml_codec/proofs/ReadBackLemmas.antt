@@ -67,7 +67,7 @@ array_read n P f each xs h = items_read n (map f xs) (each_read n P f each xs h)
 
 -- ---- objects
 
--- the members `found` after the others were put into them, one after another
+-- the members `found`, after the members of the list were put into them one after another
 abbrev pub put_in_turn : List (List ℕ × Data) → Members → Members
 put_in_turn [] found = found
 put_in_turn (m ∷ ms) found = put_in_turn ms (put m.0 m.1 found)

@@ -1,4 +1,4 @@
--- The bytes that the sink of a house has taken: at the beginning, after a grant, and after the journal halted. After a
+-- The bytes that the sink of a house has taken: at the beginning, after a grant, and after a failed write. After a
 -- write of a line has failed, the journal is halted, and takes no more lines. A sink is the destination of a journal's
 -- bytes. A house is one run of a lab that threads share: its list of granted events, the board after them, and their
 -- journal.
