@@ -129,8 +129,8 @@ is_short (replies.Look l) = false
 is_short (replies.Report r) = false
 is_short _ = true
 
--- the second reply is sent in place of the first: it is the same reply or, if this isn't short, the refusal that memory
--- ran out
+-- the second reply is sent in place of the first: it is the same reply or, if the first isn't short, the refusal that
+-- memory ran out
 abbrev pub TellsFor : Reply → Reply → Type 0
 TellsFor reply told = (told ≡ reply) ⊎ ((is_short reply ≡ false) × (told ≡ replies.Refuse refused.Memory))
 

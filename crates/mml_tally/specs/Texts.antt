@@ -71,7 +71,8 @@ students_text lab es n = each_below n (λ s. student_line (name_of lab.roster (w
 abbrev pub nodes_text : LabValue → List Event → ℕ → List ℕ
 nodes_text lab es n = each_below n (λ i. if is_shared lab.roster i then node_line lab (moves es) i else [])
 
--- the last two lines of a tally: the most that may follow from the world w, and the run that led to w
+-- the last two lines of a tally: the most moves, rounds and events that may follow from the world w, and the counts of
+-- the run that led to w
 abbrev pub ends_text : World → List Event → List ℕ
 ends_text w es = bounds_line (bounds_of w) ++ run_line w (run_of es)
 

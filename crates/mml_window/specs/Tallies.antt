@@ -1,5 +1,5 @@
--- The places that windows were granted, counted. The place of an event is its number in the list of events, from 1. A
--- window is one session's view of the published events and board.
+-- How often a place is among those that windows were granted. The place of an event is its number in the list of
+-- events, from 1. A window is one session's view of the published events and board.
 use Rattle.std.specs.Prelude.{◌≡◌, ℕ, suc, ◌==◌, ◌&&◌, nat_lt, nat_le, if◌then◌else◌, List, [], ◌∷◌, ◌++◌}
 use Rattle.mml_window.specs.Windows.{WindowValue}
 

@@ -21,7 +21,8 @@ IsTogether a b c =
     × (c.is_cut ≡ (a.is_cut || b.is_cut)) × ((who : Who) → lacks c who ≡ (lacks a who || lacks b who))
 
 -- the text of a seat is a record with these findings. The places that it grants are appended to `granted`. If
--- `with_asks` is set, what its lines asked for is appended to `asks`. Or the text has this bad entry
+-- `with_asks` is set, what its lines asked for is appended to `asks`. Otherwise the text has this bad entry, which is
+-- its first
 abbrev pub IsSeatRead : LabValue → List Event → ℕ → Bool → List ℕ → List ℕ → List ℕ → List Ask → List Ask → Verdict → Type 0
 IsSeatRead lab l number with_asks text granted granted' asks asks' (Passed f) =
     (es : List Entry) × (own : List ℕ) × IsRecordOf lab l es own × (text ≡ record_text number es) × ComesTo lab.roster f es
