@@ -1,4 +1,4 @@
--- The records of seats, one after another.
+-- The records of the seats, which are read one after another.
 use Rattle.std.proofs.Common.{◌≡◌, ◌+◌, ◌-◌, ◌≤◌, ◌++◌, [], ◌∷◌, ◌&&◌, ◌||◌, ℕ, List, Bool, true, false, ap, subst, refl, sym, ◌∙◌, suc, zero, length, append_assoc, append-nil, length-append, Option}
 use Rattle.std.proofs.Common.{None, Some, arith}
 use Rattle.std.specs.{List.list_all, List.list_any, List.sum_by, Prelude.IfSome}
@@ -15,7 +15,7 @@ use Rattle.mml_class.specs.inside.Seats.{no_findings, IsTogether, AddsSeat, IsSe
 use Rattle.mml_lab.specs.declared.who.Who.TheVariants as who
 use Rattle.mml_class.specs.declared.class_record.ClassFault.TheVariants as fault
 
--- ---- lists with one element more
+-- ---- lists to which one element is appended
 
 and_true : (b : Bool) → (b && true) ≡ b
 and_true true = refl
@@ -44,7 +44,7 @@ none_lacked : (known : Who) → lacks no_findings known ≡ false
 none_lacked who.Teacher = refl
 none_lacked (who.Student s) = has_empty s
 
--- what holds of all that an opened reader gives holds of the text that is known
+-- if P holds for the bytes of a reader that was opened at the beginning of a text, P holds for the text
 pub opened : (told remaining : Option (List ℕ)) (text : List ℕ) (P : List ℕ → Type 0) → told ≡ Some text → IfSome told (λ bytes. remaining ≡ Some bytes)
     → IfSome remaining P → P text
 opened told remaining text P is opens holds =
@@ -56,7 +56,7 @@ found_so : (begun count : ℕ) (whole : Bool) (seen places : List ℕ) (r r' : O
 found_so begun count whole seen places r r' same is found =
     subst (λ (ps : List ℕ). IsFound begun count whole ps r') same (subst (λ (x : Option Misgranted). IsFound begun count whole seen x) is found)
 
--- ---- one record more
+-- ---- one more record
 
 module _ (lab : LabValue) (l : List Event) (texts : ℕ → List ℕ) where
   asks_push : (ess : List (List Entry)) (es : List Entry) → all_asks lab.roster (ess ++ es ∷ []) ≡ all_asks lab.roster ess ++ asks_in lab.roster es
@@ -85,7 +85,7 @@ module _ (lab : LabValue) (l : List Event) (texts : ℕ → List ℕ) where
         records_more (suc first) ess es h.1 own h.5 is (subst (λ (n : ℕ). texts n ≡ record_text n es) there text),
       )
 
-  -- what was read of one seat more comes to those of all before it
+  -- the findings of the first seats, and those of the next seat, are together the findings of all these seats
   come_more : (ess : List (List Entry)) (es : List Entry) (f g h : Findings) → ComeTo lab.roster f ess → ComesTo lab.roster g es → IsTogether f g h
       → ComeTo lab.roster h (ess ++ es ∷ [])
   come_more ess es f g h before own together = (
@@ -120,7 +120,7 @@ module _ (lab : LabValue) (l : List Event) (texts : ℕ → List ℕ) where
         asked = λ wanted. read.6 wanted ∙ ap (λ (xs : List Ask). xs ++ asks_in lab.roster read.0) (so.asked wanted) ∙ sym (asks_push so.entries read.0);
       }
 
-  -- a seat's text is no record, or couldn't be read
+  -- if the text of a seat is no record, or couldn't be read, the texts are no record of a class for this reason
   pub bad_seat : (with_asks : Bool) (start : List ℕ) (n number : ℕ) (f : Findings) (places : List ℕ) (asks : List Ask) (why : ClassFault) → number ≡ n + 1
       → number ≤ lab.sessions → AreReadSoFar lab l with_asks texts n f places asks → IsSeatRefused lab l number (texts number) why
       → IsClassRefused lab l start texts why

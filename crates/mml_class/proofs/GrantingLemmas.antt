@@ -1,4 +1,4 @@
--- Places that are marked one after another.
+-- Places that are marked one after another. The place of an event is its number in the list of events, from 1.
 use Rattle.std.proofs.Common.{◌≡◌, ◌⊎◌, ◌+◌, ◌≤◌, ◌<◌, ◌==◌, nat_lt, nat_le, ◌++◌, [], ◌∷◌, ℕ, List, Bool, true, false, cond, ap, subst, refl, sym, ◌∙◌, suc, zero, get_or, length, take, drop, arith}
 use Rattle.std.proofs.Common.{Option, None, Some, ⊎_elim}
 use Rattle.std.proofs.lemmas.{Bool.Decides.nat_tests, List.take_more, List.drop_more, List.take_all, List.take-append-drop}
@@ -6,7 +6,7 @@ use Rattle.mml_window.specs.Tallies.{times, once_from}
 use Rattle.mml_class.specs.declared.granting.Misgranted.{Misgranted, TheVariants.Early, TheVariants.Twice, TheVariants.Nowhere}
 use Rattle.mml_class.specs.{Granting.IsFound, Granting.ComesAfter, Granting.AreGranted, inside.Marking.has_mark, inside.Marking.marked, inside.Marking.IsMarked, inside.Marking.IsUnmarked}
 
--- one place more, with no mark
+-- if the marks are made longer by one place without a mark, no mark changes
 pub unmarked_more : (marks : List Bool) (p : ℕ) → marked (marks ++ false ∷ []) p ≡ marked marks p
 unmarked_more [] zero = refl
 unmarked_more [] (suc p) = refl
@@ -17,11 +17,11 @@ pub times_append : (p : ℕ) (xs ys : List ℕ) → times p (xs ++ ys) ≡ times
 times_append p [] ys = omega arith
 times_append p (x ∷ xs) ys = grind (arith, nat_tests, times_append p xs ys)
 
--- the places before index i, the one there, and those after it
+-- a list is the places before index i, the place at i, and those after it
 split_at : (i : ℕ) (ps : List ℕ) → i < length ps → ps ≡ take i ps ++ get_or ps i 0 ∷ drop (i + 1) ps
 split_at i ps in' = sym (take-append-drop i ps) ∙ ap (λ (xs : List ℕ). take i ps ++ xs) (drop_more ps i 0 in')
 
--- one place more was marked
+-- a place is among the first i + 1 as often as among the first i, and once more if it is the one at index i
 pub times_more : (i : ℕ) (ps : List ℕ) (q : ℕ) → i < length ps → times q (take (i + 1) ps) ≡ times q (take i ps) + times q (get_or ps i 0 ∷ [])
 times_more i ps q in' = ap (times q) (take_more ps i 0 in') ∙ times_append q (take i ps) (get_or ps i 0 ∷ [])
 
@@ -48,7 +48,7 @@ first_at i ps q begun count in' is fine = record {
   granted = fine;
 }
 
--- something is amiss with the place at index i, if those before it were marked
+-- if the places before index i were marked, and the one at i can't be marked, this is the first fault
 pub found_first : (begun count i : ℕ) (whole : Bool) (ps : List ℕ) (old new : List Bool) (r : Misgranted) → i < length ps
     → length old ≡ count + 1 → ((q : ℕ) → marked old q ≡ times q (take i ps)) → ((q : ℕ) → marked old q ≤ once_from begun count q)
     → IsMarked begun (get_or ps i 0) old new (Some r) → IsFound begun count whole ps (Some r)
@@ -65,7 +65,7 @@ found_first begun count i whole ps old new (Twice q) in' many counted fine amiss
 )
 found_first begun count i whole ps old new (Nowhere q) in' many counted fine amiss = absurd amiss
 
--- if a place was marked as well, each mark is one of the places, and none is amiss
+-- if one more place was marked, each mark is still that of a place from begun + 1 to `count`
 pub fine_more : (begun count p : ℕ) (old new : List Bool) → length old ≡ count + 1 → ((q : ℕ) → marked old q ≤ once_from begun count q)
     → IsMarked begun p old new None → (q : ℕ) → marked new q ≤ once_from begun count q
 fine_more begun count p old new many fine m q = one (q == p) refl
@@ -75,7 +75,8 @@ fine_more begun count p old new many fine m q = one (q == p) refl
         omega (arith, marked_once new q, once_there begun count q (omega (arith, e, m.0)) (omega (arith, e, m.1, many)))
     one false is = let e : times q (p ∷ []) ≡ 0 = ap (λ (b : Bool). cond {A = ℕ} b 1 0) is in omega (arith, m.3 q, fine q, e)
 
--- if a place has a mark if it is one after `begun` and up to `count`
+-- if q has a mark, or isn't from begun + 1 to `count`, the list has q exactly once in the first case, and else not at
+-- all
 each_counted : (begun count : ℕ) (ps : List ℕ) (marks : List Bool) (q : ℕ) → marked marks q ≡ times q ps → marked marks q ≤ once_from begun count q
     → (begun < q → q ≤ count → has_mark marks q ≡ true) → times q ps ≡ once_from begun count q
 each_counted begun count ps marks q counted fine has = one (nat_lt begun q) (nat_le q count) refl refl
@@ -89,7 +90,8 @@ each_counted begun count ps marks q counted fine has = one (nat_lt begun q) (nat
     one true false a b = let lt : count < q = grind (arith, nat_tests) in omega (arith, counted, fine, once_past begun count q lt)
     one false below a b = let le : q ≤ begun = grind (arith, nat_tests) in omega (arith, counted, fine, once_early begun count q le)
 
--- if all places are marked
+-- if all places of the list are marked, the first place after `begun` without a mark is the fault; if there is no such
+-- place, there is no fault
 found_unmarked : (begun count : ℕ) (ps : List ℕ) (marks : List Bool) (r : Option Misgranted) → length marks ≡ count + 1
     → ((q : ℕ) → marked marks q ≡ times q ps) → ((q : ℕ) → marked marks q ≤ once_from begun count q) → IsUnmarked begun marks r → IsFound begun count true ps r
 found_unmarked begun count ps marks None many counted fine all = (λ q. omega (arith, counted q, fine q), λ t q. each_counted begun count ps marks q (counted q) (fine q) (λ above below. all q above (omega (arith, many, below))))
@@ -103,7 +105,7 @@ found_unmarked begun count ps marks (Some (Nowhere p)) many counted fine h = (
   λ q less. each_counted begun count ps marks q (counted q) (fine q) (λ above below. h.3 q above less),
 )
 
--- the same, if the first n places are all of them
+-- the same, if the first n places of the list are all its places
 pub found_at_end : (begun count n : ℕ) (whole : Bool) (ps : List ℕ) (marks seen : List Bool) (r : Option Misgranted) → whole ≡ true → length ps ≤ n → seen ≡ marks
     → length marks ≡ count + 1 → ((q : ℕ) → marked marks q ≡ times q (take n ps)) → ((q : ℕ) → marked marks q ≤ once_from begun count q)
     → IsUnmarked begun seen r → IsFound begun count whole ps r

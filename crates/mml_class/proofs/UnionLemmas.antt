@@ -1,4 +1,4 @@
--- Two sets in one.
+-- The union of two sets, which is made by moving ranks from one set to the other.
 use Rattle.std.proofs.{Common.◌≡◌, Common.ℕ, Common.Bool, Common.true, Common.false, Common.◌&&◌, Common.not, Common.eqb, Common.ap, Common.◌∙◌, Common.arith, lemmas.Bool.Decides.nat_tests}
 use Rattle.std.specs.{Prelude.◌||◌, Ordering.nat_cmp, FinSet.FinSet}
 use Rattle.mml_ids.specs.inside.WordsLemmas.{has_empty, has_insert, has_remove}
@@ -11,7 +11,7 @@ moved false s t both there h = grind (arith, nat_tests)
 is_there : (t : FinSet nat_cmp) (r q : ℕ) → sets.contains t r ≡ true → eqb q r ≡ true → sets.contains t q ≡ true
 is_there t r q there same = grind (arith, nat_tests)
 
--- a rank that goes from one set to another is in either as before
+-- if a rank is moved from one set to the other, the union of both stays the same
 pub one_moved : (s t s' t' : FinSet nat_cmp) (r q : ℕ) (both : Bool) → s' ≡ sets.insert s r → t' ≡ sets.remove t r → sets.contains t r ≡ true
     → (sets.contains s q || sets.contains t q) ≡ both → (sets.contains s' q || sets.contains t' q) ≡ both
 one_moved s t s' t' r q both put taken there h =
@@ -21,6 +21,6 @@ one_moved s t s' t' r q both put taken there h =
     ∙ ap (λ (b : Bool). (eqb q r || sets.contains s q) || b) (has_remove t r q)
     ∙ moved (eqb q r) (sets.contains s q) (sets.contains t q) both (is_there t r q there) h
 
--- if nothing is left, all is in the one
+-- if the second set is empty, the union is the first set
 pub all_moved : (s t : FinSet nat_cmp) (q : ℕ) (both : Bool) → t ≡ sets.empty → (sets.contains s q || sets.contains t q) ≡ both → sets.contains s q ≡ both
 all_moved s t q both none h = grind (arith, nat_tests, has_empty)

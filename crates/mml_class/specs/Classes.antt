@@ -1,4 +1,6 @@
--- The record of a class: a text for each seat, beside one list of events, and how many of these came before.
+-- The record of a class: a text for each seat, which is compared with one list of events, and the number of events
+-- before the record. The place of an event is its number in the list of events, from 1. A seat serves one connection
+-- after another.
 use Rattle.std.specs.Prelude.{◌≡◌, ◌≤◌, ◌+◌, ◌-◌, ◌^◌, min, ℕ, suc, Bool, true, List, [], ◌∷◌, ◌++◌, length, Option, None, Some}
 use Rattle.std.specs.List.{list_all, list_any, sum_by, flat_map}
 use Rattle.mml_lab.specs.{declared.who.Who.Who, Labs.LabValue, Rosters.RosterValue}
@@ -13,40 +15,40 @@ use Rattle.mml_class.specs.declared.class_record.ClassFault.TheVariants as fault
 
 -- ---- the seats' texts
 
--- the text with the number of events before the record has these bytes, and the record of each seat has these
+-- the bytes `start` are the text with the number of events before the record, and `texts` has the text of each seat
 abbrev pub Tell : Option (List ℕ) → (ℕ → Option (List ℕ)) → List ℕ → (ℕ → List ℕ) → Type 0
 Tell begun text start texts = (begun ≡ Some start) × ((n : ℕ) → text n ≡ Some (texts n))
 
--- the texts of the seats, numbered from `first` on, are those of these records, one for each seat; these places are
--- granted in them, in the order of seats
+-- the texts of the seats from number `first` on are these records, one for each seat; `places` has the places of the
+-- events that they grant, in the order of seats
 abbrev pub AreRecordsOf : LabValue → List Event → (ℕ → List ℕ) → ℕ → List (List Entry) → List ℕ → Type 0
 AreRecordsOf lab l texts first [] places = places ≡ []
 AreRecordsOf lab l texts first (es ∷ ess) places =
     (own : List ℕ) × (more : List ℕ) × (places ≡ own ++ more) × IsRecordOf lab l es own × (texts first ≡ record_text first es)
     × AreRecordsOf lab l texts (suc first) ess more
 
--- ---- what they come to
+-- ---- the summary of several records
 
--- a count as a number of 64 bits has it: the greatest, if it is more
+-- a count as a number of 64 bits; a greater count becomes the greatest such number
 abbrev pub counted : ℕ → ℕ
 counted n = min n (2 ^ 64 - 1)
 
--- the findings of several records together: how many sessions ended, how many lines were answered, whether all are
--- whole, whether anything may be missing in one, and for whom recording paused in one
+-- the findings of several records together: how many sessions ended, how many lines were answered, whether all records
+-- are whole, whether one says that anything may be missing, and the participants for whom recording paused in one
 abbrev pub ComeTo : RosterValue → Findings → List (List Entry) → Type 0
 ComeTo roster f ess =
     (f.sessions ≡ counted (sum_by sessions_in ess)) × (f.lines ≡ counted (sum_by lines_in ess)) × (f.whole ≡ list_all are_whole ess)
     × (f.is_cut ≡ list_any are_cut ess) × ((who : Who) → lacks f who ≡ list_any (λ es. are_paused_for roster None es who) ess)
 
--- what the lines of several seats asked, in the order of seats
+-- what the lines of several seats asked for, in the order of seats
 abbrev pub all_asks : RosterValue → List (List Entry) → List Ask
 all_asks roster ess = flat_map (asks_in roster) ess
 
 -- ---- a class
 
--- the texts are the record of a class, with these findings: each is that of a record of its seat beside one list of
--- events. Each place that they grant is that of an event after the first `begun`, and is granted once. If all are
--- whole, each such event is granted. If the caller wants it, `asks` is what their lines asked
+-- the texts are the record of a class, with the result c: each text is a record of its seat that fits the list of
+-- events. Each place that they grant is that of an event after the first `begun` ones, and is granted once. If all
+-- records are whole, each such event is granted. If `with_asks` is set, the result has what the lines asked for
 pub record IsClassRecord (lab : LabValue) (l : List Event) (with_asks : Bool) (start : List ℕ) (texts : ℕ → List ℕ) (c : ClassRecord) : Type 0 where
   pub begun : begun_in start ≡ Some c.begun
   pub entries : List (List Entry)
@@ -58,7 +60,8 @@ pub record IsClassRecord (lab : LabValue) (l : List Event) (with_asks : Bool) (s
   pub once : list_all are_whole entries ≡ true → IsEachOnceFrom c.begun (length l) places
   pub asked : with_asks ≡ true → c.asks.items ≡ all_asks lab.roster entries
 
--- the texts of all seats before this one are those of records, and its own goes on with this entry, which can't be
+-- the texts of all seats before this one are records; the text of this seat is a record up to `entry`, which can't come
+-- next
 pub record IsBadSeat (lab : LabValue) (l : List Event) (texts : ℕ → List ℕ) (seat : ℕ) (entry : BadEntry) : Type 0 where
   pub entries : List (List Entry)
   pub places : List ℕ
@@ -67,7 +70,7 @@ pub record IsBadSeat (lab : LabValue) (l : List Event) (texts : ℕ → List ℕ
   pub records : AreRecordsOf lab l texts 1 entries places
   pub bad : IsFirstBad lab l seat (texts seat) entry
 
--- the texts of all seats are those of records, and this is what is first found amiss with the places that they grant
+-- the texts of all seats are records, and `amiss` is the first fault in the places that they grant
 pub record AreMisgranted (lab : LabValue) (l : List Event) (start : List ℕ) (texts : ℕ → List ℕ) (amiss : Misgranted) : Type 0 where
   pub begun : ℕ
   pub entries : List (List Entry)
@@ -77,7 +80,7 @@ pub record AreMisgranted (lab : LabValue) (l : List Event) (start : List ℕ) (t
   pub records : AreRecordsOf lab l texts 1 entries places
   pub found : IsFound begun (length l) (list_all are_whole entries) places (Some amiss)
 
--- why the texts are no record of a class; about texts that couldn't be read nothing is stated
+-- why the texts are no record of a class; if a text couldn't be read, there is no condition
 abbrev pub IsClassRefused : LabValue → List Event → List ℕ → (ℕ → List ℕ) → ClassFault → Type 0
 IsClassRefused lab l start texts (fault.Entry seat bad) = IsBadSeat lab l texts seat bad
 IsClassRefused lab l start texts (fault.Places amiss) = AreMisgranted lab l start texts amiss

@@ -29,7 +29,7 @@ pub const MAX_RECORD: u32 = 1_073_741_824;
 // The most bytes of the text with the number of events before the record.
 const MAX_BEGUN: u32 = 20;
 
-/// What was found in the record of a class that is correct.
+/// The result of checking the record of a class, if it is correct.
 #[derive(Debug, Drop)]
 pub struct ClassRecord {
     /// How many events came before the record began.
@@ -45,7 +45,7 @@ pub struct ClassRecord {
 pub enum ClassFault {
     /// The text of this seat isn't a record, because of this entry, which is its first bad one.
     Entry { seat: u8, bad: BadEntry },
-    /// The texts don't grant the right events, each once: this is the first fault.
+    /// The texts don't grant each event of the record exactly once. This is the first fault.
     Places(Misgranted),
     /// A text couldn't be read.
     Unread(SeatFault),

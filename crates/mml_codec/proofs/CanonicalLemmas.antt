@@ -1,4 +1,4 @@
--- What is written of a request is one line, and is read as that request.
+-- The text of a request is one line, and is read as this request.
 use Rattle.std.{proofs.Common.◌≡◌, proofs.Common.◌≢◌, proofs.Common.None, proofs.Common.Some, proofs.Common.Ok, proofs.Common.refl, proofs.Common.◌∙◌, specs.List.All}
 use Rattle.mml_codec.specs.{declared.request.Request.Request, Fields.object_of, Canonical.canonical, Canonical.IsWritable, Lines.request_in}
 use Rattle.mml_codec.specs.Requests.{fields_of, request, by_word, hello_of, move_of, asked_at, fault_of}
@@ -8,7 +8,7 @@ use Rattle.mml_policy.specs.declared.command.Asked.TheVariants as asked
 use Rattle.mml_policy.specs.declared.command.Command.TheVariants as command
 use Rattle.mml_codec.specs.declared.request.Request.TheVariants as requests
 
--- each word: its fields are those of an object
+-- the fields of each request are those of an object: ASCII keys in rising byte order, and ASCII words
 IsObject-fields_of : (r : Request) → IsObject (fields_of r)
 IsObject-fields_of (requests.Do (command.Move n (asked.Marriage w) at)) = record { keyed = record { rising = refl; ascii = refl }; ascii = refl }
 IsObject-fields_of (requests.Do (command.Move n _ at)) = record { keyed = record { rising = refl; ascii = refl }; ascii = refl }
@@ -17,7 +17,7 @@ IsObject-fields_of (requests.Do (command.Fault n _ m)) = record { keyed = record
 IsObject-fields_of (requests.Do _) = record { keyed = record { rising = refl; ascii = refl }; ascii = refl }
 IsObject-fields_of _ = record { keyed = record { rising = refl; ascii = refl }; ascii = refl }
 
--- each word: its object asks it
+-- the object of each request is read as this request
 request-fields_of : (r : Request) → request (object_of (fields_of r)) ≡ Some r
 unfolding request by_word hello_of move_of asked_at fault_of
 request-fields_of (requests.Do (command.Move n (asked.Marriage w) at)) = refl
@@ -27,12 +27,12 @@ request-fields_of (requests.Do (command.Fault n _ m)) = refl
 request-fields_of (requests.Do _) = refl
 request-fields_of _ = refl
 
--- what is written of a request has no newline
+-- the text of a request has no newline
 pub canonical_line : (r : Request) → IsWritable r → All (λ b. b ≢ 10) (canonical r)
 unfolding canonical
 canonical_line r h = compact_text_line (object_of (fields_of r)) (flat_object_read (fields_of r) (IsObject-fields_of r) h).text
 
--- what is written of a request is read as that request
+-- the text of a request is read as this request
 pub request_in-canonical : (r : Request) → IsWritable r → request_in (canonical r) ≡ Ok r
 unfolding canonical
 request_in-canonical r h =

@@ -1,4 +1,5 @@
--- The text of a value that has no float, and whose strings are UTF-8, is read as that value.
+-- If the numbers of a value are integers from 0 to 2 ^ 64 - 1, and its strings are UTF-8, its text is read as this
+-- value.
 use Rattle.std.proofs.Common.{◌≡◌, ℕ, ◌^◌, ◌<◌, ◌≤◌, List, [], ◌∷◌, ◌++◌, Bool, true, false, Some, IsUtf8, refl, sym, ap, ◌∙◌, append-nil}
 use Rattle.std.{proofs.lemmas.Str.IsUtf8-append, proofs.lemmas.Str.IsUtf8-nil, proofs.lemmas.Str.IsUtf8-from_ascii, proofs.lemmas.Fmt.IsAscii-decimal, specs.Option.option_and_then}
 use Rattle.json.specs.Lex.{tokens}
@@ -10,7 +11,7 @@ use Rattle.serde_json.proofs.Texts.{print-outline}
 use Rattle.json.specs.Json as json
 use Rattle.json.specs.Tree as tree
 
--- its numbers are integers that fit 64 bits, its strings and keys UTF-8
+-- the value's numbers are integers from 0 to 2 ^ 64 - 1, and its strings and keys are UTF-8
 abbrev mutual
   pub HasText : Data → Type 0
   HasText null = Unit {0}

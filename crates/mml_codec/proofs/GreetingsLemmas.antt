@@ -1,4 +1,5 @@
--- The participant that a connection is known as after an answer.
+-- The participant that a connection is known as after a reply. A participant is known on a connection from a granted
+-- hello to the bye.
 use Rattle.std.proofs.{lemmas.Bool.Decides.nat_tests, Common.◌≡◌, Common.◌↔◌, Common.ℕ, Common.List, Common.Option, Common.None, Common.Some, Common.sym, Common.ap, Common.◌∙◌, Common.arith}
 use Rattle.mml_lab.specs.{declared.who.Who.Who, Rosters.RosterValue, Rosters.IsRoster, Rosters.principal, RosterMeaning.IsKnownAs}
 use Rattle.mml_lab.proofs.RosterMeaningLemmas.{principal-one}
@@ -11,7 +12,7 @@ granted : (found : Option Who) (who : Who) (known : Option Who) → admitted fou
 granted None who known e = absurd cc
 granted (Some w) who known e = let same : w ≡ who = cc in let after : Some w ≡ known = cc in (ap Some same, sym after ∙ ap Some same)
 
--- if nobody is known yet, a hello is granted exactly to one who takes part under that name and key
+-- if nobody is known yet, a hello is granted exactly to the participant who has its name and key, who is then known
 pub hello_is_granted : (r : RosterValue) (name key : List ℕ) (who : Who) (known : Option Who) → IsRoster r
     → (greeting r None (requests.Hello name key) ≡ Answered (replies.Hello who) known) ↔ (IsKnownAs r who name key × (known ≡ Some who))
 hello_is_granted r name key who known roster = grind (arith, nat_tests, granted, principal-one)
@@ -20,7 +21,7 @@ denied_before : (found : Option Who) (d : Denial) (known : Option Who) → admit
 denied_before None d known e = cc
 denied_before (Some w) d known e = absurd cc
 
--- a denial leaves who is known
+-- after a denial, the connection is known as before
 pub denied_is_known_as_before : (r : RosterValue) (before : Option Who) (q : Request) (d : Denial) (known : Option Who)
     → greeting r before q ≡ Answered (replies.Deny d) known → known ≡ before
 denied_is_known_as_before r None (requests.Hello name key) d known e = denied_before (principal r name key) d known e

@@ -5,12 +5,13 @@ use Rattle.mml_plain.specs.Reading.{object_in}
 use Rattle.mml_codec.specs.{Requests.request, Lines.value_in, Lines.request_in}
 use Rattle.mml_codec.specs.declared.request.LineFault.TheVariants as fault
 
--- UTF-8 that is read as a value has that value
+-- if bytes are UTF-8 and are read as a JSON value, `value_in` is this value
 pub value_in-some : (bytes : List ℕ) (d : Data) → IsUtf8 bytes → read bytes ≡ Some d → value_in bytes ≡ Some d
 unfolding value_in
 value_in-some bytes d u e = rw (is_utf8-from_IsUtf8 bytes u) e
 
--- a line that has a value asks what the value asks, or is malformed
+-- the request in a line with a JSON value is the request that this value is read as; if it isn't a request, the line is
+-- malformed
 pub request_in-some : (bytes : List ℕ) (d : Data) → value_in bytes ≡ Some d → request_in bytes ≡ ok_or (request d) fault.Malformed
 unfolding request_in
 request_in-some bytes d e = rw e
@@ -34,12 +35,13 @@ nothing_asked true None e = refl
 nothing_asked true (Some d) e = no_object d e
 nothing_asked false o e = refl
 
--- a line that is an object asks what the object asks, or is malformed
+-- the request in a line with a JSON object is the request that this object is read as; if it isn't a request, the line
+-- is malformed
 pub request_in-object : (line : List ℕ) (ms : Members) → object_in line ≡ Some ms → request_in line ≡ ok_or (request (object ms)) fault.Malformed
 unfolding value_in object_in
 request_in-object line ms e = request_in-some line (object ms) (object_asks (is_utf8 line) (read line) ms e)
 
--- a line that is no object is malformed
+-- a line that isn't an object is malformed
 pub request_in-other : (line : List ℕ) → object_in line ≡ None → request_in line ≡ Err fault.Malformed
 unfolding request_in value_in object_in
 request_in-other line e = ap (λ o. ok_or o fault.Malformed) (nothing_asked (is_utf8 line) (read line) e)

@@ -1,4 +1,4 @@
--- In the text of a value no byte is a newline.
+-- The text of a JSON value contains no newline.
 use Rattle.std.proofs.lemmas.{Bool.Decides.nat_tests, Bool.and_parts, Bool.cases_lt, Bool.cases_eq, List.Elements.All-nil, List.Elements.All-cons, List.Elements.All-append, Fmt.decimal_by_steps}
 use Rattle.std.proofs.Common.{◌≡◌, ◌≢◌, ℕ, zero, suc, ◌+◌, ◌%◌, ◌^◌, ◌<◌, ◌==◌, ◌&&◌, not, List, [], ◌∷◌, ◌++◌, Bool, true, false, decimal, inl, inr, refl, subst, arith}
 use Rattle.std.specs.List.{All}
@@ -31,7 +31,7 @@ tested : (xs : List ℕ) → test xs ≡ true → IsOneLine xs
 tested [] e = none
 tested (x ∷ xs) e = let p = and_parts _ _ e in then x xs (not_ten x p.0) (tested xs p.1)
 
--- the escapes of the bytes below n
+-- whether the escapes of all bytes below n contain no newline
 abbrev escapes_below : ℕ → Bool
 escapes_below zero = true
 escapes_below (suc n) = test (escape_byte n) && escapes_below n

@@ -1,4 +1,5 @@
--- What is read of the text of a value: integers, words, lists and objects.
+-- Values that are read back: if their text is read, the result is the same value. These are integers, strings, arrays
+-- and objects.
 use Rattle.std.proofs.{lemmas.Bool.Decides.nat_tests, lemmas.Bool.and_parts, lemmas.Bool.and_from, lemmas.List.Elements.All-head, lemmas.List.Elements.All-tail, Math.Nat.max-le}
 use Rattle.std.proofs.Common.{◌≡◌, ℕ, suc, ◌<◌, ◌≤◌, ◌^◌, List, [], ◌∷◌, Bool, true, ◌&&◌, Some, All, IsUtf8, map, refl, arith}
 use Rattle.std.specs.List.{AllByRecursion}
@@ -10,7 +11,7 @@ use Rattle.mml_codec.specs.{Objects.items_with, Objects.members_with, Objects.ar
 use Rattle.mml_codec.proofs.CompactTextLemmas.{HasText, ItemsHaveText, MembersHaveText, read-compact_text}
 use Rattle.json.specs.Tree as tree
 
--- its text is read as the value again, in which arrays and objects nest n deep at most
+-- the value is read back, and its arrays and objects nest at most n deep
 pub record IsReadable (n : ℕ) (d : Data) : Type 0 where
   pub text : HasText d
   pub back : of_json (outline d) ≡ Some d
@@ -50,7 +51,7 @@ items_shallow : (n : ℕ) (ds : List Data) → AllByRecursion (IsReadable n) ds 
 items_shallow n [] h = omega arith
 items_shallow n (d ∷ ds) h = max-le h.0.shallow (items_shallow n ds h.1)
 
--- an array of values that are read back is read back, nested one deeper
+-- if the items of an array are read back and nest at most n deep, the array is read back and nests at most n + 1 deep
 pub items_read : (n : ℕ) (ds : List Data) → AllByRecursion (IsReadable n) ds → IsReadable (suc n) (array (items_with ds))
 items_read n ds h = grind (arith, nat_tests, items_text, items_back, items_shallow)
 
@@ -59,14 +60,14 @@ each_read : {A : Type 0} (n : ℕ) (P : A → Type 0) (f : A → Data) → ((x :
 each_read n P f each [] h = tt
 each_read n P f each (x ∷ xs) h = (each x (All-head P x xs h), each_read n P f each xs (All-tail P x xs h))
 
--- an array of what is made of each element is read back, nested one deeper
+-- if each value `f x` is read back and nests at most n deep, their array is read back and nests at most n + 1 deep
 pub array_read : {A : Type 0} (n : ℕ) (P : A → Type 0) (f : A → Data) → ((x : A) → P x → IsReadable n (f x)) → (xs : List A) → All P xs
     → IsReadable (suc n) (array_of f xs)
 array_read n P f each xs h = items_read n (map f xs) (each_read n P f each xs h)
 
 -- ---- objects
 
--- the members as a reader puts them in, one after another
+-- the members `found`, after the members of the list were put into them one after another
 abbrev pub put_in_turn : List (List ℕ × Data) → Members → Members
 put_in_turn [] found = found
 put_in_turn (m ∷ ms) found = put_in_turn ms (put m.0 m.1 found)
@@ -92,22 +93,23 @@ members_shallow : (n : ℕ) (ms : List (List ℕ × Data)) → AreReadable n ms 
 members_shallow n [] h = omega arith
 members_shallow n (m ∷ ms) h = max-le h.0.shallow (members_shallow n ms h.1)
 
--- the keys rise, each once, and are ASCII
+-- the keys are in rising byte order, each occurs once, and all are ASCII
 pub record IsKeyed (ms : List (List ℕ × Data)) : Type 0 where
   pub rising : put_in_turn ms no_members ≡ members_with ms
   pub ascii : has_ascii_keys ms ≡ true
 
--- an object with rising keys and values that are read back is read back, nested one deeper
+-- if the keys of an object rise, and its values are read back and nest at most n deep, it is read back and nests at
+-- most n + 1 deep
 pub object_read : (n : ℕ) (ms : List (List ℕ × Data)) → IsKeyed ms → AreReadable n ms → IsReadable (suc n) (object_with ms)
 object_read n ms keyed h = grind (arith, nat_tests, members_text, members_back, members_shallow)
 
--- the text is read as the value
+-- the text of a value that is read back is read as this value, if it nests at most `max_depth` deep
 pub read_value : (n : ℕ) (d : Data) → n ≤ max_depth → IsReadable n d → read (compact_text d) ≡ Some d
 read_value n d few h = read-compact_text d h.text (omega (arith, h.shallow, few)) h.back
 
 -- ---- keys in byte order
 
--- the keys in an array rise if they rise in what is made of each element
+-- the keys in an array rise if they rise in each of its values `f x`
 pub items_rise : {A : Type 0} (f : A → Data) → ((x : A) → has_rising_keys (f x) ≡ true) → (xs : List A) → items_have_rising_keys (items_with (map f xs)) ≡ true
 items_rise f each [] = refl
 items_rise f each (x ∷ xs) = and_from _ _ (each x) (items_rise f each xs)

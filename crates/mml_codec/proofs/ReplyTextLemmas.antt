@@ -1,4 +1,4 @@
--- The text of a reply is that of its JSON value: of each fact, and so of all fields.
+-- The text of a reply is the text of its JSON value. A fact is the value of a key in a reply.
 use Rattle.std.proofs.lemmas.{Bool.Decides.nat_tests, Bool.and_from, List.Elements.All-head, List.Elements.All-tail}
 use Rattle.std.proofs.Common.{◌≡◌, ◌≢◌, ℕ, ◌≤◌, List, [], ◌∷◌, ◌++◌, Bool, true, false, Option, None, Some, All, map, length, codes, refl, sym, ap, ◌∙◌, arith, append_assoc}
 use Rattle.std.specs.{Prelude.flat_map, List.AllByRecursion}
@@ -16,12 +16,12 @@ use Rattle.mml_codec.specs.Facts.{fields_after, node_value, pointer_value, kind_
 use Rattle.mml_rules.specs.declared.rule.Kind.TheVariants as kind
 use Rattle.mml_codec.specs.Facts as fact
 
--- ---- words of which no byte is escaped
+-- ---- words without escapes
 
 bare_byte : (b : ℕ) → 32 ≤ b → b ≤ 122 → b ≢ 34 → b ≢ 92 → is_bare_byte b ≡ true
 bare_byte b low high quote slash = grind (arith, nat_tests)
 
--- no byte of a name is escaped
+-- a name has no byte that is escaped
 pub name_bare : (bs : List ℕ) → All IsNameByte bs → is_bare bs ≡ true
 name_bare [] all = refl
 name_bare (b ∷ bs) all = grind (arith, nat_tests, All-head, bare_byte, and_from, All-tail, name_bare bs (All-tail IsNameByte b bs all))
@@ -85,12 +85,12 @@ list_is g f same xs rest = ap (λ t. 91 ∷ t) (items_then g f same xs rest rest
 
 -- ---- a fact, and all fields
 
--- no byte of a fact that is a word is escaped
+-- if the fact is a word, none of its bytes is escaped
 abbrev pub IsPlainFact : Fact → Type 0
 IsPlainFact (fact.word w) = is_bare w ≡ true
 IsPlainFact _ = Unit {0}
 
--- the keys, too
+-- no byte of a key or of a word is escaped
 abbrev pub ArePlain : Fields → Type 0
 ArePlain fs = AllByRecursion (λ f. (is_bare f.0 ≡ true) × IsPlainFact f.1) fs
 
@@ -111,7 +111,7 @@ fact_is ids (fact.privileged ns) rest h = list_is (privileged_text ids) (privile
 fact_is ids (fact.open_links ls) rest h = list_is (open_link_text ids) (open_link_value ids) (open_link_is ids) ls rest
 fact_is ids _ rest h = refl
 
--- the text of plain fields is that of their members in JSON
+-- if no byte of fields is escaped, they have the same text as their JSON members
 pub fields_are : (ids : List ℕ) (later : Bool) (fs : Fields) → ArePlain fs
     → fields_after ids (comma_if later) fs ≡ members_text later (members_with (keys_of ids fs))
 fields_are ids later [] h = refl

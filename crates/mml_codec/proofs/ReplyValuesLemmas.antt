@@ -1,4 +1,4 @@
--- The text of a reply is read as the value that it spells, and is one line.
+-- The text of a reply is read as the reply's JSON value, and is one line. A fact is the value of a key in a reply.
 use Rattle.std.proofs.lemmas.Bool.{Decides.nat_tests, and_parts, and_from}
 use Rattle.std.proofs.Common.{◌≡◌, ◌≢◌, ℕ, ◌<◌, List, [], ◌∷◌, Bool, true, false, ◌&&◌, Option, None, Some, IfSome, All, codes, length, nat_lt, refl, ap, ◌∙◌, arith, ltb-true, lit≤, slice_index}
 use Rattle.std.proofs.Common.{zero-add}
@@ -41,14 +41,14 @@ kind_or_null_read : (n : ℕ) (k : Option Kind) → IsReadable n (kind_or_null_v
 kind_or_null_read n None = null_read n
 kind_or_null_read n (Some k) = kind_read n k
 
--- the ranks of a set's nodes
+-- the numbers of the range from 0 to n - 1 are below n
 below : (n : ℕ) → All (λ i. i < n) (range_with_len 0 n)
 below n = grind (arith, nat_tests, All-from_get_or, length-range_with_len, get_or-range_with_len, zero-add)
 
 members_below : (n : ℕ) (s : FinSet nat_cmp) → All (λ i. i < n) (members n s)
 members_below n s = All-filter (set.contains s) (λ i. i < n) (range_with_len 0 n) (below n)
 
--- it is about nodes of the lab
+-- the fact names only nodes of the lab; a clause is below 128, and no byte of a word is escaped
 abbrev IsFactOf : List ℕ → Fact → Type 0
 IsFactOf ids (fact.clause n) = nat_lt n 128 ≡ true
 IsFactOf ids (fact.word w) = is_bare w ≡ true
@@ -126,7 +126,7 @@ abbrev are_in_order : Fields → Bool
 are_in_order [] = true
 are_in_order (f ∷ fs) = comes_before f.0 fs && are_in_order fs
 
--- they rise, each once, and no byte of them is escaped
+-- the keys are in rising byte order, each occurs once, and none of their bytes is escaped
 record HasKeys (ids : List ℕ) (fs : Fields) : Type 0 where
   keyed : IsKeyed (keys_of ids fs)
   plain : has_plain_keys fs ≡ true
@@ -168,7 +168,7 @@ fields_rise ids (f ∷ fs) h =
     let parts = and_parts _ _ h in
     and_from _ _ (same_first ids f.0 fs parts.0) (and_from _ _ (fact_rises ids f.1) (fields_rise ids fs parts.1))
 
--- ---- the table
+-- ---- the keys of each reply
 
 deny_keys : (ids : List ℕ) (o : Option ℕ) (c : ℕ) (name said : List ℕ) → HasKeys ids (number_first o (told_fields c name said))
 deny_keys ids None c name said = record { keyed = record { rising = refl; ascii = refl }; plain = refl; order = refl }
@@ -178,7 +178,7 @@ has_keys : (ids : List ℕ) (r : RosterValue) (q : Reply) → HasKeys ids (field
 has_keys ids r (replies.Deny d) = deny_keys ids (current_number d) (clause_of d) (denials.denial_name d) (text_of d)
 has_keys ids r _ = record { keyed = record { rising = refl; ascii = refl }; plain = refl; order = refl }
 
--- the clause, the name and the text of a denial
+-- whether the clause of a denial is below 128, and no byte of its name and its text is escaped
 abbrev has_plain_words : Denial → Bool
 has_plain_words d = nat_lt (clause_of d) 128 && (is_bare (denials.denial_name d) && is_bare (text_of d))
 
@@ -217,6 +217,6 @@ module _ (ids : List ℕ) (r : RosterValue) (roster : IsRoster r) where
   pub read-reply : (table : IsTable ids) (q : Reply) → IsAbout ids r q → AreWritableCounts r q → read (text ids r q) ≡ Some (reply_value ids r q)
   read-reply table q about h = ap read (reply_text q about) ∙ read_value 3 (reply_value ids r q) (lit≤ tt) (reply_read table q about h)
 
--- the keys of a reply's value rise, and so do those in all that it holds
+-- the keys rise in a reply's value, and in each value inside it
 pub keys_rise : (ids : List ℕ) (r : RosterValue) (q : Reply) → has_rising_keys (reply_value ids r q) ≡ true
 keys_rise ids r q = fields_rise ids (fields_of r q) (has_keys ids r q).order

@@ -1,4 +1,4 @@
--- What is asked: a value asks a request exactly if it has its fields.
+-- A JSON value is read as a request exactly if it has the fields of this request.
 use Rattle.std.proofs.lemmas.{Bool.Decides.nat_tests, Option.same_Some, Option.option_and_then_some, Slice.Eq.bytes_eq-Decides}
 use Rattle.std.proofs.Common.{◌≡◌, ℕ, List, [], ◌∷◌, Bool, true, false, cond, codes, bytes_eq, Option, None, Some, option_map, refl, ap, ◌∙◌, subst, arith}
 use Rattle.serde_json.specs.{Data.Data, Data.number, Find.get, Find.as_number, Find.as_u64}
@@ -26,7 +26,7 @@ register_held : (o : Option Data) (n : ℕ) → (o >>= λ v. as_number v >>= as_
 register_held (Some (number k)) n h = ap (option_map Some) h
 register_held _ n h = absurd cc
 
--- ---- what asks a request has its fields
+-- ---- a value that is read as a request has the request's fields
 
 abbrev Asks : Data → Request → Type 0
 Asks d r = HasEach d (fields_of r)
@@ -89,7 +89,7 @@ asked_there d r h = option_and_then_some _ (text_at (codes "do") d) r h (λ w at
     which (bytes_eq w verb.report) _ _ _ by (λ is q. only d (requests.Do command.Report) r q (word _ is, tt)) (λ by.
     absurd cc))))))))))))
 
--- ---- what has the fields of a request asks it
+-- ---- a value that has the fields of a request is read as this request
 
 rule_asked : (d : Data) (rule : Asked) → HasRule d rule → asked_at d ≡ Some rule
 unfolding asked_at

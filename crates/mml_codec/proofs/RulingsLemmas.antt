@@ -1,4 +1,5 @@
--- The reply to a grant names its place, and is short.
+-- The reply to an event names the event's place, which is its number in the list of events, and is short. A reply is
+-- short if it is neither a look nor a report.
 use Rattle.std.proofs.Common.{◌≡◌, ℕ, true, Some, refl}
 use Rattle.mml_board.specs.declared.done.Done.{Done}
 use Rattle.mml_codec.specs.{Replies.place_in, Replies.is_short, Rulings.reply_of_done}

@@ -1,4 +1,4 @@
--- The text by which a request is written.
+-- The text of a request.
 use Rattle.std.specs.Prelude.{ℕ, List}
 use Rattle.serde_json.specs.Written.{compact_text}
 use Rattle.mml_codec.specs.{declared.request.Request.Request, Fields.object_of, Fields.AreWritable, Requests.fields_of}

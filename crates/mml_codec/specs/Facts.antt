@@ -1,4 +1,5 @@
--- The facts in replies: the text of each, and the JSON value that the text spells.
+-- The facts (values of keys) in replies: the text of each, and the JSON value that has this text. A node is privileged
+-- if some rule is enabled there.
 use Rattle.std.specs.Prelude.{ℕ, ◌<◌, ◌^◌, List, [], ◌∷◌, ◌++◌, length, map, filter, flat_map, Bool, Option, None, Some, codes, decimal, slice_index}
 use Rattle.std.specs.{List.concat, List.range_with_len, List.AllByRecursion, Ordering.nat_cmp, FinSet.FinSet}
 use Rattle.serde_json.specs.Data.{Data, null, boolean, number, unsigned, string, array}
@@ -9,8 +10,8 @@ use Rattle.mml_stable.specs.declared.open_link.OpenLink.{OpenLink}
 use Rattle.mml_codec.specs.Objects.{items_with, array_of, object_with}
 use Rattle.std.specs.FinSet as set
 
--- the value of a key in a reply; the number of a clause is apart from counts, since it is always small; the nodes that
--- moved are a set, and are written in rising order
+-- the value of a key in a reply. A clause is a condition under which a request is granted; its number isn't a count,
+-- since it is always small. The nodes that moved are a set, and are written in rising order
 pub data Fact : Type 0 where
   count : ℕ → Fact
   clause : ℕ → Fact
@@ -60,20 +61,21 @@ abbrev pub separated : List (List ℕ) → List ℕ
 separated [] = []
 separated (x ∷ xs) = x ++ flat_map (λ t. 44 ∷ t) xs
 
--- the object for a node that is linked to the one that is looked at, as text
+-- the text of the object for a neighbour of the node that is looked at
 unfoldable pub near_text : List ℕ → ℕ × Regs → List ℕ
 near_text ids n =
     concat (codes "{\"m\":" ∷ truth_text n.1.m ∷ codes ",\"node\":" ∷ node_text ids n.0 ∷ codes ",\"p\":" ∷ pointer_text ids n.1.p ∷ codes "}" ∷ [])
 
--- the array for two nodes that point at each other, as text
+-- the text of the array for two nodes that point at each other
 unfoldable pub pair_text : List ℕ → ℕ × ℕ → List ℕ
 pair_text ids p = concat (codes "[" ∷ node_text ids p.0 ∷ codes "," ∷ node_text ids p.1 ∷ codes "]" ∷ [])
 
--- the array for a privileged node with its rule, as text
+-- the text of the array for a privileged node and its rule
 unfoldable pub privileged_text : List ℕ → ℕ × Kind → List ℕ
 privileged_text ids n = concat (codes "[" ∷ node_text ids n.0 ∷ codes "," ∷ kind_text n.1 ∷ codes "]" ∷ [])
 
--- the array for an open link with its witness and the rule there, as text
+-- the text of the array for an open link (between two nodes that aren't in a pair), its witness (a privileged node,
+-- which shows that the run isn't over), and the rule that is enabled at the witness
 unfoldable pub open_link_text : List ℕ → OpenLink → List ℕ
 open_link_text ids l =
     concat (codes "[" ∷ node_text ids l.a ∷ codes "," ∷ node_text ids l.b ∷ codes "," ∷ node_text ids l.node ∷ codes "," ∷ kind_text l.kind ∷ codes "]" ∷ [])
@@ -82,7 +84,7 @@ open_link_text ids l =
 abbrev pub list_then : List (List ℕ) → List ℕ → List ℕ
 list_then texts rest = codes "[" ++ (separated texts ++ (codes "]" ++ rest))
 
--- the text of a value, and then the rest; no byte of a word is escaped
+-- the text of a value, and then the rest; words need no escapes
 abbrev pub fact_then : List ℕ → Fact → List ℕ → List ℕ
 fact_then ids (count n) rest = decimal n ++ rest
 fact_then ids (clause n) rest = decimal n ++ rest
@@ -99,7 +101,7 @@ fact_then ids (pairs ps) rest = list_then (map (pair_text ids) ps) rest
 fact_then ids (privileged ns) rest = list_then (map (privileged_text ids) ns) rest
 fact_then ids (open_links ls) rest = list_then (map (open_link_text ids) ls) rest
 
--- fields and the closing brace: the text `first` stands before the first field, and a comma before each other one
+-- fields and the closing brace; `first` comes before the first field, and a comma before each other field
 abbrev pub fields_after : List ℕ → List ℕ → Fields → List ℕ
 fields_after ids first [] = codes "}"
 fields_after ids first (f ∷ fs) = first ++ (codes "\"" ++ (f.0 ++ (codes "\":" ++ fact_then ids f.1 (fields_after ids (codes ",") fs))))
@@ -128,11 +130,11 @@ abbrev pub kind_or_null_value : Option Kind → Data
 kind_or_null_value None = null
 kind_or_null_value (Some k) = kind_value k
 
--- the keys and values for a node that is linked to the one that is looked at
+-- the keys and values for a neighbour of the node that is looked at
 abbrev pub near_keys : List ℕ → ℕ × Regs → List (List ℕ × Data)
 near_keys ids n = (codes "m", boolean n.1.m) ∷ (codes "node", node_value ids n.0) ∷ (codes "p", pointer_value ids n.1.p) ∷ []
 
--- the object for a node that is linked to the one that is looked at
+-- the object for a neighbour of the node that is looked at
 abbrev pub near_value : List ℕ → ℕ × Regs → Data
 near_value ids n = object_with (near_keys ids n)
 
@@ -140,11 +142,11 @@ near_value ids n = object_with (near_keys ids n)
 abbrev pub pair_value : List ℕ → ℕ × ℕ → Data
 pair_value ids p = array (items_with (node_value ids p.0 ∷ node_value ids p.1 ∷ []))
 
--- the array for a privileged node with its rule
+-- the array for a privileged node and its rule
 abbrev pub privileged_value : List ℕ → ℕ × Kind → Data
 privileged_value ids n = array (items_with (node_value ids n.0 ∷ kind_value n.1 ∷ []))
 
--- the array for an open link with its witness and the rule there
+-- the array for an open link, its witness, and the rule that is enabled there
 abbrev pub open_link_value : List ℕ → OpenLink → Data
 open_link_value ids l = array (items_with (node_value ids l.a ∷ node_value ids l.b ∷ node_value ids l.node ∷ kind_value l.kind ∷ []))
 
@@ -165,11 +167,11 @@ fact_value ids (pairs ps) = array_of (pair_value ids) ps
 fact_value ids (privileged ns) = array_of (privileged_value ids) ns
 fact_value ids (open_links ls) = array_of (open_link_value ids) ls
 
--- the keys with their values
+-- the JSON members: each key with the value of its fact
 abbrev pub keys_of : List ℕ → Fields → List (List ℕ × Data)
 keys_of ids fs = map (λ f. (f.0, fact_value ids f.1)) fs
 
--- a count fits 64 bits; about any other value nothing is said
+-- the value fits 64 bits if it is a count; each other value is allowed
 abbrev pub FitsCount : Fact → Type 0
 FitsCount (count n) = n < 2 ^ 64
 FitsCount _ = Unit {0}

@@ -1,10 +1,10 @@
--- Flat objects: the value of each key.
+-- Flat objects, whose values are no arrays or objects.
 use Rattle.std.specs.{Prelude.◌≡◌, Prelude.ℕ, Prelude.◌<◌, Prelude.◌^◌, Prelude.List, Prelude.map, Prelude.Bool, Prelude.None, Prelude.Some, Prelude.IsUtf8, List.AllByRecursion}
 use Rattle.mml_plain.specs.LookUps.{text_at, number_at, truth_at, register_at}
 use Rattle.mml_codec.specs.Objects.{members_with, object_with}
 use Rattle.serde_json.specs.Data as value
 
--- a number, a word that the protocol fixes, a text that it doesn't, a truth value, or null
+-- the value of a key: a number, a word that the protocol fixes, any other text, a truth value, or null
 pub data Field : Type 0 where
   number : ℕ → Field
   word : List ℕ → Field
@@ -44,7 +44,7 @@ IsWritableField null = Unit {0}
 abbrev pub AreWritable : List (List ℕ × Field) → Type 0
 AreWritable fs = AllByRecursion (λ f. IsWritableField f.1) fs
 
--- the value has the field: this is what the key names there
+-- the JSON value is an object in which the key has the field's value
 abbrev pub Has : value.Data → List ℕ × Field → Type 0
 Has d (key, number n) = number_at key d ≡ Some n
 Has d (key, word w) = text_at key d ≡ Some w
@@ -52,6 +52,6 @@ Has d (key, text s) = text_at key d ≡ Some s
 Has d (key, truth b) = truth_at key d ≡ Some b
 Has d (key, null) = register_at key d ≡ Some None
 
--- the value has each of the fields
+-- the JSON value has each of the fields
 abbrev pub HasEach : value.Data → List (List ℕ × Field) → Type 0
 HasEach d fs = AllByRecursion (Has d) fs

@@ -1,4 +1,5 @@
--- The participant that a connection is known as, and what it may ask.
+-- The participant that a connection is known as, and the replies that depend only on this. A participant is known on a
+-- connection from a granted hello to the bye.
 use Rattle.std.specs.Prelude.{ℕ, List, Option, None, Some, IfSome}
 use Rattle.mml_lab.specs.{declared.who.Who.Who, Rosters.RosterValue, Rosters.principal, Rosters.IsPrincipal}
 use Rattle.mml_board.specs.declared.denial.Denial.{Denial}
@@ -11,7 +12,7 @@ use Rattle.mml_codec.specs.declared.reply.Refused.TheVariants as refused
 use Rattle.mml_codec.specs.declared.reply.Reply.TheVariants as replies
 use Rattle.mml_codec.specs.declared.greeting.Greeted.TheVariants as greeted
 
--- how a line from which no request was read is refused
+-- the refusal of a line from which no request was read
 abbrev pub refusal_of : LineFault → Refused
 refusal_of fault.Malformed = refused.Malformed
 refusal_of fault.Memory = refused.Memory
@@ -20,7 +21,7 @@ refusal_of fault.Memory = refused.Memory
 abbrev pub denied : Denial → Option Who → Greeting
 denied d known = Answered (replies.Deny d) known
 
--- the result of a hello, by the participant who has its name and key; a name and key of nobody are denied
+-- the result of a hello while nobody is known: granted if a participant has its name and key, and otherwise denied
 abbrev pub admitted : Option Who → Greeting
 admitted None = denied denial.Unknown None
 admitted (Some who) = Answered (replies.Hello who) (Some who)
@@ -33,12 +34,13 @@ greeting roster known requests.Bye = Answered replies.Bye None
 greeting roster None (requests.Do c) = denied denial.NotGreeted None
 greeting roster (Some who) (requests.Do c) = LeftToJudge who c
 
--- what a request leads to, if its reply is kept apart; a command that is left to judge has no reply yet
+-- the result of a request, from a result without its reply and this reply; a command that is left to judge has no reply
+-- yet
 abbrev pub greeting_with : Greeted → Reply → Greeting
 greeting_with (greeted.Known known) r = Answered r known
 greeting_with (greeted.LeftToJudge who c) r = LeftToJudge who c
 
--- who is named, and who is known from then on, takes part in the lab
+-- the participant that a reply names, and the one that is known after it, take part in the lab
 abbrev pub TakesPart : RosterValue → Greeting → Type 0
 TakesPart roster (Answered r known) = ((ids : List ℕ) → IsAbout ids roster r) × IfSome known (IsPrincipal roster)
 TakesPart roster (LeftToJudge who c) = IsPrincipal roster who

@@ -1,4 +1,4 @@
--- JSON arrays and objects of lists.
+-- JSON arrays and objects that are made from lists.
 use Rattle.std.specs.Prelude.{ℕ, List, [], ◌∷◌, map}
 use Rattle.serde_json.specs.Data.{Data, array, object, Items, no_items, item, Members, no_members, member}
 
@@ -12,7 +12,7 @@ abbrev pub members_with : List (List ℕ × Data) → Members
 members_with [] = no_members
 members_with (m ∷ ms) = member m.0 m.1 (members_with ms)
 
--- the array of a list's items, each made a value
+-- the array of the values `f x`, one for each x of the list
 abbrev pub array_of : {A : Type 0} → (A → Data) → List A → Data
 array_of f xs = array (items_with (map f xs))
 

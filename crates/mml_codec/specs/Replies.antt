@@ -1,4 +1,6 @@
--- The replies: the keys of each, and their facts, from which the text and the value are made.
+-- The keys of each reply and their facts (values). The text of a reply and its JSON value are made from these. A clause
+-- is a condition under which a request is granted. The roster has the participants of the lab, and the owners of each
+-- node.
 use Rattle.std.specs.Prelude.{◌≡◌, ◌⊎◌, ℕ, ◌<◌, List, [], ◌∷◌, ◌++◌, length, Bool, true, false, Option, None, Some, codes}
 use Rattle.mml_board.specs.{declared.done.Done.Done, declared.denial.Denial.Denial, Denials.clause_of, Denials.text_of}
 use Rattle.mml_lab.specs.Rosters.{RosterValue, name_of, IsPrincipal}
@@ -13,7 +15,7 @@ use Rattle.mml_codec.specs.declared.reply.Refused.TheVariants as refused
 use Rattle.mml_codec.specs.declared.reply.Reply.TheVariants as replies
 use Rattle.mml_codec.specs.Facts as fact
 
--- ---- the table: each key that comes, and its fact
+-- ---- the keys of each reply, with their facts
 
 -- the key `ok` with the word of the granted request
 abbrev pub ok : List ℕ → List ℕ × Fact
@@ -23,16 +25,16 @@ ok word = (codes "ok", fact.word word)
 abbrev pub at_key : ℕ → List ℕ × Fact
 at_key at = (codes "at", fact.count at)
 
--- the key with the place of an event
+-- the key with the place of an event, its number in the list of events
 abbrev pub place_key : ℕ → List ℕ × Fact
 place_key place = (codes "place", fact.count place)
 
--- a link or a cut, by its word
+-- the reply to a link or a cut; `word` is the value of its key `ok`
 abbrev pub ends_fields : List ℕ → ℕ → ℕ → ℕ → ℕ → ℕ → Fields
 ends_fields word at place a b dropped =
     (codes "a", fact.node a) ∷ at_key at ∷ (codes "b", fact.node b) ∷ (codes "dropped", fact.count dropped) ∷ ok word ∷ place_key place ∷ []
 
--- the effect of an event, with the number and the place after it
+-- the reply to an event; `at` is the number of the configuration after it, and `place` is the event's place
 abbrev pub done_fields : ℕ → ℕ → Done → Fields
 done_fields at place (done.Move node kind) =
     at_key at ∷ (codes "node", fact.node node) ∷ ok verb.move.told ∷ place_key place ∷ (codes "rule", fact.rule kind) ∷ []
@@ -43,7 +45,7 @@ done_fields at place (done.Link a b dropped) = ends_fields verb.link.told at pla
 done_fields at place (done.Cut a b dropped) = ends_fields verb.cut.told at place a b dropped
 done_fields at place (done.Release node) = at_key at ∷ (codes "node", fact.node node) ∷ ok verb.release.told ∷ place_key place ∷ []
 
--- the reply to a hello names who is known from then on
+-- the reply to a hello, with the name of the participant who is known from then on
 abbrev pub hello_fields : List ℕ → Fields
 hello_fields name = ok verb.hello ∷ (codes "who", fact.word name) ∷ []
 
@@ -110,7 +112,7 @@ fields_of roster (replies.Report r) = report_fields r
 fields_of roster (replies.Deny d) = deny_fields d
 fields_of roster (replies.Refuse r) = refuse_fields r
 
--- ---- what is made of it
+-- ---- the text and the line of a reply
 
 -- the text of a reply, in a lab with these identifiers and this roster
 abbrev pub text : List ℕ → RosterValue → Reply → List ℕ
@@ -120,22 +122,24 @@ text ids roster r = object_text ids (fields_of roster r)
 abbrev pub reply_line : List ℕ → RosterValue → Reply → List ℕ
 reply_line ids roster r = text ids roster r ++ 10 ∷ []
 
--- the reply has no list but a set of nodes, so its line needs no more than a fixed room: not a look and not a report
+-- whether the reply is neither a look nor a report; then it has no list except a set of nodes, so the length of its
+-- line is limited
 abbrev pub is_short : Reply → Bool
 is_short (replies.Look l) = false
 is_short (replies.Report r) = false
 is_short _ = true
 
--- the reply that is sent is the given one, or the refusal for memory instead of one that isn't short
+-- the second reply is sent in place of the first: it is the same reply or, if the first isn't short, the refusal that
+-- memory ran out
 abbrev pub TellsFor : Reply → Reply → Type 0
 TellsFor reply told = (told ≡ reply) ⊎ ((is_short reply ≡ false) × (told ≡ replies.Refuse refused.Memory))
 
--- none or one, as a list
+-- an optional number as a list of at most one element
 abbrev pub as_list : Option ℕ → List ℕ
 as_list None = []
 as_list (Some n) = n ∷ []
 
--- the place that a reply names, if it names one: that of a grant's event
+-- the place of the event that the reply is about, or None if it is about no event
 abbrev pub place_in : Reply → Option ℕ
 place_in (replies.Move at place node k) = Some place
 place_in (replies.Close at place moved) = Some place
@@ -145,7 +149,7 @@ place_in (replies.Cut at place a b dropped) = Some place
 place_in (replies.Release at place node) = Some place
 place_in _ = None
 
--- the reply is about nodes and principals of the lab
+-- the reply names only nodes and participants of the lab
 abbrev pub IsAbout : List ℕ → RosterValue → Reply → Type 0
 IsAbout ids roster (replies.Hello who) = IsPrincipal roster who
 IsAbout ids roster (replies.See s) = IsSeen ids s

@@ -1,4 +1,4 @@
--- The requests: what each has by which key, and what a JSON value asks.
+-- The keys and values of each request, and the request that a JSON value is read as.
 use Rattle.std.specs.Prelude.{codes, List, [], ◌∷◌, ℕ, Option, Some, None, option_map, bytes_eq, if◌then◌else◌}
 use Rattle.serde_json.specs.Data.{Data}
 use Rattle.mml_board.specs.Vocabulary.{rule_name}
@@ -11,9 +11,9 @@ use Rattle.mml_policy.specs.declared.command.Command.TheVariants as command
 use Rattle.mml_codec.specs.declared.request.Request.TheVariants as requests
 pub use Rattle.mml_plain.specs.LookUps.{◌>>=◌, text_at, number_at, truth_at, register_at}
 
--- ---- the table: each word with its keys, in byte order
+-- ---- the word and the keys of each request, in byte order
 
--- the word by which a rule is asked for
+-- the word for a rule in the request for a move
 abbrev pub rule_word : Asked → List ℕ
 rule_word asked.Update = rule_name kind.Update
 rule_word (asked.Marriage id) = rule_name kind.Marriage
@@ -27,7 +27,7 @@ partner_fields (asked.Marriage id) = (codes "with", number id) ∷ []
 partner_fields asked.Seduction = []
 partner_fields asked.Abandonment = []
 
--- what a key holds for a register: the identifier that it is to point at, or null
+-- the value of a key for the register p: the identifier of the node to point at, or null
 abbrev pub register : Option ℕ → Field
 register None = null
 register (Some n) = number n
@@ -36,7 +36,7 @@ register (Some n) = number n
 abbrev pub asks : List ℕ → List ℕ × Field
 asks w = (codes "do", word w)
 
--- the word and the named keys of a command, keys in byte order
+-- the word of a command and its other keys, in byte order
 abbrev pub command_fields : Command → List (List ℕ × Field)
 command_fields (command.See node) = asks verb.see ∷ (codes "node", number node) ∷ []
 command_fields (command.Look node) = asks verb.look ∷ (codes "node", number node) ∷ []
@@ -50,15 +50,15 @@ command_fields (command.Cut a b) = (codes "a", number a) ∷ (codes "b", number 
 command_fields (command.Release node) = asks verb.release.asked ∷ (codes "node", number node) ∷ []
 command_fields command.Report = asks verb.report ∷ []
 
--- the word and the named keys of a request
+-- the word of a request and its other keys, in byte order
 abbrev pub fields_of : Request → List (List ℕ × Field)
 fields_of (requests.Hello name key) = asks verb.hello ∷ (codes "key", text key) ∷ (codes "name", text name) ∷ []
 fields_of requests.Bye = asks verb.bye ∷ []
 fields_of (requests.Do c) = command_fields c
 
--- ---- how a value is read: it asks a request exactly if it has each field of it, as a law says
+-- ---- the request that a value is read as
 
--- a rule by its word, if it is that of one of the four, and for a marriage the partner
+-- the rule with this word; None if no rule has it, or if the rule is a marriage and its partner is missing
 unfoldable pub asked_at : Data → Option Asked
 asked_at d = do
   w ← text_at (codes "rule") d
@@ -68,27 +68,27 @@ asked_at d = do
       else (if bytes_eq w (rule_name kind.Abandonment) then Some asked.Abandonment
       else None)))
 
--- a hello, if name and key are there
+-- a hello, or None if its name or its key is missing
 unfoldable pub hello_of : Data → Option Request
 hello_of d = do
   name ← text_at (codes "name") d
   key ← text_at (codes "key") d
   Some (requests.Hello name key)
 
--- the request for a command that names one node, if the node is there
+-- the request for a command that names one node, or None if the node is missing
 abbrev pub node_of : (ℕ → Command) → Data → Option Request
 node_of c d = do
   node ← number_at (codes "node") d
   Some (requests.Do (c node))
 
--- the request for a command that names two nodes, if both are there
+-- the request for a command that names two nodes, or None if one of them is missing
 abbrev pub ends_of : (ℕ → ℕ → Command) → Data → Option Request
 ends_of c d = do
   a ← number_at (codes "a") d
   b ← number_at (codes "b") d
   Some (requests.Do (c a b))
 
--- a move, if its node, the number of a configuration and its rule are there
+-- a move, or None if its node, its number of a configuration or its rule is missing
 unfoldable pub move_of : Data → Option Request
 move_of d = do
   node ← number_at (codes "node") d
@@ -96,7 +96,7 @@ move_of d = do
   rule ← asked_at d
   Some (requests.Do (command.Move node rule at))
 
--- a fault, if its node and both registers are there
+-- a fault, or None if its node or one of its registers is missing
 unfoldable pub fault_of : Data → Option Request
 fault_of d = do
   node ← number_at (codes "node") d
@@ -104,7 +104,8 @@ fault_of d = do
   m ← truth_at (codes "m") d
   Some (requests.Do (command.Fault node p m))
 
--- the request by its word and the keys that it needs, if these are there; other keys don't count
+-- the request with this word; None if no request has it, or if a key that the request needs is missing. Other keys are
+-- ignored
 unfoldable pub by_word : List ℕ → Data → Option Request
 by_word w d = if bytes_eq w verb.hello then hello_of d
     else (if bytes_eq w verb.bye then Some requests.Bye
@@ -119,6 +120,6 @@ by_word w d = if bytes_eq w verb.hello then hello_of d
     else (if bytes_eq w verb.report then Some (requests.Do command.Report)
     else None))))))))))
 
--- the request that a value is, if it is one
+-- the request that a value is read as, or None if it isn't a request
 unfoldable pub request : Data → Option Request
 request d = text_at (codes "do") d >>= λ w. by_word w d

@@ -1,4 +1,4 @@
-//! The rules of greeting: what a request leads to before the policy judges it.
+//! The rules of greeting: the result of a request before the policy judges it.
 //!
 //! An account is known on a connection from its granted hello to its bye.
 ghost use Rattle.std.specs.Prelude.{◌≡◌, IfSome};
@@ -10,7 +10,7 @@ use crate::request::Request;
 use mml_lab::{Roster, Who};
 use mml_policy::{Command, Denial};
 
-/// What a request on a connection leads to. By the rules of greeting, an account is known on a connection from its
+/// The result of a request on a connection. By the rules of greeting, an account is known on a connection from its
 /// granted hello to its bye, and only then is a command judged.
 #[derive(Debug, Drop)]
 pub enum Greeting {
@@ -20,7 +20,7 @@ pub enum Greeting {
     LeftToJudge { who: Who, command: Command },
 }
 
-/// What a request on a connection leads to, with the reply to it kept apart.
+/// The result of a request on a connection, without the reply, which is stored elsewhere.
 #[derive(Clone, Copy, Debug)]
 pub enum Greeted {
     /// The request is answered, and this is the participant that the connection is known as from then on.

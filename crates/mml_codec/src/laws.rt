@@ -1,6 +1,6 @@
 //! Laws of requests and replies. Each is the contract of a function that does nothing.
 //!
-//! A greeting is what a request gets before the policy judges anything: the reply to a hello or a bye, or to any
+//! A `Greeting` is the result of a request before the policy judges it: the reply to a hello or a bye, or to any
 //! request while nobody is known. A ruling is what the policy decides about a command. An account is known on a
 //! connection from its granted hello to its bye. The place of an event is its number in the list of events, from 1.
 ghost use Rattle.std.specs.Prelude.{◌≡◌, ◌≢◌, ◌↔◌, List, ℕ, All, Ok, Option, Some, None, true};

@@ -1,7 +1,7 @@
 //! Requests and replies as lines of JSON.
 //!
-//! A ruling is what the policy decides about a command. A greeting is what a request gets before that: the reply to a
-//! hello or a bye, or to any request while nobody is known.
+//! A ruling is what the policy decides about a command. A `Greeting` is the result of a request before that: the reply
+//! to a hello or a bye, or to any request while nobody is known.
 #![tactic(auto)]
 
 mod greeting;

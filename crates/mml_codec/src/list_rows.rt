@@ -1,4 +1,4 @@
-//! The tables of fields of a look and a report. The error `Memory` means that memory ran out.
+//! The fields of the replies to a look and a report. The error `Memory` means that memory ran out.
 ghost use Rattle.std.specs.Prelude.{◌≡◌, ◌≤◌, ◌<◌, ◌^◌, ◌++◌, length, OnOk, vec_capacity};
 ghost use Rattle.mml_policy.specs.About.{IsLookedAt};
 ghost use Rattle.mml_stable.specs.Reports.{NamesNodes};

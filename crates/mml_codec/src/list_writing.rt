@@ -1,4 +1,4 @@
-//! Tables with lists of nodes or links. The error `Memory` means that memory ran out.
+//! Fields of replies, some of which are lists of nodes or links. The error `Memory` means that memory ran out.
 ghost use Rattle.std.specs.Prelude.{codes, ◌≡◌, ◌≤◌, ◌+◌, ◌++◌, ℕ, List, [], All, length, map, OnOk, vec_capacity};
 ghost use Rattle.mml_codec.specs.Facts.{separated};
 ghost use Rattle.mml_codec.specs.declared.list_writing.TheConstants.{FRONT_ROOM};
@@ -12,7 +12,7 @@ const FRONT_ROOM: usize = 128;
 
 /// Fields of a reply, some of which are lists, up to the end of its object.
 pub(crate) trait Listing {
-    // The fields name nodes that have identifiers.
+    // The fields name only nodes that have identifiers.
     ghost names: { List ℕ → Self → Type 0 };
 
     // The text of the fields, in a lab with these identifiers, and of the end of the object. The second list is the

@@ -18,7 +18,7 @@ const ITEM_ROOM: usize = 64;
 
 /// One item of a list in a reply.
 pub(crate) trait Listed {
-    // The item names nodes that have identifiers.
+    // The item names only nodes that have identifiers.
     ghost names: { List ℕ → Self → Type 0 };
 
     // The item's text, in a lab with these identifiers.
@@ -33,7 +33,7 @@ pub(crate) trait Listed {
 }
 
 /// Appends the texts of the items to `out`, with commas between them and without brackets. If memory runs out, returns
-/// `Memory`, and only the items before the one without room are appended, each whole.
+/// `Memory`, and only the items before the first one without room are appended, each whole.
 pub(crate) fn put_list<T: Listed>(
     ids: &IdTable,
     items: &[T],
@@ -114,7 +114,7 @@ impl Listed for Rank {
     }
 }
 
-// A node that is linked to the one that is looked at, written as an object with its registers.
+// A neighbour of the node that is looked at, written as an object with its registers.
 impl Listed for (Rank, Regs) {
     ghost names = { IsNear };
 
@@ -203,7 +203,8 @@ impl Listed for (Rank, Kind) {
     }
 }
 
-// A link between two free nodes, its witness and the rule that is enabled there, written as an array.
+// A link between two nodes that aren't in a pair, its witness (a privileged node, which shows that the run isn't over)
+// and the rule that is enabled at the witness, written as an array.
 impl Listed for OpenLink {
     ghost names = { λ ids l. IsOpenLinkOf (length ids) l };
 

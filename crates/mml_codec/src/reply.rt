@@ -62,9 +62,10 @@ pub enum Reply {
     Hello(Who),
     /// The connection is known as no one from now on.
     Bye,
-    /// What a node shows.
+    /// The registers of a node, in the reply to a granted see.
     See(See),
-    /// What a node shows to its owners and the teacher.
+    /// The registers of a node and its neighbours, and the node's enabled and chosen rules, in the reply to a granted
+    /// look.
     Look(Look),
     /// A move is chosen for the node. In each reply to a granted event, `at` is the number of the configuration after
     /// the event, and `place` is the event's place.

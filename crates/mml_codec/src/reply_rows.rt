@@ -1,4 +1,4 @@
-//! The table of fields of each reply but a look and a report. The error `Memory` means that memory ran out.
+//! The fields of each reply except a look and a report. The error `Memory` means that memory ran out.
 //!
 //! The place of an event is its number in the list of events, from 1. A clause is a condition under which a request is
 //! granted.

@@ -11,12 +11,12 @@ use crate::listed::with_comma;
 use mml_ids::{IdTable, NodeSet, Rank, with_number, with_short_number, with_text};
 use mml_rules::Kind;
 
-/// The value of a key in a reply. Its text has a greatest length.
+/// The value of a key in a reply. Its text has a limited length.
 pub(crate) trait ReplyValue {
-    // The value, as the definitions name it.
+    // The value, as the definitions have it.
     ghost fact: { Self → Fact };
 
-    // The nodes that the value names have identifiers.
+    // The value names only nodes that have identifiers.
     ghost names: { List ℕ → Self → Type 0 };
 
     // The value's text, in a lab with these identifiers.
@@ -33,7 +33,7 @@ pub(crate) trait ReplyValue {
         ensures capacity { vec_capacity result ≡ vec_capacity line }
         ensures grows { length result.items ≤ length line.items + most self.now };
 
-    // The text is that which the definitions give for the value.
+    // The text is the same as the one in the definitions.
     ghost tells: { (ids : List ℕ) (value : Self) (rest : List ℕ) →
         fact_then ids (fact value) rest ≡ text ids value ++ rest };
 }

@@ -10,7 +10,7 @@ use mml_ids::Word;
 use mml_policy::Command;
 use std::alloc::AllocError;
 
-/// What one line of a client asks.
+/// A request: what one line of a client asks for.
 #[derive(Debug, Drop)]
 pub enum Request {
     /// Asks that the connection is known as the participant with this name and key.

@@ -25,8 +25,8 @@ pub fn read_request(alloc: Global, line: &[u8]) -> Result<Request, LineFault>
 }
 
 /// Reads a line, without its newline, as a request. Returns `Malformed` if it is none, and `Memory` if memory runs out.
-/// `scratch` is working memory that is kept from line to line. Only a hello allocates, and a line for which `scratch`
-/// has no room.
+/// `scratch` is working memory, which is used again for each line. Memory is allocated only for a hello, or if
+/// `scratch` has no room for the line.
 pub fn read_request_with(
     alloc: Global,
     line: &[u8],
@@ -44,8 +44,9 @@ pub fn read_request_with(
     }
 }
 
-// Returns the request that a line with these fields asks. The key `do` has the word of the request, and the other keys
-// have its values. Returns `Malformed` if the fields ask none, and `Memory` if memory runs out. Only a hello allocates.
+// Returns the request with these fields. The key `do` has the word of the request, and the other keys have its values.
+// Returns `Malformed` if these aren't the fields of a request, and `Memory` if memory runs out. Memory is allocated
+// only for a hello.
 #[tactic(auto, unfolding(crate::specs::Requests::request, crate::specs::Requests::by_word))]
 fn request(alloc: Global, fields: &Fields<'_>) -> Result<Request, LineFault>
     ensures { Reads request fields.now result }

@@ -9,17 +9,17 @@ use mml_ids::{IdTable, Memory, make_room, take_text, with_text};
 /// Enough bytes for the text of each reply but a look and a report.
 pub(crate) const TEXT_ROOM: usize = 2000;
 
-/// Fields of a reply, as a type that is built of rows. The type determines the text of the fields and the most bytes
-/// that the text has.
+/// The fields of a reply, as a type that is built of rows. The type determines the text of the fields and the greatest
+/// length of this text.
 pub(crate) trait Table {
-    // The fields name nodes that have identifiers.
+    // The fields name only nodes that have identifiers.
     ghost names: { List ℕ → Self → Type 0 };
 
     // The text of the fields in a lab with these identifiers, and of what follows them. The second list is the text
     // before the first field, and the last list is the text after the fields.
     ghost text: { List ℕ → List ℕ → Self → List ℕ → List ℕ };
 
-    // The most bytes of the fields.
+    // The greatest length of the text of the fields.
     ghost most: { Self → ℕ };
 
     // Returns the line with `first` and then the text of the fields appended. The line must have room for both.

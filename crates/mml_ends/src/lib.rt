@@ -1,4 +1,4 @@
-//! The ends of a program: its standard streams, and readers and writers that go on after a signal.
+//! The standard streams of a program, and readers and writers that retry a call if a signal interrupts it.
 #![tactic(auto)]
 
 mod retrying;

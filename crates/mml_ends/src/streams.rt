@@ -1,4 +1,4 @@
-//! The standard streams of a program that was started with one of them closed.
+//! Standard streams that are closed when the program starts.
 use std::fs::{File, OpenOptions};
 use std::io;
 use std::os::fd::{AsRawFd, IntoRawFd, RawFd};

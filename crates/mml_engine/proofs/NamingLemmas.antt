@@ -1,4 +1,4 @@
--- What the replies of any engine name.
+-- The events that replies of any engine name.
 use Rattle.std.proofs.Common.{◌≡◌, ◌++◌, ◌∷◌, ◌∙◌, ℕ, List, [], Option, Some, None, Ok, refl, sym, ap, subst, inl, inr, append-nil, append_assoc}
 use mathlib.Core.List.{IsPrefix}
 use Rattle.mml_lab.specs.{declared.who.Who.Who, Labs.LabValue}
@@ -20,7 +20,7 @@ same_place n p h = cc
 abbrev Lists : LabValue → List Event → Who → Command → Reply → LabValue → List Event → Type 0
 Lists = told_by (λ (e : LabValue). e) (λ e (v : List Event). v)
 
--- ---- what was seen goes on
+-- ---- the events that a session has seen only grow in number
 
 entered_on : (old l : List Event) (x : Option Event) → IsPrefix old l → IsPrefix old (entered l x)
 entered_on old l None h = h

@@ -1,4 +1,5 @@
--- What a turn does, whoever answers the commands.
+-- The effect of a turn, for any engine. A turn is a line with its reply, and with the states before and after the line.
+-- The place of an event is its number in the list of events, from 1.
 use Rattle.std.proofs.Common.{◌≡◌, ◌⊎◌, ◌∙◌, ℕ, true, List, Option, Some, None, Result, Ok, Err, refl, ap, inl, inr}
 use Rattle.mml_lab.specs.{declared.who.Who.Who, Rosters.RosterValue, Rosters.principal}
 use Rattle.mml_board.specs.declared.denial.Denial.{Denial}
@@ -11,14 +12,14 @@ use Rattle.mml_board.specs.declared.denial.Denial.TheVariants as denial
 use Rattle.mml_codec.specs.declared.request.Request.TheVariants as requests
 use Rattle.mml_codec.specs.declared.reply.Reply.TheVariants as replies
 
--- ---- a request is denied, and the same one stays known; or it is a hello that is granted, a bye, or a command to judge
+-- ---- the result of a request: a denial, a granted hello, a bye, or a command that is left to judge
 
 module _ (P : Greeting → Type 0) (hello : (who : Who) → P (Answered (replies.Hello who) (Some who))) (bye : P (Answered replies.Bye None)) where
   by_admitted : ((d : Denial) → P (Answered (replies.Deny d) None)) → (found : Option Who) → P (admitted found)
   by_admitted denied None = denied denial.Unknown
   by_admitted denied (Some who) = hello who
 
-  -- what holds of each of these holds of any greeting
+  -- P holds for the result of any request if it holds for each of these results
   pub by_greeting : (roster : RosterValue) (known : Option Who) (q : Request) → ((d : Denial) → P (Answered (replies.Deny d) known))
       → ((who : Who) (c : Command) → known ≡ Some who → q ≡ requests.Do c → P (LeftToJudge who c)) → P (greeting roster known q)
   by_greeting roster None (requests.Hello name key) denied judged = by_admitted denied (principal roster name key)
@@ -27,9 +28,10 @@ module _ (P : Greeting → Type 0) (hello : (who : Who) → P (Answered (replies
   by_greeting roster None (requests.Do c) denied judged = denied denial.NotGreeted
   by_greeting roster (Some who) (requests.Do c) denied judged = judged who c refl refl
 
--- ---- a line is answered at once, or by the engine
+-- ---- a line is answered without the engine, or by it
 
--- the line was answered at once: the engine stays as it was, and the reply is short and names no place
+-- the line was answered without the engine, which stays as it was; the reply is neither a look nor a report, and names
+-- no place
 pub record IsQuiet {E V : Type 0} (e : E) (v : V) (r : Reply) (e' : E) (v' : V) : Type 0 where
   pub short : is_short r ≡ true
   pub nameless : place_in r ≡ None
@@ -63,7 +65,7 @@ module _ {E V : Type 0} (tells : E → V → Who → Command → Reply → E →
       (λ d s. at_once (replies.Deny d) refl refl s.0 s.2 s.3)
       (λ who c by asked s. inr (record { who = who; command = c; by = by; asked = is ∙ ap Ok asked; still = s.0; told = s.1 })) h
 
-  -- a turn does one of these
+  -- each turn is one of these
   pub turn_does : Turn tells roster known e v line r known' e' v' → Does
   turn_does (inl h) = asked_does (request_in line) refl h
   turn_does (inr h) = at_once _ refl refl h.0 h.1.1 h.1.2

@@ -1,4 +1,5 @@
--- Lines of known participants that ask only to be shown something.
+-- Lines of known participants that ask only to be shown something. A participant is known on a connection from a
+-- granted hello to the bye.
 use Rattle.std.specs.Prelude.{◌≡◌, ℕ, false, List, Option, Some, Ok}
 use Rattle.mml_lab.specs.declared.who.Who.{Who}
 use Rattle.mml_policy.specs.{declared.command.Command.Command, Acts.is_act}

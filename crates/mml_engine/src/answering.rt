@@ -1,4 +1,4 @@
-//! Answering a line: its reply, who is known afterwards, and what its session has seen then.
+//! Answering a line: its reply, who is known afterwards, and the events that its session has seen then.
 //!
 //! An account is known on a connection from its granted hello to its bye. The parameter `at` of a function is the part
 //! of the engine that belongs to the session.

@@ -33,7 +33,8 @@ pub trait Engine {
     // The events that a session has seen.
     ghost seen: { Self → Self.View → List Event };
 
-    // The effect of a command: engine and view before it, its asker, the command, the reply, engine and view after it.
+    // The effect of a command. The arguments are the engine and the session's part of it before the command, the asker,
+    // the command, the reply, and the engine and the session's part afterwards.
     ghost tells: { Self → Self.View → Who → Command → Reply → Self → Self.View → Type 0 };
 
     // What holds if the engine shows nothing any more.

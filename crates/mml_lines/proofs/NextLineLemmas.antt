@@ -1,13 +1,14 @@
--- What an answer says of what is held.
+-- What a result of `Lines::next` means for the held bytes, those in the buffer. The unread ones are those from `start`
+-- on.
 use Rattle.std.proofs.Common.{◌≡◌, ℕ, ◌+◌, ◌-◌, ◌<◌, ◌≤◌, List, length, drop, arith, ◌∙◌, Option, Some, None, IfNone}
 use Rattle.std.{specs.List.slice_range, proofs.Math.Nat.lt_of_not-le, proofs.lemmas.List.length-take, proofs.lemmas.List.get_or-take, proofs.lemmas.List.length-drop}
 use Rattle.mml_lines.specs.{declared.lines.Step.Step, declared.lines.TheConstants.READ_SIZE, Finding.HasLine, LinesOf.IsWithinLimit, inside.LinesView.IsReadNoFurther}
 
--- a line that is at the front is held whole, with its newline
+-- if a line comes first in the unread bytes, its newline is held, too
 pub line_within : (limit start len : ℕ) (held : List ℕ) → HasLine len limit (drop start held) → start + len + 1 ≤ length held
 line_within limit start len held line = omega (arith, line.1, length-drop start held)
 
--- of a line that is at the front, by offsets in what is held
+-- a line that comes first is within the limit, and fewer than READ_SIZE unread bytes follow it
 pub line_says : (ending : Option Step) (limit start len : ℕ) (held : List ℕ) → HasLine len limit (drop start held) → IsReadNoFurther limit (drop start held)
     → IfNone ending (IsWithinLimit limit (slice_range held start (start + len)) × (length (drop (start + len + 1) held) < READ_SIZE))
 line_says (Some step) limit start len held line front = tt
@@ -21,7 +22,7 @@ line_says None limit start len held line front =
           (get_or-take (length (drop start held) - READ_SIZE) (drop start held) len 0 before ∙ line.2)),
     )
 
--- after a line that is at the front, no more is held than one read brought in
+-- if no more was read than was needed to find a line, this still holds after the line was returned
 pub no_further_after : (limit start len : ℕ) (held : List ℕ) → HasLine len limit (drop start held) → IsReadNoFurther limit (drop start held)
     → IsReadNoFurther limit (drop (start + len + 1) held)
 no_further_after limit start len held line front =

@@ -1,4 +1,5 @@
--- Lines that are written together, over several steps.
+-- Lines that are held in a buffer and written together, in several steps.
+-- Writing lines breaks off if it fails after some of their bytes, as `BreaksOff` describes.
 use Rattle.std.proofs.Common.{◌≡◌, ℕ, zero, suc, ◌+◌, ◌-◌, ◌<◌, ◌≤◌, arith, List, [], ◌∷◌, ◌++◌, length, take, drop, map, refl, sym, ◌∙◌, ap, append_assoc, append-nil, length-append, length-take}
 use Rattle.std.proofs.Common.{length-drop, Option, subst, Result, Ok, Err, OnOk, IfErr, cond}
 use Rattle.std.proofs.lemmas.{Bool.Decides.nat_tests, Bool.le-ltb, Bool.lt-ltb, List.Folds.concat-append, List.take-append-le, List.drop-append-le, List.take-append-drop}
@@ -10,11 +11,11 @@ use Rattle.mml_lines.specs.{declared.write_fault.WriteFault.WriteFault, inside.O
 pub nothing_sent : (a : Option (List ℕ)) (lines : List (List ℕ)) → Sends a a lines lines
 nothing_sent a lines = ([], refl, Appends-nil a)
 
--- all of them were written
+-- if the bytes of all lines were written, no line is held
 pub all_sent : (a b : Option (List ℕ)) (lines : List (List ℕ)) (bytes : List ℕ) → concat lines ≡ bytes → Appends a b bytes → Sends a b lines []
 all_sent a b lines bytes e h = (lines, sym (append-nil lines), subst (λ (t : List ℕ). Appends a b t) (sym e) h)
 
--- what was held is sent, or a part of it
+-- if some of the held lines are written next, only the others are still held
 pub sends_on : (a b c : Option (List ℕ)) (lines held left : List (List ℕ)) → Sends a b lines held → Sends b c held left → Sends a c lines left
 sends_on a b c lines held left h k = (
   h.0 ++ k.0,
@@ -22,16 +23,16 @@ sends_on a b c lines held left h k = (
   subst (λ (t : List ℕ). Appends a c t) (sym (concat-append h.0 k.0)) (Appends-trans a b c (concat h.0) (concat k.0) h.2 k.2),
 )
 
--- lines that come after are held
+-- lines that are appended are held
 pub sends_before : (a b : Option (List ℕ)) (lines held more : List (List ℕ)) → Sends a b lines held → Sends a b (lines ++ more) (held ++ more)
 sends_before a b lines held more h = (h.0, ap (λ t. t ++ more) h.1 ∙ append_assoc h.0 held more, h.2)
 
--- what was held goes on to be sent, and more after it
+-- if some of the held lines, and then of `more`, are written next, only the others are still held
 pub sends_more : (a b c : Option (List ℕ)) (lines held more left : List (List ℕ)) → Sends a b lines held → Sends b c (held ++ more) left
     → Sends a c (lines ++ more) left
 sends_more a b c lines held more left h k = sends_on a b c (lines ++ more) (held ++ more) left (sends_before a b lines held more h) k
 
--- if none is held, all are written
+-- if no line is held, all lines were written
 pub all_out : (a b : Option (List ℕ)) (lines : List (List ℕ)) → Sends a b lines [] → Appends a b (concat lines)
 all_out a b lines h = subst (λ (t : List (List ℕ)). Appends a b (concat t)) (sym (h.1 ∙ append-nil h.0)) h.2
 
@@ -39,7 +40,7 @@ part_past : (sent rest : List (List ℕ)) (out : ℕ) → part_in (map length (s
 part_past [] rest out = let same : 0 + out ≡ out = omega arith in ap (λ n. part_in (map length rest) n) same
 part_past (x ∷ sent) rest out = grind (arith, nat_tests, length-append, le-ltb, part_past sent rest out)
 
--- the held lines break off, after what was written before
+-- if writing the held lines breaks off, writing all lines breaks off
 pub breaks_on : (f : WriteFault) (a b c : Option (List ℕ)) (lines held : List (List ℕ)) → Sends a b lines held → BreaksOff f b c held → BreaksOff f a c lines
 breaks_on f a b c lines held h k =
     let bytes : concat lines ≡ concat h.0 ++ concat held = ap concat h.1 ∙ concat-append h.0 held in (
@@ -50,7 +51,7 @@ breaks_on f a b c lines held h k =
           (Appends-trans a b c (concat h.0) (take k.0 (concat held)) h.2 k.3),
     )
 
--- what breaks off the held lines and more breaks off all lines and more, of which the first are out
+-- if writing the held lines and `more` breaks off, writing all lines and `more` breaks off
 pub breaks_more : (f : WriteFault) (a b c : Option (List ℕ)) (lines held more : List (List ℕ)) → Sends a b lines held → BreaksOff f b c (held ++ more)
     → BreaksOff f a c (lines ++ more)
 breaks_more f a b c lines held more h k = breaks_on f a b c (lines ++ more) (held ++ more) (sends_before a b lines held more h) k
@@ -65,16 +66,16 @@ part_within [] more out few = let e : out ≡ 0 = omega (arith, few) in rw e (sy
 part_within (x ∷ lines) more out few =
     ap (λ n. cond (nat_lt out (length x)) out n) (part_within lines more (out - length x) (omega (arith, few, length-append x (concat lines))))
 
--- it breaks off before a line that comes after
+-- if writing some lines breaks off, writing them and `more` breaks off
 pub breaks_before : (f : WriteFault) (a b : Option (List ℕ)) (lines more : List (List ℕ)) → BreaksOff f a b lines → BreaksOff f a b (lines ++ more)
 breaks_before f a b lines more h = grind (arith, nat_tests, h.0, h.1, h.2, h.3, concat-append, length-append, part_within, take-append-le)
 
--- one line breaks off
+-- if only the first bytes of a line were written, writing this line breaks off
 pub breaks_in : (f : WriteFault) (a b : Option (List ℕ)) (line : List ℕ) → f.written < length line → Appends a b (take f.written line)
     → BreaksOff f a b (line ∷ [])
 breaks_in f a b line short h = grind (arith, nat_tests, f.written, length-append line [], lt-ltb f.written (length line) short, append-nil line)
 
--- a flush failed after all was written
+-- if all lines were written, and then a flush fails, writing them breaks off after their last byte
 pub breaks_after : (f : WriteFault) (a b : Option (List ℕ)) (lines : List (List ℕ)) → f.written ≡ 0 → Sends a b lines [] → BreaksOff f a b lines
 breaks_after f a b lines none h =
     let all : lines ≡ h.0 = h.1 ∙ append-nil h.0 in (
@@ -93,7 +94,7 @@ breaks_after f a b lines none h =
         (le-ltb (length (x ++ concat ls)) (length x) (omega (arith, size)))
         ∙ (ap (λ n. part_in (map length ls) n) back ∙ part_end ls)
 
--- the parts of bytes are the bytes
+-- the parts of bytes, joined, are these bytes
 pub parts_whole : (ns bytes : List ℕ) → total ns ≡ length bytes → concat (parted ns bytes) ≡ bytes
 parts_whole [] [] e = refl
 parts_whole [] (b ∷ bytes) e = absurd (omega (arith, e))
@@ -103,7 +104,7 @@ pub parts_sized : (ns bytes : List ℕ) → total ns ≡ length bytes → map le
 parts_sized [] bytes e = refl
 parts_sized (n ∷ ns) bytes e = grind (arith, nat_tests, length-drop, length-take, parts_sized ns (drop n bytes) (omega (arith, e, length-drop n bytes)))
 
--- a part more
+-- bytes with a line appended have one more part, which is this line
 pub parts_longer : (ns bytes line : List ℕ) → total ns ≡ length bytes → parted (ns ++ length line ∷ []) (bytes ++ line) ≡ parted ns bytes ++ line ∷ []
 parts_longer [] [] line e = ap (λ t. t ∷ []) (take-length line)
 parts_longer [] (b ∷ bytes) line e = absurd (omega (arith, e))
@@ -115,7 +116,7 @@ pub total_longer : (ns : List ℕ) (n : ℕ) → total (ns ++ n ∷ []) ≡ tota
 total_longer [] n = omega arith
 total_longer (m ∷ ns) n = omega (arith, total_longer ns n)
 
--- a line put after the held bytes in two parts is one held line more
+-- a line that is appended to the held bytes in two parts is one more held line
 pub held_more : (ns ns' bytes bytes' front rest : List ℕ) (lines : List (List ℕ)) → lines ≡ parted ns bytes → total ns ≡ length bytes
     → ns' ≡ ns ++ (length front + length rest) ∷ [] → bytes' ≡ (bytes ++ front) ++ rest → parted ns' bytes' ≡ lines ++ (front ++ rest) ∷ []
 held_more ns ns' bytes bytes' front rest lines e whole size grown =
@@ -124,11 +125,11 @@ held_more ns ns' bytes bytes' front rest lines e whole size grown =
     ap (λ (t : List ℕ). parted t bytes') size' ∙ (ap (λ (t : List ℕ). parted (ns ++ length (front ++ rest) ∷ []) t) grown'
     ∙ (parts_longer ns bytes (front ++ rest) whole ∙ ap (λ t. t ++ (front ++ rest) ∷ []) (sym e)))
 
--- the held lines together are the held bytes
+-- the held lines, joined, are the held bytes
 pub held_whole : (ns bytes : List ℕ) (lines : List (List ℕ)) → lines ≡ parted ns bytes → total ns ≡ length bytes → concat lines ≡ bytes
 held_whole ns bytes lines e whole = ap concat e ∙ parts_whole ns bytes whole
 
--- as many lines are held as lengths
+-- there are as many held lines as lengths
 pub held_counted : (ns bytes : List ℕ) (lines : List (List ℕ)) → lines ≡ parted ns bytes → length lines ≡ length ns
 held_counted ns bytes lines e = ap length e ∙ parts_counted ns bytes
   where
@@ -136,7 +137,7 @@ held_counted ns bytes lines e = ap length e ∙ parts_counted ns bytes
     parts_counted [] bytes = refl
     parts_counted (n ∷ ns) bytes = ap suc (parts_counted ns (drop n bytes))
 
--- if some of the held bytes were written and not all, the lines are broken off there
+-- if some but not all of the held bytes were written, writing the lines breaks off there
 pub breaks_held : (written out : ℕ) (a b : Option (List ℕ)) (ns bytes : List ℕ) (lines : List (List ℕ)) → lines ≡ parted ns bytes → total ns ≡ length bytes
     → out < length bytes → written ≡ part_in ns out → Appends a b (take out bytes) → BreaksOff (record { written = written }) a b lines
 breaks_held written out a b ns bytes lines e whole short counted h =
@@ -148,11 +149,11 @@ breaks_held written out a b ns bytes lines e whole short counted h =
       subst (λ (t : List ℕ). Appends a b (take out t)) (sym bytes_are) h,
     )
 
--- a flush keeps what was written
+-- if all lines were written, they are still written after a flush
 pub sends_kept : (a b c : Option (List ℕ)) (lines : List (List ℕ)) → Sends a b lines [] → Keeps b c → Sends a c lines []
 sends_kept a b c lines h kept = (h.0, h.1, Appends-kept a b c (concat h.0) h.2 kept)
 
--- a line that is longer than all the room
+-- if all lines were written, and one more line is written without being held, all of them are written
 pub put_through : (r : Result ⊤ WriteFault) (a b c : Option (List ℕ)) (lines held held' : List (List ℕ)) (line : List ℕ) → Sends a b lines []
     → held ≡ [] → held' ≡ held
     → OnOk r (Appends b c line) → OnOk r (Sends a c (lines ++ line ∷ []) held')
@@ -160,7 +161,7 @@ put_through (Ok done) a b c lines held held' line h none same ok =
     rw (same, none) (sends_more a b c lines [] (line ∷ []) [] h (all_sent b c (line ∷ []) line (append-nil line) ok))
 put_through (Err fault) a b c lines held held' line h none same ok = tt
 
--- if a write of the last line stops before its end, and all lines before it were written, the lines are broken off
+-- if all lines but the last were written, and writing the last one stops before its end, writing the lines breaks off
 -- there
 pub put_short : (r : Result ⊤ WriteFault) (a b c : Option (List ℕ)) (lines : List (List ℕ)) (line : List ℕ) → Sends a b lines []
     → IfErr r (λ fault. fault.written < length line) → IfErr r (λ fault. Appends b c (take fault.written line))

@@ -4,24 +4,25 @@ use Rattle.mml_lines.specs.declared.lines.{Step.Step, Step.TheVariants.Line, Ste
 use Rattle.mml_ids.specs.Lines.{ended}
 use Rattle.mml_lines.specs.{LinesOf.IsWithinLimit, LinesOf.IsTooLong, LinesState.LinesState}
 
--- each result but a line is final
+-- the result, if it is final; each result but a line is final
 abbrev pub ending_of : Step → Option Step
 ending_of Line = None
 ending_of TooLong = Some TooLong
 ending_of End = Some End
 ending_of ReadFault = Some ReadFault
 
--- the bytes that the result took: of a line those with its newline, of another result none
+-- the bytes that a result consumes: a line with its newline, and nothing for another result
 abbrev pub bytes_taken : Step → List ℕ → List ℕ
 bytes_taken Line line = ended line
 bytes_taken TooLong line = []
 bytes_taken End line = []
 bytes_taken ReadFault line = []
 
--- what the result means. Line: it is within the limit. TooLong: more bytes than the limit have no newline. End,
--- ReadFault: it was not known what comes next, and a read found the end, or failed, or was needed after the last that
--- may be made. Nothing is read once it is known what comes next: fewer than READ_SIZE bytes are unread after a line,
--- and at most READ_SIZE after the limit if the bytes are too long
+-- what each result means.
+-- Line: the line is within the limit, and fewer than READ_SIZE bytes after it are unread.
+-- TooLong: more bytes than the limit come without a newline, and at most READ_SIZE bytes after the limit are unread.
+-- End: the unread bytes were within the limit and had no newline, a read was made, and now the reader is at its end.
+-- ReadFault: the unread bytes were within the limit and had no newline, and a read failed, or MAX_READS reads were made
 abbrev pub Says : Step → LinesState → LinesState → Option (List ℕ) → Type 0
 Says Line old new left = IsWithinLimit new.limit new.line × (length new.unread < READ_SIZE)
 Says TooLong old new left = IsTooLong new.limit new.unread × (length new.unread ≤ new.limit + READ_SIZE)

@@ -1,18 +1,18 @@
--- Runs of steps: the states that lines lead to, and the reply to each line.
+-- Runs of steps. Each step takes a line, has a reply, and leads from one state to the next.
 use Rattle.std.specs.{Prelude.◌≡◌, Prelude.List, Prelude.[], Prelude.◌∷◌, List.AllByRecursion}
 
--- steps in order, from a state to the end, each beginning in the state that the one before led to
+-- a run from the state `st` to the state `end`: each step begins in the state in which the step before it ended
 abbrev pub Runs : {A L R : Type 0} → (A → L → R → A → Type 0) → A → List L → List R → A → Type 0
 Runs Step st [] [] end = end ≡ st
 Runs {A} Step st (line ∷ lines) (r ∷ rs) end = (next : A) × Step st line r next × Runs Step next lines rs end
 Runs Step st [] (r ∷ rs) end = ⊥
 Runs Step st (line ∷ lines) [] end = ⊥
 
--- steps without a reply, in order, from a state to the end
+-- a run of steps that have no replies
 abbrev pub Chain : {A L : Type 0} → (L → A → A → Type 0) → A → List L → A → Type 0
 Chain Step st lines end = Runs (λ st line r next. Step line st next) st lines lines end
 
--- P holds at each step of a run: of the state before the step, its line, its reply, and the state after it
+-- P holds at each step of a run, for the state before the step, its line, its reply, and the state after it
 abbrev pub AtEach : {A L R : Type 0} (Step P : A → L → R → A → Type 0) (st : A) (lines : List L) (rs : List R) (end : A) → Runs Step st lines rs end → Type 0
 AtEach Step P st [] [] end run = Unit {0}
 AtEach Step P st [] (r ∷ rs) end run = Unit {0}

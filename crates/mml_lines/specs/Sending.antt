@@ -1,9 +1,9 @@
--- Lines that are written together: which are written, and which are held.
+-- Lines that are written together: those that were written, and those that are still held in a buffer.
 use Rattle.std.specs.Prelude.{◌≡◌, ℕ, ◌-◌, ◌≤◌, nat_lt, List, [], ◌∷◌, ◌++◌, length, take, map, Option, if◌then◌else◌}
 use Rattle.std.specs.{List.concat, Io.KnownBytes.Appends}
 use Rattle.mml_lines.specs.declared.write_fault.WriteFault.{WriteFault}
 
--- if the first `out` bytes of lines with the listed lengths are written, how many of them belong to the first line that
+-- if the first `out` bytes of lines with these lengths are written, the number of written bytes in the first line that
 -- isn't written whole
 abbrev pub part_in : List ℕ → ℕ → ℕ
 part_in [] out = out

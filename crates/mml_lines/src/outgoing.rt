@@ -18,8 +18,8 @@ pub const OUTGOING_BYTES: usize = 8192;
 /// The most lines that an `Outgoing` holds.
 pub const OUTGOING_LINES: usize = 512;
 
-/// A buffer of output lines, so that many lines take one write. It allocates only when it is made. Contracts see the
-/// lines that it holds.
+/// A buffer of output lines, so that many lines are written with one call. It allocates only when it is made. Contracts
+/// see the lines that it holds.
 #[derive(Drop)]
 pub struct Outgoing {
     bytes: Vec<u8>,

@@ -1,4 +1,4 @@
-//! Reading a reader to its end.
+//! Reading all bytes of a reader.
 
 ghost use Rattle.std.specs.Prelude.{◌≡◌, ◌≤◌, ◌<◌, IfOk, IfSome, length, vec_len};
 

@@ -1,4 +1,5 @@
--- A compact text, read member by member, spells the tokens that are printed as it.
+-- If a line is read as an object in the usual layout, member by member, its tokens are those of this object.
+-- A spaced token is a token with the white space before it. A byte is bare if it may be in a string without escapes.
 use Rattle.std.proofs.lemmas.{Bool.Decides.nat_tests, Bool.and_parts, Bool.and_from, Bool.eq-eqb, Bool.both_ways, Bool.not-true, Grind.common_steps, List.take_more, List.take_all, Nat.be_bytes_4}
 use Rattle.std.proofs.lemmas.{Fmt.decimal_digit, Fmt.decimal_step, Fmt.IsAscii-decimal, Str.IsUtf8-append, Str.IsUtf8-nil, Str.IsUtf8-from_ascii}
 use Rattle.std.proofs.Common.{◌≡◌, ℕ, suc, ◌+◌, ◌-◌, ◌<◌, List, [], ◌∷◌, ◌++◌, length, take, get_or, Bool, true, false, fold, map, not, ◌==◌, Some, refl, sym, ap, inl, ◌∙◌, subst, append_assoc}
@@ -19,6 +20,7 @@ use Rattle.serde_json.specs.Data as serde
 abbrev SpacedTokens : Type 0
 SpacedTokens = List (List ℕ × Token)
 
+-- the tokens, without their white space
 abbrev pub told : SpacedTokens → List Token
 told [] = []
 told (p ∷ ps) = p.1 ∷ told ps
@@ -31,6 +33,7 @@ told_append : (ps qs : SpacedTokens) → told (ps ++ qs) ≡ told ps ++ told qs
 told_append [] qs = refl
 told_append (p ∷ ps) qs = ap (λ ts. p.1 ∷ ts) (told_append ps qs)
 
+-- these tokens, without white space before them, and then the spaced tokens
 abbrev close : SpacedTokens → List Token → SpacedTokens
 close ps [] = ps
 close ps (t ∷ ts) = ([], t) ∷ close ps ts
@@ -69,7 +72,7 @@ unfolding print_spaced print_from
 spaced_close c [] = refl
 spaced_close c (t ∷ ts) = ap (λ l. separator c t ++ (token_text t ++ l)) (spaced_close (ends t) ts)
 
--- one byte, and no other
+-- a list of length 1 consists of its first element
 pub alone : (xs : List ℕ) (d b : ℕ) → length xs ≡ 1 → get_or xs 0 d ≡ b → xs ≡ b ∷ []
 alone [] d b h e = grind arith
 alone (x ∷ []) d b h e = ap (λ y. y ∷ []) e
@@ -77,7 +80,8 @@ alone (x ∷ y ∷ ys) d b h e = grind arith
 
 -- ---- member by member
 
--- the tokens of the members so far, and that the rest goes on after them
+-- the tokens `us` are those of the members `found`: reading `us` and then more tokens has the same result as reading
+-- these after `found`
 pub record Begun (us : SpacedTokens) (found : Members) : Type 0 where
   pub gaps : AreGaps us
   pub printable : ArePrintable (told us)
@@ -86,13 +90,13 @@ pub record Begun (us : SpacedTokens) (found : Members) : Type 0 where
   pub fits : turns ≤ length (told us)
   pub members : (n : ℕ) (ts : List Token) → members_at 126 no_members (turns + n) (told us ++ ts) ≡ members_at 126 found n ts
 
--- the members so far, before the next, whose comma was passed
+-- the line is an opening brace, the tokens of the members `found`, a comma if there are any, and `rest`
 pub record Before (line rest : List ℕ) (found : Members) : Type 0 where
   pub us : SpacedTokens
   pub begun : Begun us found
   pub text : line ≡ 123 ∷ (print_spaced false us ++ (separator (is_value_ended (told us)) (Token.key []) ++ rest))
 
--- the members so far, with what follows the last
+-- the line is an opening brace, the tokens of the members `found`, of which there is at least one, and `rest`
 pub record After (line rest : List ℕ) (found : Members) : Type 0 where
   pub us : SpacedTokens
   pub begun : Begun us found
@@ -116,7 +120,7 @@ all_read us found b =
     let parted : length all ≡ b.turns + n = omega (arith, b.fits, counted) in
     ap if_over (ap (λ k. members_at 126 no_members k all) parted ∙ b.members n end ∙ members_next 126 found n end enough)
 
--- what is read so is UTF-8
+-- if only a closing brace follows the members, the line is UTF-8
 pub over_utf8 : (line rest : List ℕ) (found : Members) → rest ≡ 125 ∷ [] → After line rest found → IsUtf8 line
 over_utf8 line rest found e a =
     let text = print_spaced false a.us ++ 125 ∷ [] in
@@ -141,7 +145,7 @@ over line rest found e a =
     ∙ ap (λ ts. Token.begin_object ∷ ts) (told_is ws ∙ said) in
     ap object_at read ∙ all_read a.us found a.begun
 
--- the tokens of one member
+-- the tokens of one member, with the white space before its key and its value
 abbrev one_member : List ℕ → List ℕ → List ℕ → Token → List Token → SpacedTokens
 one_member gap k between first others = (gap, Token.key k) ∷ (between, first) ∷ close [] others
 
@@ -204,7 +208,7 @@ module _ (line rest more k : List ℕ) (v : MemberValue) (found : Members) (m : 
         members = goes_on;
       }
 
-  -- one member more
+  -- if a member comes next, it is added to the members `found`, and `more` comes after it
   pub member : After line more (put k m.value.datum found)
   member = grind (arith, begun, more_begun, said, ended_append, text_is)
 
@@ -226,22 +230,22 @@ bare-append : (xs : List ℕ) (b : ℕ) → is_bare xs ≡ true → is_bare_byte
 bare-append [] b h one = and_from _ _ one refl
 bare-append (x ∷ xs) b h one = let both = and_parts (is_bare_byte x) (is_bare xs) h in and_from _ _ both.0 (bare-append xs b both.1 one)
 
--- one more byte that stands for itself
+-- the first i + 1 bytes are bare if the first i are, and the next one is
 pub bare_more : (xs : List ℕ) (i d : ℕ) → i < length xs → is_bare (take i xs) ≡ true → is_bare_byte (get_or xs i d) ≡ true → is_bare (take (i + 1) xs) ≡ true
 bare_more xs i d h was one = ap is_bare (take_more xs i d h) ∙ bare-append (take i xs) (get_or xs i d) was one
 
--- one more of the small letters, or of what comes after them in ASCII
+-- the first i + 1 bytes are bare if the first i are, and the next one is from 93 to 127
 pub bare_above : (xs : List ℕ) (i d : ℕ) → i < length xs → is_bare (take i xs) ≡ true → 92 < get_or xs i d → get_or xs i d < 128 → is_bare (take (i + 1) xs) ≡ true
 bare_above xs i d h was above below = let one : is_bare_byte (get_or xs i d) ≡ true = grind (arith, nat_tests, and_from) in bare_more xs i d h was one
 
--- one more of what comes before a backslash, but for a quotation mark
+-- the first i + 1 bytes are bare if the first i are, and the next one is from 32 to 91 and not a quotation mark
 pub bare_below : (xs : List ℕ) (i d : ℕ) → i < length xs → is_bare (take i xs) ≡ true → 31 < get_or xs i d → get_or xs i d < 92 → get_or xs i d ≢ 34 → is_bare (take (i + 1) xs) ≡ true
 bare_below xs i d h was above below other = let one : is_bare_byte (get_or xs i d) ≡ true = grind (arith, nat_tests, and_from) in bare_more xs i d h was one
 
 other_than : (b k : ℕ) → not (b == k) ≡ true → b ≢ k
 other_than b k h e = both_ways _ (not-true _ h) (eq-eqb b k e)
 
--- no byte of it is escaped
+-- escaping doesn't change a bare text
 pub bare_escape : (bs : List ℕ) → is_bare bs ≡ true → escape bs ≡ bs
 bare_escape [] h = refl
 bare_escape (b ∷ bs) h = grind (arith, and_parts, nat_lt, ltb-true, escape_byte_plain, other_than, bare_escape bs)
@@ -256,7 +260,7 @@ bare_utf8 bs h = IsUtf8-are_ascii bs (bare_ascii bs h)
 quoted_is : (k rest : List ℕ) → is_bare k ≡ true → 34 ∷ (k ++ 34 ∷ rest) ≡ token_text (Token.string k) ++ rest
 quoted_is k rest h = ap (λ t. 34 ∷ t) (sym (append_assoc k (34 ∷ []) rest) ∙ ap (λ t. (t ++ 34 ∷ []) ++ rest) (sym (bare_escape k h)))
 
--- a key with its colon
+-- a bare key in quotation marks, and a colon after it, are the text of the key's token
 pub key_is : (text a b k rest : List ℕ) → text ≡ 34 ∷ a → a ≡ k ++ 34 ∷ b → is_bare k ≡ true → b ≡ 58 ∷ rest → text ≡ token_text (Token.key k) ++ rest
 key_is text a b k rest one two h three = grind (arith, quoted_is, append_assoc)
 
@@ -269,14 +273,14 @@ digit_next xs i d n digit h was here one some few = grind (arith, common_steps, 
 pub digit_first : (xs : List ℕ) (d digit : ℕ) → 0 < length xs → get_or xs 0 d ≡ 48 + digit → digit < 10 → take 1 xs ≡ decimal digit
 digit_first xs d digit h here one = take_more xs 0 d h ∙ ap (λ b. b ∷ []) here ∙ sym (decimal_digit digit one)
 
--- a digit alone, and what follows it
+-- if the first byte of a text is a digit, the text is this digit in decimal, followed by the other bytes
 pub digit_off : (xs : List ℕ) (d digit : ℕ) → 0 < length xs → get_or xs 0 d ≡ 48 + digit → digit < 10 → xs ≡ decimal digit ++ take (length xs - 1) (drop 1 xs)
 digit_off [] d digit h here small = elim h [ ]
 digit_off (x ∷ xs) d digit h here small = grind (arith, decimal_digit, take_all)
 
 -- ---- values
 
--- a text that begins with tokens of which a value is read begins with that value
+-- if a text begins with printed tokens from which a value is read, it begins with this value
 of_tokens : (text rest : List ℕ) (v : MemberValue) (d : Data) (t : Token) (ts : List Token) → ArePrintable (t ∷ ts)
     → IsUtf8 (token_text t ++ print_from (ends t) ts) → is_value_ended (t ∷ ts) ≡ true → ((us : List Token) → value_at 126 (t ∷ (ts ++ us)) ≡ Some (d, us)) → Shows v d
     → text ≡ token_text t ++ (print_from (ends t) ts ++ rest) → BeginsValue text v rest
@@ -335,9 +339,9 @@ no_members_value text rest e =
     ∙ ap (option_map (λ p. (object p.0, p.1))) (members_next 125 no_members (length (Token.end_object ∷ ts)) (Token.end_object ∷ ts) (omega arith)))
     record { text = refl; number = refl; truth = refl; register = refl } e
 
--- ---- keys that are known
+-- ---- the frequent keys
 
--- four bytes at the front, and then a text, spell a key and its value
+-- four bytes and the text after them begin with a member if they are a bare key, a quotation mark, a colon and a value
 pub puts_known : {front n : ℕ} {after rest : List ℕ} {old new : Fields} (key text : List ℕ) (v : MemberValue) → is_bare key ≡ true → front ≡ n
     → to_be_bytes w32 n ++ text ≡ key ++ 34 ∷ 58 ∷ after → BeginsAfter after v rest → new ≡ with key v old → PutsKnown (to_be_bytes w32 front ++ text) rest old new
 puts_known {front} {n} {after} {rest} {old} {new} key text v bare same first named put = record {
@@ -350,7 +354,8 @@ puts_known {front} {n} {after} {rest} {old} {new} key text v bare same first nam
   put = put;
 }
 
--- a member with such a key
+-- if a text begins with a quotation mark, and a member with a frequent key comes after it, the text begins with this
+-- member
 pub known_key : (text in_key rest : List ℕ) (old new : Fields) → BeginsQuoted text in_key → PutsKnown in_key rest old new → PutsMember text rest old new
 known_key text in_key rest old new quoted known = search (arith, bare_utf8, key_is)
 
@@ -359,7 +364,7 @@ known_key text in_key rest old new quoted known = search (arith, bare_utf8, key_
 below_256 : (a b c d : ℕ) → a < 256 → b < 256 → c < 256 → d < 256 → (i : ℕ) → get_or (a ∷ b ∷ c ∷ d ∷ []) i 0 < 256
 below_256 a b c d h j k l i = grind arith
 
--- the first four of a text's bytes as a number, and the others
+-- a text is its first four bytes, read as the number n, followed by its other bytes
 pub four_first : (xs : List ℕ) (n : ℕ) → 4 ≤ length xs → ((i : ℕ) → get_or xs i 0 < 256)
     → n ≡ from_be_bytes w32 (get_or xs 0 0 ∷ get_or xs 1 0 ∷ get_or xs 2 0 ∷ get_or xs 3 0 ∷ []) → xs ≡ to_be_bytes w32 n ++ take (length xs - 4) (drop 4 xs)
 four_first xs n h small is = grind (arith, be_bytes_4, below_256, take_all)

@@ -1,4 +1,4 @@
--- A member more, in the fields and in the object.
+-- Adding a member has the same effect on the fields as on the object.
 use Rattle.std.proofs.Common.{◌≡◌, ℕ, List, Bool, false, codes, bytes_eq, cond, Bor, Option, Some, option_map, option_and_then, true≢false, refl, sym, ◌∙◌, arith}
 use Rattle.std.proofs.lemmas.Slice.Eq.{bytes_eq-Decides}
 use Rattle.serde_json.specs.{Data.Data, Data.object, Data.Members, Data.put, Find.get_member, Find.as_str, Find.as_bool, Find.as_number, Find.as_u64}
@@ -9,7 +9,7 @@ use Rattle.mml_plain.specs.Fields.{text_in, number_in, truth_in, register_in, wi
 differ : (k q : List ℕ) → bytes_eq k q ≡ false → q ≡ k → ⊥
 differ k q e same = true≢false (sym ((bytes_eq-Decides k q).1 (sym same)) ∙ e)
 
--- what is seen of a field is what the key names, before and after
+-- if a field has the value of its key q before a member is added, it has this key's value afterwards, too
 module _ {A B : Type 0} (see : A → B) (find : Option Data → B) (k : List ℕ) (d : Data) (ms : Members) (new : A) (shown : see new ≡ find (Some d)) where
   seen_at : (q : List ℕ) (old : A) → see old ≡ find (get_member q ms) → (b : Bool) → bytes_eq k q ≡ b → see (cond b new old) ≡ find (get_member q (put k d ms))
   seen_at q old h b e = grind (arith, bytes_eq-Decides, get_member-put, get_member-put_other, differ)

@@ -1,4 +1,4 @@
--- What is read of tokens, a turn at a time, and that it is what `serde_json` reads.
+-- How values are read from tokens, one turn of a loop at a time, and that `serde_json` reads the same values.
 use Rattle.std.proofs.Common.{◌≡◌, ℕ, suc, ◌-◌, ◌<◌, ◌≤◌, List, [], ◌∷◌, length, Bool, false, Option, Some, None, Bor, option_map, option_and_then, refl, sym, ap, ◌∙◌, arith}
 use Rattle.std.{specs.Str.is_utf8, specs.Str.IsUtf8, proofs.lemmas.Str.is_utf8-from_IsUtf8, proofs.lemmas.Str.IsUtf8-from_is_utf8}
 use Rattle.json.specs.{Token.Token, Lex.tokens, Json.parse_map, Json.after_end_array, Json.read_key, Json.items_step, Json.members_step, Json.items, Json.members, Json.value, Json.if_last}
@@ -14,7 +14,7 @@ beside f rest x = grind arith
 
 -- ---- arrays
 
--- the result of a turn, by what follows the bracket, if it stands there
+-- the items that are read if the closing bracket comes next (`Some rest`), and if another value comes next (`None`)
 abbrev pub items_turn : ℕ → ℕ → List Token → Option (List Token) → Option (Items × List Token)
 items_turn depth n ts (Some rest) = Some (no_items, rest)
 items_turn depth n ts None = option_and_then (λ p. parse_map (item p.0) (items_at depth n p.1)) (value_at depth ts)
@@ -59,7 +59,7 @@ mapped_twice f g o = grind arith
 
 -- ---- objects
 
--- the result of a turn, by the key that comes next
+-- the members that are read, by what comes next: an error, the closing brace, or a key
 abbrev pub members_turn : ℕ → Members → ℕ → Option (Option (List ℕ) × List Token) → Option (Members × List Token)
 members_turn depth found n None = None
 members_turn depth found n (Some (None, rest)) = Some (found, rest)
@@ -111,7 +111,7 @@ module _ (depth : ℕ) (found : Members) (n : ℕ) (ts s : List Token) (k : List
 
 -- ---- one value
 
--- a value that is read, and what of it is shown
+-- the tokens `old` are a value that `v` represents, followed by the tokens `new`
 abbrev pub ReadAs : ℕ → List Token → MemberValue → List Token → Type 0
 ReadAs depth old v new = (d : Data) × (value_at depth old ≡ Some (d, new)) × Shows v d
 
@@ -204,12 +204,12 @@ object_at_is ts = grind (arith, value_is, object_whole, value-begin_object, arra
 utf8_is : (line : List ℕ) (b : Bool) → is_utf8 line ≡ b → (IsUtf8 line → ⊥) → b ≡ false
 utf8_is line b e h = grind (arith, IsUtf8-from_is_utf8)
 
--- a line that isn't UTF-8 is no object
+-- no object is read from a line that isn't UTF-8
 pub no_text : (line : List ℕ) → (IsUtf8 line → ⊥) → object_in line ≡ None
 unfolding object_in
 no_text line h = rw (utf8_is line (is_utf8 line) refl h)
 
--- a line is the object that its tokens are
+-- the object that is read from a line of UTF-8 is the one that is read from its tokens
 pub object_in_is : (line : List ℕ) → IsUtf8 line → object_in line ≡ object_at (tokens line)
 unfolding object_in
 object_in_is line h = rw (is_utf8-from_IsUtf8 line h) (sym (object_at_is (tokens line)))

@@ -1,9 +1,9 @@
--- The fields of an object, member by member.
+-- The fields of a request, and how one more member of the object changes them.
 use Rattle.std.specs.{Prelude.ℕ, Prelude.List, Prelude.Bool, Prelude.codes, Prelude.bytes_eq, Prelude.if◌then◌else◌, Prelude.Option, Prelude.Some, Prelude.None, Borrow.Bor}
 use Rattle.mml_plain.specs.declared.member_value.MemberValue.{MemberValue, TheVariants.Null, TheVariants.Truth, TheVariants.Number, TheVariants.Text, TheVariants.Other}
 use Rattle.mml_plain.specs.declared.fields.Fields.{Fields}
 
--- the text that a value is, if it is one
+-- the value's text, or None if the value isn't a text
 abbrev pub text_in : MemberValue → Option (Bor (List ℕ))
 text_in Null = None
 text_in (Truth b) = None
@@ -11,7 +11,7 @@ text_in (Number n) = None
 text_in (Text s) = Some s
 text_in Other = None
 
--- the number of 64 bits that a value is, if it is one
+-- the value's number, or None if the value isn't a number of 64 bits
 abbrev pub number_in : MemberValue → Option ℕ
 number_in Null = None
 number_in (Truth b) = None
@@ -19,7 +19,7 @@ number_in (Number n) = Some n
 number_in (Text s) = None
 number_in Other = None
 
--- the truth value that a value is, if it is one
+-- the value's truth value, or None if the value isn't `true` or `false`
 abbrev pub truth_in : MemberValue → Option Bool
 truth_in Null = None
 truth_in (Truth b) = Some b
@@ -35,11 +35,11 @@ register_in (Number n) = Some (Some n)
 register_in (Text s) = None
 register_in Other = None
 
--- what the key q names after a member with the key k: the new value if q is k, and else the old one
+-- the value of the key q after a member with the key k was added: `new` if q is k, otherwise `old`
 abbrev pub after : {A : Type 0} → List ℕ → A → List ℕ → A → A
 after k new q old = if bytes_eq k q then new else old
 
--- the fields after one more member, by its key and its value
+-- the fields after a member with this key and this value was added
 abbrev pub with : List ℕ → MemberValue → Fields → Fields
 with k v f = record {
   word = after k (text_in v) (codes "do") f.word;

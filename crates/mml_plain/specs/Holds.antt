@@ -1,9 +1,9 @@
--- What the fields say of a value.
+-- The fields that have the values of a JSON object.
 use Rattle.std.specs.Prelude.{◌≡◌, codes, option_map}
 use Rattle.serde_json.specs.Data.{Data}
 use Rattle.mml_plain.specs.{LookUps.text_at, LookUps.number_at, LookUps.truth_at, LookUps.register_at, declared.fields.Fields.Fields}
 
--- each field has what its key names in the value
+-- each field has the value of its key in `d`, or None if `d` doesn't have the key or its value is of another kind
 pub record Holds (f : Fields) (d : Data) : Type 0 where
   pub word : option_map (λ s. s.now) f.word ≡ text_at (codes "do") d
   pub name : option_map (λ s. s.now) f.name ≡ text_at (codes "name") d

@@ -1,6 +1,6 @@
 //! Reads JSON objects in the layout that requests usually have. Their strings have no escapes, and spaces come only
-//! after the opening brace, commas and colons, as in a line that somebody typed. Objects are read from front to back.
-//! Keys are recognized by their first four bytes, which are compared at once.
+//! after the opening brace, commas and colons. A frequent key is recognized by its first four bytes, which are compared
+//! as one number.
 ghost use Rattle.std.specs.Prelude.{◌≡◌, ◌<◌, ◌^◌, ◌++◌, ◌∷◌, ◌+◌, ℕ, List, [], Some, IfSome, None, true, length, decimal, slice_index, IsUtf8};
 ghost use Rattle.std.specs.Int.{w32, to_be_bytes};
 ghost use Rattle.json.specs.Lex.{tokens};
@@ -13,8 +13,8 @@ ghost use Rattle.mml_plain.specs.declared.member_value.MemberValue.TheVariants.{
 use crate::fields::Fields;
 use crate::member_value::MemberValue;
 
-// The first four bytes of each frequent key, after its quotation mark. The quotation mark and the colon after a short
-// key count, too.
+// The first four bytes of each frequent key, after its quotation mark. They include the quotation mark and the colon
+// that come after a shorter key.
 const DO: u32 = 0x646f_223a;
 
 const NODE: u32 = 0x6e6f_6465;
@@ -60,8 +60,8 @@ fn member<'a>(text: &'a [u8], fields: &mut Fields<'a>) -> Option<&'a [u8]>
     ensures { IfSome result (λ rest. PutsMember text.now rest.now fields.old fields.new) }
 {
     let in_key = in_quotes(text)?;
-    // Only a short member at the end of the line has fewer than 8 bytes here. With 8, the first bounds below need no
-    // test.
+    // Only a short member at the end of the line has fewer than 8 bytes here. If there are 8, the first indices below
+    // need no bounds check.
     if in_key.len() < 8 {
         return any_member(in_key, fields);
     }

@@ -7,7 +7,8 @@ use std::alloc::{AllocError, Global};
 use std::fmt::{self, Debug, Formatter, Write};
 use std::marker::Model;
 
-/// The working memory of reading lines, kept from line to line. Contracts see how long a line it has room for.
+/// Working memory for reading lines, which is used again for each line. In contracts its value is the length of the
+/// longest line for which it has room.
 #[derive(Drop)]
 pub struct LineScratch {
     // On the heap: it holds 16 KB.

@@ -1,4 +1,8 @@
--- The moves that closes apply, counted by worlds and by the moves themselves.
+-- The number of moves that closes apply: counted in the worlds before the closes, and in the list of granted moves.
+-- A move of a node is pending if it is chosen and a later close applies it. A world is a network with its registers,
+-- its chosen moves, the number of its configuration, and the number of events so far. A list of events is legal if the
+-- rules allow each event after the earlier ones. A grant chooses a move for a node, a release drops it, and a close
+-- applies all chosen moves at once. A fault sets a node's registers, a link joins two nodes, and a cut removes a link.
 use Rattle.std.proofs.Common.{◌≡◌, ℕ, ◌+◌, ◌<◌, ◌≤◌, zero, suc, Bool, true, false, cond, ◌&&◌, eqb, List, [], ◌∷◌, Some, None, is_some, is_none, replicate, refl, ap, ◌∙◌, arith}
 use Rattle.std.{specs.Prelude.count_by, proofs.lemmas.Bool.and_parts, proofs.lemmas.Bool.and_right, proofs.lemmas.Bool.ltb-true, proofs.lemmas.Bool.Decides.nat_tests}
 use Rattle.mml_ids.specs.Search.{count_below}
@@ -13,15 +17,15 @@ use Rattle.mml_tally.specs.{Moves.fate_of, Moves.moves_from, Marks.is_fate_appli
 use Rattle.mml_tally.proofs.CountsLemmas.{one, more, count_split}
 use Rattle.mml_board.specs.declared.event.Event.TheVariants as event
 
--- a close to come applies what is chosen at i
+-- whether the move that is chosen at node i is pending
 abbrev pub will : World → ℕ → List Event → ℕ → Bool
 will w q es i = is_chosen w i && is_fate_applied (fate_of i q es)
 
--- how many of the moves that are chosen now
+-- the number of pending moves
 abbrev pub pending : World → ℕ → List Event → ℕ
 pending w q es = count_below (size w) (will w q es)
 
--- if nothing is chosen, none is
+-- if no move is chosen, none is pending
 pub nothing_pending : (w : World) (n q : ℕ) (es : List Event) → ((i : ℕ) → is_chosen w i ≡ false) → count_below n (will w q es) ≡ 0
 nothing_pending w n q es none = count_none n (will w q es) (λ i lt. ap (λ b. b && is_fate_applied (fate_of i q es)) (none i))
 
@@ -47,13 +51,13 @@ pending_grant w i rule s q es k lt free =
     apart : (j : ℕ) → j < size w → one (will (after w (event.Grant s i rule)) q es j) ≡ one (will w q es j) + one (eqb i j && is_fate_applied (fate_of i q es))
     apart j l = grind (arith, nat_tests, set_at j, free)
 
--- ---- a release takes its own away
+-- ---- a release takes away its own move
 
 pending_release : (w : World) (i q : ℕ) (es : List Event) → IsWorld w → i < size w
     → pending w q (event.Release i ∷ es) ≡ pending (after w (event.Release i)) (q + 1) es
 pending_release w i q es k lt = grind (arith, nat_tests, count_same, chosen_at-set)
 
--- ---- a close applies them all, and another configuration has none
+-- ---- a close applies all pending moves, and in a new configuration none is chosen
 
 pending_close : (w : World) (q : ℕ) (es : List Event) → pending w q (event.Close ∷ es) ≡ chosen_count w
 unfolding chosen_count
@@ -65,11 +69,12 @@ unchosen n i = ap is_some (none_at n i)
 never : (w : World) (n : ℕ) → count_below n (λ i. is_chosen w i && false) ≡ 0
 never w n = count_none n (λ i. is_chosen w i && false) (λ i l. and_right (is_chosen w i) false refl)
 
--- nor is one left if the choices are new
+-- if no move is chosen after an event, none is pending
 none_left : (w : World) (e : Event) (q : ℕ) (es : List Event) → (after w e).chosen ≡ replicate (size w) None → pending (after w e) q es ≡ 0
 none_left w e q es new = grind (arith, nat_tests, nothing_pending, unchosen)
 
--- the first event of a legal list fits, and leaves a lawful world in which the rest is legal
+-- the first event of a legal list fits the world, and leads to a lawful world (`IsWorld`) in which the rest of the list
+-- is legal
 first_of : (r : RosterValue) (w : World) (e : Event) (es : List Event) → IsWorld w → is_legal_list r w (e ∷ es) ≡ true
     → (is_fit w e ≡ true) × IsWorld (after w e) × (is_legal_list r (after w e) es ≡ true)
 first_of r w e es k legal =
@@ -77,7 +82,8 @@ first_of r w e es k legal =
     let possible = legal_possible r w e both.0 in
     (fit w e possible, after-world w e k possible, both.1)
 
--- what closes apply is what is chosen now and what is granted later, as far as a close applies it
+-- the number of moves that closes apply is the number of the pending ones, and of those that are granted and applied
+-- later
 pub applied_is : (r : RosterValue) (w : World) (q : ℕ) (es : List Event) → IsWorld w → is_legal_list r w es ≡ true
     → applied_over w es ≡ pending w q es + count_by is_applied (moves_from q es)
 applied_is r w q [] k legal = let none = never w (size w) in omega (arith, none)

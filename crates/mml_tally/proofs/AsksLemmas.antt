@@ -1,4 +1,5 @@
--- Each line is of one student, or of others; and other names change nothing.
+-- Each line is counted for one student or for none, and the names of other students change no count. A clause is a
+-- condition under which a request is granted.
 use Rattle.std.proofs.Common.{◌≡◌, ℕ, ◌+◌, Bool, true, cond, ◌&&◌, eqb, List, [], ◌∷◌, map, Option, None, Some, is_some, is_none, option_map, ◌↔◌, refl, ◌∙◌, arith}
 use Rattle.std.{specs.Prelude.count_by, proofs.lemmas.Bool.cases_eq, proofs.lemmas.Bool.ne_eqb, proofs.lemmas.Bool.Decides.nat_tests}
 use Rattle.mml_convergence.specs.Potential.{sum_below}
@@ -9,11 +10,11 @@ use Rattle.mml_tally.specs.Asks.{is_student, asks_by, is_clause, denials_in, den
 use Rattle.mml_tally.specs.AskMeaning.{asks_of_others, is_denied, total_denied, is_numbered, IsKnownOf, AreAsksOf, asked_under}
 use Rattle.mml_tally.proofs.{CountsLemmas.one, CountsLemmas.more, AppliedLemmas.only_one}
 
--- a line that is left out, or kept, by a test
+-- a line that is kept if b is true adds 1 to the count if b is true and the line passes the test
 kept : (test : Ask → Bool) (a : Ask) (asks : List Ask) (b : Bool) → count_by test (cond b (a ∷ asks) asks) ≡ one (b && test a) + count_by test asks
 kept test a asks b = grind (arith, nat_tests, more)
 
--- ---- each line is of one student, or of others
+-- ---- each line is counted for one student or for none
 
 own : (n : ℕ) (w : Option ℕ) (d : Option ℕ) (b : Bool) → IsKnownOf n w d → sum_below n (λ s. one (is_student s w && b)) + one (is_none w && b) ≡ one b
 own n None d b h = omega (arith, sum_zero n)
@@ -30,7 +31,7 @@ asks_sum test n (a ∷ asks) h =
     let others = kept test a (asks_of_others asks) (is_none a.who) in
     omega (arith, rest, each, split, own n a.who a.denied (test a) h.0, others, more test a asks)
 
--- ---- a clause from 1 to 4 denied it
+-- ---- each denied line was denied by one of the clauses 1 to 4
 
 one_clause : (d : Option ℕ) → is_numbered d ≡ true → one (is_clause 1 d) + one (is_clause 2 d) + one (is_clause 3 d) + one (is_clause 4 d) ≡ one (is_some d)
 one_clause d h = grind (arith, nat_tests)
@@ -55,7 +56,7 @@ denied_sum n asks h =
     λ k. sum_below n (λ s. total_is s n asks h k) in
     omega (arith, each, asks_sum is_denied n asks h)
 
--- ---- other names change nothing
+-- ---- the names of other students change nothing
 
 abbrev told : Option ℕ → Line → Option ℕ → Option StudentDenial → Option Refusal → Ask
 told w l d n q = record { who = w; line = l; denied = d; named = n; refused = q }

@@ -1,9 +1,9 @@
--- The bounds as numbers.
+-- The bounds on moves and rounds, computed with n / 2 and n % 2.
 use Rattle.std.proofs.Common.{◌≡◌, ◌⊎◌, inl, inr, ℕ, zero, suc, ◌+◌, ◌-◌, ◌*◌, ◌/◌, ◌%◌, refl, sym, ap, ◌∙◌, arith}
 use Rattle.mml_convergence.specs.{Rounds.rounds_for, Courtships.most_courtships}
 use Rattle.mml_convergence.proofs.NumbersLemmas.{courtships_even, courtships_odd}
 
--- twice the half, and one more if the number is odd
+-- a number is twice its half, or one more
 halved : (n : ℕ) → (n ≡ 2 * (n / 2)) ⊎ (n ≡ 2 * (n / 2) + 1)
 halved n = grind arith
 

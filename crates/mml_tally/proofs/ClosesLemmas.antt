@@ -1,4 +1,5 @@
--- The closes that applied moves come in order, so one pass counts each once.
+-- The closes that applied moves come in the order of these moves, so one pass counts each close once. The place of an
+-- event is its number in the list of events, from 1.
 use Rattle.std.proofs.Common.{◌≡◌, ◌⊎◌, ℕ, ◌+◌, ◌<◌, ◌≤◌, Bool, true, false, cond, ◌&&◌, ◌||◌, eqb, ltb, List, [], ◌∷◌, length, inl, inr, refl, ap, ◌∙◌, sym, arith}
 use Rattle.std.specs.List.{filter, list_any}
 use Rattle.std.proofs.lemmas.Bool.{cases_eq, or_cases, eqb-true, and_right, Decides.nat_tests}
@@ -13,7 +14,7 @@ use Rattle.mml_tally.specs.declared.fate.Fate.TheVariants as fate
 
 -- ---- a move is applied by the close that comes next, or by none
 
--- the place of that close, or after the last event
+-- the place of the next close, or the place after the last event if there is none
 abbrev pub next_close : ℕ → List Event → ℕ
 next_close q [] = q
 next_close q (event.Close ∷ es) = q
@@ -24,11 +25,11 @@ next_after q [] = omega arith
 next_after q (event.Close ∷ es) = omega arith
 next_after q (_ ∷ es) = let rest = next_after (q + 1) es in omega (arith, rest)
 
--- the close of a move that is chosen before event q, if the close before it has place `last`
+-- `close` is the place of the next close among the events from place q on, or `last` if no close applies the move
 pub record IsNext (last q : ℕ) (es : List Event) (close : ℕ) : Type 0 where
   pub which : (close ≡ last) ⊎ ((close ≡ next_close q es) × (next_close q es < q + length es))
 
--- the same, one event earlier
+-- the same holds if one more event comes first and doesn't change the next close
 next_earlier : (last q : ℕ) (e : Event) (es : List Event) (close : ℕ) → next_close q (e ∷ es) ≡ next_close (q + 1) es → IsNext last (q + 1) es close
     → IsNext last q (e ∷ es) close
 next_earlier last q e es close same h = grind (arith, nat_tests)
@@ -40,9 +41,9 @@ fate_next last i q (event.Release j ∷ es) = grind (arith, nat_tests, next_earl
 fate_next last i q (event.Close ∷ es) = record { which = inr (refl, omega arith) }
 fate_next last i q (_ ∷ es) = record { which = inl refl }
 
--- ---- so they come in order
+-- ---- the closes come in order
 
--- the closes of these moves come in order from `last` on, up to n
+-- the closes of these moves come in order, at places from `last` to n
 abbrev pub Rising : ℕ → ℕ → List Move → Type 0
 Rising n last [] = Unit {0}
 Rising n last (m ∷ ms) = (last ≤ close_of last m.fate) × (close_of last m.fate ≤ n) × Rising n (close_of last m.fate) ms
@@ -59,19 +60,19 @@ rising_moves n last q (event.Close ∷ es) le within few =
     rising_moves n last (q + 1) es (omega (arith, after)) (omega arith) few
 rising_moves n last q (_ ∷ es) le within few = rising_moves n last (q + 1) es le (omega arith) few
 
--- an earlier place to come from serves as well
+-- closes that come in order from b on also do so from a on, if a is at most b
 pub rising_less : (n a b : ℕ) (ms : List Move) → a ≤ b → Rising n b ms → Rising n a ms
 rising_less n a b [] le h = tt
 rising_less n a b (m ∷ ms) le h = grind (arith, nat_tests, (rising_less n a b ms le))
 
--- and those that a test leaves do
+-- the closes of the moves that pass a test come in order, too
 pub rising_filter : (test : Move → Bool) (n last : ℕ) (ms : List Move) → Rising n last ms → Rising n last (filter test ms)
 rising_filter test n last [] h = tt
 rising_filter test n last (m ∷ ms) h = grind (arith, nat_tests, rising_less, (rising_filter test n (close_of last m.fate) ms h.2))
 
--- ---- and one pass counts each place once
+-- ---- one pass counts each place once
 
--- a close at place q applied one of the moves
+-- whether a close at place q applied one of the moves
 abbrev pub some_at : ℕ → List Move → Bool
 some_at q ms = list_any (is_applied_at q) ms
 
@@ -85,7 +86,7 @@ none_before n last q (m ∷ ms) h e = elim (or_cases (is_fate_at q m.fate) (some
   | inr later ↦ omega (arith, none_before n (close_of last m.fate) q ms h.2 later, h.0)
 ]
 
--- ---- tests of a place, before and after the close of the first move is taken out
+-- ---- tests of a place, with and without the close of the first move
 
 one_more : (n last p : ℕ) (ms : List Move) → Rising n p ms → last < p → (j : ℕ)
     → one (ltb last j && (eqb p j || some_at j ms)) ≡ one (eqb p j) + one (ltb p j && some_at j ms)
@@ -130,7 +131,7 @@ closes_counted test (e ∷ es) =
     from_one : (n j : ℕ) (own : List Move) → Rising n 1 own → (ltb 0 j && some_at j own) ≡ some_at j own
     from_one n j own rising = grind (arith, nat_tests, none_before n 1 j own rising)
 
--- ---- and a student of whom a close applied a move has one
+-- ---- a student with an applied move has a counted close
 
 none_applied : (n : ℕ) (ms : List Move) → Rising n 1 ms → count_new 0 ms ≡ 0 → filter is_applied ms ≡ []
 none_applied n [] h none = refl

@@ -1,4 +1,6 @@
--- A move is applied by a close exactly if what comes between leaves it.
+-- A move is applied by a close exactly if no event between its grant and the close ends it. A grant chooses a move for
+-- a node, a release drops it, and a close applies all chosen moves at once. A fault sets a node's registers, a link
+-- joins two nodes, and a cut removes a link.
 use Rattle.std.proofs.Common.{◌≡◌, ◌↔◌, ℕ, ◌+◌, Bool, true, false, not, cond, ◌&&◌, eqb, List, [], ◌∷◌, ◌++◌, Some, None, unwrap_or, refl, ap, ◌∙◌, sym, arith, length}
 use Rattle.std.{specs.List.list_all, proofs.lemmas.Bool.and_parts, proofs.lemmas.Bool.not-true, proofs.lemmas.Bool.false≢true}
 use Rattle.mml_board.specs.declared.event.Event.{Event}
@@ -6,7 +8,7 @@ use Rattle.mml_tally.specs.{Moves.fate_of, Meaning.leaves, Meaning.IsNextClose}
 use Rattle.mml_board.specs.declared.event.Event.TheVariants as event
 use Rattle.mml_tally.specs.declared.fate.Fate.TheVariants as fate
 
--- one event more between
+-- if an event that doesn't end the move is put before the others, the next close stays the same
 earlier : (i q p : ℕ) (e : Event) (es : List Event) → leaves i e ≡ true → IsNextClose i (q + 1) p es → IsNextClose i q p (e ∷ es)
 earlier i q p e es here h = record {
   between = e ∷ h.between;

@@ -1,4 +1,4 @@
--- What students' marks add up to, and what they don't depend on.
+-- The sums of students' marks, and what marks don't depend on.
 use Rattle.std.proofs.Common.{◌≡◌, ◌↔◌, ℕ, suc, ◌+◌, ◌<◌, Bool, cond, ◌&&◌, eqb, List, [], ◌∷◌, unwrap_or, map, inl, inr, refl, ap, ◌∙◌, sym, arith, length}
 use Rattle.std.{specs.Prelude.count_by, proofs.lemmas.Bool.cases_eq, proofs.lemmas.Bool.ne_eqb, proofs.lemmas.Bool.Decides.nat_tests, proofs.lemmas.List.Sums.length-filter}
 use Rattle.mml_rules.specs.{declared.rule.Kind.Kind, Rules.kind_of}
@@ -12,7 +12,7 @@ use Rattle.mml_tally.proofs.{CountsLemmas.one, CountsLemmas.more, AppliedLemmas.
 use Rattle.mml_rules.specs.declared.rule.Kind.TheVariants as kind
 use Rattle.mml_board.specs.declared.event.Event.TheVariants as event
 
--- ---- each move is of one rule
+-- ---- each move is of one kind of rule
 
 one_kind : (k : Kind) → one (is_kind kind.Update k) + one (is_kind kind.Marriage k) + one (is_kind kind.Seduction k) + one (is_kind kind.Abandonment k) ≡ 1
 one_kind k = grind arith
@@ -26,7 +26,7 @@ total_is (m ∷ ms) =
 pub total_applied : (ms : List Move) → total (by_rule (applied ms)) ≡ count_by is_applied ms
 total_applied ms = total_is (applied ms) ∙ length-filter is_applied ms
 
--- ---- and has one fate
+-- ---- each move has one fate
 
 one_fate : (f : Fate) → one (is_fate_applied f) + one (is_fate_released f) + one (is_fate_dropped f) + one (is_fate_left f) ≡ 1
 one_fate f = grind arith
@@ -35,14 +35,14 @@ pub all_fates : (ms : List Move) → length ms ≡ count_by is_applied ms + coun
 all_fates [] = refl
 all_fates (m ∷ ms) = omega (arith, all_fates ms, more is_applied m ms, more is_released m ms, more is_dropped m ms, more is_left m ms, one_fate m.fate)
 
--- ---- and was asked for by one student
+-- ---- each move was asked for by one student
 
--- each was asked for by one of the first n students
+-- each move was asked for by one of the first n students
 abbrev pub AllOf : ℕ → List Move → Type 0
 AllOf n [] = Unit {0}
 AllOf n (m ∷ ms) = (m.who < n) × AllOf n ms
 
--- the moves of s, with one more at the front
+-- the count of the moves of s, if one more move is put before the others
 one_by : (test : Move → Bool) (m : Move) (ms : List Move) (s : ℕ)
     → count_by test (moves_by s (m ∷ ms)) ≡ one (eqb m.who s && test m) + count_by test (moves_by s ms)
 one_by test m ms s = grind (arith, nat_tests, one, more)
@@ -57,7 +57,7 @@ students_sum test n (m ∷ ms) h =
     let its : sum_below n (λ s. one (eqb m.who s && test m)) ≡ one (test m) = sum_of_tests n (λ s. eqb m.who s && test m) ∙ only_one n m.who (test m) h.0 in
     omega (arith, rest, each, split, its, more test m ms)
 
--- ---- other names change nothing
+-- ---- the names of other students change nothing
 
 ended_as : (f : ℕ → ℕ) (i q : ℕ) (e : Event) → ended_by i q (asked_as f e) ≡ ended_by i q e
 ended_as f i q e = grind (arith, nat_tests)

@@ -1,4 +1,6 @@
--- A run that isn't at rest has no more rounds than are counted: each of its rounds ends one that is counted, at the latest.
+-- If a node is privileged at the end of a run, the run has no more rounds than are counted: by the end of each of its
+-- rounds, one more counted round has ended.
+-- A node is served as soon as it has had its turn in a round. A node is privileged if some rule is enabled there.
 use Rattle.std.proofs.Common.{◌≡◌, ℕ, zero, suc, ◌+◌, ◌≤◌, Bool, true, false, not, cond, List, [], ◌∷◌, ◌++◌, refl, sym, ap, ◌∙◌, subst, arith, append_assoc}
 use Rattle.std.proofs.lemmas.Bool.{or_right, eq-eqb, not-true}
 use Rattle.mml_rules.specs.Matching.{IsStable}
@@ -10,7 +12,7 @@ use Rattle.mml_convergence.proofs.{SumsLemmas.count_none, RestLemmas.same_size, 
 use Rattle.mml_tally.specs.Rounds.{is_round, rounds_from, rounds_in}
 use Rattle.mml_tally.proofs.RoundsLemmas.{round_is}
 
--- ---- who is served within some events is served within more
+-- ---- a node that is served within some events is served within more events
 
 served_earlier : (i : ℕ) (w : World) (es fs : List Event) → is_served i (world_of w es) fs ≡ true → is_served i w (es ++ fs) ≡ true
 served_earlier i w [] fs served = served
@@ -22,7 +24,7 @@ round_made w es fs round = eq-eqb _ 0 (count_none (size w) (λ i. not (is_served
 
 -- ---- the first round that is counted
 
--- a round that is counted ends before the end of cs
+-- a counted round ends within the events cs
 record Ends (w : World) (fs cs ds : List Event) : Type 0 where
   front : List Event
   rest : List Event
@@ -55,12 +57,12 @@ ends w fs c (d ∷ cs) ds round = go (is_round w (fs ++ c ∷ [])) refl
     go true now later = at_once w fs c (d ∷ cs) ds now
     go false now later = on_with w fs c (d ∷ cs) ds now later
 
--- ---- all of them
+-- ---- all rounds
 
 at_rest : (w : World) → is_round w [] ≡ true → IsStable (configuration w)
 at_rest w round i lt = not-true _ (round_is w [] round i lt)
 
--- if the first of these rounds begins after the events es
+-- if k rounds follow one another after the events es, at least k rounds are counted in all events
 later_most : (k : ℕ) (r : RosterValue) (w : World) (all es fs : List Event) → all ≡ es ++ fs → IsRun r w all → ¬ IsStable (configuration (world_of w all))
     → Rounds k (world_of w es) fs → k ≤ rounds_in w all
 later_most zero r w all es fs is run goes_on rounds = omega arith

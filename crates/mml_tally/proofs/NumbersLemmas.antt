@@ -1,4 +1,6 @@
--- Each close, fault, link and cut makes the next configuration, and nothing else does.
+-- Each close, fault, link and cut leads to a new configuration, and no other event does. A grant chooses a move for a
+-- node, a release drops it, and a close applies all chosen moves at once. A fault sets a node's registers, a link joins
+-- two nodes, and a cut removes a link.
 use Rattle.std.{proofs.Common.◌≡◌, proofs.Common.ℕ, proofs.Common.◌+◌, proofs.Common.List, proofs.Common.[], proofs.Common.◌∷◌, proofs.Common.arith, specs.Prelude.count_by}
 use Rattle.mml_board.specs.{declared.event.Event.Event, World.World, Events.after, Runs.world_of}
 use Rattle.mml_convergence.specs.Moves.{is_close}
@@ -6,11 +8,11 @@ use Rattle.mml_tally.specs.Runs.{is_fault, is_link, is_cut}
 use Rattle.mml_tally.proofs.CountsLemmas.{one, more}
 use Rattle.mml_board.specs.declared.event.Event.TheVariants as event
 
--- the closes, faults, links and cuts together
+-- the number of closes, faults, links and cuts together
 abbrev pub changes : List Event → ℕ
 changes es = count_by is_close es + count_by is_fault es + count_by is_link es + count_by is_cut es
 
--- by whether the first event is one of them
+-- this number for a list with the first event e: 1 more if e is a close, a fault, a link or a cut
 one_more : (e : Event) (es : List Event) → changes (e ∷ es) ≡ one (is_close e) + one (is_fault e) + one (is_link e) + one (is_cut e) + changes es
 one_more e es = omega (arith, more is_close e es, more is_fault e es, more is_link e es, more is_cut e es)
 

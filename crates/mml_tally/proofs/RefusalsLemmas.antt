@@ -1,4 +1,4 @@
--- A text of refusals with one line more.
+-- The text about refusals, to which the line of the next student is appended.
 use Rattle.std.proofs.{Common.◌≡◌, Common.ℕ, Common.◌+◌, Common.add-one, Common.List, Common.◌++◌, Common.append_assoc, Common.arith, lemmas.Bool.Decides.nat_tests}
 use Rattle.mml_lab.specs.{Labs.LabValue, Rosters.RosterValue, Rosters.name_of}
 use Rattle.mml_tally.specs.{declared.ask.Ask.Ask, declared.refusals.Refusals.Refusals, Refusals.refusals_of, Refusals.refused_line, Refusals.refused_text}

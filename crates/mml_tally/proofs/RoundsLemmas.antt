@@ -1,5 +1,6 @@
--- The rounds since the last fault, link or cut are rounds of a run of grants, releases and closes, and so are within
--- their bound.
+-- The rounds since the last fault, link or cut are rounds of a run of grants, releases and closes. So they are within
+-- the bound for rounds. The place of an event is its number in the list of events, from 1. A round is a list of events
+-- in which each node has its turn: at some point it isn't privileged, or a close applies its move.
 use Rattle.std.proofs.Common.{◌≡◌, ℕ, zero, suc, ◌+◌, ◌≤◌, ◌⊎◌, inl, inr, Bool, true, false, not, cond, List, [], ◌∷◌, ◌++◌, take, drop, refl, sym, ap, ◌∙◌, subst, arith, append_assoc}
 use Rattle.std.proofs.Common.{take-append-drop}
 use Rattle.std.{specs.List.list_all, proofs.lemmas.Bool.and_parts, proofs.lemmas.Bool.eqb-true, proofs.lemmas.Bool.both_ways, proofs.lemmas.Bool.false_from_ne_true, proofs.lemmas.Bool.false≢true}
@@ -15,7 +16,7 @@ use Rattle.mml_tally.specs.{Runs.last_change, Bounds.bounds_of, Rounds.is_round,
 use Rattle.mml_tally.proofs.StudentsLemmas.{opening-world}
 use Rattle.mml_board.specs.declared.event.Event.TheVariants as event
 
--- ---- what is counted are rounds
+-- ---- the counted rounds are rounds
 
 served_from : (b : Bool) → not b ≡ false → b ≡ true
 served_from true h = refl
@@ -45,7 +46,7 @@ rounds_there w fs (e ∷ es) = go (is_round w gs) refl (rounds_there (world_of w
     go true round ended goes_on = one_round (rounds_from (world_of w gs) [] es) w gs es (fs ++ e ∷ es) same (round_is w gs round) ended
     go false round ended goes_on = subst (λ l. Rounds (rounds_from w gs es) w l) (sym same) goes_on
 
--- ---- the last event ends one round at most
+-- ---- the last event ends at most one round
 
 one_more : (w : World) (fs es : List Event) (e : Event) → rounds_from w fs (es ++ e ∷ []) ≤ 1 + rounds_from w fs es
 one_more w fs [] e = go (is_round w (fs ++ e ∷ []))
@@ -85,7 +86,7 @@ run_rests r w es run most = rounds_end r w es (rounds_in w es) run most (rounds_
 
 -- ---- the run since the last fault, link or cut
 
--- all are grants, releases and closes, or those after the last that isn't
+-- either all events are grants, releases and closes, or `last_change` is the place of the last event that isn't one
 abbrev LastIs : ℕ → ℕ → List Event → Type 0
 LastIs last q es =
     ((list_all is_of_step es ≡ true) × (last_change last q es ≡ last))

@@ -1,5 +1,9 @@
--- The moves since the last fault, link or cut are those of a run of grants, releases and closes, and so are within its
--- bound.
+-- The moves since the last fault, link or cut are those of a run of grants, releases and closes. So they are within the
+-- bound for moves. A world is a network with its registers, its chosen moves, the number of its configuration, and the
+-- number of events so far. The place of an event is its number in the list of events, from 1. A node is privileged if
+-- some rule is enabled there. A list of events is legal if the rules allow each event after the earlier ones. A grant
+-- chooses a move for a node, a release drops it, and a close applies all chosen moves at once. A fault sets a node's
+-- registers, a link joins two nodes, and a cut removes a link.
 use Rattle.std.proofs.Common.{◌≡◌, ℕ, ◌+◌, ◌*◌, ◌≤◌, Bool, true, false, cond, eqb, ltb, List, [], ◌∷◌, None, Some, is_some, refl, ap, sym, ◌∙◌, arith, inl, inr, min, ◌⊎◌, unwrap_or, subst}
 use Rattle.std.specs.{Prelude.count_by, List.list_all}
 use Rattle.std.proofs.lemmas.Bool.{and_parts, cases_Bool, eqb-true, eq-eqb, false≢true, false_from_ne_true, Decides.nat_tests}
@@ -28,7 +32,7 @@ never_earlier last q (event.Fault i registers ∷ es) le = let rest = never_earl
 never_earlier last q (event.Link a b ∷ es) le = let rest = never_earlier q (q + 1) es (omega arith) in omega (arith, rest)
 never_earlier last q (event.Cut a b ∷ es) le = let rest = never_earlier q (q + 1) es (omega arith) in omega (arith, rest)
 
--- if there is one among the events, it has the place of the first or comes later
+-- if a fault, link or cut is among the events, the last one is at place q, that of the first event, or later
 beyond : (last q : ℕ) (es : List Event) → list_all is_of_step es ≡ false → q ≤ last_change last q es
 beyond last q [] some = absurd (false≢true (sym some))
 beyond last q (event.Grant s i rule ∷ es) some = let rest = beyond last (q + 1) es some in omega (arith, rest)
@@ -38,7 +42,8 @@ beyond last q (event.Fault i registers ∷ es) some = never_earlier q (q + 1) es
 beyond last q (event.Link a b ∷ es) some = never_earlier q (q + 1) es (omega arith)
 beyond last q (event.Cut a b ∷ es) some = never_earlier q (q + 1) es (omega arith)
 
--- then what was chosen before it isn't applied after it
+-- if a fault, link or cut is among the events, no close after the last one applies a move that was chosen before the
+-- events
 not_after : (i last q : ℕ) (es : List Event) → list_all is_of_step es ≡ false → is_fate_after (last_change last q es) (fate_of i q es) ≡ false
 not_after i last q [] some = absurd (false≢true (sym some))
 not_after i last q (event.Grant s j rule ∷ es) some = not_after i last (q + 1) es some
@@ -65,7 +70,7 @@ fewer : (k : ℕ) (ms : List Move) → count_by (is_applied_after k) ms ≤ coun
 fewer k [] = omega arith
 fewer k (m ∷ ms) = let rest = fewer k ms in omega (arith, more (is_applied_after k) m ms, more is_applied m ms, rest, applied_so k m.fate)
 
--- grants, releases and closes that lead to the world of a list, and apply so many moves at least
+-- grants, releases and closes that lead to the same world as the list es, and that apply at least n moves
 record Since (r : RosterValue) (w : World) (es : List Event) (n : ℕ) : Type 0 where
   pub from : World
   pub later : List Event
@@ -75,7 +80,7 @@ record Since (r : RosterValue) (w : World) (es : List Event) (n : ℕ) : Type 0 
   pub end : world_of from later ≡ world_of w es
   pub moves : n ≤ applied_over from later
 
--- how many moves are applied after the last change
+-- the number of moves that are applied after the last fault, link or cut
 abbrev count_since : ℕ → ℕ → List Event → ℕ
 count_since last q es = count_by (is_applied_after (last_change last q es)) (moves_from q es)
 
@@ -91,7 +96,7 @@ whole r w last q es k legal steps = record {
   moves = let few = fewer (last_change last q es) (moves_from q es) in omega (arith, applied_is r w q es k legal, few);
 }
 
--- an event before them, by which no more moves are counted
+-- if m is n, and `Since` holds after the first event, it holds before this event, too
 pass : (r : RosterValue) (w : World) (e : Event) (es : List Event) (n m : ℕ) → m ≡ n → Since r (after w e) es n → Since r w (e ∷ es) m
 pass r w e es n m same s = record {
   from = s.from;
@@ -103,7 +108,7 @@ pass r w e es n m same s = record {
   moves = omega (arith, same, s.moves);
 }
 
--- what is left of a legal list after its first event
+-- after the first event of a legal list, the world is lawful (`IsWorld`), and the rest of the list is legal
 rest_of : (r : RosterValue) (w : World) (e : Event) (es : List Event) → IsWorld w → is_legal_list r w (e ∷ es) ≡ true
     → IsWorld (after w e) × (is_legal_list r (after w e) es ≡ true)
 rest_of r w e es k legal =
@@ -138,7 +143,7 @@ since r w last q (event.Cut a b ∷ es) k legal =
     let on = rest_of r w (event.Cut a b) es k legal in
     pass r w (event.Cut a b) es _ _ refl (since r (after w (event.Cut a b)) q (q + 1) es on.0 on.1)
 
--- ---- what the moves cost
+-- ---- each applied move lowers a potential by 1 or more
 
 event_pays : (P : Configuration → ℕ) → Falls P → (w : World) (e : Event) → IsWorld w → is_of_step e ≡ true
     → applied_by w e + P (configuration (after w e)) ≤ P (configuration w)
@@ -156,10 +161,11 @@ paid P falls r w (e ∷ es) k legal steps =
     let rest = paid P falls r (after w e) es on.0 on.1 both.1 in
     omega (arith, event_pays P falls w e k both.0, rest)
 
--- where nothing is left to pay, no node is privileged
+-- if rule q is enabled at node i, a step in which only i moves, by q, applies only enabled rules
 alone : (c : Configuration) (i : ℕ) (q : Rule) → guard c i q ≡ true → AllHold c (λ j. cond (eqb i j) (Some q) None)
 alone c i q g j r e = grind (arith, nat_tests, eqb-true i j, g)
 
+-- if the potential is 0, no node is privileged
 resting : (P : Configuration → ℕ) → Falls P → (c : Configuration) → IsLawful c → P c ≡ 0 → IsStable c
 resting P falls c l none i lt = false_from_ne_true (is_privileged c i) (λ on.
     let g = (privileged-means c i l).0 on in
@@ -167,7 +173,7 @@ resting P falls c l none i lt = false_from_ne_true (is_privileged c i) (λ on.
     let some = count_some c.size i (λ j. is_some (cond (eqb i j) (Some g.0) None)) lt (ap (λ b. is_some (cond b (Some g.0) None)) (eq-eqb i i refl)) in
     absurd (omega (arith, none, fell, some)))
 
--- ---- the network stays as large
+-- ---- the numbers of nodes and links stay the same
 
 close_links : (w : World) → link_count (after w event.Close).network ≡ link_count w.network
 unfolding link_count

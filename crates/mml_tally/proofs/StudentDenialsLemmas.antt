@@ -1,4 +1,5 @@
--- What the clauses denied is the sum over their denials; and a text of denials with one line more.
+-- The number of lines that a clause denied is the sum over the denials of this clause. Also the text about denials, to
+-- which the line of the next student is appended. A clause is a condition under which a request is granted.
 use Rattle.std.proofs.Common.{◌≡◌, ℕ, ◌+◌, add-one, Bool, true, false, cond, List, [], ◌∷◌, ◌++◌, append_assoc, Option, None, Some, refl, sym, ap, ◌∙◌, arith}
 use Rattle.std.{specs.Prelude.option_map, proofs.lemmas.Bool.Decides.nat_tests}
 use Rattle.mml_lab.specs.{Labs.LabValue, Rosters.RosterValue, Rosters.name_of}
@@ -9,9 +10,9 @@ use Rattle.mml_tally.proofs.CountsLemmas.{one, more}
 use Rattle.mml_lab.specs.declared.who.Who.TheVariants as who
 use Rattle.mml_tally.specs.declared.student_denials.StudentDenial.TheVariants as named
 
--- ---- a line more
+-- ---- one more line
 
--- the line of a student whose name and denials are known
+-- the line made from a student's name and denials is that of this student
 line_of : (r r' : RosterValue) (s s' : ℕ) (name : List ℕ) (denied : NamedDenials) (asks : List Ask) → r ≡ r' → s ≡ s' → name ≡ name_of r (who.Student s)
     → denied ≡ named_of asks s → denials_line name denied ≡ denials_line (name_of r' (who.Student s')) (named_of asks s')
 line_of r r' s s' name denied asks er es en ed =
@@ -31,7 +32,7 @@ next_named lab asks now before first r s place name denied b n er es en ed =
 
 -- ---- by clause and by name
 
--- how many of the denials of clause 1 this is
+-- 1 if this is a denial of clause 1, otherwise 0
 abbrev of_first : Option StudentDenial → ℕ
 of_first n = one (is_named named.Greeted n) + one (is_named named.Hidden n) + one (is_named named.NotOwner n) + one (is_named named.NotTeacher n)
 
@@ -55,7 +56,7 @@ fourth_is None = refl
 fourth_is (Some named.Guard) = refl
 fourth_is (Some _) = refl
 
--- the clause that denied a line, as it is known by the denial's name
+-- if a line was denied by the clause of its named denial, it is counted for a clause exactly if this denial is
 clause_is : (c : ℕ) (denied : Option ℕ) (n : Option StudentDenial) → denied ≡ option_map clause_named n
     → one (is_clause c denied) ≡ one (is_clause c (option_map clause_named n))
 clause_is c denied n e = λ k. one (is_clause c (e k))
@@ -71,7 +72,7 @@ sums_more a own e rest =
       omega (arith, rest.3, clause 4, clause_is 4 a.denied a.named e, fourth_is a.named, name named.Guard),
     )
 
--- the line of a student who is known is named
+-- a line of student s was denied by the clause of its named denial, or by none if it has none
 own_named : (s : ℕ) (w denied : Option ℕ) (n : Option StudentDenial) → IsNamed w denied n → is_student s w ≡ true → denied ≡ option_map clause_named n
 own_named s w denied n h b = grind (arith, nat_tests)
 

@@ -1,4 +1,5 @@
--- Each asker in a legal list is a student of the lab, so all their marks together are the list's.
+-- Each move in a legal list was asked for by a student of the lab, so the sum of all students' marks is the number for
+-- the whole list. A list of events is legal if the rules allow each event after the earlier ones.
 use Rattle.std.proofs.{Common.◌≡◌, Common.ℕ, Common.◌+◌, Common.true, Common.List, Common.[], Common.◌∷◌, Common.◌∙◌, Common.arith, Common.length, lemmas.Bool.and_parts, lemmas.Bool.Decides.nat_tests}
 use Rattle.std.specs.Prelude.{count_by}
 use Rattle.mml_lab.specs.{Labs.LabValue, Labs.IsLab, Rosters.RosterValue, Rosters.IsRoster}

@@ -1,4 +1,4 @@
--- A text with one line more.
+-- Texts to which one more line is appended.
 use Rattle.std.proofs.Common.{◌≡◌, ℕ, ◌+◌, add-one, List, ◌++◌, append_assoc, ap, ◌∙◌, sym, refl, arith}
 use Rattle.mml_lab.specs.{Labs.LabValue, Rosters.RosterValue, Rosters.name_of}
 use Rattle.mml_board.specs.declared.event.Event.{Event}
@@ -7,7 +7,7 @@ use Rattle.mml_tally.specs.{Marks.marks_of, Asks.denials_of, Texts.student_line,
 use Rattle.std.proofs.lemmas.Bool.Decides.{nat_tests}
 use Rattle.mml_lab.specs.declared.who.Who.TheVariants as who
 
--- the line of a student whose name and marks are known
+-- the line made from a student's name and marks is that of this student
 line_of : (r r' : RosterValue) (s s' : ℕ) (name : List ℕ) (marks : Marks) (es : List Event) → r ≡ r' → s ≡ s' → name ≡ name_of r (who.Student s)
     → marks ≡ marks_of r es s → student_line name marks ≡ student_line (name_of r' (who.Student s')) (marks_of r' es s')
 line_of r r' s s' name marks es er es' en em =

@@ -1,4 +1,5 @@
--- The nodes that wait are those that have had no turn in the round so far.
+-- The nodes that wait are those that have had no turn in the round so far. A node is served as soon as it has had its
+-- turn. A node is privileged if some rule is enabled there.
 use Rattle.std.proofs.Common.{◌≡◌, ◌≢◌, ℕ, suc, ◌+◌, Bool, true, false, not, ◌&&◌, ◌||◌, cond, eqb, ltb, List, [], ◌∷◌, ◌++◌, refl, sym, ap, ◌∙◌, arith}
 use Rattle.std.{proofs.lemmas.Bool.eq-eqb, proofs.lemmas.Bool.ne_eqb, specs.Ordering.nat_cmp, specs.Cmp.nat_cmp_total, specs.FinSet.FinSet}
 use Rattle.mml_ids.specs.{Sets.those_below, inside.WordsLemmas.has_empty, inside.WordsLemmas.same_ranks, inside.WordsLemmas.has-those_below}
@@ -24,7 +25,8 @@ next_turn true true s s' t h = refl
 next_turn true false s s' t h = h
 next_turn false c s s' t h = refl
 
--- after one event more a node waits still if it did, the event applies no move of it, and it is privileged after that
+-- a node still waits after one more event exactly if it waited before, the event applies no move of it, and it is
+-- privileged after the event
 served_more : (i : ℕ) (w : World) (fs : List Event) (e : Event) → not (is_served i w (fs ++ e ∷ []))
     ≡ (not (is_served i w fs) && (not (is_close e && is_chosen (world_of w fs) i) && is_privileged (configuration (after (world_of w fs) e)) i))
 served_more i w [] e = first_turn (is_privileged (configuration w) i) (is_close e && is_chosen w i) (is_privileged (configuration (after w e)) i)
@@ -35,7 +37,7 @@ served_more i w (f ∷ fs) e =
 
 -- ---- all nodes
 
--- those that have had no turn
+-- the nodes that have had no turn
 abbrev waiting : World → List Event → FinSet nat_cmp
 waiting w fs = those_below (size w) (λ i. not (is_served i w fs))
 
@@ -68,7 +70,7 @@ has-still w s e q =
     sets.contains-intersection nat_cmp_total (sets.difference s (moved_nodes w e)) (privileged_nodes (after w e)) q
     ∙ ap (λ b. b && sets.contains (privileged_nodes (after w e)) q) (sets.contains-difference nat_cmp_total s (moved_nodes w e) q)
 
--- of a node below the number of nodes, and of none else
+-- the condition l, that a node is below the number of nodes, may be added to each part of the condition for waiting
 within : (l s c m p : Bool) → (l && (s && (not (c && m) && p))) ≡ (((l && s) && not (c && (l && m))) && (l && p))
 within true true true true p = refl
 within true true true false p = refl
@@ -109,12 +111,12 @@ below_more : (t : ℕ → Bool) (n : ℕ) → those_below (n + 1) t ≡ cond (t 
 unfolding those_below
 below_more t n = let more : n + 1 ≡ suc n = omega arith in ap (λ k. those_below k t) more
 
--- the next one is put in if it passes
+-- if n passes the test, it is put into the set of those below n + 1
 pub one_below : (t : ℕ → Bool) (n : ℕ) (s : FinSet nat_cmp) → s ≡ those_below n t → t n ≡ true → sets.insert s n ≡ those_below (n + 1) t
 one_below t n s so_far passes =
     ap (λ x. sets.insert x n) so_far ∙ sym (below_more t n ∙ ap (λ b. cond b (sets.insert (those_below n t) n) (those_below n t)) passes)
 
--- and else left out
+-- if n doesn't pass the test, the set stays the same
 pub other_below : (t : ℕ → Bool) (n : ℕ) (s : FinSet nat_cmp) → s ≡ those_below n t → t n ≡ false → s ≡ those_below (n + 1) t
 other_below t n s so_far fails = so_far ∙ sym (below_more t n ∙ ap (λ b. cond b (sets.insert (those_below n t) n) (those_below n t)) fails)
 
@@ -146,19 +148,19 @@ module _ (n total : ℕ) (w v : World) (s x first : FinSet nat_cmp) (e : Event) 
   step_is = ap (count_rounds w s) next ∙ (λ k. cond (eqb (sets.len (sym waits k)) 0)
       (1 + count_rounds (sym leads k) (privileged_nodes (sym leads k)) es) (count_rounds (sym leads k) (sym waits k) es))
 
-  -- no node waits after the event: a round ends, and the next begins
+  -- if no node waits after the event, a round ends, and the next begins
   pub round_counted : first ≡ privileged_nodes v → sets.len x ≡ 0 → n + 1 + count_rounds v first es ≡ total
   round_counted begins ends =
       let step = step_is ∙ ap (λ b. cond b (1 + count_rounds v (privileged_nodes v) es) (count_rounds v x es)) (eq-eqb (sets.len x) 0 ends) in
       let same = ap (λ p. count_rounds v p es) begins in
       omega (arith, so_far, step, same)
 
-  -- some node waits still: the round goes on
+  -- if a node still waits after the event, the round goes on
   pub none_counted : sets.len x ≢ 0 → n + count_rounds v x es ≡ total
   none_counted goes_on =
       let step = step_is ∙ ap (λ b. cond b (1 + count_rounds v (privileged_nodes v) es) (count_rounds v x es)) (ne_eqb (sets.len x) 0 goes_on) in
       omega (arith, so_far, step)
 
--- the rounds that end in a list are those that are counted from its first world on
+-- the number of rounds that end in a list, counted by the nodes that wait, is `rounds_in`
 pub rounds_counted : (w : World) (es : List Event) → count_rounds w (privileged_nodes w) es ≡ rounds_in w es
 rounds_counted w es = sym (counted w [] es ∙ ap (λ s. count_rounds w s es) (waiting_first w))

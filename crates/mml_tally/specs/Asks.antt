@@ -1,11 +1,12 @@
--- The requests of a student's lines, whatever the replies were, and the clauses that denied them.
+-- The requests in a student's lines, and the clauses that denied them. A clause is a condition under which a request is
+-- granted. A participant is known on a connection from a granted hello to the bye.
 use Rattle.std.specs.{Prelude.ℕ, Prelude.◌==◌, Prelude.◌&&◌, Prelude.Bool, Prelude.true, Prelude.false, Prelude.List, Prelude.Option, Prelude.None, Prelude.Some, Prelude.count_by, List.filter}
 use Rattle.mml_rules.specs.declared.rule.Kind.{Kind}
 use Rattle.mml_tally.specs.{declared.ask.Ask.Ask, declared.ask.Line.Line, declared.ask.Denials.Denials, declared.marks.ByRule.ByRule, Marks.is_kind}
 use Rattle.mml_rules.specs.declared.rule.Kind.TheVariants as kind
 use Rattle.mml_tally.specs.declared.ask.Line.TheVariants as line
 
--- s is the student who was known, if one was
+-- whether s is the student who was known when a line came; false if none was
 abbrev pub is_student : ℕ → Option ℕ → Bool
 is_student s None = false
 is_student s (Some t) = t == s
@@ -14,18 +15,18 @@ is_student s (Some t) = t == s
 abbrev pub asks_by : ℕ → List Ask → List Ask
 asks_by s asks = filter (λ a. is_student s a.who) asks
 
--- the clause that denied a line, if one did, has the number c
+-- whether the clause that denied a line has the number c; false if none denied it
 abbrev pub is_clause : ℕ → Option ℕ → Bool
 is_clause c None = false
 is_clause c (Some d) = d == c
 
--- the line is no request
+-- whether the line isn't a request
 abbrev pub is_malformed : Line → Bool
 is_malformed line.Malformed = true
 is_malformed (line.Move n k) = false
 is_malformed line.Other = false
 
--- the line asks for a move of this rule at the node with this identifier
+-- whether the line asks for a move of this rule at the node with this identifier
 abbrev pub is_move : ℕ → Kind → Line → Bool
 is_move id k line.Malformed = false
 is_move id k (line.Move n j) = n == id && is_kind k j

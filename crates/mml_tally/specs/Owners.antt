@@ -8,6 +8,6 @@ use Rattle.mml_stable.specs.Reports.{each_below, listed_if}
 abbrev pub owners_in_order : RosterValue → ℕ → List ℕ
 owners_in_order r i = each_below (length r.students) (λ s. listed_if (owns r (who.Student s) i) s)
 
--- more than one student owns the node
+-- whether more than one student owns the node
 abbrev pub is_shared : RosterValue → ℕ → Bool
 is_shared r i = nat_lt 1 (length (owners_in_order r i))

@@ -1,4 +1,5 @@
--- The lines of a run's record, between the nodes and the end of the tally.
+-- The lines about a record, which stand between the lines of the nodes and the end of the tally. A clause is a
+-- condition under which a request is granted.
 use Rattle.std.specs.Prelude.{ℕ, Bool, true, false, List, [], ◌∷◌, ◌++◌, length, codes, slice_index, if◌then◌else◌}
 use Rattle.mml_lab.specs.{Labs.LabValue, Rosters.RosterValue, Rosters.name_of}
 use Rattle.mml_board.specs.{declared.event.Event.Event, World.World}
@@ -8,7 +9,7 @@ use Rattle.mml_tally.specs.{Lacking.recorded_line, Owners.owners_in_order, Owner
 use Rattle.mml_tally.specs.Texts.{numbers_text, owner_text, students_text, nodes_text, ends_text}
 use Rattle.mml_lab.specs.declared.who.Who.TheVariants as who
 
--- the line of a student: how many lines each of the first four clauses denied, and how many were malformed
+-- the line of a student: how many lines each of the four clauses denied, and how many were malformed
 abbrev pub denied_line : List ℕ → Denials → List ℕ
 denied_line name d = codes "denied " ++ (name ++ (numbers_text (d.first ∷ d.second ∷ d.third ∷ d.fourth ∷ d.malformed ∷ []) ++ codes "\n"))
 
@@ -30,29 +31,29 @@ asked_line lab asks i =
 abbrev pub asked_text : LabValue → List Ask → ℕ → List ℕ
 asked_text lab asks n = each_below n (λ i. if is_shared lab.roster i then asked_line lab asks i else [])
 
--- the word for a record that leaves nothing out, or for one that was cut short, with a space and a newline
+-- ` whole` if the record leaves nothing out, and ` cut` if it was cut short, with a newline
 abbrev pub whole_text : Bool → List ℕ
 whole_text true = codes " whole\n"
 whole_text false = codes " cut\n"
 
--- sessions that ended, lines that were answered, and whether the record is whole
+-- the numbers of sessions that ended and of lines that were answered, and whether the record is whole
 abbrev pub record_line : Findings → List ℕ
 record_line f = codes "record" ++ (numbers_text (f.sessions ∷ f.lines ∷ []) ++ whole_text f.whole)
 
--- what was denied and asked, and the record's summary
+-- the lines about denied requests, about moves that were asked for, and about the whole record
 abbrev pub record_text : LabValue → Findings → List Ask → List ℕ
 record_text lab f asks = denied_text lab asks (length lab.roster.students) ++ (asked_text lab asks (length lab.ids) ++ record_line f)
 
--- the lines of a run with a record
+-- the first lines of the tally of a run with a record, up to the line `run`
 abbrev pub recorded_run_text : LabValue → World → List Event → Findings → List Ask → List ℕ
 recorded_run_text lab w es f asks =
     students_text lab es (length lab.roster.students) ++ (nodes_text lab es (length lab.ids) ++ (record_text lab f asks ++ ends_text w es))
 
--- for each student what was refused, and for each student what was denied by name
+-- a line for each student about refusals, and a line for each student about denials by name
 abbrev pub turned_down_text : LabValue → List Ask → List ℕ
 turned_down_text lab asks = refused_text lab asks (length lab.roster.students) ++ denials_text lab asks (length lab.roster.students)
 
--- the tally of a run with a record: these lines, the line of the participants whose lines are all recorded, and the
--- lines of refusals and of denials by name
+-- the tally of a run with a record: the lines of the run, the line with the participants whose lines are all recorded,
+-- and the lines about refusals and about denials by name
 abbrev pub recorded_text : LabValue → World → List Event → Findings → List Ask → List ℕ
 recorded_text lab w es f asks = recorded_run_text lab w es f asks ++ (recorded_line lab f ++ turned_down_text lab asks)

@@ -7,7 +7,7 @@ use Rattle.mml_tally.specs.{declared.ask.Ask.Ask, declared.refusals.Refusals.Ref
 use Rattle.mml_lab.specs.declared.who.Who.TheVariants as who
 use Rattle.mml_policy.specs.declared.refusal.Refusal.TheVariants as refusal
 
--- a line was refused, and for this reason
+-- whether the line was refused for this reason
 abbrev pub is_refused : Refusal → Option Refusal → Bool
 is_refused refusal.Journal (Some refusal.Journal) = true
 is_refused refusal.Memory (Some refusal.Memory) = true

@@ -1,4 +1,6 @@
--- The counts of a run, by its list of events.
+-- The counts of a run, from its list of events. The place of an event is its number in the list of events, from 1. A
+-- grant chooses a move for a node, a release drops it, and a close applies all chosen moves at once. A fault sets a
+-- node's registers, a link joins two nodes, and a cut removes a link.
 use Rattle.std.specs.Prelude.{ℕ, ◌+◌, Bool, true, false, not, nat_lt, if◌then◌else◌, List, [], ◌∷◌, drop, count_by}
 use Rattle.mml_board.specs.declared.event.Event.{Event}
 use Rattle.mml_convergence.specs.{Runs.is_of_step, Moves.is_close}
@@ -6,40 +8,40 @@ use Rattle.mml_tally.specs.{declared.fate.Fate.Fate, declared.granted_move.Move.
 use Rattle.mml_board.specs.declared.event.Event.TheVariants as event
 use Rattle.mml_tally.specs.declared.fate.Fate.TheVariants as fate
 
--- the event is a fault
+-- whether the event is a fault
 abbrev pub is_fault : Event → Bool
 is_fault (event.Fault i registers) = true
 is_fault _ = false
 
--- the event is a link
+-- whether the event is a link
 abbrev pub is_link : Event → Bool
 is_link (event.Link a b) = true
 is_link _ = false
 
--- the event is a cut
+-- whether the event is a cut
 abbrev pub is_cut : Event → Bool
 is_cut (event.Cut a b) = true
 is_cut _ = false
 
--- a fault, a link or a cut
+-- whether the event is a fault, a link or a cut
 abbrev pub is_change : Event → Bool
 is_change e = not (is_of_step e)
 
--- the place of the last fault, link or cut, which is `last` so far: the next event has place q
+-- the place of the last fault, link or cut; `last` is this place before the events es, the first of which has place q
 abbrev pub last_change : ℕ → ℕ → List Event → ℕ
 last_change last q [] = last
 last_change last q (e ∷ es) = last_change (if is_change e then q else last) (q + 1) es
 
--- the fate is that a close after place k applied a move
+-- whether the fate is that a close after place k applied a move
 abbrev pub is_fate_after : ℕ → Fate → Bool
 is_fate_after k (fate.Applied p) = nat_lt k p
 is_fate_after k _ = false
 
--- a close after place k applied the move
+-- whether a close after place k applied the move
 abbrev pub is_applied_after : ℕ → Move → Bool
 is_applied_after k m = is_fate_after k m.fate
 
--- the counts of a run, if its last fault, link or cut has the place `since`, 0 if there is none
+-- the counts of a run whose last fault, link or cut has the place `since`, which is 0 if there is none
 abbrev pub run_since : ℕ → List Event → Run
 run_since since es = record {
   closes = count_by is_close es;

@@ -1,4 +1,5 @@
--- The denials of a student's lines by name, beside those by clause, and their line in the tally.
+-- The denials of a student's lines by name and by clause, and the student's line in the tally. A clause is a condition
+-- under which a request is granted. A participant is known on a connection from a granted hello to the bye.
 use Rattle.std.specs.Prelude.{◌≡◌, ◌+◌, ℕ, Bool, true, false, List, [], ◌∷◌, ◌++◌, codes, Option, None, Some, option_map, count_by}
 use Rattle.mml_lab.specs.{Labs.LabValue, Rosters.name_of}
 use Rattle.mml_board.specs.declared.denial.Denial.{Denial}
@@ -9,7 +10,7 @@ use Rattle.mml_lab.specs.declared.who.Who.TheVariants as who
 use Rattle.mml_board.specs.declared.denial.Denial.TheVariants as denial
 use Rattle.mml_tally.specs.declared.student_denials.StudentDenial.TheVariants as named
 
--- the denial, if a student who is known can get it
+-- the denial if a known student can get it, otherwise None
 abbrev pub student_denial : Denial → Option StudentDenial
 student_denial denial.Greeted = Some named.Greeted
 student_denial denial.Hidden = Some named.Hidden
@@ -30,7 +31,7 @@ clause_named named.Stale = 2
 clause_named named.Chosen = 3
 clause_named named.Guard = 4
 
--- a line was denied, and by the denial of this name
+-- whether the line was denied, with the denial of this name
 abbrev pub is_named : StudentDenial → Option StudentDenial → Bool
 is_named named.Greeted (Some named.Greeted) = true
 is_named named.Hidden (Some named.Hidden) = true
@@ -41,7 +42,7 @@ is_named named.Chosen (Some named.Chosen) = true
 is_named named.Guard (Some named.Guard) = true
 is_named _ _ = false
 
--- how many lines were denied by each of these denials
+-- how many lines got each of these denials
 abbrev pub named_in : List Ask → NamedDenials
 named_in own = record {
   greeted = count_by (λ a. is_named named.Greeted a.named) own;
@@ -53,12 +54,12 @@ named_in own = record {
   guard = count_by (λ a. is_named named.Guard a.named) own;
 }
 
--- how many lines of a student were denied by each of these denials
+-- how many lines of a student got each of these denials
 abbrev pub named_of : List Ask → ℕ → NamedDenials
 named_of asks s = named_in (asks_by s asks)
 
--- the line of a student: how many lines were denied by each denial, first the four of clause 1, and then those of clause 2,
--- 3 and 4
+-- the line of a student: how many lines got each denial, first the four of clause 1, and then those of clauses 2, 3 and
+-- 4
 abbrev pub denials_line : List ℕ → NamedDenials → List ℕ
 denials_line name n = codes "denials " ++ (name
     ++ (numbers_text (n.greeted ∷ n.hidden ∷ n.not_owner ∷ n.not_teacher ∷ n.stale ∷ n.chosen ∷ n.guard ∷ []) ++ codes "\n"))
@@ -69,16 +70,16 @@ denials_text lab asks n = each_below n (λ s. denials_line (name_of lab.roster (
 
 -- ---- by clause and by name
 
--- a student's line is denied exactly by the clause of the denial that is named; of another line nothing is said
+-- a student's line was denied by the clause of its named denial, or by none if it has none; any other line is allowed
 abbrev pub IsNamed : Option ℕ → Option ℕ → Option StudentDenial → Type 0
 IsNamed None denied named = Unit {0}
 IsNamed (Some s) denied named = denied ≡ option_map clause_named named
 
--- each line of a student is denied exactly by the clause of the denial that is named
+-- each student's line was denied by the clause of its named denial, or by none if it has none
 abbrev pub AreNamed : List Ask → Type 0
 AreNamed [] = Unit {0}
 AreNamed (a ∷ asks) = IsNamed a.who a.denied a.named × AreNamed asks
 
--- the number of lines that each clause denied is the sum over its denials
+-- for each clause, the number of lines that it denied is the sum over its denials
 abbrev pub AreSums : Denials → NamedDenials → Type 0
 AreSums d n = (d.first ≡ n.greeted + n.hidden + n.not_owner + n.not_teacher) × (d.second ≡ n.stale) × (d.third ≡ n.chosen) × (d.fourth ≡ n.guard)

@@ -1,4 +1,6 @@
--- The tally of a run, in lines of words with one space between.
+-- The tally of a run: lines of words with one space between them. A world is a network with its registers, its chosen
+-- moves, the number of its configuration, and the number of events so far. The place of an event is its number in the
+-- list of events, from 1. A node is privileged if some rule is enabled there.
 use Rattle.std.specs.Prelude.{ℕ, ◌==◌, Bool, true, false, List, [], ◌∷◌, ◌++◌, length, codes, decimal, slice_index, Option, None, Some, if◌then◌else◌}
 use Rattle.mml_lab.specs.{Labs.LabValue, Rosters.RosterValue, Rosters.name_of}
 use Rattle.mml_board.specs.{declared.event.Event.Event, World.World, World.configuration, World.privileged_count}
@@ -21,8 +23,8 @@ place_text (Some p) = numbers_text (p ∷ [])
 abbrev pub rules_text : ByRule → List ℕ
 rules_text n = numbers_text (n.update ∷ n.marriage ∷ n.seduction ∷ n.abandonment ∷ [])
 
--- granted moves and applied moves by rule, closes that applied one, places of the first and the last grant, applied
--- moves at nodes that others own too
+-- the numbers of granted and applied moves by rule, the number of closes that applied one, the places of the first and
+-- the last grant, and the number of applied moves at nodes that others own too
 abbrev pub marks_text : Marks → List ℕ
 marks_text m =
     rules_text m.granted ++ (rules_text m.applied ++ (numbers_text (m.closes ∷ []) ++ (place_text m.first ++ (place_text m.last ++ numbers_text (m.shared ∷ [])))))
@@ -45,17 +47,17 @@ abbrev pub node_line : LabValue → List Move → ℕ → List ℕ
 node_line lab all i =
     codes "node" ++ (numbers_text (slice_index lab.ids i ∷ []) ++ (owners_text lab.roster (moves_at i all) (owners_in_order lab.roster i) ++ codes "\n"))
 
--- the most moves, rounds and events
+-- the line with the most moves, rounds and events that may follow
 abbrev pub bounds_line : Bounds → List ℕ
 bounds_line b = codes "bounds" ++ (numbers_text (b.moves ∷ b.rounds ∷ b.events ∷ []) ++ codes "\n")
 
--- the word for a configuration without privileged nodes, or for one with some, with a space before it
+-- ` stable` if the configuration has no privileged node, otherwise ` unstable`
 abbrev pub stable_text : Bool → List ℕ
 stable_text true = codes " stable"
 stable_text false = codes " unstable"
 
--- the line of a run: how many events there are, the number of the configuration, whether that is stable, and the
--- run's counts
+-- the line of a run: the number of events, the number of the configuration, whether this is stable, and the counts of
+-- the run
 abbrev pub run_line : World → Run → List ℕ
 run_line w r =
     codes "run" ++ (numbers_text (w.place ∷ w.number ∷ []) ++ (stable_text (privileged_count (configuration w) == 0)
@@ -69,11 +71,12 @@ students_text lab es n = each_below n (λ s. student_line (name_of lab.roster (w
 abbrev pub nodes_text : LabValue → List Event → ℕ → List ℕ
 nodes_text lab es n = each_below n (λ i. if is_shared lab.roster i then node_line lab (moves es) i else [])
 
--- the last two lines of a tally: the most that may follow in the network to which a run has led, and the run
+-- the last two lines of a tally: the most moves, rounds and events that may follow from the world w, and the counts of
+-- the run that led to w
 abbrev pub ends_text : World → List Event → List ℕ
 ends_text w es = bounds_line (bounds_of w) ++ run_line w (run_of es)
 
--- the lines of the students, of the nodes that several own, of the most that may follow, and of the run, which has led
--- to the world
+-- the tally of a run that led to the world w: the lines of the students, of the nodes that several own, of the most
+-- that may follow, and of the run
 abbrev pub tally_text : LabValue → World → List Event → List ℕ
 tally_text lab w es = students_text lab es (length lab.roster.students) ++ (nodes_text lab es (length lab.ids) ++ ends_text w es)

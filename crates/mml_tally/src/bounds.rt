@@ -25,7 +25,7 @@ pub struct Bounds {
     pub events: u64,
 }
 
-/// Returns the most moves, rounds and events that may still come until no node is privileged, from the world of a board
+/// Returns the most moves, rounds and events that may still come until no node is privileged, from the state of a board
 /// on. Assumes that no fault, link or cut comes.
 pub fn bounds_of(board: &Board) -> Bounds
     ensures { result ≡ bounds_of board.now }

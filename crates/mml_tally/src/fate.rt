@@ -1,7 +1,8 @@
 //! What happens to granted moves.
 //!
 //! A grant chooses a move for a node, a release drops it, and a close applies all chosen moves at once. A fault sets a
-//! node's registers, a link joins two nodes, and a cut removes a link.
+//! node's registers, a link joins two nodes, and a cut removes a link. The place of an event is its number in the list
+//! of events, from 1.
 ghost use Rattle.std.specs.Prelude.{◌≡◌, ◌+◌, ◌<◌, ◌^◌, length};
 ghost use Rattle.mml_tally.specs.Moves.{ended_by, fate_of};
 

@@ -37,7 +37,7 @@ pub struct Findings {
 
 /// Appends the tally of a run of which there is a record. First come the lines that the tally of any run has, with the
 /// lines about the record before the last two of them. Then come the participants whose lines are all recorded, and at
-/// the end each student's refusals and denials. `board` is the world after `events`, and `asks` has the lines of the
+/// the end each student's refusals and denials. `board` is the state after `events`, and `asks` has the lines of the
 /// record. Returns `Memory` if memory runs out.
 pub fn put_recorded_tally(
     out: &mut Vec<u8>,
@@ -85,8 +85,8 @@ fn put_recorded_run(
     put_ends(out, board, events, &all)
 }
 
-/// Appends the tally's lines about a record: each student's denials by clause, what was asked for at nodes that several
-/// students own, and the summary. Returns `Memory` if memory runs out.
+/// Appends the tally's lines about a record: each student's denials by clause, the moves that were asked for at nodes
+/// that several students own, and the summary. Returns `Memory` if memory runs out.
 fn put_record(
     out: &mut Vec<u8>,
     alloc: Global,

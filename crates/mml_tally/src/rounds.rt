@@ -55,14 +55,14 @@ fn replay(lab: &Lab, events: &[Event], board: &mut Board, count: usize)
     requires few { count ≤ length events.now }
     ensures { board.new ≡ world_in lab.now (take count events.now) }
 {
-    // Called only for its contract, which the proof needs: the lab is lawful.
+    // Called only for its contract, which the proof needs: the lab is lawful (`IsLab`).
     let _nodes = lab.node_count();
     'events: for index in 0..count {
         board.apply(events[index]);
     }
 }
 
-/// Returns how many rounds end after the first `since` events, counted from there. `board` must be the world after
+/// Returns how many rounds end after the first `since` events, counted from there. `board` must be the state after
 /// these events. The later events are applied to it.
 fn count_rounds(lab: &Lab, events: &[Event], board: &mut Board, since: usize) -> u64
     requires legal { is_legal_in lab.now events.now ≡ true }
@@ -70,7 +70,7 @@ fn count_rounds(lab: &Lab, events: &[Event], board: &mut Board, since: usize) ->
     requires few { since ≤ length events.now }
     ensures { result ≡ rounds_after since (opening_of lab.now.network) events.now }
 {
-    // Called only for its contract, which the proof needs: the lab is lawful.
+    // Called only for its contract, which the proof needs: the lab is lawful (`IsLab`).
     let _nodes = lab.node_count();
     let mut waiting = privileged_nodes(board);
     let mut rounds = 0;

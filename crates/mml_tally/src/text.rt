@@ -2,7 +2,7 @@
 //!
 //! A grant chooses a move for a node, a release drops it, and a close applies all chosen moves at once. A fault sets a
 //! node's registers, a link joins two nodes, and a cut removes a link. The place of an event is its number in the list
-//! of events, from 1.
+//! of events, from 1. A node is privileged if some rule is enabled there.
 ghost use Rattle.std.specs.Prelude.{◌≡◌, ◌<◌, ◌==◌, [], ◌∷◌, ◌++◌, All, List, length, OnOk};
 ghost use Rattle.mml_lab.specs.declared.who.Who.TheVariants.{Student as AStudent};
 ghost use Rattle.mml_lab.specs.Rosters.{name_of};
@@ -21,7 +21,7 @@ use mml_lab::{Lab, Roster, Student, Who};
 use std::alloc::Global;
 
 /// Appends the tally of a run. It has a line for each student, and one for each node that several students own. Then
-/// come a line with the bounds on what may follow, and a line with the counts of the run. `board` is the world after
+/// come a line with the bounds on what may follow, and a line with the counts of the run. `board` is the state after
 /// `events`. Returns `Memory` if memory runs out.
 pub fn put_tally(
     out: &mut Vec<u8>,
@@ -55,7 +55,7 @@ pub(crate) fn put_granted(
 }
 
 /// Appends the last two lines of a tally: the most moves, rounds and events that may follow, and the counts of the run.
-/// `board` is the world after `events`, and `all` has the moves that they grant. Returns `Memory` if memory runs out.
+/// `board` is the state after `events`, and `all` has the moves that they grant. Returns `Memory` if memory runs out.
 pub(crate) fn put_ends(
     out: &mut Vec<u8>,
     board: &Board,
@@ -217,7 +217,7 @@ fn put_bounds(out: &mut Vec<u8>, bounds: &Bounds) -> Result<(), Memory>
 }
 
 /// Appends the line `run`: the number of events, the number of the configuration, whether it is stable, and the counts
-/// of the run. `board` is the world after the run. Returns `Memory` if memory runs out.
+/// of the run. `board` is the state after the run. Returns `Memory` if memory runs out.
 fn put_run(out: &mut Vec<u8>, board: &Board, run: &Run) -> Result<(), Memory>
     ensures { OnOk result (out.new.items ≡ out.old.items ++ run_line board.now run.now) }
 {

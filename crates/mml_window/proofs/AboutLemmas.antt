@@ -1,4 +1,6 @@
--- What windows return names nodes of the lab.
+-- The results of windows name only nodes of the lab. A ruling is what the policy decides about a command. A window is
+-- one session's view of the published events and board. A list of events is legal if the rules allow each event after
+-- the earlier ones.
 use Rattle.std.proofs.Common.{◌≡◌, ℕ, true, false, None, List, length, Result, Ok, Err, sym, subst}
 use Rattle.std.specs.Result.{IfOk}
 use Rattle.mml_lab.specs.{declared.who.Who.Who, Labs.LabValue, Labs.IsLab}
@@ -21,7 +23,7 @@ module _ (lab : LabValue) (is : IsLab lab) where
     hold = hold-none (length lab.network.registers) _;
   }) legal
 
-  -- what is ruled at a legal list
+  -- the ruling on a command after a legal list of events names only nodes of the lab
   ruled_there : (l : List Event) (who : Who) (command : Command) (r : Ruling) → is_legal_in lab l ≡ true → ruling_at lab (world_in lab l) who command ≡ r
       → IsRuled lab.ids r
   ruled_there l who command r legal same =

@@ -1,4 +1,5 @@
--- Places that climb.
+-- Places that climb: each is greater than the one before it. The place of an event is its number in the list of events,
+-- from 1.
 use Rattle.std.proofs.Common.{ℕ, ◌+◌, ◌<◌, ◌≤◌, List, [], ◌∷◌, ◌++◌, length, arith, le_refl}
 use mathlib.Core.List.{IsPrefix}
 use Rattle.mml_board.specs.declared.event.Event.{Event}
@@ -13,11 +14,11 @@ pub climbs_push : (low : ℕ) (ps : List ℕ) (high p : ℕ) → high < p → Cl
 climbs_push low [] high p lt c = (omega arith, le_refl p)
 climbs_push low (q ∷ ps) high p lt c = (c.0, climbs_push q ps high p lt c.1)
 
--- climbing places are no more than the numbers between their bounds
+-- there are at most as many climbing places as numbers between their bounds
 pub climbs_count : (low : ℕ) (ps : List ℕ) (high : ℕ) → Climbs low ps high → low + length ps ≤ high
 climbs_count low [] high c = omega arith
 climbs_count low (p ∷ ps) high c = omega (arith, c.0, climbs_count p ps high c.1)
 
--- what was seen goes on
+-- if places climb up to the number of events seen, they still do so after more events were seen
 pub climbs_on : (ps : List ℕ) (xs ys : List Event) → IsPrefix xs ys → Climbs 0 ps (length xs) → Climbs 0 ps (length ys)
 climbs_on ps xs ys pre c = climbs_more 0 ps (length xs) (length ys) (prefix_length xs ys pre) c

@@ -1,4 +1,7 @@
--- How often a place stands among the places of windows, as cursors move over them.
+-- How often a place is among the places of windows that aren't counted off yet.
+-- The cursor of a window is the index of the first of its places that is left, that is, not counted off yet. The place
+-- of an event is its number in the list of events, from 1. A window is one session's view of the published events and
+-- board.
 use Rattle.std.{proofs.lemmas.Bool.Decides.nat_tests, proofs.lemmas.Bool.ne_eqb, proofs.lemmas.List.take_more, proofs.lemmas.List.drop_more, proofs.lemmas.List.drop_all, specs.Prelude.MatchBool}
 use Rattle.std.proofs.Common.{◌≡◌, ◌⊎◌, ℕ, zero, suc, ◌+◌, ◌<◌, ◌≤◌, Bool, List, [], ◌∷◌, ◌++◌, length, take, drop, set, get_or, replicate, add-one, refl, sym, ap, ◌∙◌, subst, ⊎_elim, inl, inr, arith}
 use Rattle.std.proofs.Common.{append_assoc, append-nil, cond, leb, leb-true, leb-false, length-append}
@@ -19,7 +22,7 @@ less_or_not a zero = inr (omega arith)
 less_or_not zero (suc b) = inl (omega arith)
 less_or_not (suc a) (suc b) = ⊎_elim (λ (l : a < b). inl (omega arith)) (λ (l : b ≤ a). inr (omega arith)) (less_or_not a b)
 
--- places that climb from above low: none is low or less
+-- if places climb from above `low`, none of them is `low` or less
 climbs_below : (low : ℕ) (ps : List ℕ) (high p : ℕ) → p ≤ low → Climbs low ps high → times p ps ≡ 0
 climbs_below low [] high p le c = refl
 climbs_below low (q ∷ ps) high p le c = grind (arith, nat_tests, times_skip, climbs_below q ps high p (omega arith) c.1)
@@ -33,7 +36,7 @@ climbs_drop low ps high zero c = c
 climbs_drop low [] high (suc n) c = c
 climbs_drop low (q ∷ ps) high (suc n) c = climbs_drop low ps high n (climbs_lower q low ps high (omega (arith, c.0)) c.1)
 
--- if the first of places that climb isn't this one, a smaller one comes before it
+-- if places climb, and the first one isn't `place`, a smaller one comes before `place`
 pub stuck_before : (place q : ℕ) (qs : List ℕ) (high : ℕ) → (q ≡ place → ⊥) → Climbs 0 (q ∷ qs) high → IsStuck place (q ∷ qs)
 stuck_before place q qs high differ c some =
     let e : times place (q ∷ qs) ≡ times place qs = times_skip place q qs (λ is. differ (sym is)) in
@@ -43,11 +46,11 @@ stuck_before place q qs high differ c some =
     (λ (l : place ≤ q). absurd (omega (arith, some, e, climbs_below q qs high place l c.1)))
     (less_or_not q place)
 
--- the place at a cursor is the first that is left
+-- the place at the cursor n is the first one that is left
 pub next_at : (ps : List ℕ) (n q : ℕ) → n < length ps → q ≡ get_or ps n q → drop n ps ≡ q ∷ drop (n + 1) ps
 next_at ps n q lt is = drop_more ps n q lt ∙ ap (λ x. x ∷ drop (n + 1) ps) (sym is)
 
--- if a window's next place isn't this one, a smaller one comes before it, if this one is left
+-- if `place` is left in a window, but isn't its next place, a smaller place is left, too
 pub stuck_at : (place : ℕ) (ps : List ℕ) (high n q : ℕ) → Climbs 0 ps high → n < length ps → q ≡ get_or ps n q → (q ≡ place → ⊥) → IsStuck place (drop n ps)
 stuck_at place ps high n q c lt is differ =
     let next = next_at ps n q lt is in
@@ -59,18 +62,18 @@ some_behind [] n lt = absurd (omega arith)
 some_behind (p ∷ ps) zero lt = let h : times p (p ∷ ps) ≡ suc (times p ps) = times_hit p p ps refl in (p, omega (arith, h))
 some_behind (p ∷ ps) (suc n) lt = some_behind ps n (omega arith)
 
--- a cursor is past the places exactly if none of them is left
+-- a cursor is past the last place exactly if no place is left
 pub at_end : (b : Bool) (ps : List ℕ) (n : ℕ) → leb (length ps) n ≡ b → MatchBool b (drop n ps ≡ []) ((p : ℕ) × (0 < times p (drop n ps)))
 at_end x0 ps n is = grind (arith, nat_tests, drop_all, leb-true, some_behind, leb-false)
 
--- if two parts of what is left have a smaller place beside this one, so do they together
+-- if `IsStuck` holds for two lists, it holds for one list after the other
 pub stuck_append : (place : ℕ) (xs ys : List ℕ) → IsStuck place xs → IsStuck place ys → IsStuck place (xs ++ ys)
 stuck_append place xs ys f h some = ⊎_elim
     (λ (l : 0 < times place xs). let t = f l in (t.0, t.1, t.2, omega (arith, t.3, times_append t.0 xs ys)))
     (λ (l : times place xs ≤ 0). let t = h (omega (arith, some, l, times_append place xs ys)) in (t.0, t.1, t.2, omega (arith, t.3, times_append t.0 xs ys)))
     (less_or_not 0 (times place xs))
 
--- one window and its cursor more
+-- the places left in the first i + 1 windows are those left in the first i, and then those left in window i
 left_suc : (ws : List WindowValue) (cs : List ℕ) (i : ℕ) (w : WindowValue) → i < length ws → i < length cs
     → left_of (take (suc i) ws) (take (suc i) cs) ≡ left_of (take i ws) (take i cs) ++ drop (get_or cs i 0) (get_or ws i w).places
 left_suc [] cs i w lw lc = absurd (omega arith)
@@ -78,12 +81,12 @@ left_suc (v ∷ ws) [] i w lw lc = absurd (omega arith)
 left_suc (v ∷ ws) (c ∷ cs) zero w lw lc = append-nil (drop c v.places)
 left_suc (v ∷ ws) (c ∷ cs) (suc i) w lw lc = grind (arith, nat_tests, append-nil, drop, append_assoc, left_of, take, get_or, left_suc ws cs i w (omega arith) (omega arith))
 
--- what is left of one window more, from its cursor on, comes after what is left of the others
+-- this with `i + 1` in place of `suc i`
 left_more : (ws : List WindowValue) (cs : List ℕ) (i : ℕ) (w : WindowValue) → i < length ws → i < length cs
     → left_of (take (i + 1) ws) (take (i + 1) cs) ≡ left_of (take i ws) (take i cs) ++ drop (get_or cs i 0) (get_or ws i w).places
 left_more ws cs i w lw lc = ap (λ k. left_of (take k ws) (take k cs)) (add-one i) ∙ left_suc ws cs i w lw lc
 
--- cursors after the last window play no part
+-- cursors after that of the last window don't matter
 pub left_all : (ws : List WindowValue) (cs : List ℕ) (n : ℕ) → n ≡ length ws → left_of (take n ws) (take n cs) ≡ left_of ws cs
 left_all [] cs zero is = refl
 left_all [] cs (suc n) is = absurd (omega (arith, is))
@@ -91,7 +94,7 @@ left_all (w ∷ ws) cs zero is = absurd (omega (arith, is))
 left_all (w ∷ ws) [] (suc n) is = refl
 left_all (w ∷ ws) (c ∷ cs) (suc n) is = ap (λ (l : List ℕ). drop c w.places ++ l) (left_all ws cs n (omega (arith, is)))
 
--- what one window has left is left
+-- the places left in one window are among those left in all windows
 left_among : (p : ℕ) (ws : List WindowValue) (cs : List ℕ) (i : ℕ) (w : WindowValue) → i < length ws → i < length cs
     → times p (drop (get_or cs i 0) (get_or ws i w).places) ≤ times p (left_of ws cs)
 left_among p [] cs i w lw lc = absurd (omega arith)
@@ -99,7 +102,7 @@ left_among p (v ∷ ws) [] i w lw lc = absurd (omega arith)
 left_among p (v ∷ ws) (c ∷ cs) zero w lw lc = omega (arith, times_append p (drop c v.places) (left_of ws cs))
 left_among p (v ∷ ws) (c ∷ cs) (suc i) w lw lc = grind (arith, nat_tests, times_append, drop, left_of, left_among p ws cs i w (omega arith) (omega arith))
 
--- one cursor moves on over this place
+-- if the cursor of one window moves over `place`, only this place is left, and it is left once less
 left_moved : (p place : ℕ) (ws : List WindowValue) (cs : List ℕ) (i : ℕ) (w : WindowValue) → i < length ws → i < length cs
     → drop (get_or cs i 0) (get_or ws i w).places ≡ place ∷ drop (get_or cs i 0 + 1) (get_or ws i w).places
     → times p (left_of ws cs) ≡ times p (place ∷ []) + times p (left_of ws (set cs i (get_or cs i 0 + 1)))
@@ -110,27 +113,27 @@ left_moved p place (v ∷ ws) (c ∷ cs) (suc i) w lw lc is =
     let a = left_moved p place ws cs i w (omega arith) (omega arith) is in
     omega (arith, a, times_append p (drop c v.places) (left_of ws cs), times_append p (drop c v.places) (left_of ws (set cs i (get_or cs i 0 + 1))))
 
--- a window stands at this index, and a cursor for it
+-- the window with index i is w, and there is a cursor for it
 pub record Stands (ws : List WindowValue) (cs : List ℕ) (i : ℕ) (w : WindowValue) : Type 0 where
   pub is : get_or ws i w ≡ w
   pub window : i < length ws
   pub cursor : i < length cs
 
 module _ (ws : List WindowValue) (cs : List ℕ) (i : ℕ) (w : WindowValue) (at : Stands ws cs i w) where
-  -- what is left of this window comes after what is left of those before it
+  -- the places left in this window come after those left in the windows before it
   pub window_more : left_of (take (i + 1) ws) (take (i + 1) cs) ≡ left_of (take i ws) (take i cs) ++ drop (get_or cs i 0) w.places
   window_more = grind (arith, nat_tests, left_more, left_of, take, drop, get_or)
 
-  -- what is left of this window is left
+  -- the places left in this window are among those left in all windows
   pub window_among : (p : ℕ) → times p (drop (get_or cs i 0) w.places) ≤ times p (left_of ws cs)
   window_among p = grind (arith, nat_tests, left_among, times, drop, get_or)
 
-  -- its cursor moves on over this place
+  -- if the cursor of this window moves over `place`, this place is left once less
   pub window_moved : (p place : ℕ) → drop (get_or cs i 0) w.places ≡ place ∷ drop (get_or cs i 0 + 1) w.places
       → times p (left_of ws cs) ≡ times p (place ∷ []) + times p (left_of ws (set cs i (get_or cs i 0 + 1)))
   window_moved p place next = grind (arith, nat_tests, left_moved, drop, get_or)
 
--- no place is counted off yet
+-- if all cursors are 0, all places are left
 pub left_first : (ws : List WindowValue) (n : ℕ) → length ws ≤ n → left_of ws (replicate n 0) ≡ told_of ws
 left_first [] n le = refl
 left_first (w ∷ ws) zero le = absurd (omega arith)
@@ -140,14 +143,14 @@ told_push : (ws : List WindowValue) (w : WindowValue) → told_of (ws ++ w ∷ [
 told_push [] w = append-nil w.places
 told_push (v ∷ ws) w = ap (λ (l : List ℕ). v.places ++ l) (told_push ws w) ∙ sym (append_assoc v.places (told_of ws) w.places)
 
--- the places of one window more
+-- the first i + 1 windows have as many places as the first i, and those of window i
 pub told_more : (ws : List WindowValue) (i : ℕ) (w : WindowValue) → i < length ws
     → length (told_of (take (i + 1) ws)) ≡ length (told_of (take i ws)) + length (get_or ws i w).places
 told_more ws i w lt =
     ap (λ (l : List WindowValue). length (told_of l)) (take_more ws i w lt) ∙ ap length (told_push (take i ws) (get_or ws i w))
     ∙ length-append (told_of (take i ws)) (get_or ws i w).places
 
--- the places above the first number up to n are counted off, and these are left
+-- the places from first + 1 to n are counted off, and `left` has the other ones
 abbrev pub IsCounted : ℕ → ℕ → List ℕ → List ℕ → Type 0
 IsCounted first n all left = (p : ℕ) → times p all ≡ once_from first n p + times p left
 

@@ -1,4 +1,6 @@
--- What views say, put together.
+-- The answers to views (requests to be shown something), and the events that a window has seen then. A ruling is what
+-- the policy decides about a command. The place of an event is its number in the list of events, from 1. A window is
+-- one session's view of the published events and board.
 use Rattle.std.proofs.Common.{◌≡◌, ℕ, List, length, Option, Result, Ok, Err, refl, ap, ◌∙◌, sym, subst}
 use Rattle.mml_lab.specs.{declared.who.Who.Who, Labs.LabValue, Labs.IsLab}
 use Rattle.mml_board.specs.{declared.event.Event.Event, World.World, World.size, Lists.world_in}
@@ -8,7 +10,7 @@ use Rattle.mml_window.specs.{Rulings.ruling_at, Rule.Saw, Windows.WindowValue, W
 use Rattle.mml_window.proofs.ListLemmas.{nodes_in}
 use Rattle.mml_window.specs.declared.sight.SightFault.TheVariants as fault
 
--- what is shown at a list that was seen
+-- if the result shows the ruling after the events that the window has then seen, it answers the view
 pub tells : {A : Type 0} (shown : A → Ruling) (lab : LabValue) (old new : WindowValue) (who : Who) (command : Command) (r : Result A SightFault)
     → SeesOn lab old new
     → Shows shown (ruling_at lab (world_in lab new.seen) who command) r → AnswersView shown lab old who command r new
@@ -17,11 +19,12 @@ tells shown lab old new who command (Err (fault.Denied d)) on s = (s, on)
 tells shown lab old new who command (Err fault.Memory) on s = (s, on)
 tells shown lab old new who command (Err fault.Closed) on s = absurd s
 
--- the board that a reader sees has the nodes of the lab
+-- the board that a reader sees has as many nodes as the lab
 pub nodes_entered : {lab : LabValue} {x : Published} {v w : View} → IsLab lab → Saw lab v x w → length lab.ids ≡ size x.board
 nodes_entered {lab} {x} {v} {w} is saw = nodes_in lab x.events.items is ∙ sym (ap size saw.published.board)
 
--- what is shown by a reader that entered and left; the places that were granted, and what was refused, play no part
+-- if a reader enters, the result shows the ruling on the board that it sees, and the reader leaves, the result answers
+-- the view. The window's places and its last refusal stay as they were
 pub tells_entered : {A : Type 0} (shown : A → Ruling) (lab lab' : LabValue) (x : Published) (v w u : View) (board : World) (who : Who) (command : Command)
     (r : Result A SightFault) (old : WindowValue) (ps : List ℕ) (why : Option Refusal)
     → lab' ≡ lab → Saw lab v x w → u ≡ w → board ≡ x.board → old ≡ window_with v.seen ps why

@@ -1,10 +1,11 @@
--- The effect of absorbing an event on a copy of the published data.
+-- The effect of absorbing (applying) an event on a copy of the published data. A house publishes its events and board
+-- in two copies: readers see one of them while the writer changes the other.
 use Rattle.std.specs.Prelude.{ℕ, ◌&&◌, nat_lt, if◌then◌else◌, List, [], ◌∷◌, ◌++◌, length}
 use Rattle.mml_board.specs.{declared.event.Event.Event, World.World, Events.can_absorb, Events.after}
 use Rattle.mml_window.specs.declared.published.Common.{Common}
 
--- what both copies of the published data have in common: a board, the most events that it may come to, and those that
--- made it
+-- what both copies of the published data have in common: a board, the most events that they have room for, and the
+-- events that led to the board
 abbrev pub common : World → ℕ → List Event → Common
 common board limit events = record { board = board; limit = limit; events = events }
 

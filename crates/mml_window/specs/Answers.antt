@@ -1,4 +1,7 @@
--- The answer to an act.
+-- The answer to an act, a request for an event. A world is a network with its registers, its chosen moves, the number
+-- of its configuration, and the number of events so far. The place of an event is its number in the list of events,
+-- from 1. A window is one session's view of the published events and board. A list of events is legal if the rules
+-- allow each event after the earlier ones.
 use Rattle.std.specs.Prelude.{◌≡◌, ◌⊎◌, ℕ, ◌+◌, true, false, List, [], ◌∷◌, ◌++◌, length, Option, Some}
 use mathlib.Core.List.{IsPrefix}
 use Rattle.mml_lab.specs.{declared.who.Who.Who, Labs.LabValue}
@@ -13,8 +16,8 @@ use Rattle.mml_policy.specs.declared.ruling.Ruling.TheVariants as ruling
 abbrev pub Grants : LabValue → List Event → Who → Command → Type 0
 Grants lab l who command = (e : Event) × (done : Done) × (ruling_at lab (world_in lab l) who command ≡ ruling.Granted e done)
 
--- in the world after the list the act is granted as this event, with this effect and the next place; the number is that
--- of the configuration after it
+-- after the list the act is granted as the event e, with the effect `done` and the next place; `number` is that of the
+-- configuration after the event
 pub record Takes (lab : LabValue) (l : List Event) (who : Who) (command : Command) (e : Event) (place number : ℕ) (done : Done) : Type 0 where
   pub ruled : ruling_at lab (world_in lab l) who command ≡ ruling.Granted e done
   pub next : place ≡ length l + 1
@@ -33,8 +36,8 @@ Decides lab failures old who command (Refused Memory) new = Grants lab old.event
 Decides lab failures old who command (Granted place number done) new =
     (e : Event) × Takes lab old.events who command e place number done × Grows failures old new e
 
--- what a legal event does to the book, if there is room and the journal isn't halted. If memory runs out, the book
--- stays as it was; if the journal fails, it is halted; otherwise it has the event
+-- the effect of a legal event on the book, if there is room and the journal isn't halted. If memory runs out, the book
+-- stays as it was. If the journal fails, the book is halted. Otherwise the event is added
 abbrev pub Lets : {S : Type 0} → LabValue → (S → ℕ) → BookValue S → Event → Done → Answer → BookValue S → Type 0
 Lets lab failures old e done (Denied d) new = ⊥
 Lets lab failures old e done (Refused Full) new = ⊥
@@ -43,7 +46,8 @@ Lets lab failures old e done (Refused Memory) new = new ≡ old
 Lets lab failures old e done (Granted place number d) new =
     (d ≡ done) × (place ≡ length old.events + 1) × (number ≡ (world_in lab new.events).number) × Grows failures old new e
 
--- what an answer says of the list at which it is given, and of the window afterwards, which keeps why the act was refused
+-- the answer is right after the list l, and `new` is the window after the answer; it has the reason if the act was
+-- refused
 abbrev pub Says : LabValue → List Event → List ℕ → Who → Command → Answer → WindowValue → Type 0
 Says lab l places who command (Denied d) new = (ruling_at lab (world_in lab l) who command ≡ ruling.Denied d) × (new ≡ window l places)
 Says lab l places who command (Refused Full) new =
@@ -53,17 +57,19 @@ Says lab l places who command (Refused Memory) new = Grants lab l who command ×
 Says lab l places who command (Granted place number done) new =
     (e : Event) × Takes lab l who command e place number done × (new ≡ window (l ++ e ∷ []) (places ++ place ∷ []))
 
--- the answer is decided at a legal list that begins with all events that the window had seen
+-- the answer is decided after a legal list that begins with all events that the window had seen
 abbrev pub Answers : LabValue → WindowValue → Who → Command → Answer → WindowValue → Type 0
 Answers lab old who command answer new = (l : List Event) × IsPrefix old.seen l × (is_legal_in lab l ≡ true) × Says lab l old.places who command answer new
 
--- the answer is decided at a legal list that begins with all events that the window had seen, and leaves this world
+-- the answer is decided after a legal list that begins with all events that the window had seen, and leads to this
+-- world
 abbrev pub AnswersAt : LabValue → World → WindowValue → Who → Command → Answer → WindowValue → Type 0
 AnswersAt lab w old who command answer new =
     (l : List Event) × IsPrefix old.seen l × (is_legal_in lab l ≡ true) × (world_in lab l ≡ w) × Says lab l old.places who command answer new
 
--- A book of the lab decides the act. The list at which the answer is decided leaves the world of this book, so none of
--- the book's events was left out. What the window has seen afterwards leaves the world of the book afterwards
+-- A book of the lab decides the act. The list after which the answer is decided leads to the world of this book, so
+-- none of the book's events was left out. The events that the window has seen afterwards lead to the world of the book
+-- afterwards
 pub record AnswersAtPresent {S : Type 0} (lab : LabValue) (contents : S → Option (List ℕ)) (failures : S → ℕ) (old : WindowValue) (who : Who)
     (command : Command) (answer : Answer) (new : WindowValue) : Type 0 where
   pub before : BookValue S

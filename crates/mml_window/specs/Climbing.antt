@@ -1,4 +1,4 @@
--- Numbers that climb.
+-- Numbers that climb, that is, rise.
 use Rattle.std.specs.Prelude.{ℕ, ◌<◌, ◌≤◌, List, [], ◌∷◌}
 
 -- the numbers rise: each is above the one before it, the first is above low, and the last is at most high

@@ -1,4 +1,5 @@
--- The name and the lab of a house, as contracts see them.
+-- The name and the lab of a house, as contracts see them. A house is one run of a lab that threads share: its list of
+-- granted events, the board after them, and their journal.
 use Rattle.std.specs.Prelude.{List, []}
 use denote.RawPtr.{Ptr, block_ptr}
 use Rattle.mml_lab.specs.{Labs.LabValue, Rosters.no_account}
@@ -23,11 +24,11 @@ pub record ResumedValue : Type 0 where
 abbrev pub resumed_of : Ptr → LabValue → List Event → ResumedValue
 resumed_of name lab begun = record { name = name; lab = lab; begun = begun }
 
--- the name of the house that names none
+-- a name that no house has
 abbrev pub no_name : Ptr
 no_name = block_ptr 0 0
 
--- the lab of the house that names none: it has no nodes
+-- the lab for this name: it has no nodes
 abbrev pub no_lab : LabValue
 no_lab = record {
   ids = [];

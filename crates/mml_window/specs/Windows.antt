@@ -1,4 +1,6 @@
--- The state of a window that contracts see.
+-- The state of a window, as contracts see it. The place of an event is its number in the list of events, from 1. A
+-- window is one session's view of the published events and board. A list of events is legal if the rules allow each
+-- event after the earlier ones.
 use Rattle.std.specs.Prelude.{◌≡◌, ◌≤◌, ℕ, true, List, length, Option, None}
 use mathlib.Core.List.{IsPrefix}
 use Rattle.mml_lab.specs.Labs.{LabValue, IsLab}
@@ -6,13 +8,14 @@ use Rattle.mml_board.specs.{declared.event.Event.Event, Lists.is_legal_in}
 use Rattle.mml_policy.specs.declared.refusal.Refusal.{Refusal}
 use Rattle.mml_window.specs.Climbing.{Climbs}
 
--- what its answers have shown it so far, the places that it was granted, and why its last act was refused, if it was
+-- the events that the window has seen, the places that it was granted, and why its last act was refused, if it was
 pub record WindowValue : Type 0 where
   pub seen : List Event
   pub places : List ℕ
   pub refused : Option Refusal
 
--- the window that has seen these events, was granted these places, and whose last act was refused for that reason, if it was
+-- the window that has seen these events and was granted these places; `refused` is why its last act was refused, if it
+-- was
 abbrev pub window_with : List Event → List ℕ → Option Refusal → WindowValue
 window_with seen places refused = record { seen = seen; places = places; refused = refused }
 
@@ -24,14 +27,15 @@ window seen places = window_with seen places None
 abbrev pub HasSeen : List Event → List ℕ → WindowValue → Type 0
 HasSeen seen places w = (w.seen ≡ seen) × (w.places ≡ places)
 
--- a legal list of a lab was seen, beside places that climb to no more than its length
+-- the window has seen a legal list of the lab's events, and its places climb to at most the length of this list
 pub record IsWindow (lab : LabValue) (w : WindowValue) : Type 0 where
   pub lawful : IsLab lab
   pub legal : is_legal_in lab w.seen ≡ true
   pub few : length w.seen ≤ lab.events
   pub climbs : Climbs 0 w.places (length w.seen)
 
--- a legal list was seen, which begins with all that was seen before; nothing was granted or refused
+-- the window has seen a legal list, which begins with all events that it had seen before; nothing was granted or
+-- refused
 pub record SeesOn (lab : LabValue) (old new : WindowValue) : Type 0 where
   pub begins : IsPrefix old.seen new.seen
   pub legal : is_legal_in lab new.seen ≡ true

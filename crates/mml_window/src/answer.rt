@@ -1,6 +1,7 @@
 //! The answers to acts.
 //!
-//! An act is a request for an event. The place of an event is its number in the list of events, from 1.
+//! An act is a request for an event. The place of an event is its number in the list of events, from 1. A clause is a
+//! condition under which a request is granted.
 use mml_board::Done;
 use mml_policy::{Denial, Refusal};
 

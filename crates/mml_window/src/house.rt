@@ -14,7 +14,7 @@ pub trait House {
     ghost use denote.RawPtr.{Ptr};
     ghost use Rattle.mml_lab.specs.Labs.{LabValue};
 
-    // A name that no other house has while the house stands.
+    // A name that no other house has as long as this house exists.
     ghost name: { Ptr };
 
     // The lab of the house: identifiers, roster, links and registers at the beginning, and limits.

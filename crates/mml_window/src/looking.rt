@@ -1,7 +1,7 @@
-//! How a window's reader reads what is published.
+//! How a window's reader reads the published data.
 //!
 //! A house is one run of a lab that threads share: its list of granted events, the board after them, and their journal.
-//! A window is one session's view of the published events and board. The writer of what is published (`press`) has two
+//! A window is one session's view of the published events and board. The writer of the published data (`press`) has two
 //! copies of it, and slots for readers. A reader enters a copy to read it, and leaves it afterwards.
 ghost use Rattle.std.specs.Prelude.{◌≡◌, true, length, IfSome, IfNone};
 ghost use Rattle.std.specs.Fn.{FnReturnsAt};
@@ -16,7 +16,7 @@ use crate::seeing::Seeing;
 use std::marker::Model;
 use std::sync::Wait;
 
-/// A reader of what a house publishes: its slot, and how many events it has seen.
+/// A reader of the data that a house publishes: its slot, and how many events it has seen.
 #[derive(Drop)]
 pub(crate) struct Reader<H: House> {
     slot: Slot<H>,
@@ -45,7 +45,7 @@ impl<H: House> Reader<H> {
 }
 
 /// Puts a new reader, which has seen nothing yet, into `reader`, if there is none in it and a slot of `press` is free.
-/// Otherwise does nothing. `press` is the writer of what is published.
+/// Otherwise does nothing. `press` is the writer of the published data.
 pub(crate) fn take_slot<H: House>(press: &Press<H>, reader: &mut Option<Reader<H>>)
     ensures { view_by reader.new ≡ view_by reader.old }
 {
@@ -89,7 +89,7 @@ pub(crate) fn leave<H: House>(reading: Entered<H>) -> Reader<H>
     }
 }
 
-/// Reads what is published, again and again, until `is_sought` returns true for it. If there is no reader yet, makes
+/// Reads the published data, again and again, until `is_sought` returns true for it. If there is no reader yet, makes
 /// one as soon as a slot is free. Nothing is published while `press` is borrowed. So if `is_sought` returns true for
 /// what `press` shows, the first reading ends the search.
 pub(crate) fn look_for<H: House, R: Wait, F: Fn(&Published) -> bool>(

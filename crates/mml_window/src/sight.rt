@@ -1,6 +1,8 @@
 //! Why a window shows nothing.
 //!
-//! A window is one session's view of the published events and board. A view is what a see, a look or a report shows.
+//! A window is one session's view of the published events and board. A view is what a see, a look or a report shows. A
+//! clause is a condition under which a request is granted. A house is one run of a lab that threads share: its list of
+//! granted events, the board after them, and their journal.
 use mml_policy::Denial;
 
 /// The error of a window that can't read: its house has ended, or it has no reader's slot.

@@ -1,4 +1,4 @@
-//! Windows: what each session has of a house.
+//! Windows: the part of a house that belongs to each session.
 //!
 //! A window is one session's view of the published events and board. The place of an event is its number in the list of
 //! events, from 1. An act is a request for an event.
@@ -34,7 +34,7 @@ use std::alloc::Global;
 use std::marker::{Model, PhantomData};
 use std::sync::{Arc, Wait};
 
-/// The part of a house that belongs to one session: a reader of what is published, and the places of the events that
+/// The part of a house that belongs to one session: a reader of the published data, and the places of the events that
 /// the session was granted. No public call of a window takes the runtime, so none can wait for the lock. A house is one
 /// run of a lab that threads share: its list of granted events, the board after them, and their journal.
 #[derive(Drop)]
@@ -73,7 +73,7 @@ pub(crate) struct Seat {
 
 impl<H: House> Window<H> {
     /// Returns a window that is made of a seat (the lab, and room for places), and has seen nothing yet. It takes a
-    /// reader's slot of `press`, the writer of what is published, if one is free.
+    /// reader's slot of `press`, the writer of the published data, if one is free.
     pub(crate) fn over(press: &Press<H>, seat: Seat) -> Window<H>
         requires lawful { IsLab H.lab }
         requires seat { IsSeat H.lab seat }
@@ -214,7 +214,7 @@ impl<H: House> Window<H> {
         report
     }
 
-    /// Reads what is published until its board is the one that `press`, the writer, has published last. The window has
+    /// Reads the published data until its board is the one that `press`, the writer, has published last. The window has
     /// then seen events that lead to this board.
     #[tactic(auto, using(crate::proofs::ClimbingLemmas::climbs_on))]
     pub(crate) fn read_until_board<R: Wait>(&mut self, rt: &R, press: &Press<H>)
@@ -227,7 +227,7 @@ impl<H: House> Window<H> {
         });
     }
 
-    /// Reads what is published until the window has seen all events that `press`, the writer, has published.
+    /// Reads the published data until the window has seen all events that `press`, the writer, has published.
     #[tactic(auto, using(crate::proofs::ClimbingLemmas::climbs_on))]
     pub(crate) fn read_until_all<R: Wait>(&mut self, rt: &R, press: &Press<H>)
         ensures window { self.new ≡ window_with press.now.desk.shown.value.events.items

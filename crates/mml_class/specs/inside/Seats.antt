@@ -1,4 +1,5 @@
--- The records of seats, one after another.
+-- The records of the seats, which are read one after another. The place of an event is its number in the list of
+-- events, from 1.
 use Rattle.std.specs.Prelude.{◌≡◌, ◌+◌, ◌&&◌, ◌||◌, ℕ, Bool, true, false, List, ◌++◌, length}
 use Rattle.mml_lab.specs.{declared.who.Who.Who, Labs.LabValue}
 use Rattle.mml_board.specs.declared.event.Event.{Event}
@@ -13,14 +14,15 @@ use Rattle.mml_class.specs.declared.class_record.ClassFault.TheVariants as fault
 abbrev pub no_findings : Findings
 no_findings = record { sessions = 0; lines = 0; whole = true; is_cut = false; lacks_teacher = false; lacking = set.empty }
 
--- the findings of two records together
+-- c is the findings of two records together
 abbrev pub IsTogether : Findings → Findings → Findings → Type 0
 IsTogether a b c =
     (c.sessions ≡ counted (a.sessions + b.sessions)) × (c.lines ≡ counted (a.lines + b.lines)) × (c.whole ≡ (a.whole && b.whole))
     × (c.is_cut ≡ (a.is_cut || b.is_cut)) × ((who : Who) → lacks c who ≡ (lacks a who || lacks b who))
 
--- the text of a seat is a record, with these findings. The places that it grants are appended to `granted`, and, if the
--- caller wants it, what its lines asked to `asks`. Or the text has this bad entry
+-- the text of a seat is a record with these findings. The places that it grants are appended to `granted`. If
+-- `with_asks` is set, what its lines asked for is appended to `asks`. Otherwise the text has this bad entry, which is
+-- its first
 abbrev pub IsSeatRead : LabValue → List Event → ℕ → Bool → List ℕ → List ℕ → List ℕ → List Ask → List Ask → Verdict → Type 0
 IsSeatRead lab l number with_asks text granted granted' asks asks' (Passed f) =
     (es : List Entry) × (own : List ℕ) × IsRecordOf lab l es own × (text ≡ record_text number es) × ComesTo lab.roster f es
@@ -33,13 +35,14 @@ pub record AddsSeat (lab : LabValue) (l : List Event) (number : ℕ) (with_asks 
   pub read : IsSeatRead lab l number with_asks text granted granted' asks asks' (Passed found)
   pub together : IsTogether old found new
 
--- why a seat's text is no record
+-- why the text of a seat is no record; if it couldn't be read, there is no condition
 abbrev pub IsSeatRefused : LabValue → List Event → ℕ → List ℕ → ClassFault → Type 0
 IsSeatRefused lab l number text (fault.Entry seat bad) = (seat ≡ number) × IsFirstBad lab l number text bad
 IsSeatRefused lab l number text (fault.Places amiss) = ⊥
 IsSeatRefused lab l number text (fault.Unread why) = Unit {0}
 
--- the texts of the first n seats are those of records that come to this, in which these places were granted
+-- the texts of the first n seats are records with the findings f together, which grant these places; `asks` has what
+-- their lines asked for
 pub record AreReadSoFar (lab : LabValue) (l : List Event) (with_asks : Bool) (texts : ℕ → List ℕ) (n : ℕ) (f : Findings) (places : List ℕ) (asks : List Ask) : Type 0 where
   pub entries : List (List Entry)
   pub seats : length entries ≡ n

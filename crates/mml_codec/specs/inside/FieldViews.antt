@@ -1,4 +1,4 @@
--- What the fields of an object stand for, and the tokens that write them.
+-- What the fields of an object mean in the definitions, and the tokens with which they are written.
 use Rattle.std.specs.Prelude.{ℕ, List, ◌∷◌}
 use Rattle.json.specs.{Token.Token, Tree.json_tokens}
 use Rattle.serde_json.specs.Written.{outline}
@@ -7,7 +7,7 @@ use Rattle.json.specs.Token as token
 use Rattle.mml_codec.specs.declared.object.Field as TheField
 use Rattle.mml_codec.specs.declared.object.Field.TheVariants as fields
 
--- the value of a key as the definitions have it
+-- the value of a key, as the definitions have it
 abbrev pub field_view : TheField.Field → Field
 field_view (fields.Number n) = number n
 field_view (fields.Word w) = word w.now
@@ -15,6 +15,6 @@ field_view (fields.Text s) = text s.now
 field_view (fields.Truth b) = truth b
 field_view fields.Null = null
 
--- the tokens that write a key with what the key holds
+-- the tokens of a key and its value
 abbrev pub tokens_of : List ℕ × Field → List Token
 tokens_of m = token.key m.0 ∷ json_tokens (outline (value_of m.1))

@@ -1,10 +1,10 @@
--- How a `Lines` holds its bytes.
+-- How a `Lines` stores its bytes.
 use Rattle.std.specs.Prelude.{◌≡◌, ℕ, ◌+◌, ◌-◌, ◌≤◌, List, vec_len, length, take, drop, slice_range, Some, IfSome}
 use Rattle.std.specs.Vec.{vec_capacity}
 use Rattle.mml_lines.specs.declared.lines.{Lines.TheInside.Inside, TheConstants.MAX_READS, TheConstants.READ_SIZE}
 use Rattle.mml_lines.specs.{LinesOf.IsWithinLimit, Finding.Shows, LinesState.LinesState, NextLine.ending_of}
 
--- the state that contracts see, by the fields
+-- the state that contracts see, computed from the fields
 abbrev pub lines_view : Inside → LinesState
 lines_view a = record {
   limit = a.limit;
@@ -14,13 +14,13 @@ lines_view a = record {
   ending = a.ending;
 }
 
--- the unread bytes without their last READ_SIZE, which the last read may have brought in, are within the limit and have
--- no newline: before that read it was not known what comes next
+-- the unread bytes without the last READ_SIZE are within the limit and have no newline. The last read may have added
+-- these READ_SIZE bytes, and it was made since the bytes before them didn't show what comes next
 abbrev pub IsReadNoFurther : ℕ → List ℕ → Type 0
 IsReadNoFurther limit unread = IsWithinLimit limit (take (length unread - READ_SIZE) unread)
 
--- the offsets are within the held bytes; what is known of the unread bytes is true; there is room for the bytes of one
--- more read; there were at most as many reads as there may be; and there is no line after the end
+-- the offsets are within the held bytes, `ahead` is right about the unread bytes, there is room for the bytes of one
+-- more read, at most MAX_READS reads were made, and after a final result there is no line
 pub record IsLinesInside (a : Inside) : Type 0 where
   pub line : a.line_start ≤ a.line_end
   pub line_held : a.line_end ≤ vec_len a.held

@@ -1,16 +1,17 @@
--- The closes that applied moves, counted in one pass over the moves.
+-- The closes that applied moves, counted in one pass over the moves. The place of an event is its number in the list of
+-- events, from 1.
 use Rattle.std.specs.Prelude.{ℕ, ◌+◌, ◌==◌, if◌then◌else◌, List, [], ◌∷◌}
 use Rattle.mml_tally.specs.declared.{fate.Fate.Fate, granted_move.Move.Move}
 use Rattle.mml_tally.specs.declared.fate.Fate.TheVariants as fate
 
--- the place of the close that applied a move; if none did, `last`
+-- the place of the close that applied a move, or `last` if none did
 abbrev pub close_of : ℕ → Fate → ℕ
 close_of last (fate.Applied p) = p
 close_of last fate.Released = last
 close_of last fate.Dropped = last
 close_of last fate.Chosen = last
 
--- how many of the moves were applied by another close than the last one so far, which at first is that at place `last`
+-- how many of the moves were applied by another close than the applied move before them; `last` is the close before all
 abbrev pub count_new : ℕ → List Move → ℕ
 count_new last [] = 0
 count_new last (m ∷ ms) = (if close_of last m.fate == last then 0 else 1) + count_new (close_of last m.fate) ms

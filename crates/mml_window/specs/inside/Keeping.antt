@@ -1,17 +1,20 @@
--- What a window keeps of an answer.
+-- The part of an answer that a window keeps. The place of an event is its number in the list of events, from 1. An act
+-- is a request for an event. A window is one session's view of the published events and board.
 use Rattle.std.specs.Prelude.{◌≡◌, ◌≤◌, ◌+◌, List, [], ◌∷◌, ◌++◌, length, Some}
 use Rattle.mml_lab.specs.Labs.{LabValue}
 use Rattle.mml_board.specs.declared.event.Event.{Event}
 use Rattle.mml_window.specs.declared.answer.Answer.{Answer, TheVariants.Granted, TheVariants.Denied, TheVariants.Refused}
 use Rattle.mml_window.specs.Windows.{WindowValue, window, window_with}
 
--- the place in a grant's answer is the number of events, one more than the window has seen, and within the limit
+-- the place in a grant's answer is the number of all events, is one more than the number of events seen, and is within
+-- the lab's limit
 abbrev pub IsNextPlace : LabValue → List Event → List Event → Answer → Type 0
 IsNextPlace lab seen events (Denied d) = Unit {0}
 IsNextPlace lab seen events (Refused why) = Unit {0}
 IsNextPlace lab seen events (Granted place number done) = (length events ≡ place) × (place ≡ length seen + 1) × (place ≤ lab.events)
 
--- why the act was refused, if it was; after a grant, that the last event was seen too, and its place
+-- the window after an answer: it keeps why the act was refused, or, after a grant, the place of the event, which it has
+-- then seen as the last one
 abbrev pub Keeps : List Event → WindowValue → Answer → WindowValue → Type 0
 Keeps events old (Denied d) new = new ≡ window old.seen old.places
 Keeps events old (Refused why) new = new ≡ window_with old.seen old.places (Some why)

@@ -1,4 +1,4 @@
--- What a window's reader has seen.
+-- The events that a window's reader has seen. A window is one session's view of the published events and board.
 use Rattle.std.specs.Prelude.{Option, None, Some}
 use Rattle.mml_window.specs.{declared.seeing.View.View, Rule.nothing_seen}
 

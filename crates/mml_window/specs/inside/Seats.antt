@@ -1,4 +1,5 @@
--- What a window is made of.
+-- The seats, of which windows are made. The place of an event is its number in the list of events, from 1. A window is
+-- one session's view of the published events and board.
 use Rattle.std.specs.{Prelude.◌≡◌, Prelude.◌≤◌, Prelude.[], Prelude.vec_capacity, Arc.arc_value}
 use Rattle.mml_lab.specs.Labs.{LabValue}
 use Rattle.mml_window.specs.declared.window.Seat.{Seat}

@@ -1,4 +1,5 @@
--- A read that was interrupted took nothing, and the buffer is as long as it was.
+-- The interrupted reads so far left the length of the buffer, `lacked_memory`, and the bytes still to be read
+-- unchanged.
 use Rattle.std.{proofs.Common.◌≡◌, proofs.Common.length, specs.Io.KnownBytes.Keeps}
 use Rattle.mml_ends.proofs.retrying.RetryingRead.read.Given as goal
 

@@ -1,4 +1,4 @@
--- A write that was interrupted put nothing.
+-- The interrupted writes so far left `lacked_memory` and the bytes written before unchanged.
 use Rattle.std.{proofs.Common.◌≡◌, specs.Io.KnownBytes.Keeps}
 use Rattle.mml_ends.proofs.retrying.RetryingWrite.write.Given as goal
 
