@@ -76,7 +76,7 @@ module _ (lab : LabValue) (st next : Standing) (r : Reply) where
   turn_in line (inl h) = inl (asked_in (request_in line) h)
   turn_in line (inr h) = inr (h.0, stays_in h.1)
 
-  -- a turn of the session is quiet, or answers a command
+  -- a turn of the session answers its line at once, or through the window
   pub turn_does : (line : List ℕ) → Turn lab st line r next → IsQuiet {E = ⊤} tt st.window r tt next.window
       ⊎ IsTold (OverWindow {E = ⊤} lab) st.known line tt st.window r next.known tt next.window
   turn_does line t = does.turn_does (OverWindow {E = ⊤} lab) lab.roster st.known tt st.window line r next.known tt next.window (turn_in line t)
