@@ -109,7 +109,7 @@ type SocketAccepted<'a, Rt> = Accepted<Incoming<'a, Rt>, ReplyWriter<'a, Rt>, So
 
 impl<'a, Rt: Clock + Wait + Eprint> Port<'a, Rt> {
     /// Returns a port to which nobody has come yet, except the connection `first`, if there is one. `is_desk` says
-    /// whether it is the desk's port or the students', and `listener` is where it accepts connections.
+    /// whether it is the desk's port or the students', and `listener` accepts its connections.
     pub fn new(
         rt: &'a Rt,
         alloc: Global,
