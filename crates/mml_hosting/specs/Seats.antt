@@ -9,10 +9,10 @@ use Rattle.mml_hosting.specs.declared.seat.{ServedSession.ServedSession, Seat.Se
 use Rattle.mml_lab.specs.declared.who.Who.TheVariants as who
 use Rattle.mml_session.specs.declared.session.SessionEnd.TheVariants as end
 
--- The parameters of a house's contracts. They are its lab, the events from before it was opened, and what the recorder
--- of the seat with each number had kept then. They are also four functions: the bytes that a connection's reader has
--- still to return; the bytes that were written to its writer; what a recorder has kept; and the session of which
--- something is kept
+-- The parameters of a house's contracts. The first three are its lab, the events from before it was opened, and what
+-- the recorder of the seat with each number had kept then. The others are functions. They return the bytes that a
+-- connection's reader has still to return, the bytes that were written to its writer, what a recorder has kept, and the
+-- session that a kept value shows
 pub record Terms (K C R W : Type 0) : Type 0 where
   pub lab : LabValue
   pub begun : List Event

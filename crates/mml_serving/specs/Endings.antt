@@ -10,8 +10,8 @@ use Rattle.mml_serving.specs.declared.{connection.EndedSession.EndedSession, ser
 use Rattle.mml_serving.specs.{Closings.IsCutShort, Closings.done_line, Serving.ServesWindows, Serving.ServesHouse, Serving.had_memory}
 use Rattle.mml_serving.specs.declared.serving.ServeFault.TheVariants as fault
 
--- the house ended with this book: its events are legal, each window has seen a prefix of them, and its sink has their
--- journal
+-- the house ended with this book: its events are legal, each window has seen a beginning of them, and its sink has
+-- their journal
 pub record LeavesBook {S : Type 0} (lab : LabValue) (sink : S → Option (List ℕ)) (windows : List WindowValue) (left : BookValue S) : Type 0 where
   pub book : IsBook lab sink left
   pub seen : All (λ w. IsPrefix w.seen left.events) windows
