@@ -2,7 +2,7 @@
 use std::alloc::{AllocError, Global};
 use std::fmt::Write;
 
-/// The lines of the teacher and of the two students.
+/// The lines of a lab file about the teacher and the two students.
 const PEOPLE: &str = r#"teacher = { name = "tess", key = "chalk" }
 student = [{ name = "ana", key = "a-key" }, { name = "ben", key = "b-key" }]
 "#;

@@ -27,10 +27,10 @@ pub const ANA_WELCOME: &str = lines!(welcome("ana"));
 /// The replies to `ANA_MOVES` if the move is the first event.
 pub const ANA_GRANTED: &str = lines!(welcome("ana"), granted(1, 1));
 
-/// The journal once the move of `ANA_MOVES` is granted.
+/// The journal after the move of `ANA_MOVES` was granted.
 pub const ANA_JOURNAL: &str = "1 0 grant ana 1 seduction\n";
 
-/// The journal once a close applies the move of `ANA_MOVES`.
+/// The journal after a close has applied the move of `ANA_MOVES`.
 pub const CLOSED_JOURNAL: &str = "1 0 grant ana 1 seduction\n2 0 close\n";
 
 /// The last line of a house (one run of a lab) whose journal is `CLOSED_JOURNAL`.

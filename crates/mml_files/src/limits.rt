@@ -8,7 +8,7 @@ const FILE_SIZE: i32 = 1;
 // The number of the system's limit on the size of a stack.
 const STACK: i32 = 3;
 
-// How many bytes of stack a program needs: twice what the deepest request takes.
+// How many bytes of stack a program needs: twice what the request with the deepest calls takes.
 const NEEDED: u64 = 256 << 10;
 
 /// Returns how many bytes a file may have at most, or `u64::MAX` if the system sets or reports no limit.
@@ -16,8 +16,8 @@ pub fn file_size_limit() -> u64 {
     limit_of(FILE_SIZE)
 }
 
-/// Returns whether the system's limit on stacks may be too small for the deepest request. With such a stack the program
-/// would end without a message.
+/// Returns whether the system's limit on stacks may be too small for the request with the deepest calls. With such a
+/// stack the program would end without a message.
 pub fn has_small_stacks() -> bool {
     limit_of(STACK) < NEEDED
 }

@@ -1,4 +1,4 @@
--- How a script line is spelled, and what is none.
+-- Which lines are script lines, and which input is bad.
 use Rattle.std.proofs.lemmas.{Bool.Decides.nat_tests, Fmt.decimal-digits_of}
 use Rattle.std.proofs.Common.{◌≡◌, ◌≢◌, ℕ, ◌+◌, ◌-◌, ◌<◌, ◌≤◌, ◌^◌, List, [], ◌∷◌, ◌++◌, length, map, decimal, get_or, arith, sym, subst, ◌∙◌, length-append, refl, ap, zero, suc}
 use Rattle.std.proofs.Common.{All, Option, Some, inr}
@@ -18,11 +18,12 @@ unbroken_rest xs ys h k less e =
     h (length xs + k) (omega (arith, less, length-append xs ys))
     (get_or-append_right xs ys (length xs) (length xs + k) 0 refl (omega arith) ∙ (ap (λ i. get_or ys i 0) place ∙ e))
 
--- a request within a line has no newline
+-- if a line has no newline, the request in it has none
 request_unbroken : (line word request : List ℕ) → line ≡ word ++ 32 ∷ request → IsUnbroken line → IsUnbroken request
 request_unbroken line word request e h = unbroken_rest (32 ∷ []) request (unbroken_rest word (32 ∷ request) (subst (λ (t : List ℕ). IsUnbroken t) e h))
 
--- a line that begins with a known connection's number, and whose request isn't too long, is a script line
+-- a line is a script line if it isn't too long, begins with the number of a connection of the lab, and has a request
+-- that isn't too long
 pub script_line_read : (line request : List ℕ) (n sessions : ℕ) → IsWithinLimit MAX_SCRIPT_LINE line → number_in line ≡ Some (n, request) → 0 < n
     → n ≤ sessions → length request ≤ MAX_REQUEST → IsScriptLine sessions (request_on n request) × (line ≡ script_line (request_on n request))
 script_line_read line request n sessions h is some known short =
@@ -36,7 +37,7 @@ script_line_read line request n sessions h is some known short =
       spelled,
     )
 
--- a script line begins with its connection's number
+-- a script line begins with the number of its connection
 pub script_line_begins : (line : List ℕ) (s : RequestLine) (sessions : ℕ) → sessions ≤ 255 → IsScriptLine sessions s → line ≡ script_line s
     → number_in line ≡ Some (s.connection, s.request)
 script_line_begins line s sessions few valid e = ap number_in e ∙ number_in-decimal s.connection s.request (omega (arith, few, valid.known))
@@ -62,22 +63,22 @@ script_unbroken n s few valid =
     (subst (λ (t : List ℕ). IsUnbroken t) (sym (decimal-digits_of s.connection valid.some small)) (digits_unbroken (digits_of 10 s.connection)))
     (space_first s.request valid.request.0)
 
--- script lines have no newline within
+-- no script line contains a newline
 pub scripts_unbroken : (n : ℕ) (ss : List RequestLine) → n ≤ 16 → AllByRecursion (IsScriptLine n) ss → All IsUnbroken (map script_line ss)
 scripts_unbroken n [] few each = All-nil IsUnbroken
 scripts_unbroken n (s ∷ ss) few each =
     All-cons IsUnbroken (script_line s) (map script_line ss) (script_unbroken n s few each.0) (scripts_unbroken n ss few each.1)
 
--- what is held begins so that no script line comes next
+-- the input `a` begins with bad bytes (`IsBad`), which the input `b` follows
 abbrev pub ComesBad : ℕ → Option (List ℕ) → Option (List ℕ) → Type 0
 ComesBad sessions a b = (bad : List ℕ) × Consumes a (prepend_known bad b) [] × IsBad sessions bad
 
--- a line that is no script line, with no more after it than one read brings in, is bad input
+-- a line that is no script line, followed by fewer bytes than one read may bring, is bad input
 pub bad_line : (a b : Option (List ℕ)) (line more : List ℕ) (limit sessions : ℕ) → Consumes a (prepend_known more b) (ended line) → limit ≡ MAX_SCRIPT_LINE
     → IsWithinLimit limit line → length more < READ_SIZE → ((s : RequestLine) → IsScriptLine sessions s → line ≢ script_line s) → ComesBad sessions a b
 bad_line a b line more limit sessions taken e within few differs = grind (arith, nat_tests, put_back a b (ended line) more taken)
 
--- bytes that are too many for a script line, by no more than one read, are bad input
+-- bytes without a newline that exceed the limit of a script line, by at most the size of one read, are bad input
 pub too_long : (a b : Option (List ℕ)) (held : List ℕ) (limit sessions : ℕ) → Consumes a (prepend_known held b) [] → limit ≡ MAX_SCRIPT_LINE
     → IsTooLong limit held → length held ≤ limit + READ_SIZE → ComesBad sessions a b
 too_long a b held limit sessions kept e long few = (held, kept, inr (subst (λ (n : ℕ). IsTooLong n held × (length held ≤ n + READ_SIZE)) e (long, few)))

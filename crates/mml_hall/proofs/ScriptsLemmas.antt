@@ -1,4 +1,5 @@
--- What has been answered so far, and how it ends.
+-- The lines that are answered so far, and the ways in which the script may end after them. An output line is the line
+-- that answers a script line.
 use Rattle.std.proofs.lemmas.Bool.Decides.{nat_tests}
 use Rattle.std.proofs.Common.{◌≡◌, ℕ, ◌+◌, List, [], ◌∷◌, ◌++◌, length, map, flat_map, refl, sym, ◌∙◌, ap, Option, subst, inl, inr, Result, IsErrAnd, ◌<◌, length-append, arith}
 use Rattle.std.{specs.Prelude.⊤, specs.Io.KnownBytes.Consumes, specs.Io.KnownBytes.prepend_known, proofs.lemmas.List.map-append, proofs.KnownBytes.Consumes-trans}
@@ -16,19 +17,19 @@ use Rattle.mml_hall.specs.Scripts.{LineTurn, AllAnswered, CutShort, Finished, St
 use Rattle.mml_hall.specs.declared.script.ScriptStep.TheVariants as next
 use Rattle.mml_hall.specs.declared.script.ScriptFault.TheVariants as fault
 
--- the lines in answer to a transcript with one line more
+-- one more line adds its output line to those of a transcript
 written_longer : {lab : LabValue} (t : Transcript lab) {after : State} (s : LineTurn lab t.end after)
     → lines_written (longer t s tt) ≡ lines_written t ++ line_written s ∷ []
 written_longer {lab} t s =
     by_steps (TurnOf lab) (λ st ls rs end. output_lines lab (ls ++ s.line ∷ []) (rs ++ s.reply ∷ []) ≡ output_lines lab ls rs ++ line_written s ∷ [])
     (λ st. refl) (λ st next end l r ls rs turn rest. ap (λ t. output_line lab l.connection r ∷ t) rest) (opening lab) t.end t.lines t.replies t.run
 
--- its script lines
+-- one more line adds its bytes to those that a transcript has read
 read_longer : {lab : LabValue} (t : Transcript lab) {after : State} (s : LineTurn lab t.end after) → bytes_read (longer t s tt) ≡ bytes_read t ++ line_read s
 read_longer t s = ap (flat_map ended) (map-append script_line t.lines (s.line ∷ [])) ∙ flat_longer ended (map script_line t.lines) (script_line s.line)
 
--- the lines so far make a transcript, which leads to the state of the hall, and the last of the lines in answer aren't
--- written
+-- the lines so far make up a transcript, which leads to the state of the hall. The last output lines, `unsent`, aren't
+-- written yet.
 pub record AnsweredSoFar {S : Type 0} (contents : S → Option (List ℕ)) (failures : S → ℕ) (lab : LabValue) (first : S) (hall : HallValue S) (count : ℕ)
     (input left : Option (List ℕ)) (unsent : List (List ℕ)) (wrote wrote' : Option (List ℕ)) : Type 0 where
   pub transcript : Transcript lab
@@ -54,7 +55,7 @@ nothing_yet contents failures lab first hall a wrote held unsent same fresh sink
 
 module _ {S : Type 0} {contents : S → Option (List ℕ)} {failures : S → ℕ} {lab : LabValue} {first : S} {hall : HallValue S} {count : ℕ}
     {input a wrote c : Option (List ℕ)} {unsent : List (List ℕ)} (so : AnsweredSoFar contents failures lab first hall count input a unsent wrote c) where
-  -- some of the lines that weren't written are
+  -- the same after more of the unsent lines were written
   abbrev pub sent_on : {d : Option (List ℕ)} {unsent' : List (List ℕ)} → Sends c d unsent unsent'
       → AnsweredSoFar contents failures lab first hall count input a unsent' wrote d
   sent_on {d} {unsent'} more = record {
@@ -67,7 +68,7 @@ module _ {S : Type 0} {contents : S → Option (List ℕ)} {failures : S → ℕ
     journals = so.journals;
   }
 
-  -- nothing was taken of the input since, and all is written
+  -- if no more input was read, and all output lines are written, all lines of the transcript are answered
   abbrev still : {b d : Option (List ℕ)} → Consumes a b [] → Sends c d unsent [] → AllAnswered lab input b wrote d
   still {b} {d} taken more = record {
     transcript = so.transcript;
@@ -75,7 +76,7 @@ module _ {S : Type 0} {contents : S → Option (List ℕ)} {failures : S → ℕ
     appended = all_out wrote d (lines_written so.transcript) (sends_on wrote c d (lines_written so.transcript) unsent [] so.sent more);
   }
 
-  -- nor is all written
+  -- if no more input was read, and a write failed, only the first bytes of the output lines are written
   abbrev cut_so : {b d : Option (List ℕ)} (f : WriteFault) → Consumes a b [] → BreaksOff f c d unsent → CutShort f.written lab input b wrote d
   cut_so {b} {d} f taken breaks = record {
     transcript = so.transcript;
@@ -83,19 +84,19 @@ module _ {S : Type 0} {contents : S → Option (List ℕ)} {failures : S → ℕ
     cut = breaks_on f wrote c d (lines_written so.transcript) unsent so.sent breaks;
   }
 
-  -- the sink as it stood at the last line that was answered
+  -- the sink after the last line that was answered
   left_so : (sink : S) × Journals contents failures lab first sink so.transcript.end
   left_so = (hall.sink, subst (Journals contents failures lab first hall.sink) (sym so.stands) so.journals)
 
--- after the lines so far comes the next, or the end
+-- what comes after the lines so far: the next line, or the end of the script
 module _ {S : Type 0} {contents : S → Option (List ℕ)} {failures : S → ℕ} {lab : LabValue} {first : S} {hall : HallValue S} {count : ℕ}
     {input a wrote c : Option (List ℕ)} {unsent : List (List ℕ)} (hall' : HallValue S) (left d : Option (List ℕ)) (held : List ℕ) (unsent' : List (List ℕ))
     (so : AnsweredSoFar contents failures lab first hall count input a unsent wrote c) where
-  -- how the sink is left
+  -- what the sink contains at the end: the journal
   abbrev Left : S → State → Type 0
   Left = Journals contents failures lab first
 
-  -- the same hall and its sink after a line more
+  -- after one more line the lab is the same, the sink contains the journal, and the journal halts only if a write fails
   abbrev GoesOn : Type 0
   GoesOn = (hall'.lab ≡ hall.lab) × TellsJournal hall'.lab hall'.state (contents hall'.sink)
       × Halts hall.state.halted hall'.state.halted (failures hall.sink) (failures hall'.sink)
@@ -140,7 +141,7 @@ module _ {S : Type 0} {contents : S → Option (List ℕ)} {failures : S → ℕ
   pub unread_so : ServesNext next.ReadFault hall.lab hall.state hall'.state a held left unsent unsent' c d → Stopped Left fault.Read lab input left wrote d
   unread_so serves = (held, still so serves.0 serves.2, left_so so, serves.1)
 
-  -- the output line of the next line is not wholly written, or one before it
+  -- if a write fails before the next output line is written whole, the script ends with the error `Write`
   pub unwritten_so : (f : WriteFault) → GoesOn → ServesNext (next.WriteFault f) hall.lab hall.state hall'.state a held left unsent unsent' c d
       → Stopped Left (fault.Write f.written) lab input left wrote d
   unwritten_so f on serves =
@@ -156,7 +157,7 @@ module _ {S : Type 0} {contents : S → Option (List ℕ)} {failures : S → ℕ
         inl one.2,
       )
 
-  -- a flush before a bad line was reported failed
+  -- if the flush before a bad line is reported fails, the script ends with the error `Write`
   pub bad_unflushed_so : (e : Option (List ℕ)) (f : WriteFault) → ServesNext next.BadLine hall.lab hall.state hall'.state a held left unsent unsent' c d
       → BreaksOff f d e unsent' → Stopped Left (fault.Write f.written) lab input left wrote e
   bad_unflushed_so e f serves breaks = (
@@ -166,7 +167,7 @@ module _ {S : Type 0} {contents : S → Option (List ℕ)} {failures : S → ℕ
     inr (subst (λ (t : LabValue). IsBad t.sessions serves.0) so.same_lab serves.2),
   )
 
--- a flush before a read failed
+-- if the flush before a read fails, the script ends with the error `Write`
 pub unflushed_so : {S : Type 0} {contents : S → Option (List ℕ)} {failures : S → ℕ} {lab : LabValue} {first : S} {hall : HallValue S} {count : ℕ}
     {input wrote c : Option (List ℕ)} {unsent : List (List ℕ)} (left d : Option (List ℕ)) (held : List ℕ) (f : WriteFault)
     → AnsweredSoFar contents failures lab first hall count input (prepend_known held left) unsent wrote c → length held < READ_SIZE → BreaksOff f c d unsent
@@ -178,7 +179,7 @@ unflushed_so {wrote = wrote} {c = c} {unsent = unsent} left d held f so few brea
   inl few,
 )
 
--- an error that a failed write is turned into
+-- if a failed write is turned into the error of the script, the script ends as `Stopped` says for this error
 pub write_told : {S : Type 0} (contents : S → Option (List ℕ)) (failures : S → ℕ) (r : Result ⊤ ScriptFault) (opened hall : HallValue S)
     (input left wrote wrote' : Option (List ℕ)) (n : ℕ)
     → IsErrAnd r (λ e. e ≡ fault.Write n) → Stopped (Journals contents failures opened.lab opened.sink) (fault.Write n) opened.lab input left wrote wrote'

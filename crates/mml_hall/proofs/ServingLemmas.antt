@@ -1,4 +1,4 @@
--- The result of a line, from what its parts say.
+-- The result of a line, concluded from the contracts of the functions that read it, answer it and write the reply.
 use Rattle.std.proofs.Common.{◌≡◌, ℕ, ◌+◌, ◌-◌, ◌*◌, ◌<◌, ◌≤◌, arith, List, [], ◌∷◌, ◌++◌, append_assoc, decimal, length, ◌∙◌, ap, refl, sym, Option, subst, OnOk, IfErr, Result, Ok, Err}
 use Rattle.std.specs.{Prelude.⊤, Io.KnownBytes.Consumes, Io.KnownBytes.prepend_known}
 use Rattle.mml_lines.proofs.SendingLemmas.{nothing_sent}
@@ -11,7 +11,8 @@ use Rattle.mml_hall.specs.{Scripts.LineTurn, Scripts.line_read, Transcripts.outp
 use Rattle.mml_hall.proofs.ScriptLinesLemmas.{ComesBad, bad_line}
 use Rattle.mml_hall.specs.declared.script.ScriptStep.TheVariants as next
 
--- the line is written, its front as it was read
+-- If a script line had its turn, and its front and its reply are written, or a write fails, the result is that of
+-- `ServesLine`.
 pub serves_line : (r : Result ⊤ WriteFault) (lab : LabValue) (st after : State) (line : RequestLine) (reply : Reply) (front whole : List ℕ)
     (unsent unsent' : List (List ℕ)) (wrote wrote' : Option (List ℕ))
     → IsScriptLine lab.sessions line → Turn lab st line.connection line.request (record { reply = reply; state = after })
@@ -32,7 +33,8 @@ serves_line r lab st after line reply front whole unsent unsent' wrote wrote' va
     of_line (Ok done) ok err = (record { line = line; reply = reply; valid = valid; turn = turn }, refl, ok)
     of_line (Err fault) ok err = (record { line = line; reply = reply; valid = valid; turn = turn }, refl, err)
 
--- a line was taken, short enough, and no more than one read brought in is held after it
+-- A line that isn't too long was read. The bytes after it that were read too are held, and are fewer than one read may
+-- bring.
 module _ (lab : LabValue) (st after : State) (a left wrote wrote' : Option (List ℕ)) (held line : List ℕ) (unsent unsent' : List (List ℕ))
     (taken : Consumes a (prepend_known held left) (ended line))
     (short : IsWithinLimit MAX_SCRIPT_LINE line) (few : length held < READ_SIZE) where
@@ -47,16 +49,17 @@ module _ (lab : LabValue) (st after : State) (a left wrote wrote' : Option (List
   serves_next next.ReadFault had = absurd had
   serves_next (next.WriteFault fault) had = (had.2.0, taken_by had.0 had.2.0 had.1 had.2.1, few, had.2.2)
 
--- bad input that comes next is reported as a bad line, with nothing answered and nothing sent
+-- bad input is reported as a bad line: nothing is answered, and nothing is written
 pub bad_next : (lab : LabValue) (st after : State) (a left wrote : Option (List ℕ)) (held : List ℕ) (unsent : List (List ℕ)) → ComesBad lab.sessions a left
     → ServesNext next.BadLine lab st after a held left unsent unsent wrote wrote
 bad_next lab st after a left wrote held unsent comes = (comes.0, comes.1, comes.2, nothing_sent wrote unsent)
 
--- nothing was unwritten at the read
+-- if no output line is unsent, all output lines are written
 pub none_unsent : (wrote : Option (List ℕ)) (unsent : List (List ℕ)) → unsent ≡ [] → Sends wrote wrote unsent []
 none_unsent wrote unsent e = subst (λ (t : List (List ℕ)). Sends wrote wrote unsent t) e (nothing_sent wrote unsent)
 
--- a line was taken, and fewer bytes may come
+-- if a line was read, fewer bytes can still come: `u` and `u'` are the bytes held before and after, `r` and `r'` count
+-- the reads, and `most` is their limit
 pub nearer : (u u' r r' most taken : ℕ) → taken + u' ≤ u + READ_SIZE * (r' - r) → r ≤ r' → r' ≤ most → 0 < taken
     → u' + READ_SIZE * (most - r') < u + READ_SIZE * (most - r)
 nearer u u' r r' most taken counted grow end some = omega arith

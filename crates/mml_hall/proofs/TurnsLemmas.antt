@@ -1,4 +1,5 @@
--- What turns leave as it was, and when the refusal for memory may come instead of a reply.
+-- What a turn doesn't change, and when the refusal `memory` may replace a reply. A turn computes the reply to one line
+-- and the state after it. It is plain if memory doesn't run out and no write fails.
 use Rattle.std.proofs.lemmas.{Bool.Decides.nat_tests, Bool.or_right, List.get_or-set_other, List.set-get_or}
 use Rattle.std.proofs.Common.{◌≡◌, ◌≢◌, ◌⊎◌, ◌<◌, ◌-◌, ℕ, Bool, true, false, true≢false, not, cond, List, Option, Some, None, Result, Ok, Err, refl, sym, ap, ◌∙◌, arith, subst, inl, inr}
 use Rattle.mml_lab.specs.{declared.who.Who.Who, Labs.LabValue}
@@ -13,14 +14,15 @@ use Rattle.mml_hall.specs.Turns.{State, Outcome, Mishap, Turn, IsRefusal, GrowsB
 use Rattle.mml_hall.specs.Turns.{answer_to, plain_turn, takes_memory, without_memory, halting, IsKept}
 use Rattle.mml_codec.specs.declared.request.Request.TheVariants as requests
 
--- ---- whatever went wrong in a turn
+-- ---- all results that a turn can have
 
 pub either_of : (P : Outcome → Type 0) (b : Bool) (one other : Outcome) → P one → P other → P (cond b one other)
 either_of P b one other p q = grind (arith, nat_tests)
 
 module _ (lab : LabValue) (st : State) (k : ℕ) (line : List ℕ) (P : Outcome → Type 0) (plain : P (plain_turn lab st k line)) (memory : P (without_memory st))
     (journal : P (halting st)) where
-  -- what holds of a plain turn, and of what may come instead, holds whatever went wrong in the turn
+  -- what holds of the plain outcome, of the refusal `memory` and of the refusal `journal` holds of each turn, whatever
+  -- goes wrong
   pub whatever_befell : (mishap : Mishap) → P (turn mishap lab st k line)
   whatever_befell mishap = grind (arith, nat_tests, either_of)
 
@@ -34,7 +36,7 @@ pub record IsIdle (st : State) (out : Outcome) : Type 0 where
   pub state : out.state ≡ st
   pub nameless : place_in out.reply ≡ None
 
--- somebody becomes known, or nobody is known any longer, and the reply says so
+-- the request is a hello or a bye: it sets who is known on the connection, and the reply is short and no refusal
 pub record IsGreeting (st : State) (k : ℕ) (out : Outcome) : Type 0 where
   pub known : Option Who
   pub state : out.state ≡ with_known st k known
@@ -42,7 +44,7 @@ pub record IsGreeting (st : State) (k : ℕ) (out : Outcome) : Type 0 where
   pub short : is_short out.reply ≡ true
   pub tells : IsRefusal out.reply → ⊥
 
--- a known participant has asked for an event, which is granted, and the reply names it
+-- a known participant's request for an event is granted, and the reply names the event
 pub record IsGranting (lab : LabValue) (st : State) (k : ℕ) (asked : Result Request LineFault) (out : Outcome) : Type 0 where
   pub who : Who
   pub command : Command
@@ -54,7 +56,7 @@ pub record IsGranting (lab : LabValue) (st : State) (k : ℕ) (asked : Result Re
   pub reply : out.reply ≡ reply_of_done (after st.world event).number (after st.world event).place done
   pub state : out.state ≡ with_event st event
 
--- nothing changes if a connection stays known as it was
+-- the state stays the same if a connection is set to the participant who is already known on it
 with_known-known_on : (st : State) (k : ℕ) → with_known st k (known_on st k) ≡ st
 with_known-known_on st k = ap (λ (xs : _). record st { greeted = xs }) (set-get_or st.greeted (k - 1) None)
 
@@ -90,16 +92,16 @@ module _ (lab : LabValue) (st : State) (k : ℕ) where
   unfolding plain_turn
   plain_does line = does_answer (request_in line)
 
--- the reply to a grant is no refusal
+-- the reply to a granted event is neither a denial nor a refusal
 granted_not_refused : (at place : ℕ) (d : Done) → IsRefusal (reply_of_done at place d) → ⊥
 granted_not_refused at place d h = grind (arith, nat_tests)
 
--- ---- what a turn leaves as it was
+-- ---- what a turn doesn't change
 
 kept : (st after : State) → after ≡ st → IsKept st after
 kept st after e = record { world = ap (λ (x : State). x.world) e; events = ap (λ (x : State). x.events) e; greeted = ap (λ (x : State). x.greeted) e }
 
--- a turn that is denied or refused leaves the world, the events and who is known
+-- a turn with a denial or a refusal changes neither the world, nor the events, nor who is known
 pub refused_turn : (lab : LabValue) (st : State) (k : ℕ) (line : List ℕ) (out : Outcome) → Turn lab st k line out → IsRefusal out.reply → IsKept st out.state
 refused_turn lab st k line = by_turn lab st k line (λ out. IsRefusal out.reply → IsKept st out.state) plain (λ h. kept st st refl)
     (λ h. record { world = refl; events = refl; greeted = refl })
@@ -114,12 +116,12 @@ refused_turn lab st k line = by_turn lab st k line (λ out. IsRefusal out.reply 
 other_known : (st : State) (k j : ℕ) (x : Option Who) → 0 < k → 0 < j → j ≢ k → known_on (with_known st k x) j ≡ known_on st j
 other_known st k j x some some' differ = grind (arith, nat_tests, st.greeted, get_or-set_other)
 
--- a turn leaves who is known on every other connection
+-- a turn on one connection doesn't change who is known on another
 pub others_turn : (lab : LabValue) (st : State) (k j : ℕ) (line : List ℕ) (out : Outcome) → Turn lab st k line out → 0 < k → 0 < j → j ≢ k
     → known_on out.state j ≡ known_on st j
 others_turn lab st k j line out t some some' differ = grind (arith, nat_tests, by_turn, plain_does, other_known)
 
--- ---- a reply that isn't short
+-- ---- replies that aren't short, which are those to a look or a report
 
 long_turn : (lab : LabValue) (st : State) (k : ℕ) (line : List ℕ) → is_short (plain_turn lab st k line).reply ≡ false → (plain_turn lab st k line).state ≡ st
 long_turn lab st k line long = grind (arith, nat_tests, plain_does, short_done)
@@ -127,12 +129,12 @@ long_turn lab st k line long = grind (arith, nat_tests, plain_does, short_done)
 long_takes_memory : (r : Reply) → is_short r ≡ false → takes_memory r ≡ true
 long_takes_memory r h = or_right (is_grant r) (not (is_short r)) (ap not h)
 
--- the plain outcome isn't short: the refusal for memory may come instead
+-- if the plain reply isn't short, the refusal `memory` may come instead, with the same state
 wanting : (lab : LabValue) (st : State) (k : ℕ) (line : List ℕ) (told : Reply) → told ≡ (without_memory st).reply
     → is_short (plain_turn lab st k line).reply ≡ false → Turn lab st k line (record { reply = told; state = (plain_turn lab st k line).state })
 wanting lab st k line told want long = grind (arith, nat_tests, long_turn, long_takes_memory)
 
--- the reply that is sent is that of a turn too
+-- if the refusal `memory` is sent in place of a reply that isn't short, this is a possible result of the turn too
 pub told_turn : (lab : LabValue) (st : State) (k : ℕ) (line : List ℕ) (out : Outcome) (told : Reply) → Turn lab st k line out → TellsFor out.reply told
     → Turn lab st k line (record { reply = told; state = out.state })
 told_turn lab st k line out told t (inl same) = subst (λ (r : Reply). Turn lab st k line (record { reply = r; state = out.state })) (sym same) t
@@ -140,7 +142,7 @@ told_turn lab st k line out told t (inr want) =
     by_turn lab st k line (λ out. is_short out.reply ≡ false → Turn lab st k line (record { reply = told; state = out.state }))
     (wanting lab st k line told want.1) (λ long. absurd (true≢false long)) (λ long. absurd (true≢false long)) out t want.0
 
--- ---- the events that turns make
+-- ---- the events that turns add
 
 -- no event happens, and the reply names no place
 pub record IsQuiet (st : State) (out : Outcome) : Type 0 where
@@ -148,7 +150,7 @@ pub record IsQuiet (st : State) (out : Outcome) : Type 0 where
   pub events : out.state.events ≡ st.events
   pub world : out.state.world ≡ st.world
 
--- a turn is quiet, or it grants
+-- a turn adds no event, or it grants one
 pub turn_does : (lab : LabValue) (st : State) (k : ℕ) (line : List ℕ) (out : Outcome) → Turn lab st k line out
     → IsQuiet st out ⊎ IsGranting lab st k (request_in line) out
 turn_does lab st k line =
@@ -166,7 +168,7 @@ turn_does lab st k line =
       | inr (inr grants) ↦ inr grants
     ]
 
--- a turn whose reply names a place adds that event, and any other turn adds none
+-- a turn whose reply names a place adds the event with this place, and any other turn adds none
 pub growing_turn : (lab : LabValue) (st : State) (k : ℕ) (line : List ℕ) (out : Outcome) → Turn lab st k line out → GrowsByGrant st out
 growing_turn lab st k line out t = elim (turn_does lab st k line out t) [
   | inl quiet ↦ inl (quiet.events, quiet.world, quiet.nameless)

@@ -1,16 +1,17 @@
--- The state of a hall that contracts see.
+-- The state of a hall, as contracts see it. A hall answers requests in one thread.
 use Rattle.std.specs.Prelude.{◌≡◌, ◌≤◌, true, length, All, IfSome}
 use Rattle.mml_lab.specs.{Labs.LabValue, Labs.IsLab, Rosters.IsPrincipal}
 use Rattle.mml_board.specs.{World.IsWorld, World.size, World.opening_of, Runs.is_legal_list, Runs.world_of}
 use Rattle.mml_hall.specs.Turns.{State}
 
--- the lab, the state that the answers have led to, and the sink as it is now
+-- the lab, the state after all answers so far, and the journal's sink
 pub record HallValue (S : Type 0) : Type 0 where
   pub lab : LabValue
   pub state : State
   pub sink : S
 
--- the events are legal from the lab's opening world, and the world is theirs; who is known on the lab's connections takes part
+-- a lawful state: the events are legal, they lead from the lab's first world to the state's world, and all who are
+-- known on connections are principals of the lab
 pub record IsHall (lab : LabValue) (st : State) : Type 0 where
   pub is_lab : IsLab lab
   pub world : IsWorld st.world

@@ -16,19 +16,19 @@ pub record IsScriptLine (sessions : ℕ) (s : RequestLine) : Type 0 where
   pub request : IsWithinLimit MAX_REQUEST s.request
   pub whole : length (script_line s) ≤ MAX_SCRIPT_LINE
 
--- Either the bytes begin with a line that is no script line, and after it there are fewer than one read may bring. Or
--- they begin with more bytes than a script line may have, without a newline, and exceed that number by at most the
--- bytes of one read
+-- Either the bytes begin with a line that is no script line, followed by fewer bytes than one read may bring. Or they
+-- begin with more bytes without a newline than a script line may have, and exceed this limit by at most the size of one
+-- read
 abbrev pub IsBad : ℕ → List ℕ → Type 0
 IsBad sessions held =
     ((line more : List ℕ) × (held ≡ ended line ++ more) × IsWithinLimit MAX_SCRIPT_LINE line
     × ((s : RequestLine) → IsScriptLine sessions s → line ≢ script_line s) × (length more < READ_SIZE))
     ⊎ (IsTooLong MAX_SCRIPT_LINE held × (length held ≤ MAX_SCRIPT_LINE + READ_SIZE))
 
--- the request on that connection
+-- the request line with this connection and this request
 abbrev pub request_on : ℕ → List ℕ → RequestLine
 request_on n request = record { connection = n; request = request }
 
--- the script line that contracts see, by the fields
+-- the script line as contracts see it, from the fields of the struct
 abbrev pub line_of : ScriptLine → RequestLine
 line_of s = request_on s.connection s.request.now

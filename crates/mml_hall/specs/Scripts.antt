@@ -1,4 +1,5 @@
--- The result of `run_script`: the input that was read, the rest of it, and the output that was written.
+-- The result of `run_script`: the input that was read, the rest of it, and the output that was written. An output line
+-- answers a script line.
 use Rattle.std.specs.Prelude.{◌≡◌, ◌⊎◌, ℕ, ◌+◌, ◌<◌, List, [], length, Option}
 use Rattle.std.specs.Io.KnownBytes.{Appends, Consumes, IsAtEnd, prepend_known}
 use Rattle.mml_lab.specs.Labs.{LabValue}
@@ -16,35 +17,35 @@ LineTurn lab st after = OneStep TurnOf (λ lab. IsScriptLine lab.sessions) lab s
 abbrev pub line_read : {lab : LabValue} {st after : State} → LineTurn lab st after → List ℕ
 line_read t = ended (script_line t.line)
 
--- the line that is written in answer
+-- the output line of the line that was answered
 abbrev pub line_written : {lab : LabValue} {st after : State} → LineTurn lab st after → List ℕ
 line_written {lab} t = output_line lab t.line.connection t.reply
 
--- the first lines of the input, those of a transcript, were answered, and their replies are written
+-- the first lines of the input were answered, as the transcript says, and their replies are written
 pub record AllAnswered (lab : LabValue) (input left wrote wrote' : Option (List ℕ)) : Type 0 where
   pub transcript : Transcript lab
   pub consumed : Consumes input left (bytes_read transcript)
   pub appended : Appends wrote wrote' (bytes_written transcript)
 
--- the first lines of the input, those of a transcript, were answered, and the first bytes of their replies are written:
--- `written` counts those of the first line that isn't written whole
+-- the first lines of the input were answered, as the transcript says. Only the first bytes of their replies are
+-- written: `written` counts the bytes of the first reply that isn't written whole
 pub record CutShort (written : ℕ) (lab : LabValue) (input left wrote wrote' : Option (List ℕ)) : Type 0 where
   pub transcript : Transcript lab
   pub consumed : Consumes input left (bytes_read transcript)
   pub cut : BreaksOff (record { written = written }) wrote wrote' (lines_written transcript)
 
--- all lines of the input were answered, and the hall is in the state that they lead to. Its sink is left as `Leaves`
--- says. After the lines came the front of a script line
+-- All lines of the input were answered, and the hall is in the state after them. `Leaves` says what its sink contains.
+-- `held` are the bytes after the last line: they have no newline, and aren't too many for a script line
 abbrev pub Finished : {S : Type 0} → (S → State → Type 0) → HallValue S → LabValue → Option (List ℕ) → Option (List ℕ) → Option (List ℕ)
     → Option (List ℕ) → Type 0
 Finished Leaves hall lab input left wrote wrote' =
     (held : List ℕ) × (a : AllAnswered lab input (prepend_known held left) wrote wrote') × (hall.lab ≡ lab) × (hall.state ≡ a.transcript.end)
     × Leaves hall.sink a.transcript.end × IsWithinLimit MAX_SCRIPT_LINE held × IsAtEnd left
 
--- What was answered when an error came, and the sink that was dropped with the hall. `held` are the bytes that were
--- read and not answered. After a failed read, they have no newline, and aren't too many for a script line. After a
--- failed write, they are fewer than one read may bring, or `IsBad` holds of them. For a bad line, `IsBad` holds. If
--- memory ran out, nothing was read or written
+-- What was answered when an error came. The hall was dropped with its sink, so this only states that there was a sink
+-- of which `Leaves` holds. `held` are the bytes that were read and not answered. After a failed read, they have no
+-- newline, and aren't too many for a script line. After a failed write, they are fewer than one read may bring, or
+-- `IsBad` holds of them. For a bad line, `IsBad` holds. If memory ran out, nothing was read or written
 abbrev pub Stopped : {S : Type 0} → (S → State → Type 0) → ScriptFault → LabValue → Option (List ℕ) → Option (List ℕ) → Option (List ℕ)
     → Option (List ℕ) → Type 0
 Stopped {S} Leaves fault.Read lab input left wrote wrote' =

@@ -15,8 +15,9 @@ abbrev pub told_of : Reply → Bool → Reply
 told_of reply true = reply
 told_of reply false = replies.Refuse refused.Memory
 
--- an output line, of the reply or of `memory` instead of one that isn't short, comes after the lines that were held. Of
--- all these lines the first were written and the others are held, or a write failed after some of their bytes
+-- An output line comes after the lines that were held. It has the reply, or the refusal `memory` in place of a reply
+-- that isn't short. Of all these lines the first were written and the others are held, or a write failed after some of
+-- their bytes
 abbrev pub Tells : Result ⊤ WriteFault → LabValue → Reply → List ℕ → List (List ℕ) → List (List ℕ) → Option (List ℕ) → Option (List ℕ) → Type 0
 Tells r lab reply front unsent unsent' wrote wrote' = (told : Reply) × TellsFor reply told
     × OnOk r (Sends wrote wrote' (unsent ++ (front ++ reply_line lab.ids lab.roster told) ∷ []) unsent')
@@ -31,7 +32,7 @@ ServesLine (Ok done) lab st after line unsent unsent' wrote wrote' =
 ServesLine (Err fault) lab st after line unsent unsent' wrote wrote' =
     (t : LineTurn lab st after) × (t.line ≡ line) × BreaksOff fault wrote wrote' (unsent ++ line_written t ∷ [])
 
--- the result of a line that was read, by what it is: a script line, which had its turn, or none
+-- the result of a line that was read: a script line had its turn, and any other line is reported as bad
 abbrev pub ServesText : ScriptStep → LabValue → State → State → List ℕ → List (List ℕ) → List (List ℕ) → Option (List ℕ) → Option (List ℕ) → Type 0
 ServesText next.Answered lab st after line unsent unsent' wrote wrote' =
     (s : RequestLine) × (line ≡ script_line s) × ServesLine (Ok tt) lab st after s unsent unsent' wrote wrote'
@@ -42,8 +43,8 @@ ServesText next.ReadFault lab st after line unsent unsent' wrote wrote' = ⊥
 ServesText (next.WriteFault fault) lab st after line unsent unsent' wrote wrote' =
     (s : RequestLine) × (line ≡ script_line s) × ServesLine (Err fault) lab st after s unsent unsent' wrote wrote'
 
--- the result of the next line: the state after it, the bytes to come, of which those held are first, the lines that
--- aren't written and the bytes that are
+-- The result of the next line. `input` is the input before it. The input after it is `held`, the bytes that were read
+-- already, and then `left`. `unsent` and `unsent'` are the output lines that weren't written before and after it
 abbrev pub ServesNext : ScriptStep → LabValue → State → State → Option (List ℕ) → List ℕ → Option (List ℕ) → List (List ℕ) → List (List ℕ) → Option (List ℕ)
     → Option (List ℕ) → Type 0
 ServesNext next.Answered lab st after input held left unsent unsent' wrote wrote' =

@@ -33,10 +33,10 @@ use std::io::{Read, Write};
 /// Why a script ended before its input did.
 #[derive(Clone, Copy, Debug, PartialEq, Eq)]
 pub enum ScriptFault {
-    /// A read failed, or one more was needed after the most that there may be.
+    /// A read failed, or another read was needed after the largest number of reads that is allowed.
     Read,
-    /// A write failed, or took nothing, after that many bytes of the first line that isn't written whole. If a flush
-    /// failed after all lines, the number is 0.
+    /// A write failed, or wrote nothing. `written` is the number of bytes of the first line that isn't written whole.
+    /// If a flush failed after all lines were written, the number is 0.
     Write { written: usize },
     /// The line with this number, counted from 1, isn't a script line.
     BadLine(u64),
@@ -106,7 +106,7 @@ struct Buffers {
 }
 
 impl Buffers {
-    // Returns empty buffers, with room for any reply but that to a look or a report. Returns `Memory` if memory runs
+    // Returns empty buffers, with room for any reply except one to a look or a report. Returns `Memory` if memory runs
     // out.
     fn new(alloc: Global) -> Result<Buffers, Memory>
         ensures lines { IfOk result (λ b. b.lines ≡ fresh MAX_SCRIPT_LINE) }
@@ -247,7 +247,7 @@ fn serve_next<R: Read, W: Write, S: Sink>(
     ensures halts { Halts hall.old.state.halted hall.new.state.halted
         (S.failures hall.old.sink) (S.failures hall.new.sink) }
     ensures journal { TellsJournal hall.new.lab hall.new.state (S.contents hall.new.sink) }
-    // Each line leaves fewer bytes to come, since the number of reads is limited.
+    // After each line, fewer bytes can still come, since the number of reads is limited.
     ensures progress { result ≡ ScriptStep.Answered → bytes_ahead buffers.new.lines < bytes_ahead buffers.old.lines }
     ensures serves { ServesNext result hall.old.lab hall.old.state hall.new.state
         (prepend_known buffers.old.lines.unread (R.remaining reader.old))

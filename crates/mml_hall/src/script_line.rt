@@ -39,8 +39,8 @@ pub fn read_script_line(line: &[u8], sessions: u8) -> Option<ScriptLine<'_>>
     })
 }
 
-// Returns the connection and the request of a script line. Returns `None` if `line` is none, the lab doesn't have the
-// connection, or the request is too long.
+// Returns the connection and the request of a script line. Returns `None` if `line` isn't a script line, the lab
+// doesn't have the connection, or the request is too long.
 fn parts_of(line: &[u8], sessions: u8) -> Option<(u8, &[u8])>
     requires { IsWithinLimit MAX_SCRIPT_LINE line.now }
     ensures { MatchOption result

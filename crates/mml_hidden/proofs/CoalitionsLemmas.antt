@@ -1,4 +1,5 @@
--- The turn of a member of a coalition, for each other member, and scripts.
+-- Turns and scripts in two labs that look the same to a coalition. A coalition is a group of students, given by a test
+-- of its members.
 use Rattle.std.proofs.Common.{◌≡◌, ℕ, Bool, true, false, List, [], ◌∷◌, ◌++◌, Option, refl, ap, arith}
 use Rattle.std.{proofs.lemmas.Bool.false≢true, proofs.lemmas.Bool.Decides.nat_tests, specs.Prelude.decimal}
 use Rattle.mml_lab.specs.{declared.who.Who.Who, Labs.LabValue}
@@ -13,7 +14,7 @@ use Rattle.mml_hidden.proofs.TwinsLemmas.{alike_here, twin_turn, twin_others}
 
 -- ---- a turn in two labs
 
--- who speaks on a connection that is the coalition's: a member, or nobody yet, who might be any member
+-- a member who is known on a connection; if nobody is known there yet, any member
 record Speaks (members : ℕ → Bool) (known : Option Who) : Type 0 where
   student : ℕ
   member : members student ≡ true
@@ -27,7 +28,8 @@ module _ (lab other : LabValue) (twins : AreTwins lab other) (members : ℕ → 
   single : (s : ℕ) → members s ≡ true → StatesAlike lab s st su
   single s h = record { first = a.first; second = a.second; worlds = a.worlds s h; greeted = a.greeted; halted = a.halted }
 
-  -- a line of somebody else leaves the states alike if it leaves the worlds so, and both halted or neither
+  -- a line of somebody else keeps the states alike if it keeps the worlds alike, and leaves both journals halted or
+  -- neither
   after_others : AlikeFor lab.roster members (turn m lab st k line).state.world (turn m other su k line).state.world
       → (turn m lab st k line).state.halted ≡ (turn m other su k line).state.halted
       → StatesAlikeFor lab members (turn m lab st k line).state (turn m other su k line).state
@@ -45,7 +47,8 @@ module _ (lab other : LabValue) (twins : AreTwins lab other) (members : ℕ → 
         after_others (λ t h. (alike_here lab other twins x.student st su mine m k line t (a.worlds t h) x.hers).worlds) both.1.halted,
       )
 
-  -- a line on a connection of theirs has the same reply, and leaves the states alike
+  -- if a member or nobody is known on a connection, a line on it has the same reply in both labs, and the states stay
+  -- alike
   pub their_turn : is_theirs members (known_on st k) ≡ true
       → ((turn m lab st k line).reply ≡ (turn m other su k line).reply)
       × StatesAlikeFor lab members (turn m lab st k line).state (turn m other su k line).state
@@ -95,7 +98,7 @@ module _ (lab other : LabValue) (twins : AreTwins lab other) (members : ℕ → 
       let rest = same_written_for (turn_with lab st b).state (turn_with other su b).state some bs (next_for st su a b stay.0) stay.1 theirs.1 in
       λ z. first z ++ rest z
 
-  -- labs that begin alike for each member have openings that are alike
+  -- if two labs begin alike for each member, the first states of their runs are alike for each member
   pub openings_for : BeginAlikeFor lab other members → StatesAlikeFor lab members (opening lab) (opening other)
   openings_for labs =
       let single = openings_alike lab other one (record { twins = labs.twins; first = labs.first; second = labs.second; worlds = labs.worlds one is }) in

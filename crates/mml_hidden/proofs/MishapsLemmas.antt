@@ -1,4 +1,5 @@
--- Scripts whose turns may meet mishaps, the same in both runs.
+-- Two runs of one script with the same mishaps. A mishap is what goes wrong in a turn: memory runs out, or a write
+-- fails.
 use Rattle.std.proofs.Common.{◌≡◌, ℕ, Bool, true, false, List, [], ◌∷◌, ◌++◌, refl, sym, ap, ◌∙◌, arith}
 use Rattle.mml_lab.specs.Labs.{LabValue}
 use Rattle.mml_policy.specs.Alike.{Alike}
@@ -9,7 +10,7 @@ use Rattle.mml_hidden.specs.Mishaps.{BefallenLine, turn_with, lines_in, replies_
 use Rattle.mml_hidden.proofs.{TwinsLemmas.twin_next, TwinsLemmas.twin_line, ScriptedLemmas.if_same, ScriptedLemmas.openings_alike}
 use Rattle.std.proofs.lemmas.Bool.Decides.{nat_tests}
 
--- ---- two runs of one script that the same befell
+-- ---- two runs of one script with the same mishaps
 
 module _ (lab other : LabValue) (t : AreTwins lab other) (s : ℕ) where
   next_with : (st su : State) → StatesAlike lab s st su → (b : BefallenLine)
@@ -40,9 +41,9 @@ module _ (lab other : LabValue) (t : AreTwins lab other) (s : ℕ) where
       let rest = same_written_with (turn_with lab st b).state (turn_with other su b).state some bs (next_with st su a b stay.0) stay.1 hers.1 in
       λ z. first z ++ rest z
 
--- ---- each run is that of turns that something befell
+-- ---- each run consists of turns with mishaps
 
--- in each run something befell every line
+-- in each run, each line has a mishap, which may be `nothing`
 pub run_befalls : (lab : LabValue) (st : State) (lines : List RequestLine) (rs : List Reply) (end : State) → Run lab st lines rs end
     → Befalls lab st lines rs end
 run_befalls lab st [] [] end run = record { befallen = []; lines_are = refl; replies_are = refl; end_is = run }
@@ -59,7 +60,8 @@ run_befalls lab st (line ∷ lines) (r ∷ rs) end (next, (m, e), run) =
       end_is = rest.end_is ∙ ap (λ (x : State). end_with lab x rest.befallen) state;
     }
 
--- the same lines and mishaps have the same output on the student's connections, while the worlds stay alike
+-- if the same lines have the same mishaps in both runs, and the worlds stay alike, the output on the student's
+-- connections is the same
 pub same_transcripts_with : (lab other : LabValue) (s : ℕ) (some : ℕ → Bool) (t : Transcript lab) (u : Transcript other) (bs : List BefallenLine)
     → RunAlikeWith lab other s some t u bs
     → written_on_any lab some t.lines t.replies ≡ written_on_any other some u.lines u.replies

@@ -1,4 +1,4 @@
--- Scripts in two labs that look the same to a student.
+-- Scripts that are run in two labs that look the same to a student.
 use Rattle.std.proofs.Common.{◌≡◌, ◌≢◌, ℕ, ◌-◌, ◌==◌, Bool, true, false, cond, List, [], ◌∷◌, ◌++◌, Option, None, Result, Ok, All, refl, sym, ap, ◌∙◌, arith}
 use Rattle.std.specs.{List.concat, Prelude.slice_index_or, Prelude.decimal}
 use Rattle.std.proofs.lemmas.{Bool.cases_lt, Bool.Decides.nat_tests, List.Elements.All-set, List.Elements.All-replicate, List.get_or_past}
@@ -16,7 +16,7 @@ use Rattle.mml_hidden.proofs.TwinsLemmas.{twin_turn, twin_line, twin_next, twin_
 use Rattle.mml_codec.specs.declared.request.Request.TheVariants as requests
 use Rattle.mml_codec.specs.declared.reply.Refused.TheVariants as refused
 
--- what is written only if a test holds is the same if it is the same under the test
+-- if two outputs are equal whenever a test holds, they are equal if they are written only when it holds
 pub if_same : (b : Bool) (x y : List (List ℕ)) → (b ≡ true → x ≡ y) → cond b x [] ≡ cond b y []
 if_same b x y h = grind (arith, nat_tests)
 
@@ -58,7 +58,7 @@ module _ (lab other : LabValue) (t : AreTwins lab other) (s : ℕ) where
       let rest = same_written_on (turn_of lab st line).state (turn_of other su line).state k lines (next_alike st su a line stay.0) stay.1 hers.1 in
       λ z. first z ++ rest z
 
--- ---- if she alone is known
+-- ---- scripts in which only this student greets
 
 none_known : (xs : List (Option Who)) (s i : ℕ) → All (λ known. is_hers s known ≡ true) xs → is_hers s (slice_index_or xs i None) ≡ true
 none_known xs s i all = grind (arith, nat_tests, cases_lt, get_or_past)
@@ -110,24 +110,24 @@ module _ (lab other : LabValue) (t : AreTwins lab other) (s : ℕ) where
       → concat (output_lines lab lines (replies_to lab st lines)) ≡ concat (output_lines other lines (replies_to other su lines))
   same_bytes st su lines a all greets = grind (arith, nat_tests, same_replies, same_outputs)
 
--- ---- at the beginning
+-- ---- the beginning of a run
 
--- halls of twin labs, whose networks are alike for the student, begin alike
+-- if two labs begin alike for the student, the first states of their runs are alike
 pub openings_alike : (lab other : LabValue) (s : ℕ) → BeginAlike lab other s → StatesAlike lab s (opening lab) (opening other)
 openings_alike lab other s labs = grind (arith, nat_tests, reached_first)
 
--- at the beginning nobody but the student is known, since nobody is
+-- in the first state nobody is known, so nobody but the student is known
 pub opening_hers : (lab : LabValue) (s : ℕ) → OnlySheIsKnown s (opening lab)
 opening_hers lab s = All-replicate (λ (known : Option Who). is_hers s known ≡ true) lab.sessions None refl
 
--- ---- runs that no mishap hinders are plain
+-- ---- runs without mishaps consist of plain turns
 
 plain_there : (lab : LabValue) (st : State) (k : ℕ) (line : List ℕ) (out : Outcome) → Turn lab st k line out → out.reply ≢ Refuse refused.Memory
     → out.reply ≢ Refuse refused.Journal
     → out ≡ plain_turn lab st k line
 plain_there lab st k line = grind (arith, nat_tests, by_turn)
 
--- a run that nothing hindered has the replies and the end of its plain turns
+-- if no reply of a run is the refusal `memory` or `journal`, its replies and its last state are those of plain turns
 pub plain_run : (lab : LabValue) (st : State) (lines : List RequestLine) (rs : List Reply) (end : State) → Run lab st lines rs end → AreUnhindered rs
     → (rs ≡ replies_to lab st lines) × (end ≡ end_of lab st lines)
 plain_run lab st [] [] end run free = (refl, run)
@@ -135,7 +135,7 @@ plain_run lab st [] (r ∷ rs) end run free = absurd run
 plain_run lab st (line ∷ lines) [] end run free = absurd run
 plain_run lab st (line ∷ lines) (r ∷ rs) end (next, here, run) (now, free) = grind (arith, nat_tests, plain_there, (plain_run lab next lines rs end run free))
 
--- if only the student greets, the same lines are answered by the same bytes in both labs
+-- if only the student greets, the same lines get replies with the same bytes in both labs
 pub same_transcripts : (lab other : LabValue) (s : ℕ) (t : Transcript lab) (u : Transcript other) → BeginAlike lab other s → u.lines ≡ t.lines
     → OnlySheGreets lab s t.lines → AreUnhindered t.replies → AreUnhindered u.replies
     → bytes_written t ≡ bytes_written u
@@ -145,7 +145,7 @@ same_transcripts lab other s t u labs lines greets free other_free =
     ∙ ap (λ (ls : List RequestLine). concat (output_lines other ls (replies_to other (opening other) ls))) (sym lines)
     ∙ ap (λ (rs : List Reply). concat (output_lines other u.lines rs)) (sym (plain_run other (opening other) u.lines u.replies u.end u.run other_free).0)
 
--- on a connection of the student, the same lines have the same output while the worlds stay alike
+-- if the worlds stay alike, the same lines have the same output on a connection of the student
 pub same_on_connection : (lab other : LabValue) (s k : ℕ) (t : Transcript lab) (u : Transcript other) → RunAlike lab other s k t u
     → written_on lab k t.lines t.replies ≡ written_on other k u.lines u.replies
 same_on_connection lab other s k t u alike =

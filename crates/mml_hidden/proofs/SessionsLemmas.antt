@@ -15,7 +15,7 @@ use Rattle.mml_hidden.proofs.ToldLemmas.{same_reply_to}
 use Rattle.mml_lab.specs.declared.who.Who.TheVariants as who
 use Rattle.mml_codec.specs.declared.reply.Reply.TheVariants as reply
 
--- ---- the list at which a reply was made
+-- ---- the events that a reply takes into account
 
 all_of : (l : List Event) (n : ℕ) → n ≡ length l → take n l ≡ l
 all_of l n e = ap (λ k. take k l) e ∙ take-length l
@@ -29,11 +29,11 @@ seen_plainly : (w : World) (l : List Event) (g : Ruling)
     → take (length (entered l (event_of g)) - length (places_in (reply_of w g))) (entered l (event_of g)) ≡ l
 seen_plainly w l g = grind (arith, nat_tests, but_last, all_of)
 
--- a refusal instead of a ruling names what hindered it
+-- a refusal that replaces a ruling is the refusal `memory` or `journal`
 hindered : (g : Ruling) (why : Refused) (kept : Option Refusal) → MayRefuse g why kept → IsUnhindered (reply.Refuse why) → ⊥
 hindered g why kept may free = grind (arith, nat_tests)
 
--- the reply is that of the ruling, at the list
+-- the events that the reply takes into account are legal, and the reply is that of the ruling after them
 record IsPlain (lab : LabValue) (x : Who) (c : Command) (r : Reply) (new : WindowValue) : Type 0 where
   legal : is_legal_in lab (seen_at r new) ≡ true
   says : r ≡ reply_to lab.ids lab.roster lab.events false (world_in lab (seen_at r new)) x c
@@ -48,7 +48,7 @@ plain_told lab old new x c r free t = elim t.says [
   | inr why ↦ absurd (hindered (ruling_at lab (world_in lab t.list) x c) why.0 new.refused why.2 (subst IsUnhindered why.1 free))
 ]
 
--- ---- one line in both
+-- ---- one line in both sessions
 
 module _ (lab other : LabValue) (is : IsLab lab) (too : IsLab other) (t : AreTwins lab other) (s : ℕ) where
   same_told : (x : Who) (c : Command) (r q : Reply) (one two : WindowValue) → x ≡ who.Student s → IsPlain lab x c r one → IsPlain other x c q two
@@ -69,7 +69,7 @@ module _ (lab other : LabValue) (is : IsLab lab) (too : IsLab other) (t : AreTwi
   she_is : (x : Who) → is_hers s (Some x) ≡ true → x ≡ who.Student s
   she_is x h = grind (arith, nat_tests, false≢true, eqb-true)
 
-  -- the same reply, and the same one is known
+  -- the replies are the same, and so is who is known afterwards
   abbrev IsSame : Reply → Reply → Standing → Standing → Type 0
   IsSame r q next last = (r ≡ q) × (next.known ≡ last.known)
 

@@ -1,4 +1,4 @@
--- A student is told the same in worlds that are alike.
+-- In worlds that are alike for a student, each command of the student has the same reply.
 use Rattle.std.proofs.Common.{◌≡◌, ℕ, Bool, true, false, cond, List, Option, None, Some, Result, refl, ap, subst, arith}
 use Rattle.std.{proofs.lemmas.Bool.false≢true, proofs.lemmas.Bool.Decides.nat_tests, specs.Result.IfOk, specs.Option.option_map_or}
 use Rattle.mml_ids.proofs.GivesLemmas.{bind-if, need-if}
@@ -15,13 +15,13 @@ use Rattle.mml_hidden.proofs.SightLemmas.{event_alike}
 use Rattle.mml_lab.specs.declared.who.Who.TheVariants as who
 use Rattle.mml_board.specs.declared.event.Event.TheVariants as event
 
--- ---- a student is shown no report
+-- ---- a student is never shown a report
 
 abbrev NoReport : Leave → Type 0
 NoReport Report = ⊥
 NoReport _ = Unit {0}
 
--- an act gives leave to an event alone
+-- if a request for an event is allowed, it isn't answered by a report
 event_only : (s : Result Event Denial) → IfOk (granted s) NoReport
 event_only s = grind (arith, nat_tests)
 
@@ -43,9 +43,9 @@ student_unreported : (ids : List ℕ) (r : RosterValue) (limit : ℕ) (h : Bool)
     → is_report (ruling ids r limit h w (who.Student s) k) ≡ false
 student_unreported ids r limit h w s k = unreported limit h w (clauses ids r w (who.Student s) k) (no_report ids r w s k)
 
--- ---- the reply to any other ruling is made of the ruling, the number and the place
+-- ---- any other reply depends only on the ruling and on the numbers of the configuration and of the events
 
--- a ruling other than a report has the same reply in worlds of the same number and place
+-- a ruling other than a report has the same reply in two worlds with the same number and the same place
 same_reply_of : (w v : World) (g : Ruling) → is_report g ≡ false → w.number ≡ v.number → w.place ≡ v.place → reply_of w g ≡ reply_of v g
 same_reply_of w v g h number place = grind (arith, nat_tests, false≢true)
 
@@ -55,13 +55,13 @@ pub same_reply_to : (ids : List ℕ) (r : RosterValue) (limit : ℕ) (h : Bool) 
     → reply_to ids r limit h w (who.Student s) k ≡ reply_to ids r limit h v (who.Student s) k
 same_reply_to ids r limit h w v s k in_w in_v a = grind (arith, nat_tests, alike_afterwards, same_reply_of, student_unreported, same_ruling)
 
--- and the same line in answer
+-- each command of the student has the same reply line too
 pub same_line_to : (ids : List ℕ) (r : RosterValue) (limit : ℕ) (h : Bool) (w v : World) (s : ℕ) (k : Command) → IsWorldOf ids w
     → IsWorldOf ids v → Alike r s w v
     → line_to ids r limit h w (who.Student s) k ≡ line_to ids r limit h v (who.Student s) k
 same_line_to ids r limit h w v s k in_w in_v a = ap (λ (q : Reply). reply_line ids r q) (same_reply_to ids r limit h w v s k in_w in_v a)
 
--- ---- a student's granted event is a move
+-- ---- each event that a student is granted is a move
 
 abbrev IsMove : Option Event → Type 0
 IsMove None = Unit {0}
@@ -78,20 +78,20 @@ moves_at_most ids r w s k = grind (arith, nat_tests, bind-if, need-if)
 ruled_move : (limit : ℕ) (h : Bool) (w : World) (p : Result Leave Denial) → IfOk p MovesAtMost → IsMove (event_of (ruled limit h w p))
 ruled_move limit h w p is = grind (arith, nat_tests)
 
--- a move shows nobody anything but number and place
+-- a granted move shows the same to each student in both worlds
 shows_no_one : (r : RosterValue) (t : ℕ) (w v : World) (e : Event) → IsMove (Some e) → ShowsTheSame r t w v e
 shows_no_one r t w v e is = grind (arith, nat_tests)
 
--- ---- after a student's command other worlds stay alike too
+-- ---- after a student's command, the worlds stay alike for other students too
 
 module _ (ids : List ℕ) (r : RosterValue) (limit : ℕ) (h : Bool) (w v : World) (in_w : IsWorldOf ids w) (in_v : IsWorldOf ids v) where
-  -- one event, which is a move, or none, in two worlds that are alike
+  -- worlds that are alike stay alike if the same move is granted in both, or none
   after_move : (t : ℕ) → Alike r t w v → (o : Option Event) → IsMove o → ((e : Event) → o ≡ Some e → is_possible w e ≡ true)
       → Alike r t (option_map_or (after w) o w) (option_map_or (after v) o v)
   after_move t a None is possible = a
   after_move t a (Some e) is possible = (event_alike ids r t w v in_w in_v a e (possible e refl)).1 (shows_no_one r t w v e is)
 
-  -- after a command of student s worlds that were alike for s and t are alike for t
+  -- if two worlds are alike for students s and t, they are alike for t after a command of s
   pub others_afterwards : (s t : ℕ) (k : Command) → Alike r s w v → Alike r t w v
       → Alike r t (after_ruling w (ruling ids r limit h w (who.Student s) k)) (after_ruling v (ruling ids r limit h v (who.Student s) k))
   others_afterwards s t k a b =

@@ -15,9 +15,9 @@ use Rattle.mml_hidden.specs.Twins.{AreTwins, StatesAlike, is_hers}
 use Rattle.mml_hidden.proofs.ToldLemmas.{same_reply_to, others_afterwards}
 use Rattle.mml_lab.specs.declared.who.Who.TheVariants as who
 
--- ---- what comes of a turn, in one lab
+-- ---- what a turn changes in one lab
 
--- an event that happens, or none, leaves who is known, and whether the journal is halted
+-- an event changes neither who is known nor whether the journal is halted
 pub entered_is : (st : State) (o : Option Event)
     → ((entered st o).world ≡ option_map_or (after st.world) o st.world) × ((entered st o).greeted ≡ st.greeted) × ((entered st o).halted ≡ st.halted)
 entered_is st o = grind (arith, nat_tests)
@@ -41,9 +41,10 @@ module _ (lab : LabValue) (st : State) (k : ℕ) (line : List ℕ) where
   plain_halted : (plain_turn lab st k line).state.halted ≡ st.halted
   plain_halted = grind (arith, nat_tests, plain_does)
 
--- ---- two states that differ in their worlds and events alone
+-- ---- two states that differ only in their worlds and events
 
--- the same reply, and the worlds are alike for student t
+-- Two turns have the same reply. Afterwards the worlds are alike for student t, the same participants are known, and
+-- both journals are halted or neither.
 pub record TurnsAlike (lab : LabValue) (t : ℕ) (one two : Outcome) : Type 0 where
   pub reply : one.reply ≡ two.reply
   pub worlds : Alike lab.roster t one.state.world two.state.world
@@ -53,13 +54,13 @@ pub record TurnsAlike (lab : LabValue) (t : ℕ) (one two : Outcome) : Type 0 wh
 pub either_both : (P : Outcome → Outcome → Type 0) (b c : Bool) (p q one two : Outcome) → b ≡ c → P p q → P one two → P (cond b p one) (cond c q two)
 either_both P b c p q one two e x y = grind (arith, nat_tests, false≢true)
 
--- on a connection of student s, in worlds that are alike for s and for t
+-- a turn on a connection of student s, in worlds that are alike for s and for t
 module _ (lab : LabValue) (s t : ℕ) (st : State) (v : World) (es : List Event) (first : IsWorldOf lab.ids st.world) (second : IsWorldOf lab.ids v)
     (a : Alike lab.roster s st.world v) (b : Alike lab.roster t st.world v) where
   abbrev su : State
   su = record { world = v; events = es; greeted = st.greeted; halted = st.halted }
 
-  -- the outcomes of a command, before each world
+  -- the outcomes of a command in the two states
   abbrev told_st : Who → Command → Outcome
   told_st x c = outcome_of st (ruling lab.ids lab.roster lab.events st.halted st.world x c)
 
@@ -69,7 +70,7 @@ module _ (lab : LabValue) (s t : ℕ) (st : State) (v : World) (es : List Event)
   told_alike : (c : Command) → TurnsAlike lab t (told_st (who.Student s) c) (told_su (who.Student s) c)
   told_alike c = grind (arith, nat_tests, entered_is, same_reply_to, others_afterwards lab.ids lab.roster lab.events st.halted st.world v first second s t c a b)
 
-  -- a greeting, a bye, or what is asked before a greeting
+  -- a request that is answered without a ruling: a hello, a bye, or a command before the hello
   answered_alike : (k : ℕ) (r : Reply) (x : Option Who) → TurnsAlike lab t (settled lab st k (Answered r x)) (settled lab su k (Answered r x))
   answered_alike k r x = record { reply = refl; worlds = b; greeted = refl; halted = refl }
 
@@ -88,12 +89,13 @@ module _ (lab : LabValue) (s t : ℕ) (st : State) (v : World) (es : List Event)
   unfolding plain_turn
   plain_alike k line h = answer_alike k (request_in line) h
 
-  -- whatever befell the turn, in both
+  -- the same with a mishap, if it is the same in both turns
   turn_alike : (mishap : Mishap) (k : ℕ) (line : List ℕ) → is_hers s (known_on st k) ≡ true
       → TurnsAlike lab t (turn mishap lab st k line) (turn mishap lab su k line)
   turn_alike mishap k line h = grind (arith, nat_tests, plain_alike, either_both)
 
-  -- a line of another: the replies are the same, and so is who is known afterwards, or nobody else is known than before
+  -- Both turns have the same reply and lead to the same list of known participants, or neither turn changes who is
+  -- known.
   abbrev KnownAlike : Outcome → Outcome → Type 0
   KnownAlike one two =
       ((one.reply ≡ two.reply) × (one.state.greeted ≡ two.state.greeted)) ⊎ ((one.state.greeted ≡ st.greeted) × (two.state.greeted ≡ st.greeted))
@@ -116,12 +118,12 @@ module _ (lab : LabValue) (s t : ℕ) (st : State) (v : World) (es : List Event)
   turn_known : (m : Mishap) (k : ℕ) (line : List ℕ) → (turn m lab st k line).state.greeted ≡ (turn m lab su k line).state.greeted
   turn_known m k line = grind (arith, nat_tests, plain_known, either_known)
 
--- ---- in two labs
+-- ---- turns in two labs
 
 abbrev with_network : LabValue → Network → LabValue
 with_network lab n = record { ids = lab.ids; roster = lab.roster; network = n; events = lab.events; sessions = lab.sessions }
 
--- a turn reads no network of the lab
+-- a turn doesn't depend on the lab's network
 net_turn : (lab : LabValue) (n : Network) (m : Mishap) (st : State) (k : ℕ) (line : List ℕ) → turn m lab st k line ≡ turn m (with_network lab n) st k line
 unfolding plain_turn
 net_turn lab n m st k line = grind (arith, nat_tests)
@@ -133,12 +135,13 @@ module _ (lab other : LabValue) (twins : AreTwins lab other) (s : ℕ) (st su : 
   pub same_turn : turn m lab su_here k line ≡ turn m other su k line
   same_turn = grind (arith, nat_tests, net_turn)
 
-  -- a line on a connection of student s, for student t
+  -- a line on a connection of student s has the same reply in both labs, and keeps the worlds alike for student t
   pub alike_here : (t : ℕ) → Alike lab.roster t st.world su.world → is_hers s (known_on st k) ≡ true
       → TurnsAlike lab t (turn m lab st k line) (turn m other su k line)
   alike_here t b h = subst (TurnsAlike lab t (turn m lab st k line)) same_turn (turn_alike lab s t st su.world su.events a.first a.second a.worlds b m k line h)
 
-  -- a line of another leaves the states alike if it leaves the worlds so, and both halted or neither
+  -- a line of somebody else keeps the states alike if it keeps the worlds alike, and leaves both journals halted or
+  -- neither
   pub twin_others : Alike lab.roster s (turn m lab st k line).state.world (turn m other su k line).state.world
       → (turn m lab st k line).state.halted ≡ (turn m other su k line).state.halted
       → StatesAlike lab s (turn m lab st k line).state (turn m other su k line).state
@@ -158,13 +161,13 @@ module _ (lab other : LabValue) (twins : AreTwins lab other) (s : ℕ) (st su : 
       → reply_line lab.ids lab.roster (turn m lab st k line).reply ≡ reply_line other.ids other.roster (turn m other su k line).reply
   twin_line h = λ z. reply_line (twins.ids z) (twins.roster z) ((twin_turn h).0 z)
 
-  -- the states stay alike after a line of hers, and after another's if the worlds do
+  -- the states stay alike after each line of the student, and after a line of somebody else if the worlds stay alike
   pub twin_next : (is_hers s (known_on st k) ≡ false → Alike lab.roster s (turn m lab st k line).state.world (turn m other su k line).state.world
       × ((turn m lab st k line).state.halted ≡ (turn m other su k line).state.halted))
       → StatesAlike lab s (turn m lab st k line).state (turn m other su k line).state
   twin_next stay = grind (arith, nat_tests, twin_turn, twin_others)
 
--- a plain turn halts nothing
+-- after plain turns of the same line, both journals are halted or neither
 pub twin_halted : (lab other : LabValue) (s : ℕ) (st su : State) (a : StatesAlike lab s st su) (k : ℕ) (line : List ℕ)
     → (plain_turn lab st k line).state.halted ≡ (plain_turn other su k line).state.halted
 twin_halted lab other s st su a k line = plain_halted lab st k line ∙ a.halted ∙ sym (plain_halted other su k line)

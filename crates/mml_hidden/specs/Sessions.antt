@@ -1,4 +1,4 @@
--- Two sessions of one student, each through a window of a house, that look the same to the student.
+-- Two sessions that look the same to a student. Each has a window, which is its view of the events of a house.
 use Rattle.std.specs.Prelude.{◌≢◌, ℕ, ◌-◌, true, ◌≡◌, List, [], ◌∷◌, length, take, Option}
 use Rattle.mml_lab.specs.{declared.who.Who.Who, Labs.LabValue}
 use Rattle.mml_board.specs.{declared.event.Event.Event, Lists.world_in}
@@ -9,23 +9,24 @@ use Rattle.mml_session.specs.Turns.{Standing, places_in, Run}
 use Rattle.mml_hidden.specs.Twins.{is_hers}
 use Rattle.mml_codec.specs.declared.reply.Refused.TheVariants as refused
 
--- the list at which a reply was made: all that the window has seen now, except the event that the reply names
+-- the events that a reply takes into account: all that the window has seen now, except for the event that the reply
+-- names
 abbrev pub seen_at : Reply → WindowValue → List Event
 seen_at r w = take (length w.seen - length (places_in r)) w.seen
 
--- the reply is neither the refusal for memory nor that for the journal
+-- the reply is neither the refusal `memory` nor the refusal `journal`
 abbrev pub IsUnhindered : Reply → Type 0
 IsUnhindered r = (r ≢ Refuse refused.Memory) × (r ≢ Refuse refused.Journal)
 
--- A line on a connection that is known as student s's, or as nobody's yet, with its two replies. The worlds in which
--- these were made are alike for her, and neither reply is the refusal for memory or for the journal
+-- A line on a connection on which student s or nobody is known, with its two replies. The worlds in which these were
+-- made are alike for the student, and neither reply is the refusal `memory` or `journal`
 pub record IsToldAlike (lab other : LabValue) (s : ℕ) (known : Option Who) (r q : Reply) (one two : WindowValue) : Type 0 where
   pub hers : is_hers s known ≡ true
   pub worlds : Alike lab.roster s (world_in lab (seen_at r one)) (world_in other (seen_at q two))
   pub first : IsUnhindered r
   pub second : IsUnhindered q
 
--- each line is hers, or nobody's yet, and is answered alike
+-- whenever a line comes, student s or nobody is known, and the line is answered alike in both sessions
 abbrev pub AreToldAlike : (lab other : LabValue) → ℕ → (st su : Standing) (lines : List (List ℕ)) (rs qs : List Reply) (end fin : Standing)
     → Run lab st lines rs end → Run other su lines qs fin → Type 0
 AreToldAlike lab other s st su [] rs qs end fin t u = Unit {0}

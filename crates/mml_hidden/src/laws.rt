@@ -51,10 +51,10 @@ pub fn hidden_values_change_no_reply_line()
         (world_left ids r limit is_halted v (who.Student s) c) }
 {}
 
-/// Take states of two twin labs, which differ at most in the links and registers at the beginning. Let the states be
-/// alike for a student, and let a line's connection be known as hers, or as nobody's yet. Then the line gets the same
-/// reply line in both. The states afterwards are alike again. The same mishap (memory that ran out or a failed write)
-/// must befall both turns.
+/// Take states of two twin labs, which differ at most in the links and registers at the beginning. Suppose that the
+/// states are alike for a student, and that she or nobody is known on a connection. Then a line on this connection gets
+/// the same reply line in both, and the states afterwards are alike again. The same mishap (memory that ran out or a
+/// failed write) must befall both turns.
 pub fn hidden_values_change_no_turn()
     ensures line { (lab other : LabValue) (s : ℕ) (st su : State) (mishap : Mishap) (k : ℕ)
         (line : List ℕ) → AreTwins lab other → StatesAlike lab s st su →
@@ -94,9 +94,9 @@ pub fn turns_that_keep_worlds_alike_grant_alike()
 
 /// Suppose that one script (lines on numbered connections) is run in two twin labs, which differ at most in the links
 /// and registers at the beginning. No mishap happens, the states at first are alike for a student, and each line of
-/// somebody else keeps the worlds alike for her. Then the same is written to connections while they are known as hers,
-/// or as nobody's yet. If that holds for a connection during the whole run, all of its output is the same. The states
-/// at the end are alike.
+/// somebody else keeps the worlds alike for her. Then the same is written to each connection as long as she or nobody
+/// is known on it. If nobody else is ever known on a connection, all of its output is the same. The states at the end
+/// are alike.
 pub fn hidden_values_change_no_script()
     ensures written { (lab other : LabValue) (s : ℕ) (st su : State) (lines : List RequestLine) →
         AreTwins lab other → StatesAlike lab s st su → StayAlike lab other s st su lines →
@@ -116,8 +116,8 @@ pub fn hidden_values_change_no_script()
 
 /// Like `hidden_values_change_no_script`, but with mishaps (memory runs out, or a write fails), the same for the same
 /// lines in both runs. Each line of somebody else must keep the worlds alike for the student, and leave both journals
-/// halted or neither. Then all output is the same on connections that are hers, or nobody's yet, throughout. The states
-/// at the end are alike.
+/// halted or neither. If nobody else is ever known on a connection, all of its output is the same. The states at the
+/// end are alike.
 pub fn hidden_values_change_no_script_with_mishaps()
     ensures connections { (lab other : LabValue) (s : ℕ) (st su : State) (some : ℕ → Bool)
         (bs : List BefallenLine) → AreTwins lab other → StatesAlike lab s st su →
@@ -141,8 +141,8 @@ pub fn something_befell_each_line()
 
 /// Suppose that one script (lines on numbered connections) is run in two twin labs, which differ at most in the links
 /// and registers at the beginning. No mishap happens, and the states at first are alike for a student. If nobody else
-/// is known, and each valid hello in the script is hers, all replies are the same, and all bytes. So a student who is
-/// alone can't tell the two labs apart.
+/// is known, and each valid hello in the script is hers, all replies are the same, and so are all bytes. So a student
+/// who is alone can't distinguish the two labs.
 pub fn one_who_is_alone_can_not_tell()
     ensures replies { (lab other : LabValue) (s : ℕ) (st su : State) (lines : List RequestLine) →
         AreTwins lab other → StatesAlike lab s st su → OnlySheIsKnown s st →
@@ -173,7 +173,7 @@ pub fn unhindered_runs_are_plain()
         (rs ≡ replies_to lab st lines) × (end ≡ end_of lab st lines) }
 {}
 
-/// If an event happens in only one of two worlds that are alike for a student, the worlds aren't alike any more: the
+/// If an event happens in only one of two worlds that are alike for a student, the worlds aren't alike afterwards: the
 /// numbers of their events differ. If an event happens in each, but only one of the two makes a configuration, the
 /// numbers of their configurations differ.
 pub fn events_are_told_by_place_and_number()
@@ -251,10 +251,11 @@ pub fn hidden_values_change_no_session()
         map (reply_line lab.ids lab.roster) rs ≡ map (reply_line other.ids other.roster) qs }
 {}
 
-/// Students who put together what they are shown (a coalition) learn nothing that none of them may see. If two worlds
-/// are alike for each member, a command of a member has the same reply in both, and the worlds afterwards are alike for
-/// each. The same holds for each turn on a connection that is a member's, or nobody's yet, and for all output on such
-/// connections, whatever mishaps befall the lines. A coalition has at least one member.
+/// Students who put together what they are shown (a coalition) learn nothing that none of them may see. Suppose that
+/// two worlds are alike for each member. Then a command of a member has the same reply in both, and the worlds
+/// afterwards are alike for each member. The same holds for each turn on a connection on which a member or nobody is
+/// known. If nobody but members is ever known on some connections, their output is the same too, whatever mishaps
+/// befall the lines. A coalition has at least one member.
 pub fn coalitions_learn_nothing_hidden()
     ensures reply { (ids : List ℕ) (r : RosterValue) (limit : ℕ) (is_halted : Bool) (w v : World)
         (members : ℕ → Bool) (s : ℕ) (c : Command) → IsWorldOf ids w → IsWorldOf ids v →

@@ -3,7 +3,7 @@ use Rattle.std.proofs.{Common.◌≡◌, Common.◌^◌, Common.◌-◌, Common.
 use Rattle.mml_serving.specs.Numbers.{Spells}
 use Rattle.mml_host_program.specs.Words.{Names, NamesNone}
 
--- a text that isn't 0 and spells no number of 16 bits names no port
+-- a text that is neither 0 nor a number from 1 to 65535 names no port
 pub names_none : (text : List ℕ) → (text ≡ codes "0" → ⊥) → ((n : ℕ) → Spells (2 ^ 16 - 1) text n → ⊥) → NamesNone text
 names_none text other none zero names = other (names.1 ∙ decimal_digit 0 (omega arith))
 names_none text other none (suc n) names = none (suc n) (omega arith, names.0, names.1)

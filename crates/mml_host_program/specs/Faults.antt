@@ -1,4 +1,4 @@
--- The host's error for each error of the crates below.
+-- The host's error for each error of the crates that it uses.
 use Rattle.std.specs.Prelude.{◌≡◌}
 use Rattle.mml_files.specs.declared.file_fault.FileFault.{FileFault}
 use Rattle.mml_files.specs.declared.file_fault.FileFault.TheVariants as file
@@ -10,7 +10,7 @@ use Rattle.mml_program.specs.declared.fault.Fault.TheVariants as program
 use Rattle.mml_host_program.specs.declared.fault.Fault.{Fault}
 use Rattle.mml_host_program.specs.declared.fault.Fault.TheVariants as fault
 
--- the host's error for an error of serving: a halted journal becomes the error of one whose file can't be made
+-- the host's error for an error of serving; a halted journal has the same error as a journal's file that can't be made
 abbrev pub of_hosting : HostFault → Fault
 of_hosting hosting.Memory = fault.Common program.Memory
 of_hosting hosting.Place = fault.Place
@@ -24,8 +24,8 @@ abbrev pub of_record : FileFault → Fault
 of_record file.Refused = fault.Unrecorded
 of_record file.Memory = fault.Common program.Memory
 
--- the host's error for the reason why a class didn't go on: a journal that can't be cut becomes a journal fault; which
--- error a refused journal becomes isn't stated here
+-- the host's error for the reason why a class wasn't resumed; a journal that can't be cut is a journal fault, and the
+-- error of a refused journal isn't stated here
 abbrev pub IsToldAs : ResumeFault → Fault → Type 0
 IsToldAs (resuming.Refused why) told = Unit {0}
 IsToldAs resuming.Memory told = told ≡ fault.Common program.Memory

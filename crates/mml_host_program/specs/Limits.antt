@@ -5,7 +5,7 @@ use Rattle.std.specs.Prelude.{ℕ, List, ◌++◌, codes, decimal}
 abbrev pub limit_line : List ℕ → ℕ → List ℕ → List ℕ
 limit_line name most unit = name ++ (codes " " ++ (decimal most ++ (codes " " ++ (unit ++ codes "\n"))))
 
--- how large a lab's network may be, and how many people may own a node
+-- how large a lab's network may be, how many students there may be, and how many of them may own a node
 abbrev pub network_limits : List ℕ
 network_limits = limit_line (codes "nodes") 256 (codes "count") ++ (limit_line (codes "identifier") 65535 (codes "number")
     ++ (limit_line (codes "students") 256 (codes "count") ++ limit_line (codes "owners") 2 (codes "count")))
@@ -20,7 +20,8 @@ abbrev pub text_limits : List ℕ
 text_limits = limit_line (codes "line") 4096 (codes "bytes") ++ (limit_line (codes "lab") 1048576 (codes "bytes")
     ++ limit_line (codes "journal") 16777216 (codes "bytes"))
 
--- how long one entry of a record may be, what a host writes to a seat's file, and what is read of one
+-- how many bytes one entry of a record may have, how many a host writes to a seat's file, and how many are read from
+-- one
 abbrev pub record_limits : List ℕ
 record_limits = limit_line (codes "entry") 8388608 (codes "bytes") ++ (limit_line (codes "seat-written") 1072693248 (codes "bytes")
     ++ limit_line (codes "seat-read") 1073741824 (codes "bytes"))

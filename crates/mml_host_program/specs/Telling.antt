@@ -1,4 +1,4 @@
--- The lines of a host at its beginning and at its end.
+-- The first and the last lines that a host writes.
 use Rattle.std.specs.Prelude.{◌≡◌, ℕ, false, List, [], ◌∷◌, ◌++◌, length, codes, decimal, Option}
 use Rattle.std.specs.{List.concat, Io.KnownBytes.Appends}
 use mathlib.Core.List.{IsPrefix}
@@ -13,23 +13,23 @@ use Rattle.mml_resuming.specs.Resuming.{whole_of, resumed_line}
 abbrev pub ports_line : ℕ → ℕ → List ℕ
 ports_line port desk = concat (codes "listening on port " ∷ decimal port ∷ codes ", desk on port " ∷ decimal desk ∷ codes "\n" ∷ [])
 
--- The house of a class left this log, which isn't halted. It is one legal list of events. The places after the first so
--- many are those that the windows of the house were given, each once, and the sink has the journal of the list. What is
--- written is the last line of this log: how many events it has, and the number of the configuration after them
+-- The house of a class has this log, which isn't halted. Its events are a legal list, and the sink has the journal of
+-- this list. The places after the first `first` are those that the windows of the house were given, each once. The last
+-- line was written, with the number of events and the number of the configuration after them
 pub record EndsWell {S : Type 0} (first : ℕ) (lab : LabValue) (sink : S → Option (List ℕ)) (wrote wrote' : Option (List ℕ)) (log : Log S) : Type 0 where
   pub windows : List WindowValue
   pub kept : IsLogFrom first lab sink windows log
   pub unhalted : log.halted ≡ false
   pub last : Appends wrote wrote' (done_line (length log.events) (world_in lab log.events).number)
 
--- what a class with this log writes: first its ports, and at last the line of the log
+-- what the host of a class with this log has written: first its ports, and last the line about the log
 pub record TellsClass {S : Type 0} (lab : LabValue) (sink : S → Option (List ℕ)) (port desk : ℕ) (wrote wrote' : Option (List ℕ)) (log : Log S) : Type 0 where
   pub between : Option (List ℕ)
   pub first : Appends wrote between (ports_line port desk)
   pub ends : EndsWell 0 lab sink between wrote' log
 
--- what a class with this log writes that goes on from an old journal, with whose events the log begins: first its ports
--- and the state after the old journal's lines, and at last the line of the log
+-- What the host of a resumed class with this log has written. The log begins with the events of the old journal. First
+-- come the ports and the state after these events, and last the line about the log
 pub record TellsResumed {S : Type 0} (lab : LabValue) (sink : S → Option (List ℕ)) (old : List ℕ) (port desk : ℕ) (wrote wrote' : Option (List ℕ))
     (log : Log S) : Type 0 where
   pub begun : List Event

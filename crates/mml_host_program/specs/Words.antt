@@ -1,4 +1,4 @@
--- Numbers of ports in words.
+-- Texts that name ports.
 use Rattle.std.specs.Prelude.{◌≡◌, ◌≤◌, ◌^◌, ◌-◌, ℕ, List, decimal}
 
 -- the text is this number in decimal, which is a port or 0

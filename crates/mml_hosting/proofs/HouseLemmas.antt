@@ -1,4 +1,4 @@
--- Seats in which nobody was served, and the records of seats.
+-- The seats of a house before anybody was served, their records, and how the house ends.
 use Rattle.std.proofs.Common.{rules, ◌≡◌, ◌∙◌, ap, sym, subst, ℕ, zero, suc, ◌+◌, ◌<◌, ◌≤◌, ◌==◌, Bool, true, false, List, [], ◌∷◌, ◌++◌, flat_map, length, length-append, refl, All, Option, Result, Ok, Err, IfOk, MatchBool, arith}
 use Rattle.std.{specs.List.AllZip, specs.List.list_all, specs.List.range_with_len, specs.List.sum_by, proofs.KnownBytes.Appends-nil}
 use Rattle.std.proofs.lemmas.{Bool.Decides.nat_tests, List.length-map, List.map-append, List.Sums.AllPass-from_list_all, List.Sums.sum_by-append, List.Sums.sum_by-cons, List.Sums.sum_by_push, List.Concat.flat_map-cons}
@@ -18,7 +18,7 @@ use Rattle.mml_hosting.proofs.SeatLemmas.{led_seen}
 use Rattle.mml_serving.specs.declared.serving.ServeFault.TheVariants as why
 use Rattle.mml_hosting.specs.declared.hosted.HostFault.TheVariants as fault
 
--- only the seat of the desk has the number 1
+-- exactly the desk's seat has the number 1
 pub desk_is_one : (desk : Bool) (first k total number : ℕ) → MatchBool desk ((first ≡ 1) × (total ≡ 1)) (1 < first) → number ≡ first + k → k < total
     → desk ≡ (number == 1)
 desk_is_one true first k total number at next below = let one : number ≡ 1 = omega (arith, at.0, at.1) in rw one refl
@@ -41,7 +41,7 @@ all_numbers n total desk_old old desk others count one rest at_desk elsewhere = 
     let first : sum_by g desk_old ≡ 0 + g 1 = ap (sum_by g) one ∙ sum_by_push g [] 1 in
     omega (arith, all, first, ap (sum_by g) rest, sum_by-append g desk others, at_desk g, elsewhere g)
 
--- seats that are numbered in order, one by one
+-- the numbers of seats that are numbered in order, with one more seat
 range_more : (a n : ℕ) → range_with_len a (suc n) ≡ range_with_len a n ++ (a + n) ∷ []
 range_more a zero = let same : a ≡ a + 0 = omega arith in ap (λ (k : ℕ). k ∷ []) same
 range_more a (suc n) =
@@ -53,7 +53,7 @@ pub numbers_more : {H K C : Type 0} (first n m : ℕ) (ss ss' : List (Seat H K C
 numbers_more first n m ss ss' s one more before here =
     rw (one, map-append (λ q. q.record) ss (s ∷ []), map-append (λ r. r.number) (records_of ss) (s.record ∷ []), more, range_more first n, before, here) refl
 
--- what recorders have kept is what they were called with, by their numbers
+-- if `given` says what each recorder has kept, the recorders have kept what `given` says for their numbers
 pub are_given : {C : Type 0} (given : ℕ → Option Kept) (kept : C → Option Kept) (n : ℕ) (cs : List C)
     → ((m : ℕ) → n ≤ m → given m ≡ kept_from kept n cs m) → AreGiven given kept n cs
 are_given given kept n [] same = tt
@@ -79,11 +79,11 @@ module _ {H K C R W : Type 0} (t : Terms K C R W) where
   all_led [] h = tt
   all_led (s ∷ ss) h = ((All-head (IsSeat t) s ss h).led, all_led ss (All-tail (IsSeat t) s ss h))
 
-  -- each window has seen at least what came before
+  -- each window has seen at least the events from before the house
   all_seen : (ss : List (Seat H K C)) → All (IsSeat t) ss → All (λ w. IsPrefix t.begun w.seen) (windows_of ss)
   all_seen ss h = All-map (λ w. IsPrefix t.begun w.seen) (λ (s : Seat H K C). s.window) ss (All-weaker (IsSeat t) (λ (s : Seat H K C). IsPrefix t.begun s.window.seen) (λ s is. led_seen t s.record s.window is.led) ss h)
 
-  -- if the one seat with the number 1 wasn't dismissed, the teacher's bye ended none of its sessions
+  -- if the only seat, with the number 1, wasn't dismissed, the teacher's bye ended none of its sessions
   one_going_on : (ss : List (Seat H K C)) → length ss ≡ 1 → All (IsSeat t) ss → HaveSame (1 ∷ []) (numbers_of (records_of ss))
       → list_all (λ s. s.is_dismissed) ss ≡ false → All (λ r. AreGoingOn (sessions_of t.shows r)) (records_of ss)
   one_going_on [] one seats numbers undismissed = absurd (omega (arith, one))
@@ -103,7 +103,7 @@ module _ {H K C R W : Type 0} (t : Terms K C R W) where
       let rest = none_came ss (All-tail (IsUnused t.begun t.given t.recorded) s ss h) in
       flat_map-cons (came_to t.shows) s.record (records_of ss) ∙ rw (rest, first.sessions) refl
 
-  -- the seats in which the last session was ended by the teacher's bye
+  -- if seats were dismissed, the teacher's bye ended the last session of each
   dismissed_all : (ss : List (Seat H K C)) → All (IsSeat t) ss → All (λ s. s.is_dismissed ≡ true) ss
       → All (λ r. IsDismissed (sessions_of t.shows r)) (records_of ss)
   dismissed_all ss seats dismissed =
@@ -127,7 +127,7 @@ module _ {H K C R W : Type 0} (t : Terms K C R W) where
       came = rw (none_came old fresh) at at_port.attends;
     }
 
-    -- a list of which each window has seen a beginning begins with what came before
+    -- a list of which each window has seen a beginning begins with the events from before the house
     begun_with : (l : List Event) → All (λ w. IsPrefix w.seen l) (windows_of desks ++ windows_of others) → IsPrefix t.begun l
     begun_with l seen = begins_with t.begun l desks (windows_of others) (at_desk.count ∙ one) (all_seen desks at_desk.seats) seen
 
@@ -152,7 +152,7 @@ module _ {H K C R W : Type 0} (t : Terms K C R W) where
     }
     hosted (Err e) kept dismissed desk_is others_is = tt
 
-    -- if there is no log, what is left of the house
+    -- if there is no log, what is known of the house
     pub unhosted : (f : HostFault) → EndsWithoutLog (length t.begun) t.lab sink desks (windows_of desks ++ windows_of others) f
         → HostsEarly t sink to_desk to_come f
     unhosted fault.Memory without = tt
@@ -184,7 +184,7 @@ module _ {H K C R W : Type 0} (t : Terms K C R W) where
         }
     unhosted _ without = absurd without
 
--- how a house ends whose windows have seen beginnings of this book's events
+-- how a house ends, if its windows have seen beginnings of this book's events
 module _ {S H K C : Type 0} (first : ℕ) (lab : LabValue) (sink : S → Option (List ℕ)) (desks : List (Seat H K C)) (windows all : List WindowValue)
     (b : BookValue S) (same : windows ≡ all) (book : IsBook lab sink b) (seen : All (λ w. IsPrefix w.seen b.events) windows) where
   leaves_all : LeavesBook lab sink all b
@@ -206,14 +206,14 @@ module _ {S H K C : Type 0} (first : ℕ) (lab : LabValue) (sink : S → Option 
 
 -- what a failed house has written
 module _ {S K C R W : Type 0} (t : Terms K C R W) (sink : S → Option (List ℕ)) (to_desk to_come : Option (List (R × W))) where
-  -- nothing, if there is no log
+  -- if there is no log, nothing was written
   pub badly_early : (wrote : Option (List ℕ)) (f : HostFault) → HostsEarly t sink to_desk to_come f → HostsBadly t sink to_desk to_come wrote wrote f
   badly_early wrote fault.Memory early = Appends-nil wrote
   badly_early wrote fault.Undismissed early = (early, Appends-nil wrote)
   badly_early wrote fault.Astray early = (early, Appends-nil wrote)
   badly_early wrote _ early = absurd early
 
-  -- if there is one, the last line says why
+  -- if there is a log, the error says why its last line wasn't written whole
   pub badly_logged : (house : Hosted S K C)
       → HostsFrom t.begun t.given t.lab sink t.remaining t.contents t.recorded t.shows to_desk to_come house
       → (wrote wrote' : Option (List ℕ)) (f : ServeFault)

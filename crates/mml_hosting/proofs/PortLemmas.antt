@@ -1,4 +1,4 @@
--- The connections that came to a port so far, and the seats that they have.
+-- The connections that came to a port so far, and the seats in which they are served.
 use Rattle.std.proofs.Common.{◌≡◌, ◌∙◌, ap, ℕ, ◌+◌, List, [], ◌∷◌, ◌++◌, flat_map, length, refl, arith, All, Option, inl, inr}
 use Rattle.std.specs.List.{sum_by}
 use Rattle.std.proofs.lemmas.List.{Elements.All-nil, Elements.All-append, Elements.All-push, Sums.sum_by-append, Sums.sum_by-cons, Concat.flat_map-cons}
@@ -8,7 +8,9 @@ use Rattle.mml_hosting.specs.Counting.{count_all, count_busy, count_free, count_
 use Rattle.mml_hosting.specs.declared.{seat.ServedSession.ServedSession, seat.Seat.Seat, port_serving.Busy.Busy}
 use Rattle.mml_serving.proofs.ArrivingLemmas.{Takes-nil, Takes-trans}
 
--- the connections that came are those that the seats have beyond their first ones, or will have, and those turned away, of each of which this is true
+-- The connections that came so far are in the seats, or were turned away. Together with those that the seats `first`
+-- had already, they are those that the free seats have served, those that the busy seats have served or serve, and
+-- those in `turned`
 pub record History {H K C R W U : Type 0} (shows : K → ServedSession R W) (IsAway : R × W → Type 0) (known now : Option (List (R × W))) (first free : List (Seat H K C))
     (busy : List (Busy H K C R W U)) : Type 0 where
   pub connections : List (R × W)
@@ -64,7 +66,8 @@ sum_numbers shows g (s ∷ ss) = omega (
   sum_none (came_to shows s.record),
 )
 
--- once no seat is busy, each connection that came was served once, or turned away, and each number is there once
+-- if no seat is busy any longer, each connection that came was served once or turned away, and each seat's number is
+-- there once
 module _ {H K C R W U : Type 0} (t : Terms K C R W) (IsAway : R × W → Type 0) (known now : Option (List (R × W))) (first free last : List (Seat H K C))
     (busy gone : List (Busy H K C R W U)) (so_far : History t.shows IsAway known now first free busy) (over : gone ≡ [])
     (joined : KeepCounts t.shows free busy last gone) where

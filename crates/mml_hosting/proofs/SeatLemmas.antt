@@ -10,15 +10,15 @@ use Rattle.mml_session.proofs.SeenLemmas.{Sees, ended_seen}
 use Rattle.mml_hosting.specs.declared.seat.{ServedSession.ServedSession, SeatRecord.SeatRecord}
 use Rattle.mml_hosting.specs.Seats.{AreGoingOn, IsDismissed, Leads, Led, Terms, is_teachers_bye, sessions_of}
 
--- what holds of each of a list and of one more holds of each of the list with that one
+-- if P holds of all elements of a list and of one more, it holds of all elements of the longer list
 pub all_more : {X : Type 0} (P : X → Type 0) (xs xs' : List X) (x : X) → xs' ≡ xs ++ x ∷ [] → All P xs → P x → All P xs'
 all_more P xs xs' x one all it = rw one (All-push P xs x all it)
 
--- one more in a list adds its own number to the sum
+-- one more element adds its own number to the sum
 pub sum_more : {X : Type 0} (f : X → ℕ) (xs xs' : List X) (x : X) → xs' ≡ xs ++ x ∷ [] → sum_by f xs' ≡ sum_by f xs + f x
 sum_more f xs xs' x one = rw one (sum_by_push f xs x)
 
--- a session that begins in the state that the ones before it led to makes the chain one longer
+-- a session that begins in the state after the earlier ones makes their chain longer by one
 pub led_more : {K C R W : Type 0} (t : Terms K C R W) (old : SeatRecord K C) (xs : List K) (w v : WindowValue) (x : K) (c : C)
     → xs ≡ old.sessions.items ++ x ∷ [] → Led t old w → Leads t old.number (t.shows x) (stand w (t.recorded old.recorder)) (stand v (t.recorded c))
     → Chain (Leads t old.number) (stand (window t.begun []) (t.given old.number)) (map t.shows xs) (stand v (t.recorded c))
@@ -27,7 +27,7 @@ led_more t old xs w v x c one so_far it =
     (run_longer (λ st s r next. Leads t old.number s st next) (stand (window t.begun []) (t.given old.number)) (stand w (t.recorded old.recorder))
     (stand v (t.recorded c)) (sessions_of t.shows old) (sessions_of t.shows old) (t.shows x) (t.shows x) so_far it)
 
--- a session more, and whether it is noted that the teacher's bye ended it
+-- one more session, and the note whether the teacher's bye ended it
 module _ {R W X : Type 0} (f : X → ServedSession R W) (xs xs' : List X) (x : X) (one : xs' ≡ xs ++ x ∷ []) (desk now : Bool)
     (noted : now ≡ (desk && is_teachers_bye (f x).ending)) (so_far : desk ≡ true → AreGoingOn (map f xs)) where
   pub dismissed_so : now ≡ true → IsDismissed (map f xs')
@@ -40,7 +40,7 @@ module _ {R W X : Type 0} (f : X → ServedSession R W) (xs xs' : List X) (x : X
       let goes : is_teachers_bye (f x).ending ≡ false = grind (arith, nat_tests) in
       rw (one, map-append f xs (x ∷ [])) (All-push (λ s. is_teachers_bye s.ending ≡ false) (map f xs) (f x) (so_far at) goes)
 
--- after sessions one after another a window has seen what it had seen before them, and maybe more
+-- after its sessions, a window has seen what it had seen before them, and perhaps more
 pub led_seen : {K C R W : Type 0} (t : Terms K C R W) (r : SeatRecord K C) (w : WindowValue) → Led t r w → Sees (window t.begun []) w
 led_seen t r w =
     run_keeps (λ st s ss next. Leads t r.number s st next) (λ st next. Sees st.window next.window)

@@ -1,8 +1,8 @@
--- The connections that were served or are being served in seats, compared by counting.
+-- Sums over seats, by which the connections that were served or are being served are counted.
 use Rattle.std.specs.{Prelude.◌≡◌, Prelude.◌⊎◌, Prelude.ℕ, Prelude.◌+◌, Prelude.List, Prelude.[], Prelude.◌∷◌, Prelude.◌++◌, List.sum_by}
 use Rattle.mml_hosting.specs.{Seats.came_to, declared.seat.ServedSession.ServedSession, declared.seat.Seat.Seat, declared.port_serving.Busy.Busy}
 
--- the connections that will have come to a busy seat: those before, and the one that is served in it
+-- the connections of a busy seat: those that came to it before, and the one that is being served
 abbrev pub bound_for : {H K C R W U : Type 0} → (K → ServedSession R W) → Busy H K C R W U → List (R × W)
 bound_for shows b = came_to shows b.handle.promise.0.value.record ++ b.handle.promise.1.value ∷ []
 
@@ -26,13 +26,14 @@ count_busy shows g h busy = sum_by (count_at shows g h) busy
 abbrev pub count_all : {H K C R W U : Type 0} → (K → ServedSession R W) → (ℕ → ℕ) → (R × W → ℕ) → List (Seat H K C) → List (Busy H K C R W U) → ℕ
 count_all shows g h free busy = count_free shows g h free + count_busy shows g h busy
 
--- no such sum changes: the free and the busy seats have the same numbers and connections as before, in whatever order
+-- no such sum changes: the free and the busy seats together have the same numbers and connections as before, in any
+-- order
 abbrev pub KeepCounts : {H K C R W U : Type 0} → (K → ServedSession R W) → List (Seat H K C) → List (Busy H K C R W U) → List (Seat H K C)
     → List (Busy H K C R W U) → Type 0
 KeepCounts {H} {K} {C} {R} {W} shows free busy free' busy' = (g : ℕ → ℕ) (h : R × W → ℕ) → count_all shows g h free' busy' ≡ count_all shows g h free busy
 
--- the connection is among those that were or are being served, and nothing else has changed; or it was turned away, as
--- `IsAway` says
+-- either the connection was added to those that were or are being served, and nothing else changed; or it was turned
+-- away, as `IsAway` says
 abbrev pub TakesIn : {H K C R W U : Type 0} → (K → ServedSession R W) → (R × W → Type 0) → R × W → List (Seat H K C) → List (Busy H K C R W U)
     → List (Seat H K C) → List (Busy H K C R W U) → Type 0
 TakesIn {H} {K} {C} {R} {W} shows IsAway ends free busy free' busy' =

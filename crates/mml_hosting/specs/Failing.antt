@@ -1,4 +1,4 @@
--- Houses of two ports that fail.
+-- What holds of houses with two ports that fail.
 use Rattle.std.specs.{Prelude.◌≡◌, Prelude.◌≤◌, Prelude.ℕ, Prelude.true, Prelude.false, Prelude.List, Prelude.[], Prelude.◌++◌, Prelude.flat_map, Prelude.length, Prelude.All, Prelude.Option, List.AllZip, List.list_all, List.range_with_len, Io.KnownBytes.Appends}
 use mathlib.Core.List.{IsPrefix}
 use Rattle.mml_lab.specs.Labs.{LabValue}
@@ -10,8 +10,8 @@ use Rattle.mml_hosting.specs.{Hosting.HostsFrom, Ports.Attends, Ports.HaveSame, 
 use Rattle.mml_serving.specs.declared.serving.ServeFault.TheVariants as why
 use Rattle.mml_hosting.specs.declared.hosted.HostFault.TheVariants as fault
 
--- Both ports were served through these windows. What is said here of the seats and their connections is what
--- `HostsFrom` says of them
+-- Both ports were served through these windows. This states about the seats and their connections what `HostsFrom`
+-- states
 pub record ServesBoth {K C R W : Type 0} (t : Terms K C R W) (to_desk to_come : Option (List (R × W))) (at_desk others : List (SeatRecord K C))
     (desk_windows windows : List WindowValue) : Type 0 where
   pub at_least : All (λ w. IsPrefix t.begun w.seen) (desk_windows ++ windows)
@@ -22,8 +22,8 @@ pub record ServesBoth {K C R W : Type 0} (t : Terms K C R W) (to_desk to_come : 
   pub came_to_desk : Attends to_desk [] (flat_map (came_to t.shows) at_desk)
   pub came : Attends to_come [] (flat_map (came_to t.shows) others)
 
--- both ports were served, and the record of the desk's seat and all windows are related by `Holds`. A house that leaves
--- no log ends like this
+-- both ports were served, and `Holds` relates the record of the desk's seat to all windows; a house that has no log
+-- ends like this
 pub record EndsUnlogged {K C R W : Type 0} (t : Terms K C R W) (to_desk to_come : Option (List (R × W)))
     (Holds : List (SeatRecord K C) → List WindowValue → Type 0) : Type 0 where
   pub at_desk : List (SeatRecord K C)
@@ -47,8 +47,8 @@ EndsAstray {S} t sink to_desk to_come =
     EndsUnlogged t to_desk to_come (λ at_desk windows. All (λ r. IsDismissed (sessions_of t.shows r)) at_desk
     × (astray : WentAstrayFrom (length t.begun) t.lab sink windows) × IsPrefix t.begun astray.left.events)
 
--- why a house left no log after its ports had ended: memory ran out; or, whatever book it ended with, not every seat of
--- the desk was dismissed, or the places of the windows aren't those of the book's events, if these are enough
+-- Why there is no log after the ports have ended. Memory ran out; or not every seat of the desk was dismissed; or the
+-- places of the windows aren't those of the events after the first `first`, each once
 abbrev pub EndsWithoutLog : {S H K C : Type 0} → ℕ → LabValue → (S → Option (List ℕ)) → List (Seat H K C) → List WindowValue → HostFault → Type 0
 EndsWithoutLog {S} first lab sink desks windows fault.Memory = Unit {0}
 EndsWithoutLog {S} first lab sink desks windows fault.Undismissed =
@@ -58,7 +58,7 @@ EndsWithoutLog {S} first lab sink desks windows fault.Astray =
     × (first ≤ length left.events → ¬ (IsEachOnceFrom first (length left.events) (told_of windows)))
 EndsWithoutLog {S} first lab sink desks windows _ = ⊥
 
--- why a house left no log: memory ran out; or the teacher didn't dismiss it, or its windows' places went astray
+-- why there is no log: memory ran out, the teacher didn't dismiss the house, or its windows' places went astray
 abbrev pub HostsEarly : {S K C R W : Type 0} → Terms K C R W → (S → Option (List ℕ)) → Option (List (R × W)) → Option (List (R × W)) → HostFault → Type 0
 HostsEarly t sink to_desk to_come fault.Memory = Unit {0}
 HostsEarly t sink to_desk to_come fault.Undismissed = EndsUndismissed t sink to_desk to_come
@@ -72,8 +72,8 @@ pub record HostsLogged {S K C R W : Type 0} (t : Terms K C R W) (sink : S → Op
   pub hosts : HostsFrom t.begun t.given t.lab sink t.remaining t.contents t.recorded t.shows to_desk to_come house
   pub holds : Holds house.log
 
--- what a failed house has written, and what is left of it. Nothing is written, but for a beginning of the last line if
--- the writer failed at that. If the journal is halted, or the writer failed, the house ended as `HostsFrom` says
+-- What a failed house has written, and what holds of it. Nothing is written, except for a beginning of the last line if
+-- the writer failed. If the journal is halted, or the writer failed, the house ended as `HostsFrom` says
 abbrev pub HostsBadly : {S K C R W : Type 0} → Terms K C R W → (S → Option (List ℕ)) → Option (List (R × W)) → Option (List (R × W)) → Option (List ℕ)
     → Option (List ℕ) → HostFault → Type 0
 HostsBadly t sink to_desk to_come wrote wrote' fault.Memory = Appends wrote wrote' []

@@ -16,12 +16,12 @@ pub record IsUnused {H K C : Type 0} (begun : List Event) (given : ℕ → Optio
   pub sessions : s.record.sessions.items ≡ []
   pub dismissed : s.is_dismissed ≡ false
 
--- The house left the log of one legal list of events, which begins with the events that came before it was opened. The
--- places after these are those that all windows were given, each once. Each window has seen a beginning of the list,
--- and at least the events before. The seats have the numbers from 1 to the number of the lab's sessions, each once. The
--- sessions of each seat, in order, led its window and its recorder to their states. At the desk, the last session was
--- ended by the teacher's bye, and no earlier one. The connections that came to a port were served, each once, or turned
--- away
+-- The house has the log of one legal list of events, which begins with the events from before it was opened. The places
+-- of the other events are those that all windows were given, each once. Each window has seen a beginning of the list,
+-- and at least the events from before. The seats have the numbers from 1 to the number of the lab's sessions, each
+-- once. The sessions of each seat, in order, changed its window and its recorder to their present states. At the desk,
+-- the teacher's bye ended the last session, and no earlier one. The connections that came to a port were served, each
+-- once, or turned away
 pub record HostsFrom {S K C R W : Type 0} (begun : List Event) (given : ℕ → Option Kept) (lab : LabValue) (sink : S → Option (List ℕ))
     (remaining : R → Option (List ℕ)) (contents : W → Option (List ℕ)) (recorded : C → Option Kept) (shows : K → ServedSession R W)
     (to_desk to_come : Option (List (R × W))) (house : Hosted S K C) : Type 0 where
@@ -38,7 +38,7 @@ pub record HostsFrom {S K C R W : Type 0} (begun : List Event) (given : ℕ → 
   pub came_to_desk : Attends to_desk [] (flat_map (came_to shows) house.at_desk.items)
   pub came : Attends to_come [] (flat_map (came_to shows) house.others.items)
 
--- what `HostsFrom` says, of a house before whose opening no event came
+-- the same for a house that was opened before any event
 abbrev pub Hosts : {S K C R W : Type 0} → (ℕ → Option Kept) → LabValue → (S → Option (List ℕ)) → (R → Option (List ℕ)) → (W → Option (List ℕ))
     → (C → Option Kept) → (K → ServedSession R W) → Option (List (R × W)) → Option (List (R × W)) → Hosted S K C → Type 0
 Hosts given lab sink remaining contents recorded shows to_desk to_come house = HostsFrom [] given lab sink remaining contents recorded shows to_desk to_come house

@@ -8,8 +8,8 @@ use Rattle.mml_hosting.specs.{declared.seat.Seat.Seat, declared.seat.SeatRecord.
 abbrev pub HaveSame : {A : Type 0} → List A → List A → Type 0
 HaveSame {A} xs ys = (h : A → ℕ) → sum_by h xs ≡ sum_by h ys
 
--- the first of the connections to come have come; together with the old ones they are the new ones and those that were
--- turned away, each as often
+-- `connections` are the first of the connections to come, and have come. The old connections and these are together the
+-- new ones and those that were turned away, each as often
 pub record Attends {C : Type 0} (to_come : Option (List C)) (old new : List C) : Type 0 where
   pub connections : List C
   pub turned : List C
@@ -17,7 +17,7 @@ pub record Attends {C : Type 0} (to_come : Option (List C)) (old new : List C) :
   pub came : Takes to_come left connections
   pub each : HaveSame (old ++ connections) (new ++ turned)
 
--- the record of each seat beside its window
+-- the record of each seat
 abbrev pub records_of : {H K C : Type 0} → List (Seat H K C) → List (SeatRecord K C)
 records_of ss = map (λ s. s.record) ss
 
@@ -25,7 +25,7 @@ records_of ss = map (λ s. s.record) ss
 abbrev pub windows_of : {H K C : Type 0} → List (Seat H K C) → List WindowValue
 windows_of ss = map (λ s. s.window) ss
 
--- the number of each seat, by its record
+-- the number of the seat in each of these records
 abbrev pub numbers_of : {K C : Type 0} → List (SeatRecord K C) → List ℕ
 numbers_of rs = map (λ r. r.number) rs
 

@@ -1,4 +1,4 @@
--- Windows through which one connection after another is served.
+-- Seats, each of which serves one connection after another through its window.
 use Rattle.std.specs.Prelude.{◌≡◌, ◌<◌, ℕ, ◌+◌, ◌==◌, if◌then◌else◌, Bool, true, false, List, [], ◌∷◌, ◌++◌, map, All, ⊤, Option, None, Some, vec_len, vec_capacity}
 use Rattle.mml_lab.specs.{Labs.LabValue, declared.who.Who.Who}
 use Rattle.mml_board.specs.declared.event.Event.{Event}
@@ -9,9 +9,10 @@ use Rattle.mml_hosting.specs.declared.seat.{ServedSession.ServedSession, Seat.Se
 use Rattle.mml_lab.specs.declared.who.Who.TheVariants as who
 use Rattle.mml_session.specs.declared.session.SessionEnd.TheVariants as end
 
--- the parameters of a house's contracts: its lab, the events that came before it was opened, and what the recorder of
--- the seat with each number had kept then; the bytes that a connection's reader has still to return, and those that
--- were written to its writer; what a recorder has kept; and the session that is shown by what is kept of it
+-- The parameters of a house's contracts. The first three are its lab, the events from before it was opened, and what
+-- the recorder of the seat with each number had kept then. The others are functions. They return the bytes that a
+-- connection's reader has still to return, the bytes that were written to its writer, what a recorder has kept, and the
+-- session that a kept value shows
 pub record Terms (K C R W : Type 0) : Type 0 where
   pub lab : LabValue
   pub begun : List Event
@@ -34,14 +35,14 @@ terms lab begun given remaining contents recorded shows = record {
   shows = shows;
 }
 
--- the connection was served until this end, which led the window from the state `a` to the state `b`; and what was
--- recorded of it under this number led the recorder likewise
+-- The connection was served until its session ended, which changed the window from the state `a` to the state `b`. What
+-- was recorded of the session under this number changed the recorder from `a` to `b`
 abbrev pub Leads : {K C R W : Type 0} → Terms K C R W → ℕ → ServedSession R W → Stand → Stand → Type 0
 Leads t number s a b =
     EndedRecorded s.ending.end s.ending.who number t.lab a.window b.window (t.remaining s.came.value.0) (t.remaining s.reader)
     (t.contents s.came.value.1) (t.contents s.writer) a.kept b.kept
 
--- what the recorder of the seat with this number has kept, if they are numbered from the first number on
+-- what the recorder of the seat with number n has kept, if the seats are numbered from `first` on
 abbrev pub kept_from : {C : Type 0} → (C → Option Kept) → ℕ → List C → ℕ → Option Kept
 kept_from kept first [] n = None
 kept_from kept first (c ∷ cs) n = if n == first then kept c else kept_from kept (first + 1) cs n
@@ -55,20 +56,20 @@ AreGiven given kept n (c ∷ cs) = (kept c ≡ given n) × AreGiven given kept (
 abbrev pub sessions_of : {K C R W : Type 0} → (K → ServedSession R W) → SeatRecord K C → List (ServedSession R W)
 sessions_of shows r = map shows r.sessions.items
 
--- the connections that came to a seat, in order, by what is left of it
+-- the connections that came to a seat, in order, by what is kept of its sessions
 abbrev pub came_to : {K C R W : Type 0} → (K → ServedSession R W) → SeatRecord K C → List (R × W)
 came_to shows r = map (λ s. s.came.value) (sessions_of shows r)
 
--- a bye of a connection that is known as the teacher
+-- whether a session ended by a bye while the teacher was known
 abbrev bye_of : SessionEnd → Option Who → Bool
 bye_of end.Bye (Some who.Teacher) = true
 bye_of _ _ = false
 
--- the session was ended by the teacher's bye
+-- whether the session was ended by the teacher's bye
 abbrev pub is_teachers_bye : Ending → Bool
 is_teachers_bye ending = bye_of ending.end ending.who
 
--- the sessions that the teacher's bye didn't end
+-- none of the sessions was ended by the teacher's bye
 abbrev pub AreGoingOn : {R W : Type 0} → List (ServedSession R W) → Type 0
 AreGoingOn ss = All (λ s. is_teachers_bye s.ending ≡ false) ss
 
@@ -77,13 +78,13 @@ abbrev pub IsDismissed : {R W : Type 0} → List (ServedSession R W) → Type 0
 IsDismissed {R} {W} ss =
     (before : List (ServedSession R W)) × (s : ServedSession R W) × (ss ≡ before ++ s ∷ []) × (is_teachers_bye s.ending ≡ true) × AreGoingOn before
 
--- the sessions of a seat led its window from having seen the events before the house to this window, and its recorder
--- from what the recorder of its number had kept before the house to what it has kept now
+-- The sessions of a seat changed its window from having seen the events from before the house to `w`. They changed its
+-- recorder from what the recorder of this number had kept then to what it has kept now
 abbrev pub Led : {K C R W : Type 0} → Terms K C R W → SeatRecord K C → WindowValue → Type 0
 Led t r w = Chain (Leads t r.number) (stand (window t.begun []) (t.given r.number)) (sessions_of t.shows r) (stand w (t.recorded r.recorder))
 
--- the seat's sessions led its window, and at the desk, which has the number 1, it is noted whether the teacher's bye
--- came
+-- the seat's sessions have changed its window and its recorder as `Led` says; at the desk, whose seat has the number 1,
+-- it is noted whether the teacher's bye came
 pub record IsSeat {H K C R W : Type 0} (t : Terms K C R W) (s : Seat H K C) : Type 0 where
   pub desk : s.is_desk ≡ (s.record.number == 1)
   pub led : Led t s.record s.window

@@ -1,4 +1,4 @@
--- What is written of a class.
+-- What `verify` and `tally` have written about a class.
 use Rattle.std.proofs.Common.{◌≡◌, ◌<◌, ◌++◌, ℕ, List, true, false, subst, sym, ◌∙◌, length, take, Option, Result, Ok, Err}
 use Rattle.std.specs.{Prelude.OnOk, Prelude.IfOk, Prelude.IfErr, Io.KnownBytes.Appends}
 use Rattle.mml_lab.specs.Labs.{LabValue}
@@ -15,7 +15,7 @@ weaker_ok (Ok x) P Q weaker holds = weaker x holds
 weaker_ok (Err e) P Q weaker holds = tt
 
 module _ (U : ClassError → Type 0) (P : List ℕ → Type 0) (wrote wrote' : Option (List ℕ)) where
-  -- a text of which P holds went out, or not all of it
+  -- a text of which P holds was written, or only a beginning of it
   pub all_written : (r : Result (Unit {0}) ClassError) (text now : List ℕ) → P text → now ≡ text → OnOk r (Appends wrote wrote' now) → OnOk r (IsWritten P wrote wrote')
   all_written (Ok x) text now holds same all = (text, holds, subst (λ t. Appends wrote wrote' t) same all)
   all_written (Err e) text now holds same all = tt
@@ -33,7 +33,7 @@ module _ (U : ClassError → Type 0) (P : List ℕ → Type 0) (wrote wrote' : O
         subst (λ (t : List ℕ). Appends wrote wrote' (take part.1.0 t)) same part.1.2,
       )
 
-  -- there was nothing to write
+  -- nothing was written, and U holds of the reason
   pub none_written : ¬ (U error.Write) → (e : ClassError) → wrote' ≡ wrote → U e → IsUnwritten U P wrote wrote' e
   none_written never (error.Audit why) same untold = (same, untold)
   none_written never (error.Record why) same untold = (same, untold)

@@ -6,7 +6,7 @@ use Rattle.mml_audit.specs.AuditMeaning.{IsJournalOf}
 use Rattle.mml_tally.specs.{Texts.tally_text, Rounds.rounds_line}
 use Rattle.mml_judging_program.specs.Tallies.{IsTally}
 
--- the text of the events that an audit returned, and of the world that they led to
+-- the text is the tally of the events that an audit returned, and of the world after them
 pub tally_is : (lab : LabValue) (es slice : List Event) (bytes text : List ℕ) (w : World) → IsJournalOf lab es bytes
     → slice ≡ es → w ≡ world_in lab es → text ≡ tally_text lab w slice ++ rounds_line lab slice → IsTally lab bytes text
 tally_is lab es slice bytes text w journal same leads told = record {

@@ -1,4 +1,4 @@
--- The program's error for each reason why a class isn't one.
+-- The program's error for each reason why the check of a class fails.
 use Rattle.std.specs.Prelude.{◌≡◌, ◌+◌, ◌-◌, ◌^◌, min, ℕ, List, codes, Option, None, Some}
 use Rattle.mml_audit.specs.declared.auditing.AuditFault.{AuditFault}
 use Rattle.mml_record.specs.declared.verdict.{BadEntry.BadEntry, Why.Why}
@@ -29,8 +29,9 @@ words_of why.NoPause = codes "not after a pause"
 words_of why.OtherEvent = codes "journal's event"
 words_of why.OtherReply = codes "reply of the rules"
 
--- the place that is named with these words, if one is: that of the journal's event is one more than how many events had
--- been seen, but at most the greatest number of 64 bits
+-- The place that the error line names with these words, if it names one. If an entry grants another event than the
+-- journal has, this is the place of the journal's event. It is one more than the number of events that had been seen,
+-- but at most the greatest number of 64 bits
 abbrev pub place_told : Why → ℕ → Option ℕ
 place_told why.OtherEvent place = Some (min (place + 1) (2 ^ 64 - 1))
 place_told why.OtherReply place = Some place
@@ -53,7 +54,7 @@ IsOfPlace amiss _ = ⊥
 
 -- ---- the error
 
--- the error says that the record is refused, by a refusal of which P holds
+-- the error says that the record is refused, and P holds of the refusal
 abbrev pub IsRefusal : (RecordRefusal → Type 0) → Fault → Type 0
 IsRefusal P (fault.Record why) = P why
 IsRefusal P _ = ⊥
@@ -65,7 +66,7 @@ IsOfRecord (class.Places amiss) f = IsRefusal (IsOfPlace amiss) f
 IsOfRecord (class.Unread seat.Read) f = f ≡ fault.ReadRecord
 IsOfRecord (class.Unread seat.Memory) f = f ≡ fault.Common common.Memory
 
--- the error says that the journal doesn't pass the audit, because of this fault, or that memory ran out in the audit
+-- the error for a journal that doesn't pass the audit, because of this fault or because memory ran out
 abbrev pub IsOfJournal : AuditFault → Fault → Type 0
 IsOfJournal why (fault.Common told) = IsAuditError why told
 IsOfJournal why _ = ⊥

@@ -7,8 +7,8 @@ use Rattle.mml_tally.specs.{Texts.tally_text, Rounds.rounds_line}
 use Rattle.mml_judging_program.specs.declared.class_error.ClassError.{ClassError}
 use Rattle.mml_judging_program.specs.declared.class_error.ClassError.TheVariants as error
 
--- the bytes are the journal of a legal list of the lab's, and the text is the tally of that list, with the line of its
--- rounds
+-- the bytes are the journal of a legal list of events, and the text is the tally of this list, followed by the line
+-- about rounds
 pub record IsTally (lab : LabValue) (bytes text : List ℕ) : Type 0 where
   pub events : List Event
   pub journal : IsJournalOf lab events bytes

@@ -3,12 +3,12 @@ use Rattle.std.specs.{Prelude.ℕ, Prelude.Bool, Prelude.true, Prelude.false, Pr
 use Rattle.mml_lab.specs.Labs.{LabValue}
 use Rattle.mml_tally.specs.{declared.record_text.Findings.Findings, Lacking.recorded_line}
 
--- the end of the line, after the number of events, by whether a record is whole
+-- the end of the first line, after the number of events, by whether the record is whole
 abbrev pub end_of : Bool → List ℕ
 end_of true = codes " events\n"
 end_of false = codes " events, not whole\n"
 
--- the line with the summary of a record that passed, and how many events its journal has
+-- the first line: the summary of a record that passed, with the number of events in its journal
 abbrev pub verified_line : Findings → ℕ → List ℕ
 verified_line found events =
     concat (codes "ok: " ∷ decimal found.sessions ∷ codes " sessions, " ∷ decimal found.lines ∷ codes " lines, " ∷ decimal events ∷ end_of found.whole ∷ [])
@@ -17,6 +17,6 @@ verified_line found events =
 abbrev pub begun_line : ℕ → List ℕ
 begun_line begun = concat (codes "begun after " ∷ decimal begun ∷ codes " events\n" ∷ [])
 
--- these two lines, and between them the line about those whose lines are all recorded
+-- these two lines, with the line about the accounts whose lines are all recorded between them
 abbrev pub verified_text : LabValue → Findings → ℕ → ℕ → List ℕ
 verified_text lab found events begun = verified_line found events ++ (recorded_line lab found ++ begun_line begun)

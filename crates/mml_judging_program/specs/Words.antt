@@ -5,7 +5,7 @@ use Rattle.mml_journal.specs.Words.{◌>>=◌, is_word}
 use Rattle.mml_judging_program.specs.declared.words.Task.{Task}
 use Rattle.mml_judging_program.specs.declared.words.Task.TheVariants as task
 
--- what a task asks for: a word, and the paths of the lab, of the journal and of the record's folder
+-- what a task asks for: the name of a command, and the paths of the lab, of the journal and of the record's folder
 pub record Wanted : Type 0 where
   pub word : List ℕ
   pub lab : List ℕ

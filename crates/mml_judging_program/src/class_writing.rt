@@ -24,8 +24,8 @@ pub(crate) fn audit_class(alloc: Global, lab: &Lab, journal: Vec<u8>) -> Result<
     audit_events(alloc, lab, &journal)
 }
 
-/// Writes the text of a result, as `verify` or `tally` made it. Returns `Write` if a write fails, after which only a
-/// beginning of the text may have been written.
+/// Writes the text that `verify` or `tally` has made. Returns `Write` if a write fails, after which only a beginning of
+/// the text may have been written.
 pub(crate) fn write_class<W: Write>(text: &[u8], writer: &mut W) -> Result<(), ClassError>
     ensures all { OnOk result (Appends (W.contents writer.old) (W.contents writer.new) text.now) }
     ensures part { IfErr result (λ error. (error ≡ ClassError.Write) × ((n : ℕ) × (n < length text.now)

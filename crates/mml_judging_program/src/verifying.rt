@@ -1,4 +1,4 @@
-//! The check of a class's record beside its journal.
+//! The check of a class's record against its journal.
 //!
 //! The record of a class has a text for each seat, with the lines that were answered there and their replies. The
 //! journal has a line for each granted event.

@@ -1,4 +1,4 @@
--- The lines that ask for grants and closes, and the hellos before them, are read as script lines.
+-- The lines that ask for grants and closes, with the bye and the hello before each, can be lines of a script.
 use Rattle.std.proofs.lemmas.Bool.Decides.{nat_tests}
 use Rattle.std.proofs.Common.{◌≡◌, ◌≢◌, ℕ, ◌<◌, ◌≤◌, ◌+◌, ◌*◌, ◌^◌, Bool, true, cond, List, [], ◌∷◌, ◌++◌, codes, decimal, length, refl, sym, subst, arith, length-append}
 use Rattle.std.proofs.Common.{get_or, rules}
@@ -32,12 +32,12 @@ IsShort q = length (canonical q) ≤ MAX_REQUEST
 digits : (n : ℕ) → n < 2 ^ 64 → length (decimal n) ≤ 20
 digits n small = length-decimal-le 20 n (omega arith) (omega arith) small
 
--- pieces and two numbers
+-- a text with two numbers in it is short enough for a request
 two_numbers : (a b c : List ℕ) (x y : ℕ) → x < 2 ^ 64 → y < 2 ^ 64 → length a + length b + length c ≤ 4056
     → length (a ++ (decimal x ++ (b ++ (decimal y ++ c)))) ≤ MAX_REQUEST
 two_numbers a b c x y small small' pieces = grind (arith, nat_tests, digits, length-append)
 
--- pieces and three numbers
+-- a text with three numbers in it is short enough for a request
 three_numbers : (a b c d : List ℕ) (x y z : ℕ) → x < 2 ^ 64 → y < 2 ^ 64 → z < 2 ^ 64 → length a + length b + length c + length d ≤ 4036
     → length (a ++ (decimal x ++ (b ++ (decimal y ++ (c ++ (decimal z ++ d)))))) ≤ MAX_REQUEST
 three_numbers a b c d x y z small small' small'' pieces = grind (arith, nat_tests, digits, length-append)
@@ -104,7 +104,7 @@ module _ (lab : LabValue) (is : IsLab lab) where
   pub bye_comes : IsScriptLine lab.sessions (line_for requests.Bye)
   bye_comes = on_first lab.sessions requests.Bye is.some_sessions (tt, tt) (subst (λ (x : List ℕ). length x ≤ MAX_REQUEST) (sym bye_text) (omega arith))
 
-  -- the name and key of a participant have their forms
+  -- the name and the key of a participant have the forms that names and keys must have
   formed : (who : Who) → IsPrincipal lab.roster who → (is_name (name_of lab.roster who) ≡ true) × (is_key (key_of lab.roster who) ≡ true)
   formed who member = and_parts (is_name (name_of lab.roster who)) (is_key (key_of lab.roster who)) (is.roster.formed who member)
 
@@ -155,7 +155,7 @@ module _ (lab : LabValue) (is : IsLab lab) where
             w.number (id_of lab.ids i) (id_of lab.ids j) number small partner (omega arith)),
       )
 
-  -- the command that asks for a grant or a close can be written, and its line may come
+  -- the command that asks for a grant or a close can be written, and its line can be a line of a script
   pub command_comes : (w : World) (e : Event) → w.number < 2 ^ 64 → IsEventOf lab.ids lab.roster e → is_grant_or_close e ≡ true
       → IsWritable (requests.Do (command_of lab.ids w e)) × IsScriptLine lab.sessions (line_for (requests.Do (command_of lab.ids w e)))
   command_comes w (event.Grant s i q) number of forward =

@@ -1,4 +1,4 @@
--- What is chosen at a node was granted there last.
+-- A move is chosen at a node exactly if it was granted there last.
 use Rattle.std.{proofs.lemmas.Grind.common_steps, proofs.lemmas.List.get_or-set_same, proofs.lemmas.List.get_or-set_other, specs.List.list_all}
 use Rattle.std.proofs.Common.{◌≡◌, ◌≢◌, ◌↔◌, ◌⊎◌, ◌<◌, ℕ, true, List, [], ◌∷◌, ◌++◌, length, Option, None, Some, inl, inr, refl, sym, ap, subst, arith}
 use Rattle.std.proofs.lemmas.Bool.{and_parts, and_from, false≢true, ltb-true, cases_eq, eq-eqb, ne_eqb, Decides.nat_tests}
@@ -11,7 +11,7 @@ use Rattle.mml_tally.specs.Meaning.{leaves}
 use Rattle.mml_laws.specs.Choices.{IsGrantedLast}
 use Rattle.mml_board.specs.declared.event.Event.TheVariants as event
 
--- the rule was chosen by the event, or before it and kept by it
+-- the event chose the rule, or the rule was chosen before and the event kept it
 abbrev IsFrom : World → Event → ℕ → Rule → Type 0
 IsFrom w e i q = ((s : ℕ) × (e ≡ event.Grant s i q)) ⊎ ((chosen_at w.chosen i ≡ Some q) × (leaves i e ≡ true))
 
@@ -28,7 +28,7 @@ module _ (w : World) (is : IsWorld w) where
   by_release : (j i : ℕ) (q : Rule) → j < size w → chosen_at (after w (event.Release j)).chosen i ≡ Some q → IsFrom w (event.Release j) i q
   by_release j i q lt h = grind (arith, nat_tests, cases_eq, get_or-set_same, none_some, get_or-set_other, ne_eqb)
 
-  -- a legal event fits
+  -- a legal event passes the tests that each possible event passes
   legal_fit : (r : RosterValue) (e : Event) → is_legal r w e ≡ true → is_fit w e ≡ true
   legal_fit r e legal = fit w e (legal_possible r w e legal)
 
@@ -44,7 +44,8 @@ module _ (w : World) (is : IsWorld w) where
   fit_keeps : (e : Event) (i : ℕ) (q : Rule) → is_fit w e ≡ true → leaves i e ≡ true → chosen_at w.chosen i ≡ Some q → chosen_at (after w e).chosen i ≡ Some q
   fit_keeps e i q fits keep h = grind (arith, nat_tests, cases_eq, get_or-set_other, and_parts, false≢true, eq-eqb)
 
-  -- a grant isn't legal if a move is chosen
+  -- a legal event that doesn't change the choice at a node keeps the rule that is chosen there; a grant isn't legal at
+  -- such a node
   kept_on : (r : RosterValue) (e : Event) (i : ℕ) (q : Rule) → is_legal r w e ≡ true → leaves i e ≡ true → chosen_at w.chosen i ≡ Some q
       → chosen_at (after w e).chosen i ≡ Some q
   kept_on r e i q legal keep h = fit_keeps e i q (legal_fit r e legal) keep h
@@ -52,7 +53,7 @@ module _ (w : World) (is : IsWorld w) where
 after_legal : (r : RosterValue) (w : World) (e : Event) → IsWorld w → is_legal r w e ≡ true → IsWorld (after w e)
 after_legal r w e is legal = after-world w e is (legal_possible r w e legal)
 
--- chosen before and kept by all, or granted last
+-- the rule was chosen at first and all events kept it, or it was granted last
 abbrev Stays : World → List Event → ℕ → Rule → Type 0
 Stays w es i q = IsGrantedLast es i q ⊎ ((chosen_at w.chosen i ≡ Some q) × (list_all (leaves i) es ≡ true))
 

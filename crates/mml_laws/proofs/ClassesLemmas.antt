@@ -1,4 +1,4 @@
--- What a host says of a class gives what the laws on houses and on records begin with.
+-- The contract of a host, which serves a class, implies what the laws about houses and about records assume.
 use Rattle.std.proofs.lemmas.Bool.Decides.{nat_tests}
 use Rattle.std.proofs.Common.{◌≡◌, ◌<◌, ◌≤◌, ◌+◌, ◌&&◌, ℕ, zero, suc, cond, nat_lt, nat_le, List, [], ◌∷◌, ◌++◌, map, length, All, Option, Some, refl, sym, ap, ◌∙◌, subst, arith, inl, inr}
 use Rattle.std.proofs.lemmas.Bool.{cases_Bool, cases_eq, and_parts, and_from, ltb-true, leb-true, lt-ltb, le-leb, eq-eqb, ne_eqb}
@@ -65,7 +65,7 @@ module _ {K C R W : Type 0} (t : Terms K C R W) where
   still_kept : (old new : Option Kept) (k : Kept) (bytes : List ℕ) → old ≡ Some k → Adds old new bytes → (k' : Kept) × (new ≡ Some k')
   still_kept old new k bytes e adds = grind (arith, nat_tests)
 
-  -- the sessions of a seat whose recorder has kept something before, as its record has them
+  -- if the recorder of a seat has kept something, it has kept the sessions that follow as a record has them
   held : (n : ℕ) (ss : List (ServedSession R W)) (a b : Stand) (k : Kept) → a.kept ≡ Some k → Chain (Leads t n) a ss b
       → (k' : Kept) × (b.kept ≡ Some k') × Chain (Held t.lab n) (stand a.window (Some k)) (map (λ s. s.ending.end) ss) (stand b.window (Some k'))
   held n [] a b k e led = (k, ap (λ (s : Stand). s.kept) led ∙ e, ap (λ (s : Stand). stand s.window (Some k)) led)
@@ -123,7 +123,7 @@ record_texts lab l begun (p ∷ ps) (w ∷ ws) seen held = (
 
 -- ---- the numbers of the seats
 
--- 0 for a number from 1 to the most, else 1
+-- 0 for a number from 1 to `most`, otherwise 1
 out_of : ℕ → ℕ → ℕ
 out_of most n = cond {A = ℕ} (nat_lt 0 n && nat_le n most) 0 1
 

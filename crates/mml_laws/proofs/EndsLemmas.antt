@@ -1,4 +1,4 @@
--- How runs end.
+-- When a run is over, and how many moves follow its last fault, link or cut.
 use Rattle.std.proofs.Common.{◌≡◌, ◌≢◌, ◌<◌, ◌≤◌, ◌+◌, ◌*◌, ℕ, Bool, true, false, List, ◌++◌, length, None, Some, Ok, refl, sym, ap, ◌∙◌, subst, arith}
 use Rattle.std.{specs.List.list_all, proofs.lemmas.Bool.and_parts, proofs.lemmas.Bool.false_from_ne_true, proofs.lemmas.Bool.Decides.nat_tests}
 use Rattle.mml_rules.specs.Matching.{IsStable}
@@ -23,7 +23,7 @@ use Rattle.mml_board.specs.declared.event.Event.TheVariants as event
 some_not_none : (e : Event) → Some e ≢ None
 some_not_none e h = cc
 
--- ---- a world that events leave
+-- ---- the world after a legal list of events
 
 module _ (lab : LabValue) (is : IsLab lab) (es : List Event) (legal : is_legal_list lab.roster (opening_of lab.network) es ≡ true) where
   pub world_there : IsWorld (world_of (opening_of lab.network) es)
@@ -35,11 +35,11 @@ module _ (lab : LabValue) (is : IsLab lab) (es : List Event) (legal : is_legal_l
   pub in_lab : IsWorldOf lab.ids (world_of (opening_of lab.network) es)
   in_lab = record { world = world_there; nodes = sym nodes_there }
 
--- ---- a house that is over
+-- ---- a house in which neither a move nor a close would be granted
 
 module _ (lab : LabValue) (is : IsLab lab) (w : World) (in_w : IsWorldOf lab.ids w) (halted : Bool) (room : w.place < lab.events) (running : halted ≡ false)
   where
-    -- a legal event is granted to the one who asks for it
+    -- a legal event is granted to the participant who may ask for it
     pub legal_takes_place : (e : Event) → is_legal lab.roster w e ≡ true → event_of (ruling_while lab halted w (asker e) (command_of lab.ids w e)) ≡ Some e
     legal_takes_place e legal =
         ap event_of ((ruled_granted lab.ids lab.roster lab.events halted w (asker e) (command_of lab.ids w e) e (done_by w e)).1
@@ -77,7 +77,7 @@ over_is_stable bytes lab es w halted spelled legal here room running none =
     matching : IsMaximalMatching (configuration (world_in lab es)) (report_of (world_in lab es)).pairs
     matching = listed_matching _ (world_there lab is es legal).network.lawful ((stable-means (configuration (world_in lab es))).1 stable)
 
--- ---- the moves that follow
+-- ---- the moves after the last fault, link or cut
 
 module _ (lab : LabValue) (es fs : List Event) (bytes : List ℕ) (is : IsLab lab) (journal : IsJournalOf lab (es ++ fs) bytes)
     (steps : list_all is_of_step fs ≡ true) where

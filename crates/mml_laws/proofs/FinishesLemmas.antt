@@ -1,4 +1,4 @@
--- What is left of a run can be asked for.
+-- A run can be finished by a script that asks for the events that are still missing.
 use Rattle.std.proofs.lemmas.Bool.Decides.{nat_tests}
 use Rattle.std.{proofs.lemmas.Bool.and_parts, proofs.lemmas.Bool.and_from, proofs.lemmas.List.get_or-set_same, specs.List.list_all, specs.List.AllByRecursion}
 use Rattle.std.proofs.Common.{◌≡◌, ℕ, ◌<◌, ◌≤◌, ◌+◌, ◌*◌, ◌^◌, true, false, List, [], ◌∷◌, length, Option, None, Some, Ok, refl, sym, ap, ◌∙◌, subst, arith}
@@ -27,7 +27,7 @@ use Rattle.mml_board.specs.declared.event.Event.TheVariants as event
 use Rattle.mml_codec.specs.declared.reply.Reply.TheVariants as reply
 use Rattle.mml_codec.specs.declared.request.Request.TheVariants as requests
 
--- ---- the number of a configuration is at most the place
+-- ---- the number of a world's configuration is at most the number of its events
 
 number_after : (w : World) (e : Event) → w.number ≤ w.place → (after w e).number ≤ (after w e).place
 number_after w e few = grind (arith, nat_tests)
@@ -140,7 +140,7 @@ module _ (lab : LabValue) where
         world = rest.world;
       }
 
-  -- ---- as many as lead to rest
+  -- ---- a list of events that finishes the run
 
   pub can_finish : (st : State) → IsHall lab st → st.halted ≡ false → EachHasOwner lab.roster (length lab.ids)
       → st.world.place + events_to_rest (length lab.ids) (link_count st.world.network) ≤ lab.events

@@ -1,4 +1,4 @@
--- The participant that a connection is known as, in a hall and in a session.
+-- The participant who is known on a connection, in a hall and in a session.
 use Rattle.std.proofs.Common.{◌≡◌, ◌⊎◌, ℕ, List, Option, None, Some, Ok, ap, ◌∙◌, arith}
 use Rattle.std.proofs.lemmas.{List.set-get_or, Bool.Decides.nat_tests}
 use Rattle.mml_lab.specs.{declared.who.Who.Who, Labs.LabValue, Rosters.RosterValue, Rosters.IsRoster, RosterMeaning.IsKnownAs}
@@ -24,7 +24,7 @@ module _ (lab : LabValue) (st : hall.State) (k : ℕ) where
   same_known : (x : Option Who) → hall.known_on st k ≡ x → hall.with_known st k x ≡ st
   same_known x e = grind (arith, nat_tests, set-get_or)
 
-  -- a greeting that is denied changes nothing
+  -- a denied greeting changes nothing
   denied_so : (d : Denial) (x : Option Who) → hall.known_on st k ≡ x → hall.settled lab st k (Answered (reply.Deny d) x) ≡ hall.replied st (reply.Deny d)
   denied_so d x e = λ j. record { reply = reply.Deny d; state = same_known x e j }
 

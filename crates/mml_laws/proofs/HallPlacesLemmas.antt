@@ -1,4 +1,4 @@
--- The places that the replies of a hall name.
+-- The places (numbers of events) that the replies of a hall name.
 use Rattle.std.proofs.Common.{◌≡◌, ◌≤◌, ◌+◌, ℕ, suc, true, List, [], ◌∷◌, ◌++◌, length, flat_map, Some, Result, inl, inr, refl, sym, ap, ◌∙◌, subst, arith, length-append}
 use Rattle.std.{specs.List.range_with_len, proofs.lemmas.Bool.Decides.nat_tests}
 use mathlib.Core.List.{IsPrefix}
@@ -20,9 +20,9 @@ use Rattle.mml_laws.specs.Told.{IsToldAt, NamesItsEvent, EachNamesItsEvent}
 use Rattle.mml_laws.proofs.ToldAtLemmas.{told_at, longer}
 use Rattle.mml_window.proofs.ListLemmas as lists
 
--- ---- states on the way
+-- ---- the states in a run
 
--- the events are legal and no more than the lab allows, and leave the world
+-- the events are legal, at most as many as the lab allows, and lead to the state's world
 record IsOn (lab : LabValue) (st : State) : Type 0 where
   legal : is_legal_in lab st.events ≡ true
   few : length st.events ≤ lab.events

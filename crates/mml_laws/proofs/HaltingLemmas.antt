@@ -1,4 +1,4 @@
--- A book that is halted stays as it is, and grants nothing.
+-- A halted book never changes, and grants nothing. The book of a house has its list of events and its journal.
 use Rattle.std.proofs.lemmas.Bool.Decides.{nat_tests}
 use Rattle.std.proofs.Common.{◌≡◌, ◌⊎◌, ◌<◌, ℕ, true, List, [], ◌∷◌, Option, inl, inr, sym, ap, ◌∙◌, arith}
 use Rattle.std.specs.List.{AllByRecursion}

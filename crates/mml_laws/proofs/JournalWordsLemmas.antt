@@ -1,4 +1,4 @@
--- The line of an event has the words that its reader has.
+-- The line of an event has the words that `words_of` lists for the event.
 use Rattle.std.proofs.lemmas.Bool.Decides.{nat_tests}
 use Rattle.std.proofs.Common.{◌≡◌, ℕ, Bool, List, ◌∷◌, decimal, Option, option_map, arith}
 use Rattle.mml_ids.specs.Pieces.{truth_text}

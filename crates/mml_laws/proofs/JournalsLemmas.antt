@@ -1,4 +1,4 @@
--- One journal has one list.
+-- Two different lists of events have different journals.
 use Rattle.std.proofs.Common.{◌≡◌, ◌≢◌, ◌<◌, ◌≤◌, ◌+◌, ℕ, true, List, [], ◌∷◌, length, Result, Ok, Err, refl, sym, ap, ◌∙◌, subst, arith}
 use Rattle.std.proofs.lemmas.Bool.{and_parts, Decides.nat_tests}
 use Rattle.mml_ids.specs.Lines.{IsUnbroken}
@@ -42,7 +42,7 @@ module _ (lab : LabValue) (is : IsLab lab) where
   unbroken_next : (w : World) (e : Event) → IsReached lab w → is_legal lab.roster w e ≡ true → w.place < lab.events → IsUnbroken (line w e)
   unbroken_next w e on legal room = grind (arith, nat_tests, line_unbroken, legal_member)
 
-  -- the first line is the first event's
+  -- the first line of a journal is that of the first event
   pub lines_next : (w : World) (e : Event) (es : List Event) → IsReached lab w → is_legal lab.roster w e ≡ true → w.place < lab.events
       → lines w (e ∷ es) ≡ line w e ∷ lines (after w e) es
   lines_next w e es on legal room = line_first (line w e) (journal_text lab.ids lab.roster (after w e) es) (unbroken_next w e on legal room)

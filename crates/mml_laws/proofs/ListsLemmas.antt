@@ -1,4 +1,4 @@
--- What a reader finds in the lists of a reply.
+-- The lists that a program finds if it reads the text of a reply as JSON.
 use Rattle.std.proofs.lemmas.Bool.Decides.{nat_tests}
 use Rattle.std.proofs.Common.{◌≡◌, ℕ, List, Some, arith}
 use Rattle.serde_json.specs.{Data.Data, Read.read}

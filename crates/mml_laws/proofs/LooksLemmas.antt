@@ -1,4 +1,4 @@
--- A look is whole.
+-- A look shows all that there is to show of its node.
 use Rattle.std.proofs.lemmas.{Grind.common_steps, Bool.cases_eq, Bool.both_ways, Bool.or_cases, Bool.or_left, Bool.or_right, Bool.Decides.nat_tests}
 use Rattle.std.proofs.Common.{◌≡◌, ◌↔◌, ◌⊎◌, ◌<◌, ◌+◌, ℕ, zero, suc, Bool, true, false, cond, ◌||◌, List, [], ◌∷◌, ◌++◌, Option, Some, option_map, Result, Ok, inl, inr, refl, sym, ap, ◌∙◌, subst}
 use Rattle.std.proofs.Common.{arith, add-one}
@@ -20,7 +20,7 @@ use Rattle.mml_policy.specs.declared.command.Command.TheVariants as command
 use Rattle.mml_policy.specs.declared.look.Look as TheLook
 use Rattle.mml_policy.specs.declared.see.See as TheSee
 
--- ---- the nodes near
+-- ---- the linked nodes
 
 rises_push : {X : Type 0} (R : X → X → Type 0) (xs : List X) (y : X) → Rises R xs → All (λ x. R x y) xs → Rises R (xs ++ y ∷ [])
 rises_push R [] y h before = (All-nil (R y), tt)
@@ -36,7 +36,7 @@ module _ (w : World) (i : ℕ) where
   abbrev Before : ℕ × Regs → ℕ × Regs → Type 0
   Before a b = a.0 < b.0
 
-  -- of the nodes below n exactly the linked ones are listed, in rising order
+  -- exactly the linked nodes below n are listed, in rising order
   record IsNearBelow (n : ℕ) (ns : List (ℕ × Regs)) : Type 0 where
     only : All (λ x. (x.0 < n) × IsLinkedWith w i x) ns
     all : (j : ℕ) → j < n → (configuration w).linked i j ≡ true → Contains ns (shown w j)
@@ -83,7 +83,7 @@ module _ (w : World) (i : ℕ) where
       rising = near_whole.rising;
     }
 
--- ---- when it is answered
+-- ---- when a look is shown, and to whom
 
 shows_nothing : (full halted : Bool) (w : World) (e : Event) (l : TheLook.Look) → cond full Full (cond halted Journal (Granted e (done_by w e))) ≡ Looked l → ⊥
 shows_nothing full halted w e l h = grind (arith, nat_tests)

@@ -1,4 +1,5 @@
--- Grants and closes are paid for by twice the potential.
+-- There are at most twice as many grants and closes as a potential says. A potential is a number that a close makes
+-- smaller, at least by the number of moves that it applies.
 use Rattle.std.proofs.lemmas.{Bool.Decides.nat_tests, Bool.and_parts, Bool.and_from, Bool.false≢true, Bool.ltb-true, Bool.cases_eq, List.get_or-set_same, List.get_or-set_other}
 use Rattle.std.proofs.Common.{◌≡◌, ◌≢◌, ◌⊎◌, ◌<◌, ◌≤◌, ◌+◌, ◌*◌, min, ℕ, zero, suc, Bool, true, false, cond, List, [], ◌∷◌, ◌++◌, length, Option, None, Some, Ok, is_some, is_none, inl, inr, refl, sym}
 use Rattle.std.proofs.Common.{ap, ◌∙◌, subst, arith}
@@ -20,9 +21,9 @@ use Rattle.mml_convergence.proofs.AppliedLemmas.{Falls, close_paid, close_moves,
 use Rattle.mml_laws.proofs.ChoicesLemmas.{opening}
 use Rattle.mml_board.specs.declared.event.Event.TheVariants as event
 
--- ---- one more is chosen
+-- ---- a grant makes the number of chosen moves greater by one
 
--- a test that is true of one number more counts one more
+-- if a test holds of one more number than another test, its count is greater by one
 count_one_more : (n i : ℕ) (t u : ℕ → Bool) → i < n → t i ≡ false → u i ≡ true → ((j : ℕ) → j ≢ i → u j ≡ t j) → count_below n u ≡ count_below n t + 1
 count_one_more zero i t u lt off on same = absurd (omega arith)
 count_one_more (suc n) i t u lt off on same = elim (cases_eq i n) [
@@ -54,9 +55,9 @@ grant_chooses r w s i q k legal =
     off None e = refl
     off (Some p) e = absurd (false≢true e)
 
--- ---- the events are paid for
+-- ---- the number of events is bounded by a potential
 
--- by a potential from which each close takes the moves that it applies
+-- the bound for any potential
 module _ (potential : Configuration → ℕ) (falls : Falls potential) where
   events_paid : (r : RosterValue) (w : World) (es : List Event) → IsWorld w → is_legal_list r w es ≡ true → list_all is_grant_or_close es ≡ true
       → length es + chosen_count w ≤ 2 * potential (configuration w)
@@ -98,7 +99,7 @@ within n l q few small = grind (arith, few, small)
 pub events_most : (nodes links : ℕ) → nodes ≤ 256 → events_to_rest nodes links ≤ 67072
 events_most nodes links few = grind (arith, nat_tests, courtships_kept, courtships_even, within)
 
--- ---- until a run rests, one event more is legal
+-- ---- as long as a node is privileged, one more event is legal
 
 record NextEvent (r : RosterValue) (w : World) : Type 0 where
   event : Event

@@ -1,4 +1,4 @@
--- The ruling on a command, by its verdict.
+-- The ruling on a command, concluded from its verdict.
 use Rattle.std.proofs.Common.{◌≡◌, ◌≢◌, ◌↔◌, ◌<◌, ◌≤◌, ℕ, Bool, true, false, cond, nat_le, List, Result, Ok, refl, arith}
 use Rattle.std.proofs.lemmas.Bool.{leb-true, leb-false, le-leb, lt-leb, Decides.nat_tests}
 use Rattle.mml_lab.specs.{declared.who.Who.Who, Rosters.RosterValue}
@@ -9,7 +9,7 @@ use Rattle.mml_policy.specs.declared.verdict.Leave.{Leave, TheVariants.Grant}
 use Rattle.mml_laws.specs.Ruled.{IsGrantable, IsShown}
 use Rattle.mml_policy.specs.declared.verdict.Verdict.TheVariants as verdicts
 
--- an event that the clauses allow, by whether the place has reached the limit and the journal is halted
+-- the ruling on an event that the clauses allow: `full` is whether the limit of events is reached
 abbrev entered : Bool → Bool → World → Event → Ruling
 entered full halted w e = cond full Full (cond halted Journal (Granted e (done_by w e)))
 

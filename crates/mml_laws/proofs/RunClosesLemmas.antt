@@ -1,4 +1,4 @@
--- No student's marks have more closes than the run has.
+-- The marks of a student don't count more closes than the run has.
 use Rattle.std.proofs.Common.{◌≡◌, ℕ, ◌+◌, ◌<◌, ◌≤◌, Bool, true, false, cond, eqb, List, [], ◌∷◌, length, refl, ap, arith}
 use Rattle.std.specs.{Prelude.count_by, List.filter}
 use Rattle.std.proofs.lemmas.{List.Sums.sum_by-cons, Bool.cases_eq, Bool.eq-eqb, Bool.ne_eqb, Bool.Decides.nat_tests}
@@ -9,26 +9,27 @@ use Rattle.mml_tally.specs.{declared.granted_move.Move.Move, Moves.fate_of, Move
 use Rattle.mml_tally.proofs.ClosesLemmas.{next_close, IsNext, fate_next, closes_counted}
 use Rattle.mml_board.specs.declared.event.Event.TheVariants as event
 
--- one event more at the front of those that are counted
+-- the count of a list with one more event at the front
 more : (p : Event → Bool) (e : Event) (es : List Event) → count_by p (e ∷ es) ≡ cond (p e) 1 0 + count_by p es
 more p e es = sum_by-cons (λ x. cond (p x) 1 0) e es
 
 module _ (test : Move → Bool) where
-  -- the closes that are counted of the moves of these events, of which the first has place q
+  -- how many closes applied moves that pass the test. The first of these events has place q, and `last` is the close
+  -- that was counted last
   abbrev counted : ℕ → ℕ → List Event → ℕ
   counted last q es = count_new last (filter test (moves_from q es))
 
-  -- they are at most the closes, and fewer if the next one was counted before
+  -- these closes are at most as many as all closes; if the next close was counted already, they are fewer
   record AreFew (last q : ℕ) (es : List Event) : Type 0 where
     most : counted last q es ≤ count_by is_close es
     fewer : last ≡ next_close q es → next_close q es < q + length es → counted last q es + 1 ≤ count_by is_close es
 
-  -- an event that grants nothing and is no close leaves them
+  -- if an event is neither a counted grant nor a close, this holds with it too
   passed : (last q : ℕ) (e : Event) (es : List Event) → counted last q (e ∷ es) ≡ counted last (q + 1) es → next_close q (e ∷ es) ≡ next_close (q + 1) es
       → count_by is_close (e ∷ es) ≡ count_by is_close es → AreFew last (q + 1) es → AreFew last q (e ∷ es)
   passed last q e es same next closes rest = grind (arith, nat_tests)
 
-  -- a grant is counted if its close is another than the one before: then it is the next one
+  -- the close of a grant is counted unless it was counted last; if it is counted, it is the next close
   granted : (last q k : ℕ) (es : List Event) → IsNext last (q + 1) es k → AreFew k (q + 1) es
       → (cond (eqb k last) 0 1 + counted k (q + 1) es ≤ count_by is_close es)
       × (last ≡ next_close (q + 1) es → next_close (q + 1) es < q + 1 + length es → cond (eqb k last) 0 1 + counted k (q + 1) es + 1 ≤ count_by is_close es)

@@ -1,4 +1,5 @@
--- Two labs that are the same in all that a journal names, and allow as many events, audit alike.
+-- If two labs agree in everything that a journal names, and allow the same number of events, each audit has the same
+-- result in both.
 use Rattle.std.proofs.lemmas.Bool.Decides.{nat_tests}
 use Rattle.std.proofs.Common.{◌≡◌, ◌∙◌, ℕ, ◌+◌, ◌≤◌, ◌==◌, ◌&&◌, nat_lt, Bool, false, List, [], ◌∷◌, length, Result, Ok, inl, inr, refl, ap, sym, arith}
 use Rattle.std.{proofs.lemmas.Bool.cases_lt, proofs.lemmas.Bool.false_from_ne_true, specs.Result.is_ok}
@@ -15,7 +16,7 @@ use Rattle.mml_laws.proofs.SameLabsLemmas.{said_alike, networks_alike}
 use Rattle.mml_lab.specs.declared.who.Who.TheVariants as who
 use Rattle.mml_audit.specs.declared.auditing.AuditFault.TheVariants as fault
 
--- whether each one owns a node, as what the event of a line depends on
+-- the event of a line, given a test of who owns which node
 abbrev event_by : Result (ℕ × ℕ × Event) JournalFault → (Who → ℕ → Bool) → ℕ → World → Result Event AuditFault
 event_by said owner limit w = do
   said ← or_else said (fault.Shape (w.place + 1))
@@ -43,11 +44,11 @@ module _ (a b : LabValue) (la : IsLab a) (lb : IsLab b) (is : IsSameLab a b) whe
   each_owns : (x : Who) (i : ℕ) → owns a.roster x i ≡ owns b.roster x i
   each_owns x i = grind (arith, nat_tests, student_owns)
 
-  -- the same ones own the same nodes
+  -- each participant owns the same nodes in both labs
   pub owns_alike : owns a.roster ≡ owns b.roster
   owns_alike t = λ x i. each_owns x i t
 
-  -- an event is as legal
+  -- an event is legal in both labs or in neither
   pub legal_alike : (w : World) (e : Event) → is_legal a.roster w e ≡ is_legal b.roster w e
   unfolding is_legal
   legal_alike w e = ap (λ (owner : Who → ℕ → Bool). is_ok (check owner w (asker e) (act_of w e))) owns_alike
@@ -62,6 +63,6 @@ module _ (a b : LabValue) (la : IsLab a) (lb : IsLab b) (is : IsSameLab a b) whe
         ap (λ (r : Result Event AuditFault). (r >>= (λ e. Ok (after w e))) >>= (λ next. after_lines a next lines)) (event_alike w line)
         ∙ (λ t. after_line b w line >>= (λ next. lines_alike lines next t))
 
-    -- bytes pass in both, and leave the same world, or have the same fault
+    -- bytes pass the audit in both labs and lead to the same world, or have the same error
     pub audits_alike : (bytes : List ℕ) → audited a bytes ≡ audited b bytes
     audits_alike bytes = grind (arith, nat_tests, networks_alike, lines_alike)

@@ -1,4 +1,4 @@
--- Two labs that are the same in all that a journal names.
+-- Two labs that agree in everything that a journal names.
 use Rattle.std.proofs.lemmas.Bool.Decides.{nat_tests}
 use Rattle.std.proofs.Common.{◌≡◌, ◌∙◌, ℕ, suc, ◌+◌, ◌<◌, ◌≤◌, cond, not, nat_lt, Bool, false, List, [], ◌∷◌, length, slice_index_or, Option, Some, None, Result, Ok, ok_or, inl, inr, refl, ap, sym}
 use Rattle.std.proofs.Common.{arith, bytes_eq}
@@ -18,11 +18,11 @@ use Rattle.mml_journal.specs.declared.journal_fault.JournalFault.TheVariants as 
 
 -- ---- lines
 
--- a test that fails at the accounts without the name
+-- whether an account doesn't have this name
 abbrev lacks : List ℕ → Account → Bool
 lacks name x = not (has_name name x)
 
--- accounts with the same names, one by one, have a name at the same index
+-- if two lists of accounts have the same names in the same order, a name has the same index in both
 names_alike : (name : List ℕ) (xs ys : List Account) → length xs ≡ length ys
     → ((k : ℕ) → k < length xs → (slice_index_or xs k no_account).name ≡ (slice_index_or ys k no_account).name)
     → prefix_len (lacks name) xs ≡ prefix_len (lacks name) ys
@@ -41,23 +41,23 @@ students_alike a b is name =
     ∙ ap (λ (n : ℕ). cond {A = Option ℕ} (nat_lt (prefix_len (lacks name) b.roster.students) n) (Some (prefix_len (lacks name) b.roster.students)) None) is.names.1
 
 module _ (ids : List ℕ) (r q : RosterValue) (alike : (name : List ℕ) → student_named r name ≡ student_named q name) where
-  -- words name the same event by rosters that have each student's name at the same index
+  -- if each student's name has the same index in two rosters, words name the same event with both
   named_alike : (w : EventWords) → event_named ids r w ≡ event_named ids q w
   unfolding event_named
   named_alike w = grind (arith, nat_tests)
 
-  -- what a line says of which these words were found
+  -- the event of a line, given the words that were found in the line
   abbrev said_in : RosterValue → Option LineWords → Result (ℕ × ℕ × Event) JournalFault
   said_in r line = steps.◌>>=◌ (ok_or line fault.Shape) (λ l. steps.◌>>=◌ (ok_or (event_named ids r l.event) fault.Unknown) (λ e. Ok (l.place, l.before, e)))
 
   in_alike : (line : Option LineWords) → said_in r line ≡ said_in q line
   in_alike line = grind (arith, nat_tests, named_alike)
 
--- each line says the same
+-- each line is read as the same event, or has the same error
 pub said_alike : (a b : LabValue) (bytes : List ℕ) → IsSameLab a b → said_by a.ids a.roster bytes ≡ said_by b.ids b.roster bytes
 said_alike a b bytes is = ap (λ ids. said_by ids a.roster bytes) is.ids ∙ in_alike b.ids a.roster b.roster (students_alike a b is) (line_of bytes)
 
--- a name is the same
+-- each participant has the same name in both labs
 pub name_alike : (a b : LabValue) (w : Who) → IsSameLab a b → IsPrincipal a.roster w → name_of a.roster w ≡ name_of b.roster w
 name_alike a b w is here = grind (arith, nat_tests)
 
@@ -65,14 +65,14 @@ roster_line : (ids : List ℕ) (a b : LabValue) (place before : ℕ) (e : Event)
     → event_line ids a.roster place before e ≡ event_line ids b.roster place before e
 roster_line ids a b place before e is of = grind (arith, nat_tests)
 
--- each event of the lab has the same line
+-- each event has the same line in both labs
 pub line_alike : (a b : LabValue) (place before : ℕ) (e : Event) → IsSameLab a b → IsEventOf a.ids a.roster e
     → event_line a.ids a.roster place before e ≡ event_line b.ids b.roster place before e
 line_alike a b place before e is of = roster_line a.ids a b place before e is of ∙ ap (λ ids. event_line ids b.roster place before e) is.ids
 
 -- ---- worlds
 
--- a link leads to a node
+-- a number that is no node's is no neighbour of a node
 no_link_past : (n : Network) (i q : ℕ) → IsNetwork n → length n.registers ≤ q → set.contains (neighbours_at n.neighbours i) q ≡ false
 no_link_past n i q is past = false_from_ne_true _ (λ linked. absurd (omega (arith, past, (is.lawful.in_range i q linked).1)))
 
@@ -101,11 +101,11 @@ module _ (a b : LabValue) (la : IsLab a) (lb : IsLab b) (is : IsSameLab a b) whe
   pub networks_alike : a.network ≡ b.network
   networks_alike t = record { neighbours = rows_alike t; registers = registers_alike t }
 
--- events lead to the same world
+-- a list of events leads to the same world in both labs
 pub world_alike : (a b : LabValue) (l : List Event) → IsLab a → IsLab b → IsSameLab a b → world_in a l ≡ world_in b l
 world_alike a b l la lb is = ap (λ n. world_of (opening_of n) l) (networks_alike a b la lb is)
 
--- who owns a node owns it in both
+-- each participant owns the same nodes in both labs
 pub owner_alike : (a b : LabValue) (w : Who) (i : ℕ) → IsSameLab a b → IsPrincipal a.roster w → i < length a.ids → owns a.roster w i ≡ owns b.roster w i
 owner_alike a b who.Teacher i is here node = refl
 owner_alike a b (who.Student s) i is here node = (is.nodes i node).owners s here

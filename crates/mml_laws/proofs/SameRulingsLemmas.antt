@@ -1,4 +1,5 @@
--- Two labs that are the same in all that a journal names rule alike on each command, and greet alike.
+-- If two labs agree in everything that a journal names, each command has the same ruling in both, and each hello the
+-- same reply line.
 use Rattle.std.proofs.lemmas.Bool.Decides.{nat_tests}
 use Rattle.std.proofs.Common.{◌≡◌, ℕ, Bool, ◌&&◌, ◌||◌, List, [], Ok, option_map, refl, arith}
 use Rattle.mml_ids.specs.{Gives.◌>>=◌, Gives.◌>>◌, Gives.need, Ids.rank_in, Search.some_below}
@@ -15,7 +16,7 @@ use Rattle.mml_board.specs.declared.act.Act.TheVariants as act
 use Rattle.mml_policy.specs.declared.command.Command.TheVariants as command
 use Rattle.mml_codec.specs.declared.reply.Reply.TheVariants as replies
 
--- what is decided of a command depends on who owns which node, and on nothing else of a roster
+-- the decision on a command depends on who owns which node, and on nothing else in a roster
 module _ (ids : List ℕ) (r q : RosterValue) (same : owns r ≡ owns q) (w : World) (x : Who) where
   visible_alike : (c : Configuration) (i : ℕ) → is_visible r c x i ≡ is_visible q c x i
   unfolding owns_neighbour
@@ -32,12 +33,12 @@ module _ (ids : List ℕ) (r q : RosterValue) (same : owns r ≡ owns q) (w : Wo
   clauses_alike (command.Cut a b) = λ t. granted (check (same t) w x (act.Cut (rank_in ids a) (rank_in ids b)))
   clauses_alike (command.Release id) = λ t. granted (check (same t) w x (act.Release (rank_in ids id)))
 
--- each command is ruled alike
+-- each command has the same ruling in both labs
 pub rulings_alike : (a b : LabValue) (limit : ℕ) (h : Bool) (w : World) (x : Who) (c : Command) → IsLab a → IsLab b → IsSameLab a b
     → ruling a.ids a.roster limit h w x c ≡ ruling b.ids b.roster limit h w x c
 rulings_alike a b limit h w x c la lb is = grind (arith, nat_tests, clauses_alike, owns_alike)
 
--- a hello has the same reply line
+-- a granted hello has the same reply line in both labs
 pub hellos_alike : (a b : LabValue) (x : Who) → IsSameLab a b → IsPrincipal a.roster x
     → reply_line a.ids a.roster (replies.Hello x) ≡ reply_line b.ids b.roster (replies.Hello x)
 hellos_alike a b x is here = grind (arith, nat_tests, name_alike)

@@ -1,4 +1,4 @@
--- The places that the replies of a house name.
+-- The places (numbers of events) that the replies of a house name.
 use Rattle.std.proofs.lemmas.{Bool.Decides.nat_tests, List.Concat.flat_map-append}
 use Rattle.std.proofs.Common.{◌≡◌, ℕ, List, [], ◌∷◌, ◌++◌, length, flat_map, Option, refl, sym, ap, ◌∙◌, append_assoc, append-nil, arith}
 use Rattle.mml_lab.specs.Labs.{LabValue}

@@ -1,4 +1,4 @@
--- The places that the replies of a session name.
+-- The places (numbers of events) that the replies of a session name.
 use Rattle.std.proofs.Common.{◌≡◌, ◌≤◌, ℕ, true, List, length, inl, inr}
 use mathlib.Core.List.{IsPrefix}
 use Rattle.mml_lab.specs.Labs.{LabValue, IsLab}
@@ -12,7 +12,7 @@ use Rattle.mml_session.proofs.{EngineLemmas.seen_told, EngineLemmas.turn_does, T
 use Rattle.mml_laws.specs.Told.{NamesItsEventIn, EachNamesItsEventIn}
 use Rattle.mml_laws.proofs.ToldAtLemmas.{names_in}
 
--- the event that the reply to a line names is in each list that begins with what the window has seen
+-- if a reply names an event, each list that begins with what the window has seen contains this event
 turn_names : (lab : LabValue) → IsLab lab → (l : List Event) → is_legal_in lab l ≡ true → length l ≤ lab.events → (st next : Standing) (line : List ℕ) (r : Reply)
     → Turn lab st line r next → IsPrefix next.window.seen l → NamesItsEventIn lab l st line r
 turn_names lab is l legal few st next line r h begins p named = elim (turn_does lab st next r line h) [

@@ -59,11 +59,12 @@ module _ (lab : LabValue) (is : IsLab lab) (l before : List Event) (e : Event) (
             ∙ ap (λ (v : World). reply_of_done v.number (length before + 1) done) (sym (lists.world-one_more lab before e));
       }
 
--- what a beginning of a list has is in the list
+-- if a list begins with some events and one more event, this event is in the list, and others follow it
 pub longer : {A : Type 0} (before : List A) (e : A) (l : List A) → IsPrefix (before ++ e ∷ []) l → (later : List A) × (l ≡ before ++ e ∷ later)
 longer before e l p = (p.0, sym p.1 ∙ append_assoc before (e ∷ []) p.0)
 
--- the last event of those that a session has seen, if a reply names it, is in each list that begins with them
+-- if a reply names the last event that a session has seen, this event is in each list that begins with what the session
+-- has seen
 pub names_in : (lab : LabValue) → IsLab lab → (l : List Event) → is_legal_in lab l ≡ true → length l ≤ lab.events
     → (known : Option Who) (line : List ℕ) (r : Reply) (p : ℕ) (seen : List Event) → NamesLast lab known line r p seen → IsPrefix seen l
     → (x : Who) × (c : Command) × (known ≡ Some x) × (request_in line ≡ Ok (Do c)) × IsToldAt lab l p x c r

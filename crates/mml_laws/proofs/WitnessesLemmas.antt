@@ -1,4 +1,4 @@
--- From which end a witness is sought.
+-- At which end of a link the search for its witness begins.
 use Rattle.std.proofs.Common.{◌≡◌, ◌<◌, ℕ, true, false, Option, Some, None, inl, refl, ap, subst, arith}
 use Rattle.std.proofs.lemmas.Bool.{and_parts, both_ways, not-true, Decides.nat_tests}
 use Rattle.mml_rules.specs.{declared.rule.Kind.Kind, Configuration.Configuration, Configuration.IsLawful, Rules.enabled_kind, Rules.is_married}
@@ -13,7 +13,7 @@ not_null : (o : Option ℕ) (j : ℕ) → o ≡ None → o ≡ Some j → ⊥
 not_null o j e f = cc
 
 module _ (c : Configuration) where
-  -- the way leads to one node
+  -- the way along the pointers leads to only one node
   leads_once : {i x : ℕ} → LeadsTo c i x → (y : ℕ) → LeadsTo c i y → x ≡ y
   leads_once (privileged p) y (privileged q) = refl
   leads_once (privileged p) y (null q e) = absurd (both_ways _ q p)

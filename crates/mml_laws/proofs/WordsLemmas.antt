@@ -1,4 +1,4 @@
--- What asks each request, what a reader finds in a reply, and which replies have registers.
+-- Which JSON is read as which request, what a program finds in the text of a reply, and which replies show registers.
 use Rattle.std.proofs.Common.{◌≡◌, ◌↔◌, ℕ, Bool, false, List, Option, Some, subst, arith}
 use Rattle.std.{specs.List.list_any, proofs.lemmas.Bool.false≢true, proofs.lemmas.Bool.Decides.nat_tests}
 use Rattle.serde_json.specs.{Data.Data, Find.get, Read.read}
@@ -17,7 +17,7 @@ use Rattle.mml_codec.specs.Replies as written
 some_same : {A : Type 0} (x y : A) → Some x ≡ Some y → x ≡ y
 some_same x y h = cc
 
--- the words are those by which the codec writes the request
+-- `asked_fields` lists the same keys and words with which the codec writes the request
 spelt : (r : Request) → fields_of r ≡ asked_fields r
 spelt r = grind (arith, nat_tests)
 
@@ -38,7 +38,7 @@ module _ (ids : List ℕ) (roster : RosterValue) where
   has_refused : (r : Refused) → HasEach (reply_value ids roster (reply.Refuse r)) (found_fields ids roster (reply.Refuse r))
   has_refused r = grind (arith, nat_tests)
 
-  -- what a key of a look names
+  -- the rule that is found under a key of a look
   found_rule : (key : List ℕ) (l : Look) (v : Data) → get key (reply_value ids roster (reply.Look l)) ≡ Some v → (k : Option Kind) → v ≡ kind_or_null_value k
       → Has (reply_value ids roster (reply.Look l)) (key, rule_field k)
   found_rule key l v at k e = grind (arith, nat_tests)

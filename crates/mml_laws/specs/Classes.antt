@@ -1,4 +1,4 @@
--- The seats of a class, as its record has them.
+-- The seats of a class, as its record describes them.
 use Rattle.std.specs.{Prelude.List, Prelude.◌++◌, Prelude.map, Prelude.Option, Option.unwrap_or}
 use Rattle.mml_session.specs.Records.{Kept}
 use Rattle.mml_hosting.specs.{declared.hosted.Hosted.Hosted, declared.seat.SeatRecord.SeatRecord, declared.seat.ServedSession.ServedSession, Seats.sessions_of}

@@ -1,4 +1,4 @@
--- A script that asks for each event that is left of a run.
+-- A script that asks for the events that are missing to finish a run.
 use Rattle.std.specs.{Prelude.◌≡◌, Prelude.ℕ, Prelude.◌≤◌, Prelude.Bool, Prelude.true, Prelude.List, Prelude.[], Prelude.◌∷◌, Prelude.length, List.list_all, List.AllByRecursion}
 use Rattle.mml_rules.specs.Matching.{IsStable}
 use Rattle.mml_lab.specs.{declared.who.Who.Who, Labs.LabValue, Rosters.name_of, Rosters.key_of}
@@ -10,7 +10,7 @@ use Rattle.mml_hall.specs.{Turns.State, Turns.RequestLine, Turns.Run, Turns.is_g
 use Rattle.mml_codec.specs.declared.reply.Reply.TheVariants as reply
 use Rattle.mml_codec.specs.declared.request.Request.TheVariants as requests
 
--- the text of a request as a line on the first connection
+-- the request as a line on connection 1
 abbrev pub line_for : Request → RequestLine
 line_for q = record { connection = 1; request = canonical q }
 
@@ -18,7 +18,8 @@ line_for q = record { connection = 1; request = canonical q }
 abbrev pub hello_of : LabValue → Who → Request
 hello_of lab who = requests.Hello (name_of lab.roster who) (key_of lab.roster who)
 
--- the lines that ask for the events from a world on, each after a bye and the hello of the one who may ask for it
+-- the lines that ask for the events from a world on. For each event these are a bye, the hello of the participant who
+-- may ask for it, and the command
 abbrev pub asking_lines : LabValue → World → List Event → List RequestLine
 asking_lines lab w [] = []
 asking_lines lab w (e ∷ es) =
@@ -30,8 +31,8 @@ is_granted (reply.Hello who) = true
 is_granted reply.Bye = true
 is_granted r = is_grant r
 
--- a script that asks for at most n grants and closes from this state on: each of its lines may be in a script, none is
--- denied or refused, all the events happen, and no node is privileged at the end
+-- A script that asks for at most n grants and closes from this state on. Each of its lines can be a line of a script,
+-- and is granted. All the events happen, and no node is privileged at the end
 pub record FinishesByAsking (lab : LabValue) (st : State) (n : ℕ) (es : List Event) (rs : List Reply) (end : State) : Type 0 where
   pub few : length es ≤ n
   pub forward : list_all is_grant_or_close es ≡ true

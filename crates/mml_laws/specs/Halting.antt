@@ -1,4 +1,4 @@
--- Acts that are decided on the one book of a house.
+-- Acts that are decided on the one book of a house, which has its list of events and its journal.
 use Rattle.std.specs.Prelude.{ℕ, List}
 use Rattle.mml_lab.specs.{declared.who.Who.Who, Labs.LabValue}
 use Rattle.mml_lines.specs.Runs.{Runs}

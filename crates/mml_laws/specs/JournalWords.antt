@@ -1,4 +1,4 @@
--- The words of the journal, as its reader has them.
+-- The words in the lines of a journal.
 use Rattle.std.specs.Prelude.{ℕ, Bool, true, false, List, [], ◌∷◌, codes, decimal, slice_index, Option, None, Some}
 use Rattle.mml_rules.specs.declared.rule.Rule.{Rule}
 use Rattle.mml_rules.specs.declared.rule.Rule.TheVariants as rule
@@ -11,7 +11,7 @@ use Rattle.mml_board.specs.declared.event.Event.TheVariants as event
 abbrev pub node_word : List ℕ → ℕ → List ℕ
 node_word ids i = decimal (slice_index ids i)
 
--- the words of a rule: its name, and of a marriage the partner
+-- the words of a rule: its name and, for a marriage, the partner
 abbrev pub rule_words : List ℕ → Rule → List (List ℕ)
 rule_words ids rule.Update = codes "update" ∷ []
 rule_words ids (rule.Marriage j) = codes "marriage" ∷ node_word ids j ∷ []

@@ -1,4 +1,4 @@
--- The lists in replies, as their reader has them.
+-- The lists in replies, as a program reads them.
 use Rattle.std.specs.Prelude.{◌≡◌, ℕ, List, [], ◌∷◌, map, filter, length, codes, slice_index, Some}
 use Rattle.std.specs.List.{AllByRecursion, range_with_len}
 use Rattle.serde_json.specs.{Data.Data, Data.boolean, Data.number, Data.unsigned, Data.string, Data.array, Find.get}
@@ -15,9 +15,9 @@ values ds = array (items_with ds)
 abbrev pub id_value : List ℕ → ℕ → Data
 id_value ids i = number (unsigned (slice_index ids i))
 
--- the keys of a reply that have lists, and the lists: the neighbours of the node in a look with their registers; the
--- free nodes, the open links with witness and rule, the pairs and the privileged nodes with their rules in a report; and
--- the nodes that a close moved, in rising order
+-- The keys of a reply that have lists, and their lists. A look has the neighbours of its node, with their registers. A
+-- report has the free nodes, the open links with witness and rule, the pairs, and the privileged nodes with their
+-- rules. The reply to a close has the nodes that moved, in rising order
 abbrev pub listed : List ℕ → Reply → List (List ℕ × Data)
 listed ids (reply.Look l) =
     (codes "near", values (map (λ n. object_with ((codes "m", boolean n.1.m) ∷ (codes "node", id_value ids n.0) ∷ (codes "p", pointer_value ids n.1.p) ∷ [])) l.near)) ∷ []
@@ -29,6 +29,6 @@ listed ids (reply.Report r) =
 listed ids (reply.Close at place moved) = (codes "moved", values (map (id_value ids) (filter (set.contains moved) (range_with_len 0 (length ids))))) ∷ []
 listed ids _ = []
 
--- the value has each of the keys, with its list
+-- the value has each of the keys, and its list under it
 abbrev pub HasLists : Data → List (List ℕ × Data) → Type 0
 HasLists d fs = AllByRecursion (λ f. get f.0 d ≡ Some f.1) fs

@@ -19,7 +19,7 @@ replies_in end.TooLong lab old new input left wrote wrote' e = e.1.talk.replies
 replies_in end.Closed lab old new input left wrote wrote' e = e.1.talk.replies
 replies_in end.Memory lab old new input left wrote wrote' e = []
 
--- a session with these replies led a window from the one value to the other
+-- a session with these replies changes a window from `old` to `new`
 pub record IsSession (lab : LabValue) (old new : WindowValue) (replies : List Reply) : Type 0 where
   pub end : SessionEnd
   pub input : Option (List ℕ)
@@ -29,11 +29,12 @@ pub record IsSession (lab : LabValue) (old new : WindowValue) (replies : List Re
   pub ended : Ended end lab old new input left wrote wrote'
   pub all : replies ≡ replies_in end lab old new input left wrote wrote' ended
 
--- sessions with these replies, one after another, led a window from the one value to the other
+-- sessions with these replies, one after another, change a window from `old` to `new`
 abbrev pub AreSessions : LabValue → WindowValue → List (List Reply) → WindowValue → Type 0
 AreSessions lab old sessions new = Chain (λ replies old new. IsSession lab old new replies) old sessions new
 
--- sessions with these replies led each window of a house, from having seen what came before the house
+-- each window of a house has served sessions with these replies; at first it had seen the events `begun`, from before
+-- the house
 abbrev pub AreServed : LabValue → List Event → List (List (List Reply)) → List WindowValue → Type 0
 AreServed lab begun [] [] = Unit {0}
 AreServed lab begun [] (w ∷ ws) = ⊥

@@ -10,9 +10,8 @@ use Rattle.mml_hall.specs.Turns.{State, RequestLine, TurnOf, Run, known_on}
 use Rattle.mml_window.specs.Rulings.{ruling_at}
 use Rattle.mml_session.specs.Turns as session
 
--- event p of the list is the one that the command of x is granted after the events before it. Line p of the list's
--- journal is the event's line. The reply has the event's effect, its place, and the number of the configuration after
--- it
+-- The command of x is granted event p of the list, after the events before it. Line p of the list's journal is the
+-- event's line. The reply has the event's effect, its place, and the number of the configuration after it
 pub record IsToldAt (lab : LabValue) (l : List Event) (p : ℕ) (x : Who) (command : Command) (r : Reply) : Type 0 where
   pub before : List Event
   pub event : Event
@@ -24,24 +23,24 @@ pub record IsToldAt (lab : LabValue) (l : List Event) (p : ℕ) (x : Who) (comma
   pub line : slice_get (lines_of (text_in lab l)) (length before) ≡ Some (event_line lab.ids lab.roster p (world_in lab before).number event)
   pub reply : r ≡ reply_of_done (world_in lab (before ++ event ∷ [])).number p done
 
--- if the reply to a line names a place of the list, somebody was known when the line came, and the event at that place
--- is the one that the line asked for
+-- if the reply to a line names a place of the list, a participant was known when the line came, and the line asked for
+-- the event at that place
 abbrev pub NamesItsEvent : LabValue → List Event → Option Who → List ℕ → Reply → Type 0
 NamesItsEvent lab l known line r =
     (p : ℕ) → place_in r ≡ Some p
     → (x : Who) × (command : Command) × (known ≡ Some x) × (request_in line ≡ Ok (Do command)) × IsToldAt lab l p x command r
 
--- each reply of a run of a hall that names a place names the event that its line asked for
+-- in a run of a hall, each reply that names a place names the event for which its line asked
 abbrev pub EachNamesItsEvent : (lab : LabValue) (l : List Event) (st : State) (lines : List RequestLine) (rs : List Reply) (end : State)
     → Run lab st lines rs end → Type 0
 EachNamesItsEvent lab l st lines rs end run =
     AtEach (TurnOf lab) (λ st line r next. NamesItsEvent lab l (known_on st line.connection) line.request r) st lines rs end run
 
--- if a session's reply names a place of the list, the event there is the one that its line asked for
+-- if a session's reply names a place of the list, its line asked for the event at that place
 abbrev pub NamesItsEventIn : LabValue → List Event → session.Standing → List ℕ → Reply → Type 0
 NamesItsEventIn lab l st line r = NamesItsEvent lab l st.known line r
 
--- each reply of a session that names a place names the event that its line asked for
+-- in a session, each reply that names a place names the event for which its line asked
 abbrev pub EachNamesItsEventIn : (lab : LabValue) (l : List Event) (st : session.Standing) (lines : List (List ℕ)) (rs : List Reply)
     (end : session.Standing) → session.Run lab st lines rs end → Type 0
 EachNamesItsEventIn lab l st lines rs end run =

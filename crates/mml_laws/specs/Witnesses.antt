@@ -1,8 +1,8 @@
--- What a way along the pointers shows at its end.
+-- Which rule is enabled at the last node of a way along the pointers.
 use Rattle.std.specs.Prelude.{◌≡◌, ◌≢◌, ℕ, Some}
 use Rattle.mml_rules.specs.{declared.rule.Kind.Kind, Configuration.Configuration, Rules.enabled_kind}
 
--- a rule of this kind is enabled at the node, and it is no seduction
+-- a rule of this kind, which isn't a seduction, is enabled at the node
 abbrev pub EndsIn : Configuration → ℕ → Kind → Type 0
 EndsIn c x kind = (enabled_kind c x ≡ Some kind) × (kind ≢ Kind.Seduction)
 

@@ -1,4 +1,4 @@
--- The words of the protocol, as its reader has them.
+-- The words of the protocol, as programs write and read them.
 use Rattle.std.specs.Prelude.{◌≡◌, ℕ, Bool, true, false, List, [], ◌∷◌, codes, Option, None, Some, slice_index}
 use Rattle.mml_rules.specs.declared.rule.Kind.{Kind}
 use Rattle.mml_lab.specs.Rosters.{RosterValue, name_of}
@@ -19,13 +19,14 @@ use Rattle.mml_codec.specs.Facts as fact
 abbrev pub IsDenial : Denial × ℕ × List ℕ × List ℕ → Type 0
 IsDenial (d, clause, name, said) = (clause_of d ≡ clause) × (denial_name d ≡ name) × (text_of d ≡ said)
 
--- ---- a request by its keys, as its writer has them
+-- ---- the keys and values of a request
 
 -- the key `do` with the word of a request
 abbrev pub does : List ℕ → List ℕ × Field
 does w = (codes "do", word w)
 
--- the other keys of a request for a move of this rule, beside the node and the number of the configuration
+-- the keys of a request for a move of this rule, except for the request's word, its node and the number of the
+-- configuration
 abbrev pub move_fields : Asked → List (List ℕ × Field)
 move_fields asked.Update = (codes "rule", word (codes "update")) ∷ []
 move_fields (asked.Marriage partner) = (codes "rule", word (codes "marriage")) ∷ (codes "with", number partner) ∷ []
@@ -47,7 +48,7 @@ asked_fields (requests.Do (command.Cut a b)) = (codes "a", number a) ∷ (codes 
 asked_fields (requests.Do (command.Release node)) = does (codes "release") ∷ (codes "node", number node) ∷ []
 asked_fields (requests.Do command.Report) = does (codes "report") ∷ []
 
--- ---- a reply by its keys, as its reader has them
+-- ---- the keys and values of a reply
 
 -- the word of a rule
 abbrev pub kind_word : Kind → List ℕ
@@ -118,7 +119,7 @@ found_fields ids roster (reply.Refuse r) = (codes "refuse", word (refused_word r
 
 -- ---- which replies have registers
 
--- a key of a reply has a register, something computed of registers, or the rule of the chosen move in a look
+-- whether a key of a reply has a register, a value computed from registers, or the rule of a chosen move
 abbrev pub tells_registers : Fact → Bool
 tells_registers (fact.truth b) = true
 tells_registers (fact.pointer p) = true
@@ -130,7 +131,7 @@ tells_registers (fact.privileged ns) = true
 tells_registers (fact.open_links ls) = true
 tells_registers _ = false
 
--- the reply shows a node or a report
+-- whether the reply shows a node or a report
 abbrev pub is_view : Reply → Bool
 is_view (reply.See s) = true
 is_view (reply.Look l) = true

@@ -14,7 +14,7 @@ use std::sync::atomic::{AtomicBool, Ordering};
 use std::sync::{Arc, Mutex, Wait};
 use std::time::{Clock, Duration, Instant};
 
-// Strangers may hold one of this many seats, rounded down, but always at least one seat.
+// Strangers may hold the number of a port's seats divided by this, rounded down, but always at least one seat.
 const STRANGERS: usize = 3;
 
 // How many seats connections of one participant may hold while others wait for a seat.

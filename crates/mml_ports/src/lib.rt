@@ -1,4 +1,4 @@
-//! The ports of a host over sockets: newcomers, seats and departures, and a connection's two ends.
+//! The ports of a host, which accept connections over sockets, let them wait for seats, and close them after they left.
 //!
 //! A seat serves one connection after another, each through the seat's window.
 #![tactic(auto)]

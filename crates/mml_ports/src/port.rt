@@ -45,9 +45,9 @@ struct Newcomer<'a, Rt> {
     cut_off: SocketCutOff<'a, Rt>,
     connection: SharedConnection<'a, Rt>,
     since: Instant,
-    // Whether it was checked already; the first check sets its socket's reads not to wait.
+    // Whether it was checked already. The first check makes its socket's reads non-blocking.
     is_looked_at: bool,
-    // What the checks have found of what it sent.
+    // What the checks have found that it sent.
     peeked: Peeked,
 }
 
@@ -60,7 +60,7 @@ impl<'a, Rt: Clock + Wait + Eprint> Newcomer<'a, Rt> {
     }
 
     // Returns what the newcomer has sent, without taking it from the socket. Checks the socket only until a line is
-    // found. The first check sets the socket's reads not to wait.
+    // found. The first check makes the socket's reads non-blocking.
     fn peek(&mut self) -> Peeked {
         let SharedConnection {
             rt,
@@ -84,7 +84,7 @@ impl<'a, Rt: Clock + Wait + Eprint> Newcomer<'a, Rt> {
     }
 }
 
-/// A port, which accepts connections until the host is over. A connection for which there is no seat waits for one for
+/// A port, which accepts connections until the class is over. A connection for which there is no seat waits for one for
 /// half a second, while others are accepted.
 #[derive(Drop)]
 pub struct Port<'a, Rt> {
@@ -109,7 +109,7 @@ type SocketAccepted<'a, Rt> = Accepted<Incoming<'a, Rt>, ReplyWriter<'a, Rt>, So
 
 impl<'a, Rt: Clock + Wait + Eprint> Port<'a, Rt> {
     /// Returns a port to which nobody has come yet, except the connection `first`, if there is one. `is_desk` says
-    /// whether it is the desk's port or the students', and `listener` is where it accepts connections.
+    /// whether it is the desk's port or the students', and `listener` accepts its connections.
     pub fn new(
         rt: &'a Rt,
         alloc: Global,

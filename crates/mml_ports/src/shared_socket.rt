@@ -94,8 +94,8 @@ impl SharedSocket {
         *self.end_reason.lock(rt)
     }
 
-    /// Sets whether reads and writes of the socket wait. Returns `false` if the stream was taken out, or the system
-    /// refuses. Is called only before the connection is served: `peek` needs reads that don't wait.
+    /// Makes reads and writes of the socket blocking or non-blocking. Returns `false` if the stream was taken out, or
+    /// the system refuses. Called only before the connection is served: `peek` needs reads that don't block.
     pub(crate) fn set_waiting<Rt: Wait>(&self, rt: &Rt, is_waiting: bool) -> bool {
         let stream = self.stream.read(rt);
         match &*stream {
@@ -105,7 +105,7 @@ impl SharedSocket {
     }
 
     /// Returns what the other side has sent, judged by its first 512 bytes, which stay in the socket. Returns `Nothing`
-    /// if the stream was taken out, or can't be checked. The socket's reads must be set not to wait.
+    /// if the stream was taken out, or can't be checked. The socket's reads must be non-blocking.
     pub(crate) fn peek<Rt: Wait>(&self, rt: &Rt, alloc: Global) -> Peeked {
         let stream = self.stream.read(rt);
         match &*stream {
@@ -190,7 +190,7 @@ impl SharedSocket {
     }
 }
 
-// Returns what has come at a socket whose reads don't wait, judged by its first 512 bytes, which stay in the socket.
+// Returns what has come at a socket with non-blocking reads, judged by its first 512 bytes, which stay in the socket.
 // Returns `Nothing` if they contain no whole line, or the system refuses the check. If memory runs out, a hello counts
 // as any other line.
 fn peek_at(stream: &TcpStream, alloc: Global) -> Peeked {

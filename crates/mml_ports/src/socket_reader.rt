@@ -42,8 +42,7 @@ pub struct SocketReader<'a, Rt> {
     deadline: Option<Instant>,
     // How long each line after the hello may take, or `None` if it may take any time.
     patience: Option<Duration>,
-    // Whether the connection was no stranger any more at the last read: whether a hello was granted (at the desk, the
-    // teacher's).
+    // Whether a hello had been granted at the last read (at the desk, the teacher's).
     may_stay: bool,
     // How the first line begins.
     first: FirstLine,

@@ -29,8 +29,8 @@ pub const WRITE_LIMIT: u64 = 10;
 // The last milliseconds of the delay of a denial, in which a connection that is being ended doesn't wait any longer.
 const NEAR: u64 = 500;
 
-/// The writing end of a connection. It delays each denial of a hello's name and key until its turn, which the host's
-/// state gives, so that nobody can try many keys quickly.
+/// The writing end of a connection. It delays each denial of a hello's name and key until its turn, which
+/// `HostState::turn_of_denial` determines, so that nobody can try many keys quickly.
 #[derive(Drop)]
 pub struct SocketWriter<'a, Rt> {
     connection: SharedConnection<'a, Rt>,
@@ -114,7 +114,7 @@ impl<'a, Rt: Clock + Wait + Eprint> SocketWriter<'a, Rt> {
         }
     }
 
-    // Leaves a denial to the port if the connection is being ended because there is no seat. Keeps the denial's turn,
+    // Leaves the denial to the port if the connection is being ended because there is no seat. Keeps the denial's turn,
     // at which the port sends it, and returns all bytes of `buf` as written. Returns `BrokenPipe` for any other reply,
     // or if there is another reason for the end.
     fn postpone_denial(&mut self, buf: &[u8]) -> io::Result<usize>

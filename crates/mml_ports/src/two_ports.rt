@@ -79,7 +79,7 @@ pub fn listen_at<R: Clock + Net<Listener = TcpListener, Stream = TcpStream>>(
 }
 
 // Waits for at most a second for the first connection to a listener and returns it, or `None` if none has come, or it
-// couldn't be accepted. Returns an error if the listener can't be set not to wait.
+// couldn't be accepted. Returns an error if the listener can't be made non-blocking.
 fn first_within<R: Clock>(rt: &R, listener: &TcpListener) -> io::Result<Option<TcpStream>> {
     listener.set_nonblocking(true)?;
     for _ in 0..FIRST_CHECKS {

@@ -1,4 +1,4 @@
--- The program's error for each error of the crates below.
+-- The program's error for each error of the crates that it uses.
 use Rattle.std.specs.Prelude.{◌≡◌, ℕ, List, codes, Option, None, Some}
 use Rattle.mml_board.specs.Denials.{denial_name}
 use Rattle.mml_audit.specs.declared.auditing.AuditFault.{AuditFault}
@@ -14,7 +14,7 @@ use Rattle.mml_program.specs.declared.lab_refusal.AuditRefusal.TheVariants as re
 use Rattle.mml_program.specs.declared.fault.Fault.{Fault}
 use Rattle.mml_program.specs.declared.fault.Fault.TheVariants as fault
 
--- the program's error for the error of a script; how many bytes a failed write had written is dropped
+-- the program's error for the error of a script; the number of bytes that a failed write had written isn't kept
 abbrev pub of_script : ScriptFault → Fault
 of_script script.Read = fault.ReadScript
 of_script (script.Write n) = fault.Write
@@ -37,12 +37,12 @@ of_journal_file file.Memory = fault.Memory
 
 -- ---- a journal that doesn't pass the audit
 
--- the refusal names this line, and says these words of it
+-- the refusal names this line, and these words as the reason
 abbrev pub IsOfLine : ℕ → List ℕ → Option AuditRefusal → Type 0
 IsOfLine k words (Some (refusal.Line line said)) = (line ≡ k) × (said.now ≡ words)
 IsOfLine k words _ = ⊥
 
--- the refusal names this line, and says that it is illegal, with the denial's name
+-- the refusal names this line as illegal, and the denial by its name
 abbrev pub IsOfDenial : ℕ → List ℕ → Option AuditRefusal → Type 0
 IsOfDenial k name (Some (refusal.Illegal line said)) = (line ≡ k) × (said.now ≡ name)
 IsOfDenial k name _ = ⊥
@@ -56,7 +56,7 @@ IsOfAudit (audit.Illegal k denial) told = IsOfDenial k (denial_name denial) told
 IsOfAudit (audit.Full k) told = IsOfLine k (codes "over the limit of events") told
 IsOfAudit audit.Memory told = told ≡ None
 
--- the program's error is that for this fault of an audit: a refusal that names it, or `Memory`
+-- the program's error for this fault of an audit: a refusal with its reason, or `Memory`
 abbrev pub IsAuditError : AuditFault → Fault → Type 0
 IsAuditError why (fault.Audit told) = IsOfAudit why (Some told)
 IsAuditError why fault.Memory = IsOfAudit why None

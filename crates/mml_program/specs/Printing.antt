@@ -1,4 +1,4 @@
--- The lines that the program prints of a lab and of a journal that passes.
+-- The lines that the program prints about a lab, and about a journal that passes the audit.
 use Rattle.std.specs.Prelude.{◌≡◌, ℕ, ◌==◌, Bool, true, false, List, [], ◌∷◌, length, codes, decimal, Option, Ok}
 use Rattle.std.specs.{List.concat, Io.KnownBytes.Appends}
 use Rattle.mml_lab.specs.Labs.{LabValue, link_count}
@@ -14,7 +14,7 @@ size_line nodes links students =
 abbrev pub lab_line : LabValue → List ℕ
 lab_line lab = size_line (length lab.ids) (link_count lab.network) (length lab.roster.students)
 
--- the end of a line, which says whether no node is privileged
+-- the end of a line, which says whether the configuration is stable, that is, whether no node is privileged
 abbrev pub stability_text : Bool → List ℕ
 stability_text true = codes ", stable\n"
 stability_text false = codes ", not stable\n"

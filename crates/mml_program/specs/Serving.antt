@@ -1,12 +1,12 @@
--- The lines of a server at its beginning and at its end.
+-- The first and the last line that a server prints.
 use Rattle.std.specs.{Prelude.◌≡◌, Prelude.ℕ, Prelude.false, Prelude.List, Prelude.length, Prelude.Option, Prelude.None, Io.KnownBytes.Appends}
 use Rattle.mml_lab.specs.Labs.{LabValue}
 use Rattle.mml_board.specs.Lists.{world_in}
 use Rattle.mml_serving.specs.{declared.serving.ServedHouse.ServedHouse, declared.socket.Socket.Socket, Closings.done_line, Closings.listening_line, Serving.ServesHouse}
 
--- The connections were served in this house, whose log isn't halted. What is written is first the server's port, and at
--- last how many events this log has, and the number of the configuration after them. Nothing is known of a socket's
--- bytes
+-- The connections were served in this house, whose log isn't halted. The first line that was written names the server's
+-- port. The last line has the number of events in this log, and the number of the configuration after them. Nothing is
+-- known of a socket's bytes
 pub record TellsServed {S : Type 0} (lab : LabValue) (sink : S → Option (List ℕ)) (port count : ℕ) (wrote wrote' : Option (List ℕ))
     (house : ServedHouse S Socket Socket) : Type 0 where
   pub between : Option (List ℕ)

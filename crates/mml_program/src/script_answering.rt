@@ -88,8 +88,8 @@ fn write_ended<W: Write>(
     write_pieces(alloc, &pieces, writer)
 }
 
-/// Writes the text that these pieces make, one after the other, with a single write. Returns `Write` if the write
-/// fails, and `Memory` if memory runs out.
+/// Joins these pieces into one text and writes it with a single write. Returns `Write` if the write fails, and `Memory`
+/// if memory runs out.
 pub fn write_pieces<W: Write>(alloc: Global, pieces: &[Piece], writer: &mut W) -> Result<(), Fault>
     ensures { OnOk result
         (Appends (W.contents writer.old) (W.contents writer.new) (joined pieces.now)) }

@@ -1,6 +1,6 @@
 //! From the command line to the work that it asks for.
 //!
-//! A sink is the destination of the journal's bytes. The journal is halted once a line couldn't be written to it.
+//! A sink is the destination of the journal's bytes. The journal is halted if a line couldn't be written to it.
 ghost use Rattle.std.specs.Prelude.{◌<◌, ◌≤◌, ◌-◌, ◌^◌, IfOk};
 ghost use Rattle.mml_journal.specs.Taken.{IsFresh};
 ghost use Rattle.mml_program.specs.Serving.{TellsServed};
@@ -263,8 +263,8 @@ fn listen<R: Net<Listener = TcpListener, Stream = TcpStream>>(
     }
 }
 
-/// Makes the process ready, and returns the words of the command line. Opens the null device for each standard stream
-/// that is closed, so that no other file gets its descriptor; returns `Write` if that fails. Returns `Memory` if the
+/// Prepares the process, and returns the words of the command line. Opens the null device for each standard stream that
+/// is closed, so that no other file gets its descriptor; returns `Write` if that fails. Returns `Memory` if the
 /// system's limit of stacks is too small, or memory runs out.
 pub fn begin_program<R: Env + Files<File = File> + AllocGlobal>(
     rt: &R,

@@ -1,4 +1,4 @@
--- A student who is known in a record is one of the lab, whom only a clause from 1 to 4 denies anything.
+-- Each student who is known in a record is a student of the lab, and is denied something only by clauses 1 to 4.
 use Rattle.std.proofs.Common.{◌≡◌, ℕ, Bool, true, List, [], ◌∷◌, length, take, refl, sym, subst, Option, None, Some, Result, arith}
 use Rattle.std.specs.Prelude.{IfSome, position, option_map, if◌then◌else◌}
 use Rattle.std.proofs.lemmas.{List.Quantifiers.position-Some, Bool.Decides.nat_tests}
@@ -27,7 +27,7 @@ numbered : (denied : Option ℕ) (name : Option StudentDenial) → denied ≡ op
 numbered denied name same = subst (λ (c : Option ℕ). is_numbered c ≡ true) (sym same) (names_numbered name)
 
 module _ (lab : LabValue) (l first : List Event) where
-  -- ---- who is known takes part
+  -- ---- whoever is known is a principal of the lab
 
   abbrev IsKnownHere : Option Who → Type 0
   IsKnownHere x = IfSome x (IsPrincipal lab.roster)

@@ -1,4 +1,4 @@
--- What is read of the lines of a record is what was answered by the rules.
+-- What is found in the bytes of a record's lines and replies is what the rules say of them.
 use Rattle.std.proofs.Common.{◌≡◌, ℕ, Bool, true, false, true≢false, cond, List, [], ◌∷◌, ◌++◌, length, take, codes, decimal, inl, inr, refl, sym, ap, ◌∙◌, arith, Option, None, Some, Result}
 use Rattle.std.{specs.Prelude.bytes_eq, specs.Fmt.digits, proofs.lemmas.Bool.Decides.nat_tests, proofs.lemmas.Slice.Eq.bytes_eq-Decides}
 use Rattle.mml_ids.specs.Lines.{ended}
@@ -21,7 +21,7 @@ use Rattle.mml_record.specs.declared.stage.Stage.TheVariants as stages
 
 -- ---- the clause in a reply's text
 
--- the digit of a clause
+-- the number of the clause, read as a digit
 unfoldable clause_digit : ℕ → List ℕ → Option ℕ
 clause_digit n rest = clause_of_members (codes "\"clause\":" ++ (decimal n ++ rest))
 

@@ -1,4 +1,4 @@
--- The members of a reply's text from `clause` on: those of a denial, and none of another reply.
+-- The members of a reply's JSON text from `clause` on. A denial has them, and no other reply.
 use Rattle.std.proofs.Common.{◌≡◌, ℕ, List, ◌∷◌, ◌++◌, decimal, refl, ◌∙◌, Option, None}
 use Rattle.mml_lab.specs.Rosters.{RosterValue}
 use Rattle.mml_codec.specs.{declared.reply.Reply.Reply, Facts.object_text, Replies.text}
@@ -19,12 +19,12 @@ pub behind_number : (n : ℕ) (rest : List ℕ) (m : Option (List ℕ)) → if_c
 unfolding denial_members
 behind_number n rest m h = member n rest ∙ h
 
--- another member comes first
+-- the members of a text are those after its first brace
 first_member : (members : List ℕ) (m : Option (List ℕ)) → from_clause members ≡ m → denial_members (123 ∷ members) ≡ m
 unfolding denial_members
 first_member members m h = h
 
--- the reply is no denial
+-- the reply isn't a denial
 abbrev pub IsOther : Reply → Type 0
 IsOther (replies.Deny d) = ⊥
 IsOther _ = Unit {0}

@@ -16,7 +16,7 @@ stale_after : (rest : List ℕ) → denial_after (codes "\"clause\":" ++ (decima
 unfolding denial_after denial_word digits
 stale_after rest = refl
 
--- the members of a denial that begins with a current number
+-- in a denial whose first member is a number, the members from `clause` on come next
 clause_comes : (at : ℕ) (rest : List ℕ)
     → denial_members (numbered at (codes "\"clause\":" ++ (decimal 2 ++ rest))) ≡ Some (codes "\"clause\":" ++ (decimal 2 ++ rest))
 unfolding if_clause

@@ -1,4 +1,5 @@
--- A student who is known in a record is denied by a denial that the tally names, and by its clause.
+-- If a known student is denied something in a record, the tally has a name for the denial, and the clause is the one
+-- that belongs to this name.
 use Rattle.std.proofs.Common.{◌≡◌, ℕ, Bool, true, List, [], ◌∷◌, take, refl, sym, subst, Option, None, Some, Result, Err, arith}
 use Rattle.std.{specs.Prelude.IfErr, specs.Prelude.is_some, specs.Prelude.option_map, specs.Prelude.if◌then◌else◌, specs.Option.ok_or, proofs.lemmas.Bool.Decides.nat_tests}
 use Rattle.mml_ids.specs.Ids.{rank_in}
@@ -25,7 +26,7 @@ use Rattle.mml_codec.specs.declared.reply.Reply.TheVariants as replies
 use Rattle.mml_record.specs.declared.kept_entry.Entry.TheVariants as entry
 use Rattle.mml_record.specs.declared.stage.Stage.TheVariants as stages
 
--- ---- what the clauses deny a student with
+-- ---- the denials that a student can get
 
 abbrev IsOfStudent : Denial → Type 0
 IsOfStudent d = is_some (student_denial d) ≡ true
@@ -55,9 +56,9 @@ module _ (ids : List ℕ) (r : RosterValue) (w : World) (s : ℕ) where
   student_denied (command.Release id) = refl
   student_denied command.Report = refl
 
--- ---- so the reply to a student who is known names its denial
+-- ---- the reply to a known student names its denial
 
--- the reply denies exactly by the clause of the denial that it names
+-- the clause in the reply is that of the denial that it names; if it names none, it has no clause
 abbrev IsNamedIn : Reply → Type 0
 IsNamedIn r = clause_in r ≡ option_map clause_named (denial_in r)
 

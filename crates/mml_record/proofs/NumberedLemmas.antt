@@ -1,4 +1,4 @@
--- Replies that begin with a current number, in which there is no comma.
+-- Replies whose first member is a number. The digits of a number contain no comma.
 use Rattle.std.proofs.Common.{◌≡◌, ℕ, zero, suc, ◌+◌, ◌/◌, ◌%◌, Bool, true, false, cond, not, eqb, List, [], ◌∷◌, ◌++◌, decimal, refl, arith}
 use Rattle.std.{specs.Prelude.nat_lt, specs.Fmt.digits, specs.Fmt.digits_onto, specs.Fmt.digit_glyph, proofs.lemmas.Bool.and_from, proofs.lemmas.Bool.Decides.nat_tests}
 use Rattle.mml_journal.proofs.CuttingLemmas.{avoids}
@@ -20,6 +20,6 @@ pub no_comma : (n : ℕ) → avoids 44 (decimal n) ≡ true
 unfolding digits
 no_comma n = no_comma_from 64 n [] refl
 
--- a reply that begins with a current number
+-- the text of a reply whose first member is this number
 abbrev pub numbered : ℕ → List ℕ → List ℕ
 numbered n rest = 123 ∷ 34 ∷ 97 ∷ 116 ∷ 34 ∷ 58 ∷ (decimal n ++ 44 ∷ rest)

@@ -1,4 +1,4 @@
--- The reason that is read in a reply's text is why the reply refuses.
+-- The reason that is read from the text of a refusal is the reason of this refusal.
 use Rattle.std.proofs.Common.{◌≡◌, ℕ, List, refl}
 use Rattle.mml_lab.specs.Rosters.{RosterValue}
 use Rattle.mml_board.specs.declared.denial.Denial.{Denial}

@@ -1,4 +1,4 @@
--- An entry that is accepted is a turn.
+-- An accepted entry describes a turn of a session.
 use Rattle.std.proofs.Common.{◌≡◌, ◌⊎◌, ℕ, ◌≤◌, suc, Bool, true, false, true≢false, List, [], ◌∷◌, ◌++◌, length, take, drop, refl, sym, ap, ◌∙◌, subst, inl, inr, Option, None, Some, Result, Ok, Err}
 use Rattle.std.proofs.Common.{arith, append-nil, length-append}
 use Rattle.std.proofs.lemmas.{List.take-append-drop, List.length-take-le, Bool.Decides.nat_tests}
@@ -23,7 +23,7 @@ use Rattle.mml_policy.specs.declared.refusal.Refusal.TheVariants as cause
 use Rattle.mml_codec.specs.declared.request.Request.TheVariants as requests
 use Rattle.mml_codec.specs.declared.reply.Refused.TheVariants as refused
 
--- the cause that a window keeps, for this refusal
+-- the cause that a window keeps for this refusal
 abbrev kept_for : Refused → Option Refusal
 kept_for refused.Memory = Some cause.Memory
 kept_for refused.Journal = Some cause.Journal
@@ -41,7 +41,7 @@ module _ (lab : LabValue) (l : List Event) (legal : is_legal_in lab l ≡ true) 
       legal-beginning lab.roster (opening_of lab.network) (take p l) (drop p l)
       (subst (λ (m : List Event). is_legal_in lab m ≡ true) (sym (take-append-drop p l)) legal)
 
-  -- the state of a window after a reply that was judged at p events
+  -- what the window has seen, and which places it has, after a reply that was judged after p events
   abbrev IsAfter : WindowValue → Reply → WindowValue → Type 0
   IsAfter w r new = (new.seen ≡ take (seen_after p (place_in r)) l) × (new.places ≡ w.places ++ places_in r) × (seen_after p (place_in r) ≤ length l)
 
@@ -72,7 +72,7 @@ module _ (lab : LabValue) (l : List Event) (legal : is_legal_in lab l ≡ true) 
   enters w (Granted e d) next = one_more e next ∙ ap (λ (o : Option ℕ). take (seen_after p o) l) (sym (place_of_done w.number w.place d))
   enters w _ next = refl
 
-  -- a reply that fits a ruling is one that the window may return
+  -- a reply that fits a ruling is one that the window may give
   tells : (w : WindowValue) (who : Who) (c : Command) (r : Reply) → IsPrefix w.seen (take p l)
       → FitsRuling lab l (take p l) (ruling_at lab (world_in lab (take p l)) who c) r
       → (new : WindowValue) × Told lab w who c r new × IsAfter w r new
@@ -98,7 +98,7 @@ module _ (lab : LabValue) (l : List Event) (legal : is_legal_in lab l ≡ true) 
         ),
       )
 
-  -- the window has seen the p events, or fewer of them, and is asked
+  -- the window has seen the first p events; or it has seen fewer of them, and is asked
   abbrev IsBefore : WindowValue → Bool → Type 0
   IsBefore w asks = (w.seen ≡ take p l) ⊎ (IsPrefix w.seen (take p l) × (asks ≡ true))
 
@@ -133,20 +133,20 @@ module _ (lab : LabValue) (l : List Event) (legal : is_legal_in lab l ≡ true) 
   )
   asked w known known' (Ok request) r before fits = settles w known known' (greeting lab.roster known request) r (plain_greeting lab.roster known request) before fits
 
-  -- so an entry that was accepted is a turn of a window that has seen what it names
+  -- if a window has seen the first p events, a reply that fits after them is that of one of its turns
   pub turns_all : (w : WindowValue) (known known' : Option Who) (line : List ℕ) (r : Reply) → w.seen ≡ take p l
       → Fits lab l (take p l) known line r known'
       → (new : WindowValue) × Turn lab (standing known w) line r (standing known' new) × IsAfter w r new
   turns_all w known known' line r same (inl fits) = let t = asked w known known' (request_in line) r (inl same) fits in (t.0, inl t.1, t.2)
   turns_all w known known' line r same (inr fits) = (w, inr (fits.0, ap (λ (k : Option Who). standing k w) fits.1), stays_after w r same (ap place_in fits.0))
 
-  -- or fewer, and is asked
+  -- this also holds if the window has seen fewer events, and the line asks it
   pub turns_asked : (w : WindowValue) (known known' : Option Who) (line : List ℕ) (r : Reply) → IsPrefix w.seen (take p l)
       → asks_window lab.roster known (request_in line) ≡ true → FitsAsked lab l (take p l) known (request_in line) r known'
       → (new : WindowValue) × Turn lab (standing known w) line r (standing known' new) × IsAfter w r new
   turns_asked w known known' line r later asks fits = let t = asked w known known' (request_in line) r (inr (later, asks)) fits in (t.0, inl t.1, t.2)
 
-  -- its entry names p
+  -- the entry of this turn names p events
   pub judged_there : (w new : WindowValue) (r : Reply) → IsAfter w r new → judged_at (length new.seen) r ≡ p
   judged_there w new r after = at (place_in r) refl
     where
@@ -167,7 +167,7 @@ module _ (lab : LabValue) (l : List Event) (legal : is_legal_in lab l ≡ true) 
   shown_none : (r : Reply) → is_shown r ≡ true → place_in r ≡ None
   shown_none r shown = grind (arith, nat_tests)
 
-  -- a view that is shown, of which there is no entry, lets the window see on
+  -- a view is shown, which has no entry, and after it the window has seen the first p events
   abbrev Quiet : WindowValue → Option Who → Type 0
   Quiet w known =
       (line : List ℕ) × IsWithinLimit MAX_REQUEST line × (v : Reply) × (is_shown v ≡ true) × (new : WindowValue)

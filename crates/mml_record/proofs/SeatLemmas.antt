@@ -1,4 +1,4 @@
--- A record, made by sessions.
+-- Sessions that leave a given record.
 use Rattle.std.proofs.Common.{◌≡◌, ◌⊎◌, ℕ, ◌≤◌, Bool, true, false, ◌&&◌, not, List, [], ◌∷◌, ◌++◌, length, take, drop, refl, sym, ap, ◌∙◌, subst, inl, inr, Option, None, Some, Result, Ok, Err, arith}
 use Rattle.std.proofs.Common.{append-nil, append_assoc, if◌then◌else◌}
 use Rattle.std.proofs.lemmas.{List.take-append-drop, List.length-take-le, Bool.and_parts, Bool.or_cases, Bool.false≢true, Bool.Decides.nat_tests, Slice.Eq.bytes_eq-Decides}
@@ -71,12 +71,12 @@ module _ (lab : LabValue) (l first : List Event) (known : Option Who) (r : Reply
 
 -- ---- sessions
 
--- all of it is kept
+-- all bytes were kept
 abbrev keeps_all : List ℕ → Option Kept
 keeps_all bytes = Some (record { bytes = bytes; whole = true })
 
 module _ (lab : LabValue) (is : IsLab lab) (l : List Event) (number : ℕ) where
-  -- how a session ends that made these entries: at the end of its input, or by a bye
+  -- how a session ended that made these entries: at the end of its input, or by a bye
   abbrev Tail : Standing → WindowValue → List Entry → Type 0
   Tail st mid es =
       ((t : Talk lab st) × (t.end.window ≡ mid) × (es ≡ entries_of t ++ left_at mid))
@@ -110,7 +110,7 @@ module _ (lab : LabValue) (is : IsLab lab) (l : List Event) (number : ℕ) where
             ∙ sym (append_assoc (turn_entries lab line r next.window) (entries_of x.0) (line_entries x.2 ++ left_at mid)),
       )
 
-  -- sessions lead a seat from one window to another, and make these entries
+  -- sessions lead a seat from one state of its window to another, and make these entries
   abbrev Leads : WindowValue → WindowValue → List Entry → Type 0
   Leads old new es =
       (b : List ℕ) → (xs : List SessionEnd) × Chain (Held lab number) (stand old (keeps_all b)) xs (stand new (keeps_all (b ++ record_text number es)))
@@ -151,7 +151,8 @@ module _ (lab : LabValue) (is : IsLab lab) (l : List Event) (number : ℕ) where
     },
   )
 
-  -- the rest of what a seat records, from the middle of a session, or from between two
+  -- sessions that make the rest of a seat's entries: `Rest` begins in the middle of a session, and `Seat` between two
+  -- sessions
   record Rest (st : Standing) (es : List Entry) (ps : List ℕ) : Type 0 where
     mid : WindowValue
     new : WindowValue
@@ -210,14 +211,14 @@ module _ (lab : LabValue) (is : IsLab lab) (l : List Event) (number : ℕ) where
   regroup : (st : Standing) (es fs : List Entry) (ps qs : List ℕ) → es ≡ fs → ps ≡ qs → Rest st es ps → Rest st fs qs
   regroup st es fs ps qs e f x = subst (λ (y : List Entry). Rest st y qs) e (subst (λ (y : List ℕ). Rest st es y) f x)
 
-  -- one entry is what is recorded of a turn of which nothing is shown, and nothing of one that shows something
+  -- a turn that shows nothing has one entry, and a turn that shows something has none
   said_of : (line out : List ℕ) (r : Reply) (new : WindowValue) (p : ℕ) → is_shown r ≡ false → judged_at (length new.seen) r ≡ p
       → out ≡ reply_line lab.ids lab.roster r → turn_entries lab line r new ≡ entry.Said p line out ∷ []
   said_of line out r new p unshown judged is =
       ap (λ (b : Bool). if b then [] else said (judged_at (length new.seen) r) line (reply_line lab.ids lab.roster r)) unshown
       ∙ ap (λ (n : ℕ). said n line (reply_line lab.ids lab.roster r)) judged ∙ ap (said p line) (sym is)
 
-  -- a reply that isn't the refusal for memory fits what the line asks
+  -- a reply that isn't the refusal `memory` fits what the line asks
   fits_asked : (known : Option Who) (line out : List ℕ) (r : Reply) (known' : Option Who) (p : ℕ) → out ≡ reply_line lab.ids lab.roster r
       → not (is_line lab out (reply.Refuse refused.Memory)) ≡ true → Fits lab l (take p l) known line r known'
       → FitsAsked lab l (take p l) known (request_in line) r known'
@@ -236,7 +237,7 @@ module _ (lab : LabValue) (is : IsLab lab) (l : List Event) (number : ℕ) where
         (prefix_shorter (take least l) (take p l) l (drop least l, take-append-drop least l) (drop p l, take-append-drop p l)
         (omega (arith, le, few, length-take-le p l few, length-take-le least l (omega (arith, le, few)))))
 
-    -- if as many events have been seen as p, or a view lets the window see so many, the rest may go on from there
+    -- if p events have been seen, or a view lets the window see as many, the rest may go on from there
     arrives : (known : Option Who) (w : WindowValue) (least p : ℕ) (es : List Entry) (ps : List ℕ) → least ≤ p → p ≤ length l → w.seen ≡ take least l
         → (p ≡ least) ⊎ (sees_some lab.roster known ≡ true)
         → ((v : WindowValue) → v.seen ≡ take p l → Rest (standing known v) es ps) → Rest (standing known w) es ps
@@ -249,7 +250,7 @@ module _ (lab : LabValue) (is : IsLab lab) (l : List Event) (number : ℕ) where
         (rest_first (standing known w) (standing known q.4) q.0 q.2 q.5 q.1 goes.0
         (q.7 ∙ sym (append-nil w.places) ∙ ap (λ y. w.places ++ y) (sym goes.1)) es ps (go q.4 q.6))
 
-    -- what is to be shown of entries: from the middle of a session, from after a bye, from between sessions
+    -- what is to be proved of entries in the middle of a session, after a bye, and between sessions
     abbrev InMiddle : List Entry → Type 0
     InMiddle es =
         (known : Option Who) (w : WindowValue) (least : ℕ) (ps : List ℕ) → GoesOn lab l known stages.Open least (all_kept es) ps
@@ -287,7 +288,7 @@ module _ (lab : LabValue) (is : IsLab lab) (l : List Event) (number : ℕ) where
           begins = x.begins;
         }
 
-    -- a turn that was recorded, and what follows it
+    -- a recorded turn, and what follows it
     follows : (st : Standing) (new : WindowValue) (known : Option Who) (line : List ℕ) (r : Reply) → Turn lab st line r (standing known new)
         → IsWithinLimit MAX_REQUEST line → new.places ≡ st.window.places ++ places_in r → (q : ℕ) → new.seen ≡ take q l → q ≤ length l
         → (es : List Entry) (ps : List ℕ) → are_whole (all_kept es) ≡ true → are_ended true (all_kept es) ≡ true → Walks es
@@ -402,7 +403,7 @@ none_paused : (b : Bool) → is_paused (stage_after b) ≡ false
 none_paused true = refl
 none_paused false = refl
 
--- the entries of a whole record are such as sessions make
+-- the entries of a whole record are of the kinds that sessions make
 given_of : (lab : LabValue) (l : List Event) (known : Option Who) (stage : Stage) (least : ℕ) (es : List KeptEntry) (ps : List ℕ)
     → GoesOn lab l known stage least es ps → are_whole es ≡ true → is_paused stage ≡ false → (gs : List Entry) × (es ≡ all_kept gs)
 given_of lab l known stage least [] ps h whole none = ([], refl)
@@ -415,7 +416,7 @@ given_of lab l known stage least (kept.Unrecorded p ∷ es) ps h whole none = ab
 given_of lab l known stage least (kept.Paused p ∷ es) ps h whole none = absurd (false≢true whole)
 given_of lab l known stage least (kept.Resumed p missed ∷ es) ps h whole none = absurd (false≢true (sym none ∙ h.3))
 
--- it begins after as many events as its first entry names
+-- a whole record begins after as many events as its first entry names
 begins_after : (lab : LabValue) (l : List Event) (es : List KeptEntry) (ps : List ℕ) → IsRecordOf lab l es ps → are_whole es ≡ true
     → (n : ℕ) × (n ≤ length l) × GoesOn lab l None stages.Open n es ps
 begins_after lab l [] ps h whole = (0, omega arith, h)
@@ -425,13 +426,13 @@ begins_after lab l (kept.Unrecorded p ∷ es) ps h whole = absurd (false≢true 
 begins_after lab l (kept.Paused p ∷ es) ps h whole = absurd (false≢true whole)
 begins_after lab l (kept.Resumed p missed ∷ es) ps h whole = absurd (false≢true h.3)
 
--- what a seat can have recorded that goes on after these events
+-- a seat can have recorded exactly this, after the events `begun`
 abbrev Said : LabValue → List Event → List Event → ℕ → List KeptEntry → List ℕ → Type 0
 Said lab l begun number es ps =
     (p : RecordedSeat) × (w : WindowValue) × IsResumedSeat lab begun p w × IsPrefix w.seen l × (w.places ≡ ps) × (p.number ≡ number)
     × (p.kept.whole ≡ true) × (p.kept.bytes ≡ kept_texts number es)
 
--- from there on it is what sessions can have made
+-- entries that go on after the events `begun` are such that sessions can have made them
 pub goes_on_so : (lab : LabValue) (l begun : List Event) (number : ℕ) (es : List KeptEntry) (ps : List ℕ) → IsLab lab → is_legal_in lab l ≡ true
     → IsPrefix begun l → GoesOn lab l None stages.Open (length begun) es ps → are_whole es ≡ true → are_ended false es ≡ true → Said lab l begun number es ps
 goes_on_so lab l begun number es ps is legal begins h whole ended =
@@ -451,7 +452,7 @@ goes_on_so lab l begun number es ps is legal begins h whole ended =
       sym (same_text number g.0) ∙ ap (kept_texts number) (sym g.1),
     )
 
--- and so is a record
+-- a whole record is such that sessions can have made it
 pub can_have_said : (lab : LabValue) (l : List Event) (number : ℕ) (es : List KeptEntry) (ps : List ℕ) → IsLab lab → is_legal_in lab l ≡ true
     → IsRecordOf lab l es ps → are_whole es ≡ true → are_ended false es ≡ true → (begun : List Event) × IsPrefix begun l × Said lab l begun number es ps
 can_have_said lab l number es ps is legal h whole ended =
@@ -465,7 +466,7 @@ can_have_said lab l number es ps is legal h whole ended =
 
 -- ---- one entry
 
--- what is accepted of a line is a turn
+-- an accepted entry of a line describes a turn
 pub is_a_turn : (lab : LabValue) (l : List Event) (p : ℕ) (known known' : Option Who) (line : List ℕ) (r : Reply) (w : WindowValue)
     → is_legal_in lab l ≡ true → p ≤ length l → w.seen ≡ take p l → Fits lab l (take p l) known line r known'
     → (new : WindowValue) × Turn lab (standing known w) line r (standing known' new) × (new.seen ≡ take (seen_after p (place_in r)) l)

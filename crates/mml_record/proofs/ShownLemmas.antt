@@ -1,4 +1,4 @@
--- One who sees a node can be shown something at any time.
+-- A participant who sees a node can be shown something at any time.
 use Rattle.std.proofs.Common.{◌≡◌, ◌≢◌, ℕ, ◌<◌, ◌≤◌, ◌^◌, true, false, ◌||◌, List, ◌∷◌, [], ◌++◌, codes, decimal, length, slice_index, refl, sym, ap, subst, Option, None, Some, Ok, ok_or, arith}
 use Rattle.std.proofs.Common.{length-append}
 use Rattle.std.{specs.List.All, proofs.lemmas.Bool.or_right, proofs.lemmas.Bool.false≢true, proofs.lemmas.Fmt.length-decimal-le, proofs.lemmas.List.get_or_default}
@@ -20,12 +20,12 @@ use Rattle.mml_lab.specs.declared.who.Who.TheVariants as who
 use Rattle.mml_policy.specs.declared.command.Command.TheVariants as command
 use Rattle.mml_codec.specs.declared.request.Request.TheVariants as requests
 
--- the command, asked after these events, is answered by a view
+-- after these events, the command is answered by a view
 abbrev Shows : LabValue → List Event → Who → Command → Type 0
 Shows lab first x c =
     is_shown (reply_of (after_ruling (world_in lab first) (ruling_at lab (world_in lab first) x c)) (ruling_at lab (world_in lab first) x c)) ≡ true
 
--- some line asks for a view after these events that is shown to whoever is known
+-- after these events, some line of the known participant is answered by a view
 abbrev pub CanBeShown : LabValue → List Event → Option Who → Type 0
 CanBeShown lab first known =
     (who : Who) × (known ≡ Some who) × (line : List ℕ) × IsWithinLimit MAX_REQUEST line × (c : Command) × (request_in line ≡ Ok (requests.Do c))
@@ -90,7 +90,7 @@ owner_shown lab is first x i own =
     by_request lab first x (command.Look (slice_index lab.ids i)) (tt, (small, tt)) (look_short (slice_index lab.ids i) small)
     (look_shows lab first x i (slice_index lab.ids i) rank own)
 
--- whoever sees a node can be shown something
+-- a known participant who sees a node can be shown something
 pub sees_shown : (lab : LabValue) → IsLab lab → (first : List Event) (known : Option Who) → sees_some lab.roster known ≡ true → CanBeShown lab first known
 sees_shown lab is first None h = absurd (false≢true h)
 sees_shown lab is first (Some who.Teacher) h = teacher_shown lab first

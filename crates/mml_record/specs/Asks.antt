@@ -20,7 +20,7 @@ use Rattle.mml_codec.specs.declared.reply.Reply.TheVariants as reply
 use Rattle.mml_tally.specs.declared.ask.Line.TheVariants as lines
 use Rattle.mml_record.specs.declared.kept_entry.Entry.TheVariants as entry
 
--- ---- what a line is
+-- ---- the kind of a line
 
 -- the kind of a rule that was asked for
 abbrev pub kind_asked : Asked → Kind
@@ -29,7 +29,7 @@ kind_asked (asked.Marriage id) = kind.Marriage
 kind_asked asked.Seduction = kind.Seduction
 kind_asked asked.Abandonment = kind.Abandonment
 
--- what a line is that has this command: a move with its node and the kind of its rule, or anything else
+-- what a line with this command is: a move with its node and the kind of its rule, or anything else
 abbrev pub line_of_command : Command → Line
 line_of_command (command.Move id rule at) = lines.Move id (kind_asked rule)
 line_of_command (command.See id) = lines.Other
@@ -41,13 +41,13 @@ line_of_command (command.Cut a b) = lines.Other
 line_of_command (command.Release id) = lines.Other
 line_of_command command.Report = lines.Other
 
--- what a line is that has this request
+-- what a line with this request is
 abbrev pub line_of_request : Request → Line
 line_of_request (requests.Hello name key) = lines.Other
 line_of_request requests.Bye = lines.Other
 line_of_request (requests.Do c) = line_of_command c
 
--- the class of a line that was read as this: a move, another request, or no request
+-- what a line is that was read as this request, or as none
 abbrev pub line_of : Result Request LineFault → Line
 line_of (Ok request) = line_of_request request
 line_of (Err fault) = lines.Malformed
@@ -58,14 +58,14 @@ line_of (Err fault) = lines.Malformed
 abbrev pub unended : List ℕ → List ℕ
 unended out = take (length out - 1) out
 
--- the first byte of the rest, if there is one, less the byte of `0`: the value of a digit
+-- the value of the first byte as a digit, if there is a byte
 abbrev pub digit_first : Option (List ℕ) → Option ℕ
 digit_first rest = do
   bytes ← rest
   digit ← slice_get bytes 0
   Some (digit - 48)
 
--- the number of the clause that the first of these members has
+-- the value of the first of these members as a digit: the number of the clause
 abbrev pub clause_of_members : List ℕ → Option ℕ
 clause_of_members members = digit_first (split_at_byte 58 members).1
 
@@ -73,13 +73,13 @@ clause_of_members members = digit_first (split_at_byte 58 members).1
 abbrev pub clause_told : List ℕ → Option ℕ
 clause_told text = denial_members text >>= clause_of_members
 
--- the text of the reply that memory ran out
+-- the text of the reply which says that memory ran out
 abbrev pub memory_text : List ℕ
 memory_text = codes "{\"refuse\":\"memory\"}"
 
 -- ---- who is known after a line
 
--- who is known after a line, by what the rules of greeting say of it: a command that is left to the policy changes
+-- who is known after a line, by what the rules of greeting say of it; a command that they leave to the policy changes
 -- nothing
 abbrev pub known_by : Option Who → Greeting → Option Who
 known_by known (Answered r x) = x
@@ -94,9 +94,9 @@ known_asked roster known (Err fault) = known
 unfoldable pub known_after : RosterValue → Option Who → List ℕ → List ℕ → Option Who
 known_after roster known line text = if bytes_eq text memory_text then known else known_asked roster known (request_in line)
 
--- ---- a record
+-- ---- the lines of a record
 
--- the student whom this names; none for the teacher
+-- the index of a student; none for the teacher
 abbrev pub student_in : Who → Option ℕ
 student_in who.Teacher = None
 student_in (who.Student s) = Some s
@@ -106,8 +106,8 @@ abbrev pub student_of : Option Who → Option ℕ
 student_of None = None
 student_of (Some w) = student_in w
 
--- what the tally counts of a line: by whom it was asked, what it asks, the clause and the name of its denial, and the
--- reason of its refusal
+-- what the tally counts of a line: who sent it, what it asks, the clause and the name of its denial, and the reason of
+-- its refusal
 abbrev pub ask_of : Option Who → List ℕ → List ℕ → Ask
 ask_of known line out = record {
   who = student_of known;
@@ -138,9 +138,9 @@ asks_from roster known (e ∷ es) = asks_at known e ++ asks_from roster (known_b
 abbrev pub asks_in : RosterValue → List Entry → List Ask
 asks_in roster es = asks_from roster None es
 
--- ---- what asks mean
+-- ---- what the tally should count
 
--- the clause by which the reply is a denial
+-- the clause of the denial, if the reply is a denial
 abbrev pub clause_in : Reply → Option ℕ
 clause_in (reply.Deny d) = Some (clause_of d)
 clause_in _ = None
@@ -155,8 +155,8 @@ asked_with known line r = record {
   refused = reason_in r;
 }
 
--- for each line that was answered there is one item, with who was known by the rules, what the line asks, and the
--- clause, the denial or the reason in the rules' reply
+-- `asks` has one item for each line that was answered. It has who was known by the rules, what the line asks, and the
+-- clause, the denial or the reason in the reply that the rules give
 abbrev pub AreAskedOf : LabValue → List Event → Option Who → List Entry → List Ask → Type 0
 AreAskedOf lab l known [] asks = asks ≡ []
 AreAskedOf lab l known (entry.Said p line out ∷ es) asks =

@@ -1,4 +1,4 @@
--- The two members of a denial's text that name its clause and its denial: they follow each other.
+-- The two members of a denial's JSON text that name its clause and the denial itself; the second follows the first.
 use Rattle.std.specs.Prelude.{ℕ, List, codes, Option, None, Some, if◌then◌else◌}
 use Rattle.mml_journal.specs.Words.{◌>>=◌, split_at_byte, is_word}
 
@@ -6,13 +6,13 @@ use Rattle.mml_journal.specs.Words.{◌>>=◌, split_at_byte, is_word}
 unfoldable pub if_clause : List ℕ → Option (List ℕ)
 if_clause members = if is_word (codes "\"clause\"") (split_at_byte 58 members).0 then Some members else None
 
--- the members after the first comma, if the first of these is `clause`
+-- the members after the first comma, if `clause` is the first of them
 unfoldable pub after_comma : List ℕ → Option (List ℕ)
 after_comma members = do
   rest ← (split_at_byte 44 members).1
   if_clause rest
 
--- the members from `clause` on, if it is the first of them, or stands after `at`
+-- the members from `clause` on, if `clause` is the first of them, or comes after `at`
 unfoldable pub from_clause : List ℕ → Option (List ℕ)
 from_clause members = if is_word (codes "\"at\"") (split_at_byte 58 members).0 then after_comma members else if_clause members
 

@@ -1,38 +1,38 @@
--- The participants of whom a record may lack lines.
+-- The participants whose lines may be missing in a record.
 use Rattle.std.specs.Prelude.{Bool, true, false, ◌||◌, ◌==◌, List, [], ◌∷◌, Option, None, Some}
 use Rattle.mml_lab.specs.{declared.who.Who.Who, Rosters.RosterValue}
 use Rattle.mml_record.specs.{declared.kept_entry.Entry.Entry, Asks.known_behind}
 use Rattle.mml_lab.specs.declared.who.Who.TheVariants as who
 use Rattle.mml_record.specs.declared.kept_entry.Entry.TheVariants as entry
 
--- the first is the second
+-- whether both are the same participant
 abbrev pub is_who : Who → Who → Bool
 is_who who.Teacher who.Teacher = true
 is_who (who.Student s) (who.Student t) = t == s
 is_who _ _ = false
 
--- this one is known
+-- whether `who` is the participant who is known
 abbrev pub is_known_as : Option Who → Who → Bool
 is_known_as None who = false
 is_known_as (Some x) who = is_who x who
 
--- the entry says that recording pauses, and this one is known there
+-- whether the entry says that recording pauses, and `who` is known there
 abbrev pub pauses_for : Option Who → Entry → Who → Bool
 pauses_for known (entry.Paused p) who = is_known_as known who
 pauses_for known _ who = false
 
--- who is known after entries, by the bytes of lines and replies, if someone, or nobody, is known before them
+-- who is known after the entries, by the bytes of lines and replies, if `known` is known before them
 abbrev pub known_in : RosterValue → Option Who → List Entry → Option Who
 known_in roster known [] = known
 known_in roster known (e ∷ es) = known_in roster (known_behind roster known e) es
 
--- recording pauses somewhere while this one is known
+-- whether recording pauses somewhere while `who` is known
 abbrev pub are_paused_for : RosterValue → Option Who → List Entry → Who → Bool
 are_paused_for roster known [] who = false
 are_paused_for roster known (e ∷ es) who =
     pauses_for (known_behind roster known e) e who || are_paused_for roster (known_behind roster known e) es who
 
--- some entry says that anything may be missing
+-- whether some entry says that anything may be missing
 abbrev pub are_cut : List Entry → Bool
 are_cut [] = false
 are_cut (entry.Unrecorded p ∷ es) = true

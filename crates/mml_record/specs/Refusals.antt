@@ -1,4 +1,4 @@
--- Why the lines of a record were refused, found in the bytes of their replies.
+-- The reasons of refusals in the replies of a record, found in the bytes of the replies.
 use Rattle.std.specs.Prelude.{ℕ, List, codes, bytes_eq, Option, None, Some, if◌then◌else◌}
 use Rattle.mml_policy.specs.declared.refusal.Refusal.{Refusal}
 use Rattle.mml_policy.specs.declared.refusal.Refusal.TheVariants as refusal
@@ -6,14 +6,14 @@ use Rattle.mml_codec.specs.declared.reply.Refused.TheVariants as refused
 use Rattle.mml_codec.specs.declared.reply.Reply.{Reply}
 use Rattle.mml_codec.specs.declared.reply.Reply.TheVariants as reply
 
--- the reason that the text of a refusal names; other texts name none, nor does that of a malformed line
+-- the reason that the text of a refusal names; the refusal `malformed` and all other replies name none
 unfoldable pub reason_told : List ℕ → Option Refusal
 reason_told text =
     if bytes_eq text (codes "{\"refuse\":\"journal\"}") then Some refusal.Journal
     else (if bytes_eq text (codes "{\"refuse\":\"memory\"}") then Some refusal.Memory
     else (if bytes_eq text (codes "{\"refuse\":\"full\"}") then Some refusal.Full else None))
 
--- why the reply refuses a request
+-- the reason why the reply refuses a request
 abbrev pub reason_in : Reply → Option Refusal
 reason_in (reply.Refuse refused.Journal) = Some refusal.Journal
 reason_in (reply.Refuse refused.Memory) = Some refusal.Memory

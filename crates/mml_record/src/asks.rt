@@ -1,4 +1,4 @@
-//! What the lines of a record asked, which clause denied each, and why each was refused.
+//! What the lines of a record asked, which clauses denied them, and why they were refused.
 //!
 //! A record has entries: a line with its reply, a session's end, or a note that something is left out. An entry says
 //! how many events its session had seen. A clause is a condition for a request; a denial names the first that doesn't

@@ -26,7 +26,7 @@ pub trait Budget {
     // Whether the last of the noted replies grants a hello.
     ghost greeted: { Self → Bool };
 
-    /// Is called with the reply to each line. A reply that grants a hello says who is known from then on.
+    /// Notes the reply to a line. If it grants a hello, the participant of this hello is known from then on.
     fn note_answered(&mut self, reply: &Reply)
         ensures known { known self.new ≡ (is_hello reply.now || known self.old) }
         ensures greeted { greeted self.new ≡ is_hello reply.now };
@@ -46,7 +46,7 @@ pub trait Budget {
     /// account of whoever is known, or to the common account of those who aren't known.
     fn takes_end(&mut self, bytes: u64) -> bool;
 
-    /// Is called at the end of a session, after which nobody is known.
+    /// Forgets who was known. Called at the end of a session.
     fn forget(&mut self)
         ensures known { known self.new ≡ false }
         ensures greeted { greeted self.new ≡ false };

@@ -1,4 +1,4 @@
--- How houses fail.
+-- What holds of a house that failed.
 use Rattle.std.proofs.{Common.◌≡◌, Common.ℕ, Common.List, Common.All, Common.length, Common.Option, Common.subst, KnownBytes.Appends-nil}
 use mathlib.Core.List.{IsPrefix}
 use Rattle.mml_lab.specs.Labs.{LabValue}
@@ -8,7 +8,7 @@ use Rattle.mml_serving.specs.{declared.connection.EndedSession.EndedSession, dec
 use Rattle.mml_serving.specs.{Endings.EndsEarly, Endings.EndsWithout, Endings.WentAstrayFrom, Serving.ServesHouse, Serving.ServesWindows}
 use Rattle.mml_serving.specs.declared.serving.ServeFault.TheVariants as fault
 
--- the list from which the windows went astray is the book's
+-- if the house reports that the places of its windows went astray, they aren't those of the events in its book
 pub went_astray : {S : Type 0} (first : ℕ) (lab : LabValue) (sink : S → Option (List ℕ)) (b : BookValue S) (windows : List WindowValue) (astray : Astray)
     → IsBook lab sink b
     → astray.found ≡ length b.events → All (λ w. IsPrefix w.seen b.events) windows → IsAstrayFrom first windows astray → WentAstrayFrom first lab sink windows
@@ -26,7 +26,7 @@ module _ {S R W : Type 0} (lab : LabValue) (sink : S → Option (List ℕ)) (rem
   early_so sessions windows serves fault.Astray without = record { sessions = sessions; windows = windows; serves = serves; astray = without }
   early_so sessions windows serves _ without = absurd without
 
-  -- nothing is written if there is no log
+  -- if there is no log, nothing was written
   pub badly_early : (wrote : Option (List ℕ)) (f : ServeFault) → EndsEarly lab sink remaining contents to_come count f
       → EndsBadly lab sink remaining contents to_come count wrote wrote f
   badly_early wrote fault.Astray early = (early, Appends-nil wrote)
@@ -34,7 +34,7 @@ module _ {S R W : Type 0} (lab : LabValue) (sink : S → Option (List ℕ)) (rem
   badly_early wrote fault.Write early = absurd early
   badly_early wrote _ early = Appends-nil wrote
 
-  -- if there is one, the last line says why
+  -- if there is a log, the error says why its last line wasn't written whole
   pub badly_logged : (sessions : List (EndedSession R W)) (log : Log S) → ServesHouse lab sink remaining contents to_come count sessions log
       → (wrote wrote' : Option (List ℕ)) (f : ServeFault)
       → LacksLastLine log.halted wrote wrote' (done_line (length log.events) log.board.number) f

@@ -1,4 +1,5 @@
--- Houses that fail.
+-- What holds of a house that failed. A house is one run of a lab that threads share, and its log is its result at the
+-- end.
 use Rattle.std.specs.Prelude.{◌≡◌, ◌⊎◌, ℕ, true, false, List, [], All, length, Option, None}
 use Rattle.std.specs.{List.list_all, Io.KnownBytes.Appends}
 use mathlib.Core.List.{IsPrefix}
@@ -9,30 +10,30 @@ use Rattle.mml_serving.specs.declared.{connection.EndedSession.EndedSession, ser
 use Rattle.mml_serving.specs.{Closings.IsCutShort, Closings.done_line, Serving.ServesWindows, Serving.ServesHouse, Serving.had_memory}
 use Rattle.mml_serving.specs.declared.serving.ServeFault.TheVariants as fault
 
--- the house ended with this book: its events are legal, and each window has seen a beginning of them; its sink has
+-- the house ended with this book: its events are legal, each window has seen a beginning of them, and its sink has
 -- their journal
 pub record LeavesBook {S : Type 0} (lab : LabValue) (sink : S → Option (List ℕ)) (windows : List WindowValue) (left : BookValue S) : Type 0 where
   pub book : IsBook lab sink left
   pub seen : All (λ w. IsPrefix w.seen left.events) windows
 
--- the house ended with a book, but the places that the windows were given aren't those of its events after the first so
--- many, each once
+-- The house ended with a book, but its windows' places went astray. The places that the windows were given aren't those
+-- of the book's events after the first `first` events, each once
 pub record WentAstrayFrom {S : Type 0} (first : ℕ) (lab : LabValue) (sink : S → Option (List ℕ)) (windows : List WindowValue) : Type 0 where
   pub left : BookValue S
   pub leaves : LeavesBook lab sink windows left
   pub places : ¬ (IsEachOnceFrom first (length left.events) (told_of windows))
 
--- what `WentAstrayFrom` says, of a house before whose opening no event came
+-- the same for a house that began without events
 abbrev pub WentAstray : {S : Type 0} → LabValue → (S → Option (List ℕ)) → List WindowValue → Type 0
 WentAstray lab sink windows = WentAstrayFrom 0 lab sink windows
 
--- why no log is left: memory ran out, or the places of these windows went astray
+-- why there is no log: memory ran out, or the places of these windows went astray
 abbrev pub EndsWithout : {S : Type 0} → LabValue → (S → Option (List ℕ)) → List WindowValue → ServeFault → Type 0
 EndsWithout lab sink windows fault.Memory = Unit {0}
 EndsWithout lab sink windows fault.Astray = WentAstray lab sink windows
 EndsWithout lab sink windows _ = ⊥
 
--- the connections were served, and the windows' places went astray
+-- the connections were served, but the windows' places went astray
 pub record EndsAstray {S R W : Type 0} (lab : LabValue) (sink : S → Option (List ℕ)) (remaining : R → Option (List ℕ)) (contents : W → Option (List ℕ))
     (to_come : Option (List (R × W))) (count : ℕ) : Type 0 where
   pub sessions : List (EndedSession R W)
@@ -40,8 +41,8 @@ pub record EndsAstray {S R W : Type 0} (lab : LabValue) (sink : S → Option (Li
   pub serves : ServesWindows lab remaining contents to_come count sessions windows
   pub astray : WentAstray lab sink windows
 
--- why there is no log: memory ran out, or a connection couldn't be accepted; or all connections were served, and the
--- places of the windows went astray
+-- why there is no log: memory ran out, a connection couldn't be accepted, or all connections were served but the
+-- windows' places went astray
 abbrev pub EndsEarly : {S R W : Type 0} → LabValue → (S → Option (List ℕ)) → (R → Option (List ℕ)) → (W → Option (List ℕ)) → Option (List (R × W)) → ℕ
     → ServeFault → Type 0
 EndsEarly lab sink remaining contents to_come count fault.Memory = Unit {0}
@@ -49,7 +50,7 @@ EndsEarly lab sink remaining contents to_come count fault.Accept = Unit {0}
 EndsEarly lab sink remaining contents to_come count fault.Astray = EndsAstray lab sink remaining contents to_come count
 EndsEarly lab sink remaining contents to_come count _ = ⊥
 
--- the connections were served, and the house left a log, of which `Holds` is true
+-- the connections were served, and the house has a log of which `Holds` is true
 pub record EndsLogged {S R W : Type 0} (lab : LabValue) (sink : S → Option (List ℕ)) (remaining : R → Option (List ℕ)) (contents : W → Option (List ℕ))
     (to_come : Option (List (R × W))) (count : ℕ) (Holds : Log S → Type 0) : Type 0 where
   pub sessions : List (EndedSession R W)
@@ -57,7 +58,8 @@ pub record EndsLogged {S R W : Type 0} (lab : LabValue) (sink : S → Option (Li
   pub serves : ServesHouse lab sink remaining contents to_come count sessions log
   pub holds : Holds log
 
--- what a failed house has written: nothing, but for a beginning of its last line if the writer failed at that
+-- What holds of a house that failed. Nothing was written, except that a beginning of the last line was written if the
+-- writer failed
 abbrev pub EndsBadly : {S R W : Type 0} → LabValue → (S → Option (List ℕ)) → (R → Option (List ℕ)) → (W → Option (List ℕ)) → Option (List (R × W)) → ℕ
     → Option (List ℕ) → Option (List ℕ) → ServeFault → Type 0
 EndsBadly lab sink remaining contents to_come count wrote wrote' fault.Memory = Appends wrote wrote' []
@@ -70,7 +72,7 @@ EndsBadly lab sink remaining contents to_come count wrote wrote' fault.Write =
     EndsLogged lab sink remaining contents to_come count (λ log. (log.halted ≡ false)
     × IsCutShort wrote wrote' (done_line (length log.events) (world_in lab log.events).number) fault.Write)
 
--- the connections of a listener were served, and the house left a log that isn't halted, whose last line was written.
+-- The connections of a listener were served. The house has a log that isn't halted, and its last line was written.
 -- Memory ran out neither in a session nor in a socket. Nothing is known of a socket's bytes
 pub record ServesWithMemory {S : Type 0} (lab : LabValue) (sink : S → Option (List ℕ)) (count : ℕ) (wrote wrote' : Option (List ℕ)) : Type 0 where
   pub sessions : List (EndedSession Socket Socket)
@@ -80,8 +82,8 @@ pub record ServesWithMemory {S : Type 0} (lab : LabValue) (sink : S → Option (
   pub last : Appends wrote wrote' (done_line (length log.events) (world_in lab log.events).number)
   pub memory : list_all had_memory sessions ≡ true
 
--- the connections of a listener were served, and the house left a log that isn't halted, whose last line was written.
--- But memory ran out in a session or a socket. Nothing is known of a socket's bytes
+-- The connections of a listener were served. The house has a log that isn't halted, and its last line was written. But
+-- memory ran out in a session or a socket. Nothing is known of a socket's bytes
 pub record LacksMemory {S : Type 0} (lab : LabValue) (sink : S → Option (List ℕ)) (count : ℕ) (wrote wrote' : Option (List ℕ)) : Type 0 where
   pub sessions : List (EndedSession Socket Socket)
   pub log : Log S
@@ -90,8 +92,8 @@ pub record LacksMemory {S : Type 0} (lab : LabValue) (sink : S → Option (List 
   pub last : Appends wrote wrote' (done_line (length log.events) (world_in lab log.events).number)
   pub lacked : list_all had_memory sessions ≡ false
 
--- what the failed house of a listener has written: what `EndsBadly` says of it; or its last line, though memory had run
--- out
+-- What holds of the house of a listener that failed: what `EndsBadly` says; or its last line was written, but memory
+-- had run out
 abbrev pub ServesBadly : {S : Type 0} → LabValue → (S → Option (List ℕ)) → ℕ → Option (List ℕ) → Option (List ℕ) → ServeFault → Type 0
 ServesBadly lab sink count wrote wrote' why =
     EndsBadly {R = Socket} {W = Socket} lab sink (λ _. None) (λ _. None) None count wrote wrote' why

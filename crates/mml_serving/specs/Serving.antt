@@ -1,4 +1,4 @@
--- Connections that were served as they came.
+-- Connections that were served in the order in which they came.
 use Rattle.std.specs.Prelude.{◌≡◌, ℕ, Bool, true, false, not, ◌&&◌, ◌+◌, List, [], ◌∷◌, ◌++◌, All, length, map, ⊤, Option}
 use Rattle.mml_lab.specs.Labs.{LabValue}
 use Rattle.mml_window.specs.{declared.log.Log.Log, Logs.IsLog, Windows.WindowValue, Windows.window}
@@ -22,7 +22,7 @@ IsServed lab remaining contents c s w =
 abbrev pub ends_of : {R W : Type 0} → Connection R W → R × W
 ends_of c = (c.reader, c.writer)
 
--- the first connection has the number n, and each other one the number after that of the one before
+-- the first connection has the number n, and each later one has the next number
 abbrev pub Numbered : {R W : Type 0} → ℕ → List (Connection R W) → Type 0
 Numbered n [] = ⊤
 Numbered n (c ∷ cs) = (c.number ≡ n) × Numbered (n + 1) cs
@@ -51,19 +51,20 @@ pub record ServesWindows {R W : Type 0} (lab : LabValue) (remaining : R → Opti
   pub idle : All (λ w. w ≡ window [] []) unused
   pub each : ServesAll lab remaining contents to_come count sessions used
 
--- the connections were served, as `ServesWindows` says, and the house left the log: a legal list of the lab's events,
--- of which each window has seen a beginning, and whose places are those that all windows were given, each once
+-- The connections were served, as `ServesWindows` says, and the house has this log. Its events are a legal list, and
+-- each window has seen a beginning of it. The places that the windows were given are those of the events, each once
 pub record ServesHouse {S R W : Type 0} (lab : LabValue) (sink : S → Option (List ℕ)) (remaining : R → Option (List ℕ)) (contents : W → Option (List ℕ))
     (to_come : Option (List (R × W))) (count : ℕ) (sessions : List (EndedSession R W)) (log : Log S) : Type 0 where
   pub windows : List WindowValue
   pub serves : ServesWindows lab remaining contents to_come count sessions windows
   pub kept : IsLog lab sink windows log
 
--- the session ended because memory ran out
+-- whether the session ended because memory ran out
 abbrev pub is_for_memory : SessionEnd → Bool
 is_for_memory end.Memory = true
 is_for_memory _ = false
 
--- neither did the session end because memory ran out, nor a read or a write of its socket fail for that reason
+-- whether memory sufficed: the session didn't end because memory ran out, and no read or write of its socket failed for
+-- that reason
 abbrev pub had_memory : EndedSession Socket Socket → Bool
 had_memory s = not (is_for_memory s.end) && (not s.connection.reader.end.lacked_memory && not s.connection.writer.end.lacked_memory)

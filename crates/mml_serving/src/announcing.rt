@@ -1,6 +1,6 @@
-//! The messages of a server: that it listens, and at the end what was done.
+//! The first and the last line that a server prints.
 //!
-//! A journal is halted once a line couldn't be written to it. From then on nothing is granted.
+//! A journal is halted if a line couldn't be written to it. From then on nothing is granted.
 ghost use Rattle.std.specs.Prelude.{◌≡◌, false, length, IfErr, OnOk};
 ghost use Rattle.std.specs.Io.KnownBytes.{Appends};
 ghost use Rattle.mml_ids.specs.Pieces.{joined};
@@ -71,8 +71,8 @@ fn write_done<W: Write>(
     write_pieces(alloc, &pieces, writer)
 }
 
-// Writes the text that these pieces make, with a single write. Returns `Memory`, and writes nothing, if memory runs
-// out, or `Write` if the writer fails.
+// Joins these pieces into one text and writes it with a single write. Returns `Memory`, and writes nothing, if memory
+// runs out, or `Write` if the writer fails.
 fn write_pieces<W: Write>(alloc: Global, pieces: &[Piece], writer: &mut W) -> Result<(), ServeFault>
     ensures told { OnOk result
         (Appends (W.contents writer.old) (W.contents writer.new) (joined pieces.now)) }

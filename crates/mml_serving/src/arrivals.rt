@@ -81,7 +81,7 @@ impl<'a> LetGo for &'a [u8] {
     fn let_go(&mut self) {}
 }
 
-/// Bytes in memory that are taken from its front.
+/// Bytes in memory that are taken from the front of a queue.
 impl LetGo for VecDeque<u8> {
     // Does nothing: bytes in memory have no handle.
     fn let_go(&mut self) {}

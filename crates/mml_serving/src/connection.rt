@@ -5,7 +5,8 @@ ghost use Rattle.mml_serving.specs.Serving.{had_memory};
 use crate::socket::Socket;
 use mml_session::SessionEnd;
 
-/// The two ends of a connection, with the number by which a gate knows it.
+/// The two ends of a connection, with its number. A gate, with which tests can stop sessions, is called with this
+/// number.
 #[derive(Drop)]
 pub struct Connection<R: Drop, W: Drop> {
     pub number: u8,

@@ -1,4 +1,4 @@
-//! Connections, each served in a thread of its own as it comes, from the opening of a house to its last line.
+//! The server of a fixed number of connections, each of which is served in a thread of its own as soon as it comes.
 //!
 //! A house is one run of a lab that threads share: its list of granted events, the board after them, and their journal.
 //! A window is one session's view of the published events and board.

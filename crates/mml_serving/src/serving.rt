@@ -122,8 +122,8 @@ pub fn serve_house_on<Rt: Threads + Wait + Sync, S: Sink + Send + Drop, G: Gate 
 
 /// Serves the first `connections` connections that arrive, each in a thread and through a window of its own. Opens a
 /// house for them, ends it when all sessions have ended, and then writes the last line. If there is no fault, the house
-/// has one legal list of events, and each reply shows a beginning of it. The places that the replies name are those of
-/// its events, each once.
+/// has one legal list of events, and each reply is that of the rules after a beginning of it. The places that the
+/// replies name are those of its events, each once.
 pub fn serve_arrivals<
     Rt: Threads + Wait + Sync,
     S: Sink + Send + Drop,

@@ -1,4 +1,5 @@
--- What has been answered so far, and how it ends.
+-- The lines that were answered so far, and how the session may end after them. A talk has the answered lines of a
+-- session, with their replies.
 use Rattle.std.proofs.Common.{◌≡◌, ◌⊎◌, inl, inr, ℕ, ◌<◌, ◌≤◌, List, [], ◌∷◌, ◌++◌, length, take, refl, sym, ◌∙◌, ap, append_assoc, append-nil, arith, Option, subst}
 use Rattle.std.{proofs.KnownBytes.Appends-trans, proofs.KnownBytes.Consumes-trans, specs.Io.KnownBytes.Consumes, specs.Io.KnownBytes.Appends, specs.Io.KnownBytes.prepend_known}
 use Rattle.mml_lab.specs.{declared.who.Who.Who, Labs.LabValue}
@@ -16,7 +17,7 @@ use Rattle.mml_session.proofs.HoldingLemmas.{none_back, back_more, back_out, bac
 use Rattle.mml_session.specs.declared.session.SessionEnd.TheVariants as ends
 use Rattle.mml_session.specs.declared.session.Next.TheVariants as next
 
--- the last line of a talk, before which this one was known
+-- the last line of a talk; `before` is who was known before this line
 pub record LastLine (lab : LabValue) (old : WindowValue) (st : Standing) (before : Option Who) (talk : Talk lab (nobody_known old)) : Type 0 where
   pub first : Talk lab (nobody_known old)
   pub last : LineTurn lab first.end st
@@ -25,8 +26,8 @@ pub record LastLine (lab : LabValue) (old : WindowValue) (st : Standing) (before
   pub replies : talk.replies ≡ first.replies ++ last.reply ∷ []
   pub entries : entries_of talk ≡ entries_of first ++ line_entries last
 
--- the lines so far make a talk, which leads to the session's state. What isn't written of its replies is held, and
--- that is at most `HELD_BYTES` bytes
+-- The lines so far make up a talk, which leads to the session's state. Of the lines of its replies, those that aren't
+-- written are held in the buffer, and have at most `HELD_BYTES` bytes
 pub record AnsweredSoFar (number : ℕ) (lab : LabValue) (old : WindowValue) (st : Standing) (before : Option Who) (input left : Option (List ℕ))
     (held : List ℕ) (wrote wrote' : Option (List ℕ)) (given given' : Option Kept) : Type 0 where
   pub talk : Talk lab (nobody_known old)
@@ -50,20 +51,20 @@ nothing_yet number lab old before input wrote given unread held none out = recor
   recorded = records_nil number given;
 }
 
--- after the lines so far comes the next, or the end
+-- what comes after the lines so far: the next line, or the end
 module _ {number : ℕ} {lab : LabValue} {old : WindowValue} {st : Standing} {before : Option Who} {input a wrote c : Option (List ℕ)}
     {x y : Option Kept} {held : List ℕ} (after : Standing) (left d : Option (List ℕ)) (z : Option Kept) (unread held' : List ℕ)
     (so : AnsweredSoFar number lab old st before input a held wrote c x y) where
-  -- from the end of the talk
+  -- the result of the next line, for the state at the end of the talk
   from_end : (came : Next) → ServesNext came number lab st after a unread left held held' c d y z
       → ServesNext came number lab so.talk.end after a unread left held held' c d y z
   from_end came = subst (λ (t : Standing). ServesNext came number lab t after a unread left held held' c d y z) (sym so.stands)
 
-  -- who was known there
+  -- the participant who is known at the end of the talk
   knew : so.talk.end.known ≡ st.known
   knew = ap (λ (t : Standing). t.known) so.stands
 
-  -- with the next line's reply, what isn't written is held
+  -- with the line of the next reply, the bytes that aren't written are those in the buffer
   held_with : (t : LineTurn lab so.talk.end after) → HoldsBack lab wrote c (so.talk.replies ++ t.reply ∷ []) (held ++ line_written t)
   held_with t = back_more lab wrote c so.talk.replies held t.reply so.appended
 
@@ -84,7 +85,7 @@ module _ {number : ℕ} {lab : LabValue} {old : WindowValue} {st : Standing} {be
         recorded = rw entries (records_trans number x y z (entries_of t) (line_entries one.0) so.recorded one.4);
       }
 
-  -- what was answered so far is what was answered
+  -- if nothing more was answered, and the buffer was written, the lines so far are all that were answered
   abbrev all_so : {e : Option (List ℕ)} → after ≡ st → Consumes a (prepend_known unread left) [] → held' ≡ held → d ≡ c → Appends d e held'
       → AllAnswered lab old after.window input (prepend_known unread left) wrote e
   all_so {e} same taken alike still out = record {
@@ -94,7 +95,7 @@ module _ {number : ℕ} {lab : LabValue} {old : WindowValue} {st : Standing} {be
     appended = back_out lab wrote c e so.talk.replies held so.appended (out_alike c d e held held' alike still out);
   }
 
-  -- and a line more, and so much is written of all replies' lines
+  -- one more line was answered; of the lines of all replies, the bytes that `sent` selects are written
   abbrev last_so : (sent : List ℕ → List ℕ) {e : Option (List ℕ)} (t : LineTurn lab so.talk.end after) → Consumes a (prepend_known unread left) (line_read t)
       → Appends wrote d (sent (bytes_written so.talk ++ line_written t)) → held' ≡ [] → Appends d e held'
       → LastAnswered sent lab old after.window input (prepend_known unread left) wrote e
@@ -110,7 +111,7 @@ module _ {number : ℕ} {lab : LabValue} {old : WindowValue} {st : Standing} {be
             (Appends-trans wrote d e all [] put (subst (λ (t : List ℕ). Appends d e t) none out));
       }
 
-  -- what was given, and then that the session left
+  -- the recorder was given the entries of the talk, and then the session's end
   all_given : (o : Option Kept) → Records number y z [] → Records number z o (left_at after.window)
       → Records number x o (entries_of so.talk ++ left_at after.window)
   all_given o none fin =
@@ -122,7 +123,7 @@ module _ {number : ℕ} {lab : LabValue} {old : WindowValue} {st : Standing} {be
       let es = left_at after.window in
       records_trans number x y o (entries_of so.talk) (line_entries t ++ es) so.recorded (records_trans number y z o (line_entries t) es more fin)
 
-  -- what was held was written
+  -- if the buffered bytes were written, the session ended as `end` says
   told_so : (end : SessionEnd) (e : Option (List ℕ)) (o : Option Kept) → ServesNext (next.Ended end) number lab st after a unread left held held' c d y z
       → Appends d e held' → Records number z o (left_at after.window) → EndedRecorded end st.known number lab old after.window input left wrote e x o
   told_so ends.End e o serves out fin = ((unread, all_so serves.0 serves.1 serves.4 serves.6 out, serves.2, serves.3), knew, all_given o serves.7 fin)
@@ -157,7 +158,7 @@ module _ {number : ℕ} {lab : LabValue} {old : WindowValue} {st : Standing} {be
       let off = back_off lab wrote c d so.talk.replies held one.0.reply so.appended so.few one.4 in
       ((unread, off.0, last_so (take off.0) one.0 one.1 off.2 one.3 out, off.1, one.2, off.3), knew, last_given o one.0 one.5 fin)
 
-  -- what was held broke off: the last line that was answered is the last
+  -- if the write of the buffered bytes broke off, the session ended by the last line that was answered
   broken_at : (e : Option (List ℕ)) (o : Option Kept) (rest : List ℕ) → (bytes_written so.talk ≡ []) ⊎ LastLine lab old st before so.talk → after ≡ st
       → Consumes a (prepend_known rest left) [] → length rest < READ_SIZE → BreaksOff c e held
       → Records number y z [] → Records number z o (left_at after.window)

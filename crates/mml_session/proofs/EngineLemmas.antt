@@ -1,4 +1,4 @@
--- A session's window replies as an engine does.
+-- The turns of a session are those of an engine that replies through the session's window.
 use Rattle.std.proofs.Common.{◌≡◌, ◌⊎◌, ℕ, List, Option, Some, None, Result, Ok, Err, refl, ap, ◌∙◌, inl, inr, arith}
 use Rattle.std.{specs.Prelude.⊤, proofs.lemmas.Bool.Decides.nat_tests}
 use Rattle.mml_lab.specs.{declared.who.Who.Who, Labs.LabValue}
@@ -15,7 +15,7 @@ use Rattle.mml_engine.specs.Turns as turns
 use Rattle.mml_engine.proofs.TurnsLemmas.{IsQuiet, IsTold}
 use Rattle.mml_engine.proofs.TurnsLemmas as does
 
--- ---- the window's reply is about the events that it has seen
+-- ---- the window's reply takes into account the events that it has seen
 
 entered_so : (l : List Event) (x : Option Event) → entered l x ≡ engine.entered l x
 entered_so l None = refl
@@ -38,7 +38,7 @@ seen_told lab old who c r new t = record {
   says = says_so lab t.list old.places (ruling_at lab (world_in lab t.list) who c) r new t.says;
 }
 
--- ---- the turn of a line, asked of an engine that is a window with whatever it is asked with
+-- ---- a turn of an engine that replies through a window is a turn of the session
 
 module _ {E : Type 0} (lab : LabValue) (known known' : Option Who) (e e' : E) (v v' : WindowValue) (r : Reply) where
   stands : (x : Option Who) → known' ≡ x → v' ≡ v → standing known' v' ≡ standing x v
@@ -57,7 +57,7 @@ module _ {E : Type 0} (lab : LabValue) (known known' : Option Who) (e e' : E) (v
   turn_over line (inl h) = inl (asked_over (request_in line) h)
   turn_over line (inr h) = inr (h.0, stands known h.1.0 h.1.2)
 
--- ---- a session's turn is one of an engine that is its window
+-- ---- a turn of the session is a turn of such an engine
 
 module _ (lab : LabValue) (st next : Standing) (r : Reply) where
   settles_in : (g : Greeting) → Settles lab st g r next → turns.Settles (OverWindow {E = ⊤} lab) st.known tt st.window g r next.known tt next.window
@@ -76,11 +76,11 @@ module _ (lab : LabValue) (st next : Standing) (r : Reply) where
   turn_in line (inl h) = inl (asked_in (request_in line) h)
   turn_in line (inr h) = inr (h.0, stays_in h.1)
 
-  -- what a session's turn does
+  -- a turn of the session answers its line at once, or through the window
   pub turn_does : (line : List ℕ) → Turn lab st line r next → IsQuiet {E = ⊤} tt st.window r tt next.window
       ⊎ IsTold (OverWindow {E = ⊤} lab) st.known line tt st.window r next.known tt next.window
   turn_does line t = does.turn_does (OverWindow {E = ⊤} lab) lab.roster st.known tt st.window line r next.known tt next.window (turn_in line t)
 
--- the line asks to see
+-- a line that asks an engine for a view asks the session for a view
 pub view_over : (known : Option Who) (v : WindowValue) (line : List ℕ) → asking.IsView known line → IsView (standing known v) line
 view_over known v line h = record { who = h.who; command = h.command; known = h.by; asked = h.asked; view = h.view }

@@ -1,4 +1,4 @@
--- Replies that are written together, over several steps.
+-- Replies that are buffered, and then written together.
 use Rattle.std.proofs.Common.{◌≡◌, ◌≢◌, inl, inr, ℕ, ◌+◌, ◌-◌, ◌<◌, ◌≤◌, List, [], ◌∷◌, ◌++◌, length, take, drop, false, refl, sym, ◌∙◌, ap, append_assoc, append-nil, length-append, length-drop, take-append-drop, arith, subst, Option, Some}
 use Rattle.std.{proofs.Math.Seq.take-append-add, proofs.KnownBytes.Appends-nil, proofs.KnownBytes.Appends-trans, proofs.lemmas.List.Concat.flat_map-append, specs.Io.KnownBytes.Appends, specs.List.AllByRecursion}
 use Rattle.mml_lab.specs.{Labs.LabValue}
@@ -7,18 +7,18 @@ use Rattle.mml_codec.specs.{declared.reply.Reply.Reply, Replies.reply_line}
 use Rattle.mml_session.specs.{declared.held.TheConstants.HELD_BYTES, Holding.IsHeldOrOut, Holding.HoldsBack, Holding.BreaksOff, Holding.BreaksInLastFlush, Holding.LacksLastFlush, Talks.reply_lines, Turns.is_bye}
 use Rattle.mml_session.proofs.ShortestLemmas.{few_lines}
 
--- what breaks off is something
+-- if a write broke off, there were bytes to write
 pub off_some : (a b : Option (List ℕ)) (bytes : List ℕ) → BreaksOff a b bytes → bytes ≢ []
 off_some a b bytes h none = omega (arith, h.1, ap length none)
 
--- bytes that are held alike are written alike
+-- if the same bytes are buffered, the same bytes are written
 pub out_alike : (b c d : Option (List ℕ)) (held held' : List ℕ) → held' ≡ held → c ≡ b → Appends c d held' → Appends b d held
 out_alike b c d held held' same still h = subst (λ (t : Option (List ℕ)). Appends t d held) still (subst (λ (t : List ℕ). Appends c d t) same h)
 
 pub off_alike : (b c d : Option (List ℕ)) (held held' : List ℕ) → held' ≡ held → c ≡ b → BreaksOff c d held' → BreaksOff b d held
 off_alike b c d held held' same still h = subst (λ (t : Option (List ℕ)). BreaksOff t d held) still (subst (λ (t : List ℕ). BreaksOff c d t) same h)
 
--- what was written before a flush that broke off is among the bytes that are written
+-- the bytes before a flush that broke off, and the bytes that the flush wrote, are the first of all bytes
 breaks_later : (a b c : Option (List ℕ)) (sent flush all : List ℕ) → all ≡ sent ++ flush → Appends a b sent → BreaksOff b c flush
     → (n : ℕ) × (n < length all) × Appends a c (take n all) × (length sent ≤ n)
 breaks_later a b c sent flush all is h k = (
@@ -29,7 +29,7 @@ breaks_later a b c sent flush all is h k = (
   omega arith,
 )
 
--- if a list ends with an element, so does each part that ends it
+-- if a list ends with an element, each part at its end that isn't empty ends with this element
 last_apart : {A : Type 0} (xs ys zs : List A) (x : A) → xs ++ x ∷ [] ≡ ys ++ zs → zs ≢ [] → (init : List A) × (xs ≡ ys ++ init) × (zs ≡ init ++ x ∷ [])
 last_apart xs [] zs x e some = (xs, refl, sym e)
 last_apart [] (y ∷ ys) [] x e some = absurd (some refl)
@@ -41,24 +41,24 @@ last_apart (w ∷ xs) (y ∷ ys) zs x e some =
     (more.0, ap (λ l. w ∷ l) more.1 ∙ ap (λ v. v ∷ (ys ++ more.0)) first, more.2)
 
 module _ (lab : LabValue) where
-  -- the lines of these replies and of one more broke off in the last flush
+  -- the writes of the lines of these replies, and of one more, broke off in the last flush
   abbrev pub BreaksLast : Option (List ℕ) → Option (List ℕ) → List Reply → Reply → Type 0
   BreaksLast wrote wrote' rs last =
       (n : ℕ) × (n < length (reply_lines lab rs ++ reply_line lab.ids lab.roster last))
       × Appends wrote wrote' (take n (reply_lines lab rs ++ reply_line lab.ids lab.roster last)) × BreaksInLastFlush lab rs n
 
-  -- there were no replies
+  -- if there were no replies, nothing is buffered
   pub none_back : (a : Option (List ℕ)) (held : List ℕ) → held ≡ [] → HoldsBack lab a a [] held
   none_back a held none = record { flushed = []; buffered = []; parts = refl; lines = none; written = Appends-nil a }
 
-  -- the lines of all replies are those that are written, and then those that are held
+  -- the lines of all replies are those that are written, and then those that are buffered
   all_lines : (a b : Option (List ℕ)) (rs : List Reply) (held : List ℕ) (h : HoldsBack lab a b rs held)
       → reply_lines lab rs ≡ reply_lines lab h.flushed ++ held
   all_lines a b rs held h =
       ap (λ (l : List Reply). reply_lines lab l) h.parts ∙ (flat_map-append (reply_line lab.ids lab.roster) h.flushed h.buffered
       ∙ ap (λ l. reply_lines lab h.flushed ++ l) (sym h.lines))
 
-  -- one more reply is held
+  -- the same with one more reply, which is buffered
   pub back_more : (a b : Option (List ℕ)) (rs : List Reply) (held : List ℕ) (r : Reply) → HoldsBack lab a b rs held
       → HoldsBack lab a b (rs ++ r ∷ []) (held ++ reply_line lab.ids lab.roster r)
   back_more a b rs held r h = record {
@@ -69,12 +69,12 @@ module _ (lab : LabValue) where
     written = h.written;
   }
 
-  -- what was held is written
+  -- if the buffered lines are written, the lines of all replies are written
   pub back_out : (a b c : Option (List ℕ)) (rs : List Reply) (held : List ℕ) → HoldsBack lab a b rs held → Appends b c held → Appends a c (reply_lines lab rs)
   back_out a b c rs held h k =
       subst (λ (t : List ℕ). Appends a c t) (sym (all_lines a b rs held h)) (Appends-trans a b c (reply_lines lab h.flushed) held h.written k)
 
-  -- or stays
+  -- the same if the buffered lines are written or stay in the buffer
   pub back_on : (a b c : Option (List ℕ)) (rs : List Reply) (held held' : List ℕ) → HoldsBack lab a b rs held → IsHeldOrOut b c held held'
       → HoldsBack lab a c rs held'
   back_on a b c rs held held' h (inl k) = record {
@@ -92,12 +92,12 @@ module _ (lab : LabValue) where
     written = back_out a b c rs held h k.1;
   }
 
-  -- what is held of no bytes doesn't break off
+  -- if the write of the buffered lines broke off, there are lines of replies
   pub back_some : (a b c : Option (List ℕ)) (rs : List Reply) (held : List ℕ) → HoldsBack lab a b rs held → BreaksOff b c held → reply_lines lab rs ≢ []
   back_some a b c rs held h k none =
       omega (arith, k.1, ap length none, ap length (all_lines a b rs held h), length-append (reply_lines lab h.flushed) held)
 
-  -- the flush of what is held and of one more reply broke off
+  -- the flush of the buffered lines and of one more reply broke off
   pub back_off : (a b c : Option (List ℕ)) (rs : List Reply) (held : List ℕ) (r : Reply) → HoldsBack lab a b rs held → length held ≤ HELD_BYTES
       → BreaksOff b c (held ++ reply_line lab.ids lab.roster r) → BreaksLast a c rs r
   back_off a b c rs held r h few k =
@@ -117,7 +117,7 @@ module _ (lab : LabValue) where
         },
       )
 
-  -- the flush of what is held broke off, of which this is the last reply
+  -- the flush of the buffered lines, of which `last` is the last reply, broke off
   pub held_off : (a b c : Option (List ℕ)) (rs : List Reply) (held : List ℕ) (before : List Reply) (last : Reply) → HoldsBack lab a b rs held
       → length held ≤ HELD_BYTES → rs ≡ before ++ last ∷ [] → BreaksOff b c held → BreaksLast a c before last
   held_off a b c rs held before last h few is k =
@@ -141,7 +141,7 @@ module _ (lab : LabValue) where
         },
       )
 
-  -- what is written, and what lacks, if the writer's bytes are known
+  -- which bytes are written, and which are missing, if contracts can name the writer's bytes
   pub lacks_rest : (rs : List Reply) (last : Reply) (wrote wrote' : List ℕ) (n : ℕ) → n < length (reply_lines lab rs ++ reply_line lab.ids lab.roster last)
       → Appends (Some wrote) (Some wrote') (take n (reply_lines lab rs ++ reply_line lab.ids lab.roster last)) → BreaksInLastFlush lab rs n
       → AllByRecursion (λ r. is_bye r ≡ false) rs → LacksLastFlush lab rs last wrote wrote'

@@ -1,11 +1,11 @@
--- A talk goes on by one line.
+-- A talk with one more line.
 use Rattle.std.proofs.Common.{◌≡◌, ℕ, List, [], ◌∷◌, ◌++◌, sym, ◌∙◌, ap, append_assoc, append-nil}
 use Rattle.mml_lab.specs.Labs.{LabValue}
 use Rattle.mml_lines.proofs.RunsLemmas.{run_longer}
 use Rattle.mml_codec.specs.declared.reply.Reply.{Reply}
 use Rattle.mml_session.specs.{Turns.Standing, Turns.Turn, Turns.Run, Records.run_entries, Records.turn_entries}
 
--- what is recorded of a run with one line more comes after what is recorded of it
+-- the entries of a run with one more line are those of the run, and then those of the line's turn
 pub longer_entries : (lab : LabValue) (st mid after : Standing) (ls : List (List ℕ)) (rs : List Reply) (line : List ℕ) (r : Reply)
     (run : Run lab st ls rs mid) (turn : Turn lab mid line r after)
     → run_entries lab st (ls ++ line ∷ []) (rs ++ r ∷ []) after (run_longer (Turn lab) st mid after ls rs line r run turn)

@@ -1,4 +1,4 @@
--- If the line of a reply that isn't short can't be written, the refusal `memory` comes instead.
+-- If memory runs out for the line of a reply that isn't short, the refusal `memory` is sent instead.
 use Rattle.std.proofs.Common.{◌≡◌, ◌⊎◌, ℕ, true, false, true≢false, List, [], ◌++◌, Option, refl, sym, ap, ◌∙◌, subst, inl, inr, append-nil, Result}
 use Rattle.mml_lab.specs.{declared.who.Who.Who, Labs.LabValue}
 use Rattle.mml_board.specs.{declared.event.Event.Event, World.World, Lists.world_in}
@@ -17,7 +17,7 @@ use Rattle.mml_codec.specs.declared.reply.Reply.TheVariants as replies
 long_not_short : {P : Type 0} (r q : Reply) → is_short r ≡ false → r ≡ q → is_short q ≡ true → P
 long_not_short r q long same short = absurd (true≢false (sym short ∙ (ap is_short (sym same) ∙ long)))
 
--- what isn't short shows a list, and names no place
+-- if the reply names no place, the window has no new place
 stays : (l : List Event) (ps : List ℕ) (r q : Reply) (new : WindowValue) → HasSeen l (ps ++ places_in r) new → r ≡ q → places_in q ≡ [] → HasSeen l ps new
 stays l ps r q new at same none = (at.0, at.1 ∙ (ap (λ (x : Reply). ps ++ places_in x) same ∙ (ap (λ xs. ps ++ xs) none ∙ append-nil ps)))
 

@@ -1,4 +1,4 @@
--- What was given to a recorder, put together.
+-- The entries that a recorder was given, one list after another.
 use Rattle.std.proofs.Common.{◌≡◌, ℕ, Bool, true, false, List, [], ◌∷◌, ◌++◌, refl, sym, ap, ◌∙◌, append_assoc, append-nil, Option, None, Some, subst}
 use mathlib.Core.List.{IsPrefix}
 use Rattle.mml_session.specs.{declared.recorder.Entry.Entry, Records.Kept, Records.AddsTo, Records.Adds, Records.Records, Records.record_text, Records.entry_text}
@@ -32,17 +32,17 @@ adds_trans (Some x) None c bs cs p q = absurd p
 adds_trans (Some x) (Some y) None bs cs p q = absurd q
 adds_trans (Some x) (Some y) (Some z) bs cs p q = adds_to_trans x.whole y.whole z.whole x.bytes y.bytes z.bytes bs cs p q
 
--- the texts of entries, one after another
+-- the text of two lists of entries, one after the other, is their texts one after the other
 pub text_more : (number : ℕ) (es fs : List Entry) → record_text number (es ++ fs) ≡ record_text number es ++ record_text number fs
 text_more number [] fs = refl
 text_more number (e ∷ es) fs =
     ap (λ l. entry_text number e ++ l) (text_more number es fs) ∙ sym (append_assoc (entry_text number e) (record_text number es) (record_text number fs))
 
--- nothing was given
+-- a recorder that was given no entry has kept nothing more
 pub records_nil : (number : ℕ) (a : Option Kept) → Records number a a []
 records_nil number a = adds_nil a
 
--- these were given, and then those
+-- two lists of entries that were given one after the other were given together
 pub records_trans : (number : ℕ) (a b c : Option Kept) (es fs : List Entry) → Records number a b es → Records number b c fs → Records number a c (es ++ fs)
 records_trans number a b c es fs p q =
     subst (λ (l : List ℕ). Adds a c l) (sym (text_more number es fs)) (adds_trans a b c (record_text number es) (record_text number fs) p q)

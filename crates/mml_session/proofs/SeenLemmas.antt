@@ -1,4 +1,4 @@
--- The events that a window had seen are the first that it has seen after a session.
+-- What a window has seen after a session begins with what it had seen before.
 use Rattle.std.proofs.Common.{◌≡◌, ℕ, List, sym, subst, Option}
 use mathlib.Core.List.{IsPrefix}
 use Rattle.mml_lab.specs.Labs.{LabValue}
@@ -15,12 +15,12 @@ module _ {lab : LabValue} {old new : WindowValue} where
   seen_to : (t : Talk lab (nobody_known old)) → t.end.window ≡ new → Sees old new
   seen_to t stands = subst (λ (w : WindowValue). Sees old w) stands (talk_seen lab (nobody_known old) t)
 
-  -- with one line more
+  -- the same with one more line
   seen_on : (t : Talk lab (nobody_known old)) {after : Standing} (s : LineTurn lab t.end after) → after.window ≡ new → Sees old new
   seen_on t {after} s stands = subst (λ (w : WindowValue). Sees old w) stands
       (prefix_trans old.seen t.end.window.seen after.window.seen (talk_seen lab (nobody_known old) t) (turn_seen lab t.end after s))
 
--- after a session, however it ended
+-- this holds after each session, however it ended
 pub ended_seen : (e : SessionEnd) (lab : LabValue) (old new : WindowValue) (input left wrote wrote' : Option (List ℕ))
     → Ended e lab old new input left wrote wrote' → Sees old new
 ended_seen end.Bye lab old new input left wrote wrote' h = seen_on h.1.talk h.1.last h.1.stands

@@ -1,4 +1,4 @@
--- The result of a line, from what its parts say.
+-- The result of a line, concluded from the contracts of the functions that read it and answer it.
 use Rattle.std.proofs.Common.{◌≡◌, ◌≢◌, ℕ, ◌+◌, ◌-◌, ◌*◌, ◌<◌, ◌≤◌, arith, true, true≢false, List, [], ◌++◌, length, sym, refl, Option, Result, Ok, Err, subst}
 use Rattle.std.{proofs.Math.Nat.lt_of_not-le, specs.Io.KnownBytes.Consumes, specs.Io.KnownBytes.prepend_known}
 use Rattle.mml_lab.specs.Labs.{LabValue}
@@ -17,7 +17,8 @@ bye_is : (r : Reply) → is_bye r ≡ true → r ≡ replies.Bye
 bye_is replies.Bye is = refl
 bye_is _ is = absurd (true≢false (sym is))
 
--- a line was taken, short enough, and no more than one read brought in is held after it
+-- A line that isn't too long was read. The bytes after it that were read too are held, and are fewer than one read may
+-- bring.
 module _ (number : ℕ) (lab : LabValue) (st after : Standing) (a left c d : Option (List ℕ)) (rec rec' : Option Kept) (held line unsent unsent' : List ℕ)
     (taken : Consumes a (prepend_known held left) (ended line)) (short : IsWithinLimit MAX_REQUEST line) (few : length held < READ_SIZE)
     (ahead : unsent ≢ [] → length (ended line ++ held) < READ_SIZE) where
@@ -30,14 +31,14 @@ module _ (number : ℕ) (lab : LabValue) (st after : Standing) (a left c d : Opt
       (had.0, taken_by a (prepend_known held left) line had.0.line taken had.1, few, had.2.1, (n, had.2.0, had.2.2), had.3)
   serves_next (Err closed) had = (had.0, line, short, had.1, taken, few, had.2, ahead, had.3, had.4)
 
--- if something was held, no read was needed, and what is held of the input is no more than it was
+-- if replies were buffered, no read was needed, and the line with the bytes after it is shorter than one read
 pub unread_before : (limit old new old_reads new_reads taken : ℕ) (unread unsent : List ℕ) → (IsWithinLimit limit unread → unsent ≡ [])
     → (old_reads < new_reads → IsWithinLimit limit unread) → old_reads ≤ new_reads → taken + new ≤ old + READ_SIZE * (new_reads - old_reads)
     → old < READ_SIZE → unsent ≢ [] → taken + new < READ_SIZE
 unread_before limit old new old_reads new_reads taken unread unsent out needed grow counted few some =
     let still : new_reads < old_reads + 1 = lt_of_not-le (λ read. some (out (needed (omega (arith, read))))) in omega (arith, grow, counted, few, still)
 
--- a reply's line that stands after what was held is sent with it
+-- a reply's line that comes after the buffered bytes is sent together with them
 pub sent_behind : (said : Sent) (r : Reply) (unsent whole bytes unsent' : List ℕ) (wrote wrote' : Option (List ℕ)) → bytes ≡ unsent ++ whole
     → SendsReply said r bytes [] unsent' wrote wrote' → SendsReply said r whole unsent unsent' wrote wrote'
 sent_behind said r unsent whole bytes unsent' wrote wrote' e h = behind said (subst (λ (t : List ℕ). SendsReply said r t [] unsent' wrote wrote') e h)

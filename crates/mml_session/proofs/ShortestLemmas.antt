@@ -13,7 +13,7 @@ use Rattle.mml_codec.specs.Facts as fact
 use Rattle.mml_codec.specs.declared.reply.Refused.TheVariants as refused
 use Rattle.mml_codec.specs.declared.reply.Reply.TheVariants as replies
 
--- of a value, a word with its quotes is counted
+-- the bytes of a value that are counted: those of a word, with its quotes
 abbrev least : Fact → ℕ
 least (fact.word w) = 2 + length w
 least _ = 0
@@ -40,7 +40,7 @@ value_least ids (fact.pairs ps) rest = omega (arith, list_least (map (pair_text 
 value_least ids (fact.privileged ns) rest = omega (arith, list_least (map (privileged_text ids) ns) rest)
 value_least ids (fact.open_links ls) rest = omega (arith, list_least (map (open_link_text ids) ls) rest)
 
--- of each field, the key with its quotes and the colon, and the value; and the closing brace
+-- the bytes of fields that are counted: each key with its quotes and the colon, each value, and the closing brace
 abbrev least_of : Fields → ℕ
 least_of [] = 1
 least_of (f ∷ fs) = 3 + length f.0 + least f.1 + least_of fs
@@ -107,7 +107,7 @@ each_later : {A : Type 0} (P : A → Type 0) (xs ys : List A) → AllByRecursion
 each_later P [] ys all = all
 each_later P (x ∷ xs) ys all = each_later P xs ys all.1
 
--- so a full buffer has few lines
+-- a buffer of at most `HELD_BYTES` bytes has at most 512 lines
 pub few_lines : (lab : LabValue) (rs flushed buffered : List Reply) → rs ≡ flushed ++ buffered → AllByRecursion (λ r. is_bye r ≡ false) rs
     → length (reply_lines lab buffered) ≤ HELD_BYTES → length buffered ≤ 512
 few_lines lab rs flushed buffered parts all few =

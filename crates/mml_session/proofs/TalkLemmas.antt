@@ -1,4 +1,4 @@
--- The window that a talk leaves, and the lines that it answers.
+-- The window after a talk, and the lines that the talk has answered.
 use Rattle.std.proofs.Common.{◌≡◌, ℕ, List, [], ◌∷◌, ◌++◌, flat_map, sym, ◌∙◌, ap, append_assoc, append-nil, subst, inl, inr, All}
 use Rattle.std.{specs.List.AllByRecursion, proofs.lemmas.List.Elements.All-nil, proofs.lemmas.List.Elements.All-cons}
 use mathlib.Core.List.{IsPrefix}
@@ -15,12 +15,12 @@ use Rattle.mml_session.specs.Talks.{Talk, LineTurn, bytes_read}
 use Rattle.mml_session.proofs.EngineLemmas.{seen_told, turn_does}
 use Rattle.mml_engine.proofs.NamingLemmas as naming
 
--- the window went on: its places by those that the reply names, and what it has seen
+-- the window's places grew by those that the reply names, and it has seen what it had seen, and perhaps more
 pub record WentOn (old new : WindowValue) (r : Reply) : Type 0 where
   pub places : new.places ≡ old.places ++ places_in r
   pub seen : IsPrefix old.seen new.seen
 
--- the window is as it was, and the reply names no place
+-- this holds if the window stays as it was, and the reply names no place
 stays : (old new : WindowValue) (r : Reply) → new ≡ old → places_in r ≡ [] → WentOn old new r
 stays old new r same none = record {
   places = ap (λ (w : WindowValue). w.places) same ∙ (sym (append-nil old.places) ∙ sym (ap (λ ps. old.places ++ ps) none));
@@ -64,10 +64,11 @@ all_unbroken : (limit : ℕ) (ls : List (List ℕ)) → AllByRecursion (IsWithin
 all_unbroken limit [] each = All-nil IsUnbroken
 all_unbroken limit (l ∷ ls) each = All-cons IsUnbroken l ls each.0.0 (all_unbroken limit ls each.1)
 
--- the lines of what a talk took and of more are its own, and then those of what follows
+-- the lines in the bytes that a talk has read, followed by any bytes, are the talk's lines and then those in these
+-- bytes
 pub first_lines : (lab : LabValue) (st : Standing) (t : Talk lab st) (rest : List ℕ) → lines_of (bytes_read t ++ rest) ≡ t.lines ++ lines_of rest
 first_lines lab st t rest = lines_first t.lines rest (all_unbroken MAX_REQUEST t.lines t.each)
 
--- if no newline follows, they are its own alone
+-- if no newline follows, they are the talk's lines alone
 pub only_lines : (lab : LabValue) (st : Standing) (t : Talk lab st) (rest : List ℕ) → IsUnbroken rest → lines_of (bytes_read t ++ rest) ≡ t.lines
 only_lines lab st t rest unbroken = all_lines t.lines rest (all_unbroken MAX_REQUEST t.lines t.each) unbroken

@@ -1,4 +1,4 @@
--- The reply to a command, by the window's answer.
+-- The reply to a command, made from the window's answer.
 use Rattle.std.proofs.Common.{◌≡◌, ◌⊎◌, ℕ, List, [], ◌++◌, refl, sym, ap, ◌∙◌, subst, inl, inr, append-nil, Option}
 use Rattle.mml_lab.specs.{declared.who.Who.Who, Labs.LabValue}
 use Rattle.mml_board.specs.{declared.event.Event.Event, declared.done.Done.Done, declared.denial.Denial.Denial, World.World, Events.after, Lists.world_in}
@@ -13,7 +13,7 @@ use Rattle.mml_session.specs.Turns.{Told, Plainly, Refuses}
 use Rattle.mml_codec.specs.declared.reply.Refused.TheVariants as refused
 use Rattle.mml_codec.specs.declared.reply.Reply.TheVariants as replies
 
--- the reply to what the window granted names it
+-- if the window granted an event, the reply that names it is right
 pub granted_told : (lab : LabValue) (old new : WindowValue) (who : Who) (c : Command) (place number : ℕ) (done : Done)
     → Answers lab old who c (Granted place number done) new → Told lab old who c (reply_of_done number place done) new
 granted_told lab old new who c place number done answers =
@@ -39,11 +39,11 @@ granted_told lab old new who c place number done answers =
 has_seen : (l : List Event) (ps : List ℕ) (new : WindowValue) {why : Option Refusal} → new ≡ window_with l ps why → HasSeen l ps new
 has_seen l ps new is = (ap (λ (w : WindowValue). w.seen) is, ap (λ (w : WindowValue). w.places) is)
 
--- beside no place
+-- the same for a reply that names no place
 seen_so : (l : List Event) (ps : List ℕ) (new : WindowValue) {why : Option Refusal} → new ≡ window_with l ps why → HasSeen l (ps ++ []) new
 seen_so l ps new is = (ap (λ (w : WindowValue). w.seen) is, ap (λ (w : WindowValue). w.places) is ∙ sym (append-nil ps))
 
--- the reply to what the window denied is that denial
+-- if the window denied the command, this denial is the right reply
 pub denied_told : (lab : LabValue) (old new : WindowValue) (who : Who) (c : Command) (d : Denial)
     → Answers lab old who c (Denied d) new → Told lab old who c (replies.Deny d) new
 denied_told lab old new who c d answers = record {
@@ -56,7 +56,7 @@ denied_told lab old new who c d answers = record {
   ));
 }
 
--- an act that is refused is answered by the ruling itself, or by the refusal instead
+-- if an act is refused, the refusal is the reply to the ruling, or may replace it
 refused_says : (lab : LabValue) (l : List Event) (ps : List ℕ) (who : Who) (c : Command) (why : Refusal) (new : WindowValue)
     → Says lab l ps who c (Refused why) new
     → Plainly lab l ps (ruling_at lab (world_in lab l) who c) (replies.Refuse (refusal_for why)) new
@@ -70,7 +70,7 @@ refused_says lab l ps who c Memory new h =
     let kept = ap (λ (w : WindowValue). w.refused) h.1 in
     inr (subst (λ (ruled : Ruling). Refuses l ps ruled (replies.Refuse refused.Memory) new) (sym h.0.2) (refused.Memory, refl, kept, has_seen l ps new h.1))
 
--- the reply to what the window refused is that refusal
+-- if the window refused the command, this refusal is the right reply
 pub refused_told : (lab : LabValue) (old new : WindowValue) (who : Who) (c : Command) (why : Refusal)
     → Answers lab old who c (Refused why) new → Told lab old who c (replies.Refuse (refusal_for why)) new
 refused_told lab old new who c why answers = record {

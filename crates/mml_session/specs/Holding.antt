@@ -21,8 +21,8 @@ pub record HoldsBack (lab : LabValue) (wrote wrote' : Option (List ℕ)) (replie
 abbrev pub BreaksOff : Option (List ℕ) → Option (List ℕ) → List ℕ → Type 0
 BreaksOff wrote wrote' bytes = (n : ℕ) × (n < length bytes) × Appends wrote wrote' (take n bytes)
 
--- the first `written` bytes of these replies' lines, and of one line more, contain whole each line that an earlier
--- flush wrote (`flushed`). The other lines were in the buffer at the last flush, and have at most `HELD_BYTES` bytes
+-- The first `written` bytes of these replies' lines, and of one more line, contain all lines that earlier flushes wrote
+-- (`flushed`). The other lines were in the buffer at the last flush, and have at most `HELD_BYTES` bytes
 pub record BreaksInLastFlush (lab : LabValue) (replies : List Reply) (written : ℕ) : Type 0 where
   pub flushed : List Reply
   pub buffered : List Reply
@@ -30,9 +30,8 @@ pub record BreaksInLastFlush (lab : LabValue) (replies : List Reply) (written : 
   pub whole : length (reply_lines lab flushed) ≤ written
   pub few : length (reply_lines lab buffered) ≤ HELD_BYTES
 
--- of the lines of these replies and of the last one, the writer took all those that earlier flushes wrote, and then
--- `part`. What is missing is the rest of the last flush, which before the last line has at most `HELD_BYTES` bytes, in
--- at most 512 lines
+-- The writer took all lines that earlier flushes wrote, and then `part`. The rest of the last flush is missing, and
+-- isn't empty. Before the line of the reply `last`, the last flush has at most `HELD_BYTES` bytes, in at most 512 lines
 pub record LacksLastFlush (lab : LabValue) (replies : List Reply) (last : Reply) (wrote wrote' : List ℕ) : Type 0 where
   pub flushed : List Reply
   pub buffered : List Reply
@@ -45,8 +44,8 @@ pub record LacksLastFlush (lab : LabValue) (replies : List Reply) (last : Reply)
   pub few : length (reply_lines lab buffered) ≤ HELD_BYTES
   pub few_lines : length buffered ≤ 512
 
--- the buffered replies were written, and the session ended as `ending` says. Or the write broke off and ended the
--- session, and `before` is who was known
+-- The buffered replies were written, and the session ended as `ending` says. Or the write broke off and ended the
+-- session, and `before` is who was known before the last line
 abbrev pub LetsOut : Ending → Option Who → Ending → List ℕ → Option (List ℕ) → Option (List ℕ) → Type 0
 LetsOut ending before result held wrote wrote' =
     ((result ≡ ending) × Appends wrote wrote' held) ⊎ ((result ≡ record { end = end.WriteFault; who = before }) × BreaksOff wrote wrote' held)

@@ -27,7 +27,7 @@ sent_of (Ok done) false = sent.Told
 sent_of (Ok done) true = sent.Bye
 sent_of (Err fault) last = sent.Unwritten fault.written
 
--- the reply was sent and recorded, or in its place the refusal `memory`, if it isn't short
+-- the reply was sent and recorded; or it isn't short, and the refusal `memory` was sent and recorded in its place
 abbrev pub Tells : Sent → ℕ → LabValue → ℕ → List ℕ → Reply → List ℕ → List ℕ → Option (List ℕ) → Option (List ℕ) → Option Kept → Option Kept → Type 0
 Tells said number lab seen line r unsent unsent' wrote wrote' given given' =
     (told : Reply) × TellsFor r told × SendsReply said told (reply_line lab.ids lab.roster told) unsent unsent' wrote wrote'

@@ -1,4 +1,5 @@
--- A run over the lines of one connection, as bytes that come in and bytes that go out.
+-- A talk: the lines of one connection that were answered, with their replies, and the bytes that were read and written
+-- for them.
 use Rattle.std.specs.Prelude.{◌≡◌, ℕ, false, List, flat_map, None}
 use Rattle.mml_lab.specs.Labs.{LabValue}
 use Rattle.mml_ids.specs.Lines.{ended}
@@ -7,11 +8,11 @@ use Rattle.mml_codec.specs.{declared.TheConstants.MAX_REQUEST, declared.reply.Re
 use Rattle.mml_window.specs.Windows.{WindowValue}
 use Rattle.mml_session.specs.Turns.{Standing, standing, Turn, is_bye}
 
--- at the beginning nobody is known
+-- the state of a session with this window, in which nobody is known
 abbrev pub nobody_known : WindowValue → Standing
 nobody_known w = standing None w
 
--- lines, the reply to each, none of which is bye, and the state that they lead to
+-- lines, the reply to each, and the state after them; no reply is that to a bye
 abbrev pub Talk : LabValue → Standing → Type 0
 Talk lab st = Exchange Turn (λ lab. IsWithinLimit MAX_REQUEST) (λ r. is_bye r ≡ false) lab st
 
@@ -19,22 +20,22 @@ Talk lab st = Exchange Turn (λ lab. IsWithinLimit MAX_REQUEST) (λ r. is_bye r 
 abbrev pub LineTurn : LabValue → Standing → Standing → Type 0
 LineTurn lab st after = OneStep Turn (λ lab. IsWithinLimit MAX_REQUEST) lab st after
 
--- the bytes of the lines, each with its newline
+-- the bytes of a talk's lines, each with its newline
 abbrev pub bytes_read : {lab : LabValue} {st : Standing} → Talk lab st → List ℕ
 bytes_read t = flat_map ended t.lines
 
--- the bytes of these replies' lines
+-- the bytes of the lines of these replies
 abbrev pub reply_lines : LabValue → List Reply → List ℕ
 reply_lines lab rs = flat_map (reply_line lab.ids lab.roster) rs
 
--- the bytes of the replies' lines
+-- the bytes of the lines of a talk's replies
 abbrev pub bytes_written : {lab : LabValue} {st : Standing} → Talk lab st → List ℕ
 bytes_written {lab} t = reply_lines lab t.replies
 
--- the bytes of the line, with its newline
+-- the bytes of the answered line, with its newline
 abbrev pub line_read : {lab : LabValue} {st after : Standing} → LineTurn lab st after → List ℕ
 line_read t = ended t.line
 
--- the bytes of its reply's line
+-- the bytes of the line of its reply
 abbrev pub line_written : {lab : LabValue} {st after : Standing} → LineTurn lab st after → List ℕ
 line_written {lab} t = reply_line lab.ids lab.roster t.reply

@@ -1,4 +1,4 @@
--- The turns of lines in a session, one and many.
+-- The turns of a session: how it answers one line, and many lines one after another.
 use Rattle.std.specs.Prelude.{◌≡◌, ◌⊎◌, ℕ, Bool, true, false, List, [], ◌∷◌, ◌++◌, Option, None, Some, Result, Ok, Err}
 use mathlib.Core.List.{IsPrefix}
 use Rattle.mml_lab.specs.{declared.who.Who.Who, Labs.LabValue}
@@ -19,11 +19,11 @@ pub record Standing : Type 0 where
   pub known : Option Who
   pub window : WindowValue
 
--- the state in which this one, or nobody, is known, and the window is this
+-- the state in which this participant, or nobody, is known, and which has this window
 abbrev pub standing : Option Who → WindowValue → Standing
 standing known window = record { known = known; window = window }
 
--- the list after a ruling at it: with the event that happened, if one did
+-- the list with the ruling's event after it, if there is one
 abbrev pub entered : List Event → Option Event → List Event
 entered l None = l
 entered l (Some e) = l ++ e ∷ []
@@ -41,15 +41,17 @@ MayRefuse (Granted e done) refused.Memory kept = kept ≡ Some cause.Memory
 MayRefuse (Granted e done) refused.Journal kept = kept ≡ Some cause.Journal
 MayRefuse _ _ _ = ⊥
 
--- the reply is that to the ruling at the list, and the window has then seen the list and the event that happened
+-- the reply is that to the ruling after the list, and the window has then seen the list and the ruling's event, if
+-- there is one
 abbrev pub Plainly : LabValue → List Event → List ℕ → Ruling → Reply → WindowValue → Type 0
 Plainly lab l ps ruled r new = (r ≡ reply_of (after_ruling (world_in lab l) ruled) ruled) × HasSeen (entered l (event_of ruled)) (ps ++ places_in r) new
 
--- the reply is a refusal instead of the ruling at the list, and the window has then seen the list
+-- the reply is a refusal that replaces the ruling after the list, and the window has then seen the list
 abbrev pub Refuses : List Event → List ℕ → Ruling → Reply → WindowValue → Type 0
 Refuses l ps ruled r new = (why : Refused) × (r ≡ reply.Refuse why) × MayRefuse ruled why new.refused × HasSeen l ps new
 
--- the window's reply to a command: it is judged at a legal list that begins with all events that the window had seen
+-- the window's reply to a command, which is judged after a legal list that begins with all events that the window had
+-- seen
 pub record Told (lab : LabValue) (old : WindowValue) (who : Who) (c : Command) (r : Reply) (new : WindowValue) : Type 0 where
   pub list : List Event
   pub later : IsPrefix old.seen list
@@ -63,7 +65,7 @@ abbrev pub Settles : LabValue → Standing → Greeting → Reply → Standing �
 Settles lab st (Answered r x) r' next = (r' ≡ r) × (next ≡ standing x st.window)
 Settles lab st (LeftToJudge who c) r' next = (next.known ≡ st.known) × Told lab st.window who c r' next.window
 
--- the result of what a line asks
+-- the effect of what a line asks
 abbrev pub Asked : LabValue → Standing → Result Request LineFault → Reply → Standing → Type 0
 Asked lab st (Err fault) r next = (r ≡ reply.Refuse (refusal_of fault)) × (next ≡ st)
 Asked lab st (Ok request) r next = Settles lab st (greeting lab.roster st.known request) r next
@@ -76,16 +78,16 @@ Unread st r next = (r ≡ reply.Refuse refused.Memory) × (next ≡ st)
 abbrev pub Turn : LabValue → Standing → List ℕ → Reply → Standing → Type 0
 Turn lab st line r next = Asked lab st (request_in line) r next ⊎ Unread st r next
 
--- one turn after another, from a state to the end
+-- turns one after another, from a state `st` to the state `end`
 abbrev pub Run : LabValue → Standing → List (List ℕ) → List Reply → Standing → Type 0
 Run lab st lines rs end = Runs (Turn lab) st lines rs end
 
--- the reply is that to a hello that is granted
+-- whether the reply is that to a granted hello
 abbrev pub is_hello : Reply → Bool
 is_hello (reply.Hello who) = true
 is_hello _ = false
 
--- the reply is that to a bye
+-- whether the reply is that to a bye
 abbrev pub is_bye : Reply → Bool
 is_bye reply.Bye = true
 is_bye _ = false

@@ -41,7 +41,7 @@ pub enum SessionEnd {
     End,
     /// A read failed, or one more was needed after as many reads as a session may make.
     ReadFault,
-    /// A write failed, or took nothing.
+    /// A write failed, or wrote nothing.
     WriteFault,
     /// More bytes than a request may have came without a newline.
     TooLong,
@@ -198,7 +198,7 @@ fn serve_next<Rt: Wait, S: Sink + Drop, H: House, R: Read, W: Write, O: Observer
     ensures limit { session.new.lines.limit ≡ MAX_REQUEST }
     ensures room { REPLY_ROOM ≤ vec_capacity session.new.reply }
     ensures principal { IfSome session.new.known (IsPrincipal H.lab.roster) }
-    // Each line brings the end nearer, since the number of reads is limited.
+    // After each line, fewer bytes can still come, since the number of reads is limited.
     ensures progress { result ≡ Next.Served →
         bytes_ahead session.new.lines < bytes_ahead session.old.lines }
     ensures serves { ServesNext result session.old.connection H.lab (standing session.old.known window.old)

@@ -1,7 +1,7 @@
 //! What all sessions of a house share.
 //!
 //! A house is one run of a lab that threads share: its list of granted events, the board after them, and their journal.
-//! The desk is the book with its lock.
+//! The desk has these three under a lock.
 use mml_journal::Sink;
 use mml_window::{Desk, House};
 use std::alloc::Global;

@@ -1,4 +1,4 @@
-//! Tests of classes that go on from a journal, or are refused.
+//! Tests of classes that are resumed from a journal, or refused.
 //!
 //! The host has two ports: the desk, which is the teacher's, and the students' port.
 ghost use Rattle.std.specs.Prelude.{◌≡◌, ◌<◌, ◌-◌, ◌^◌, IfSome};
@@ -30,7 +30,7 @@ const ANA: &str = lines!(
 "#
 );
 
-/// The replies to `ANA` in a class that goes on from `OLD`.
+/// The replies to `ANA` in a class that is resumed from `OLD`.
 const ANA_IS_TOLD: &str = lines!(
     welcome("ana"),
     chosen,
@@ -48,7 +48,7 @@ const TESS_IS_TOLD: &str = lines!(welcome("tess"), closed, empty, left);
 /// The text that a class prints first.
 const FIRST: &str = "listening\n";
 
-/// What a class that goes on from `OLD` should print.
+/// What a class that is resumed from `OLD` should print.
 const TOLD: &str = "listening
 resumed at place 1, configuration 0, 1 chosen
 done: 2 events, configuration 1
@@ -79,9 +79,9 @@ impl Store<MemorySink> for Shelf {
     }
 }
 
-/// Lets a class go on from the journal `old`, over a cycle of six nodes, with this limit of `events`. Ana connects to
-/// the port and, when she has left, the teacher connects to the desk. `out` gets what the class prints. Returns the
-/// result of the class, or the fault because of which it didn't go on. Returns an error (`Fail`) if memory runs out.
+/// Resumes a class from the journal `old`, over a cycle of six nodes, with this limit of `events`. Ana connects to the
+/// port and, when she has left, the teacher connects to the desk. `out` gets what the class prints. Returns the result
+/// of the class, or its fault. Returns an error (`Fail`) if memory runs out.
 fn resume<R: Threads + Wait + Sync>(
     rt: &R,
     alloc: Global,
@@ -106,9 +106,9 @@ fn resume<R: Threads + Wait + Sync>(
     Ok(resume_in(rt, alloc, lab, old, at_desk, at_port, &count, out))
 }
 
-/// Lets a class of this lab go on from the journal `old`, with these connections at the desk and at the port, and no
+/// Resumes a class of this lab from the journal `old`, with these connections at the desk and at the port, and no
 /// record. `count` counts the sessions that have ended, and `out` gets what the class prints. Returns the result of the
-/// class, or the fault because of which it didn't go on.
+/// class, or its fault.
 fn resume_in<R: Threads + Wait + Sync>(
     rt: &R,
     alloc: Global,
@@ -137,8 +137,8 @@ fn resume_in<R: Threads + Wait + Sync>(
     )
 }
 
-/// Lets a class go on from the journal `old`, with this limit of `events`. Returns the fault because of which it didn't
-/// go on, or `None` if it did. Also returns whether nothing was printed.
+/// Resumes a class from the journal `old`, with this limit of `events`. Returns its fault, or `None` if it ended well.
+/// Also returns whether nothing was printed.
 fn fault_of_class<R: Threads + Wait + Sync>(
     rt: &R,
     alloc: Global,
@@ -150,8 +150,8 @@ fn fault_of_class<R: Threads + Wait + Sync>(
     Ok((fault, out.is_empty()))
 }
 
-/// Lets a class go on from `OLD`. Returns four answers: whether ana's replies, the teacher's replies, the journal, and
-/// the printed text are right. Returns an error if the class didn't go on.
+/// Resumes a class from `OLD`. Returns four answers: whether ana's replies, the teacher's replies, the journal, and the
+/// printed text are right. Returns an error if the class failed.
 fn results_of_a_class<R: Threads + Wait + Sync>(rt: &R, alloc: Global) -> Result<[bool; 4], Fail> {
     let mut out = Vec::new(alloc);
     match resume(rt, alloc, 100, OLD, &mut out)? {
@@ -166,15 +166,15 @@ fn results_of_a_class<R: Threads + Wait + Sync>(rt: &R, alloc: Global) -> Result
     }
 }
 
-/// Checks a class that goes on from a journal with a torn line: the replies, the journal and the printed text must be
-/// right.
+/// Checks a class that is resumed from a journal with a torn line: the replies, the journal and the printed text must
+/// be right.
 #[test]
 fn a_class_goes_on_where_its_journal_stopped(rt: HostRuntime) -> Result<(), Fail> {
     assert_eq!(rt; results_of_a_class(&rt, rt.alloc())?, [true; 4]);
     Ok(())
 }
 
-/// Returns whether a class that should go on from the journal `old`, with this limit of events, is refused for the
+/// Returns whether a class that should be resumed from the journal `old`, with this limit of events, is refused for the
 /// reason `wanted`, and prints nothing.
 fn is_refused<R: Threads + Wait + Sync>(
     rt: &R,
@@ -196,7 +196,7 @@ fn are_refused<R: Threads + Wait + Sync>(rt: &R, alloc: Global) -> Result<[bool;
     Ok([is_empty, is_long, is_torn])
 }
 
-/// Checks that a class doesn't go on from a journal with an illegal event, with too many events, or with a torn line
+/// Checks that a class isn't resumed from a journal with an illegal event, with too many events, or with a torn line
 /// that is too long. It must be refused for the right reason, and print nothing.
 #[test]
 fn what_is_no_journal_is_refused(rt: HostRuntime) -> Result<(), Fail> {

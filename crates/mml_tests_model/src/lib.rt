@@ -1,5 +1,5 @@
-//! Tests of the model and the journal for what no script, audit or lab file reaches. They test sets, and sinks that
-//! fail. They also test that each public call that can report out of memory succeeds if there is enough.
+//! Tests of the model and the journal. They test what no script, audit or lab file can test, for example sets, and
+//! sinks that fail. They also test that each public call that can report out of memory succeeds if there is enough.
 #![tactic(auto)]
 
 #[cfg(test)]

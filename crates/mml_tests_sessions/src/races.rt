@@ -98,8 +98,8 @@ fn are_answered<S: Drop>(house: &ServedHouse<S, Bytewise<'_>, Vec<u8>>, replies:
 /// An outcome of sessions: the replies to each, the journal, and the server's last line.
 type Outcome = (&'static [&'static str], &'static str, &'static str);
 
-/// Scripts, where their sessions wait for each other, how many steps each session takes, and the outcomes that are
-/// allowed.
+/// The scripts of a race, the steps at which their sessions wait for each other, how many steps each session takes, and
+/// the outcomes that are allowed.
 type Race = (
     &'static [&'static str],
     Holds<'static>,

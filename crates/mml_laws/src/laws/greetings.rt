@@ -1,4 +1,4 @@
-//! The participant that a connection is known as. Each law is the contract of a function that does nothing.
+//! The participant who is known on a connection. Each law is the contract of a function that does nothing.
 //!
 //! An account is known on a connection from its granted hello to its bye.
 ghost use Rattle.std.specs.Prelude.{◌≡◌, ◌⊎◌, ℕ, List, Some, None, Ok};

@@ -1,6 +1,6 @@
 //! How a house (one run of a lab) halts. Each law is the contract of a function that does nothing.
 //!
-//! The journal is halted once a line couldn't be written to it. From then on nothing is granted.
+//! The journal is halted if a line couldn't be written to it. From then on nothing is granted.
 ghost use Rattle.std.specs.Prelude.{◌≡◌, ◌⊎◌, ◌<◌, ℕ, List, Option, true};
 ghost use Rattle.std.specs.List.{AllByRecursion};
 ghost use Rattle.mml_lab.specs.declared.who.Who.{Who};

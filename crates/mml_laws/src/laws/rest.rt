@@ -17,9 +17,10 @@ ghost use Rattle.mml_convergence.specs.Rest.{EachHasOwner, is_grant_or_close};
 ghost use Rattle.mml_convergence.specs.Most.{events_to_rest};
 
 /// On n nodes with L links, a legal list of only grants and closes has at most k = 6n + 4 min(L, n²/4) events, with
-/// n²/4 rounded down. Each move that is chosen at its beginning makes this one less. So if each node has an owner and k
-/// events are allowed, such a run comes to rest before it reaches the limit. As long as a node is privileged, there is
-/// room for one more event. For at most 256 nodes, k is at most 67072, and a lab may allow 100000 events.
+/// n²/4 rounded down. If moves are chosen at its beginning, the bound is smaller by their number. So if each node has
+/// an owner and k events are allowed, such a run comes to rest before it reaches the limit. As long as a node is
+/// privileged, there is room for one more event. For at most 256 nodes, k is at most 67072, and a lab may allow 100000
+/// events.
 pub fn rest_comes_within_a_limit()
     ensures few { (r : RosterValue) (w : World) (es : List Event) → IsWorld w →
         is_legal_list r w es ≡ true → list_all is_grant_or_close es ≡ true →

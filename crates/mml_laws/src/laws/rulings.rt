@@ -2,7 +2,7 @@
 //!
 //! The verdict is what the clauses of a command, the conditions for it, decide. The ruling is the verdict, or a refusal
 //! in place of a grant. A world is a network with its registers, its chosen moves, the number of its configuration, and
-//! the number of events so far. The journal is halted once a line couldn't be written to it.
+//! the number of events so far. The journal is halted if a line couldn't be written to it.
 ghost use Rattle.std.specs.Prelude.{◌≡◌, ◌↔◌, ◌<◌, ◌≤◌, ℕ, Bool, true, false, List};
 ghost use Rattle.mml_lab.specs.declared.who.Who.{Who};
 ghost use Rattle.mml_lab.specs.Rosters.{RosterValue};

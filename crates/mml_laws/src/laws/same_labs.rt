@@ -1,5 +1,5 @@
-//! What two labs have in common that agree in everything that a journal names. Each law is the contract of a function
-//! that does nothing.
+//! Two labs that agree in everything that a journal names. Such labs are called the same here. Each law is the contract
+//! of a function that does nothing.
 //!
 //! A list of events is legal if each event is allowed in the world after the earlier ones. The audit of a journal
 //! checks that its lines are those of a legal list.

@@ -61,7 +61,7 @@ pub fn only_views_tell_registers()
         list_any (λ f. tells_registers f.1) (written.fields_of roster r) ≡ false }
 {}
 
-/// A program that reads a reply's text as JSON finds the lists that `listed` has, each under its key. A look has the
+/// A program that reads a reply's text as JSON finds the lists of `listed`, each under its key. A look has the
 /// neighbours; a report has the free nodes, the open links, the pairs and the privileged nodes; and a close has the
 /// nodes that moved.
 pub fn replies_have_these_lists()

@@ -77,7 +77,7 @@ const LEFT: &str = lines!("1 ", left);
 const BAD_SECOND_LINE: &str = lines!("1 ", bye, "5 ", bye);
 
 /// A script, and how often it is repeated; how many writes and how many flushes of its writer succeed; and the error
-/// with which it ends. At last what must be written: a text, and how often it is repeated.
+/// with which it ends. Then comes what must be written: a text, and how often it is repeated.
 type Row = (
     &'static str,
     usize,

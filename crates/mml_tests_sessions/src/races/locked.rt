@@ -20,7 +20,7 @@ const PUT: u8 = 4;
 /// its second reply.
 const TURNS: u64 = 100_000;
 
-/// The places at which the sessions wait. The second and the third wait at their second line until the first put has
+/// The steps at which the sessions wait. The second and the third wait at their second line until the first put has
 /// begun. The put waits until the second session has come to its second line, and the third has got its second reply.
 const HOLDS: &[Hold] = &[
     (2, 2, PUT, 1),
