@@ -9,7 +9,8 @@
 Edits of one crate that change different texts and functions are put into one copy of the crate, which is called a
 round. A single check proves the functions that the edits of a round name. A function is proved from the contracts of
 the functions that it calls, so a refused function leaves no goal of its callers open. Each round starts from the proofs
-in the crate's library. Crates are tried side by side.
+in the crate's library, if the library has any. Crates are tried side by side. A round that was refused in an earlier run
+on this machine, with the same files, isn't tried again (`tools.wrong.kept`).
 
 The following is a failure: an edit that can't be applied; a function that isn't refused at its goal; an error that
 belongs to no goal (a text that doesn't compile, or a name that a proof doesn't find); a function that is refused though
@@ -29,8 +30,9 @@ from pathlib import Path
 from tools.wrong.beside import as_proved, give_way
 from tools.wrong.checks import Running, lane_count
 from tools.wrong.edits import read_edits, rounds_of
+from tools.wrong.kept import Kept, folder_of_user
 from tools.wrong.libraries import LibraryFault, Tree, tree_at
-from tools.wrong.trying import Tried, try_crates
+from tools.wrong.trying import Results, Tried, try_crates
 
 TOP = Path(__file__).resolve().parents[2]
 
@@ -42,6 +44,7 @@ def words() -> argparse.Namespace:
     parser.add_argument("--jobs", type=int, metavar="N", help="at most N checks side by side (else RT_JOBS, or the processors)")
     parser.add_argument("--times", action="store_true", help="say the processor seconds of each crate and of all")
     parser.add_argument("--logs", type=Path, metavar="FOLDER", help="keep what each check prints")
+    parser.add_argument("--anew", action="store_true", help="try again what was refused in an earlier run")
     parser.add_argument("--rounds", action="store_true", help="say only what is tried together")
     parser.add_argument("--as-proved", action="store_true", help="beside an rt ci whose crates are named on standard input")
     return parser.parse_args()
@@ -71,15 +74,15 @@ def say_rounds(tree: Tree, crates: list[str]) -> None:
 def tried_of(tree: Tree, crates: list[str], asked: argparse.Namespace) -> Iterator[Tried]:
     """Yields the result of each crate. If `asked`, the arguments of the command line, has `--as-proved`, a crate is
     tried once it is proved, and otherwise at once."""
-    lanes = lane_count(asked.jobs)
+    lanes, results = lane_count(asked.jobs), Results(asked.logs, Kept(None if asked.anew else folder_of_user()))
     if not asked.as_proved:
-        yield from try_crates(tree, crates, lanes, asked.logs, Running())
+        yield from try_crates(tree, crates, lanes, results, Running())
         return
     give_way()
     running = Running(beside=len(os.sched_getaffinity(0)) // 2)
     with tempfile.TemporaryDirectory(prefix="mml-wrong-") as room:
         over = replace(tree, libraries=Path(room))
-        yield from try_crates(over, as_proved(over, crates, sys.stdin, running), lanes, asked.logs, running)
+        yield from try_crates(over, as_proved(over, crates, sys.stdin, running), lanes, results, running)
 
 
 def try_all(tree: Tree, crates: list[str], asked: argparse.Namespace) -> int:

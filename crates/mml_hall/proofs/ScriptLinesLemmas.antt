@@ -7,6 +7,7 @@ use Rattle.std.proofs.lemmas.List.{get_or-append_right, Elements.All-nil, Elemen
 use Rattle.mml_ids.specs.Lines.{IsUnbroken, ended}
 use Rattle.mml_lines.specs.{LinesOf.IsWithinLimit, LinesOf.IsTooLong, declared.lines.TheConstants.READ_SIZE}
 use Rattle.mml_lines.proofs.{KnownBytesLemmas.put_back, LinesOfLemmas.tail_unbroken}
+use Rattle.mml_lab.specs.declared.TheConstants.{MAX_SESSIONS}
 use Rattle.mml_codec.specs.declared.TheConstants.{MAX_REQUEST}
 use Rattle.mml_journal.specs.Words.{number_in}
 use Rattle.mml_journal.proofs.NumeralLemmas.{number_in-decimal, number_in_only}
@@ -56,7 +57,7 @@ space_first : (bytes : List ℕ) → IsUnbroken bytes → IsUnbroken (32 ∷ byt
 space_first bytes h zero less e = omega (arith, e)
 space_first bytes h (suc k) less e = h k (omega (arith, less)) e
 
-pub script_unbroken : (n : ℕ) (s : RequestLine) → n ≤ 16 → IsScriptLine n s → IsUnbroken (script_line s)
+pub script_unbroken : (n : ℕ) (s : RequestLine) → n ≤ MAX_SESSIONS → IsScriptLine n s → IsUnbroken (script_line s)
 script_unbroken n s few valid =
     let small : s.connection < 2 ^ 64 = omega (arith, few, valid.known) in
     unbroken_join (decimal s.connection) (32 ∷ s.request)
@@ -64,7 +65,7 @@ script_unbroken n s few valid =
     (space_first s.request valid.request.0)
 
 -- no script line contains a newline
-pub scripts_unbroken : (n : ℕ) (ss : List RequestLine) → n ≤ 16 → AllByRecursion (IsScriptLine n) ss → All IsUnbroken (map script_line ss)
+pub scripts_unbroken : (n : ℕ) (ss : List RequestLine) → n ≤ MAX_SESSIONS → AllByRecursion (IsScriptLine n) ss → All IsUnbroken (map script_line ss)
 scripts_unbroken n [] few each = All-nil IsUnbroken
 scripts_unbroken n (s ∷ ss) few each =
     All-cons IsUnbroken (script_line s) (map script_line ss) (script_unbroken n s few each.0) (scripts_unbroken n ss few each.1)

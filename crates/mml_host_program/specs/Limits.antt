@@ -1,5 +1,7 @@
 -- The limits that a class has, for programs to read.
 use Rattle.std.specs.Prelude.{ℕ, List, ◌++◌, codes, decimal}
+use Rattle.mml_lab.specs.declared.TheConstants.{MAX_EVENTS, MAX_KEY, MAX_NAME, MAX_OWNERS, MAX_SESSIONS, MAX_STUDENTS}
+use Rattle.mml_codec.specs.declared.TheConstants.{MAX_REQUEST}
 
 -- a line: what is limited, the greatest number that is allowed, and its unit
 abbrev pub limit_line : List ℕ → ℕ → List ℕ → List ℕ
@@ -8,16 +10,16 @@ limit_line name most unit = name ++ (codes " " ++ (decimal most ++ (codes " " ++
 -- how large a lab's network may be, how many students there may be, and how many of them may own a node
 abbrev pub network_limits : List ℕ
 network_limits = limit_line (codes "nodes") 256 (codes "count") ++ (limit_line (codes "identifier") 65535 (codes "number")
-    ++ (limit_line (codes "students") 256 (codes "count") ++ limit_line (codes "owners") 2 (codes "count")))
+    ++ (limit_line (codes "students") MAX_STUDENTS (codes "count") ++ limit_line (codes "owners") MAX_OWNERS (codes "count")))
 
 -- how large a lab's class may be, and how long its names and keys
 abbrev pub class_limits : List ℕ
-class_limits = limit_line (codes "sessions") 16 (codes "count") ++ (limit_line (codes "events") 100000 (codes "count")
-    ++ (limit_line (codes "name") 32 (codes "characters") ++ limit_line (codes "key") 64 (codes "characters")))
+class_limits = limit_line (codes "sessions") MAX_SESSIONS (codes "count") ++ (limit_line (codes "events") MAX_EVENTS (codes "count")
+    ++ (limit_line (codes "name") MAX_NAME (codes "characters") ++ limit_line (codes "key") MAX_KEY (codes "characters")))
 
 -- how long a request's line may be, and the files of a lab and of a journal
 abbrev pub text_limits : List ℕ
-text_limits = limit_line (codes "line") 4096 (codes "bytes") ++ (limit_line (codes "lab") 1048576 (codes "bytes")
+text_limits = limit_line (codes "line") MAX_REQUEST (codes "bytes") ++ (limit_line (codes "lab") 1048576 (codes "bytes")
     ++ limit_line (codes "journal") 16777216 (codes "bytes"))
 
 -- how many bytes one entry of a record may have, how many a host writes to a seat's file, and how many are read from

@@ -3,7 +3,7 @@ use Rattle.std.specs.Prelude.{◌≡◌, ◌+◌, ◌-◌, ◌^◌, min, ℕ, Li
 use Rattle.mml_audit.specs.declared.auditing.AuditFault.{AuditFault}
 use Rattle.mml_record.specs.declared.verdict.{BadEntry.BadEntry, Why.Why}
 use Rattle.mml_class.specs.declared.{class_record.ClassFault.ClassFault, granting.Misgranted.Misgranted}
-use Rattle.mml_judging_program.specs.declared.{class_error.ClassError.ClassError, fault.Fault.Fault, record_refusal.RecordRefusal.RecordRefusal}
+use Rattle.mml_judging_program.specs.declared.{class_error.ClassError.ClassError, fault.JudgingFault.JudgingFault, record_refusal.RecordRefusal.RecordRefusal}
 use Rattle.mml_program.specs.Faults.{IsAuditError, status_of}
 use Rattle.mml_program.specs.declared.fault.Fault.TheVariants as common
 use Rattle.mml_record.specs.declared.verdict.Why.TheVariants as why
@@ -11,7 +11,7 @@ use Rattle.mml_class.specs.declared.class_record.ClassFault.TheVariants as class
 use Rattle.mml_class.specs.declared.granting.Misgranted.TheVariants as granted
 use Rattle.mml_class.specs.declared.seats.SeatFault.TheVariants as seat
 use Rattle.mml_judging_program.specs.declared.class_error.ClassError.TheVariants as error
-use Rattle.mml_judging_program.specs.declared.fault.Fault.TheVariants as fault
+use Rattle.mml_judging_program.specs.declared.fault.JudgingFault.TheVariants as fault
 use Rattle.mml_judging_program.specs.declared.record_refusal.RecordRefusal.TheVariants as refusal
 
 -- ---- a record that is refused
@@ -55,31 +55,31 @@ IsOfPlace amiss _ = ⊥
 -- ---- the error
 
 -- the error says that the record is refused, and P holds of the refusal
-abbrev pub IsRefusal : (RecordRefusal → Type 0) → Fault → Type 0
+abbrev pub IsRefusal : (RecordRefusal → Type 0) → JudgingFault → Type 0
 IsRefusal P (fault.Record why) = P why
 IsRefusal P _ = ⊥
 
 -- the error for texts that are no record of a class, or can't be read
-abbrev pub IsOfRecord : ClassFault → Fault → Type 0
+abbrev pub IsOfRecord : ClassFault → JudgingFault → Type 0
 IsOfRecord (class.Entry seat bad) f = IsRefusal (IsOfEntry seat bad) f
 IsOfRecord (class.Places amiss) f = IsRefusal (IsOfPlace amiss) f
 IsOfRecord (class.Unread seat.Read) f = f ≡ fault.ReadRecord
 IsOfRecord (class.Unread seat.Memory) f = f ≡ fault.Common common.Memory
 
 -- the error for a journal that doesn't pass the audit, because of this fault or because memory ran out
-abbrev pub IsOfJournal : AuditFault → Fault → Type 0
+abbrev pub IsOfJournal : AuditFault → JudgingFault → Type 0
 IsOfJournal why (fault.Common told) = IsAuditError why told
 IsOfJournal why _ = ⊥
 
 -- the error for the reason why the result of checking a class wasn't written
-abbrev pub IsOfClass : ClassError → Fault → Type 0
+abbrev pub IsOfClass : ClassError → JudgingFault → Type 0
 IsOfClass (error.Audit why) f = IsOfJournal why f
 IsOfClass (error.Record why) f = IsOfRecord why f
 IsOfClass error.Memory f = f ≡ fault.Common common.Memory
 IsOfClass error.Write f = f ≡ fault.Common common.Write
 
 -- the exit status of an error: 3 if the record is refused, 4 if it can't be read, and else as in `mml_program`
-abbrev pub exit_status : Fault → ℕ
+abbrev pub exit_status : JudgingFault → ℕ
 exit_status (fault.Common why) = status_of why
 exit_status (fault.Record why) = 3
 exit_status fault.ReadRecord = 4

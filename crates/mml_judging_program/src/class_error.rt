@@ -2,7 +2,7 @@
 ghost use Rattle.std.specs.Prelude.{◌≡◌, true, false, Ok, Err, OnOk, IfErr, IsErrAnd};
 ghost use Rattle.mml_judging_program.specs.Faults.{IsOfClass, IsOfRecord};
 
-use crate::fault::Fault;
+use crate::fault::JudgingFault;
 use crate::record_refusal::RecordRefusal;
 use mml_audit::AuditFault;
 use mml_class::{ClassFault, SeatFault};
@@ -23,10 +23,10 @@ pub enum ClassError {
 
 /// Returns the result of a subcommand, which is `Ok` if all was written (`written`). Otherwise returns the program's
 /// error, which is `Memory` if the writer ran out of memory (`lacked`).
-pub(crate) fn result_of(written: Result<(), ClassError>, lacked: bool) -> Result<(), Fault>
+pub(crate) fn result_of(written: Result<(), ClassError>, lacked: bool) -> Result<(), JudgingFault>
     ensures ok { OnOk written (result ≡ Ok tt) }
     ensures lacked { IfErr written (λ _. lacked ≡ true →
-        result ≡ Err (Fault.Common ProgramFault.Memory)) }
+        result ≡ Err (JudgingFault.Common ProgramFault.Memory)) }
     ensures error { IfErr written (λ error. lacked ≡ false → IsErrAnd result (IsOfClass error)) }
 {
     match written {
@@ -36,25 +36,25 @@ pub(crate) fn result_of(written: Result<(), ClassError>, lacked: bool) -> Result
 }
 
 // Returns the program's error for the reason why the result of checking a class wasn't written.
-fn fault_of(error: ClassError) -> Fault
+fn fault_of(error: ClassError) -> JudgingFault
     ensures { IsOfClass error result }
 {
     match error {
-        ClassError::Audit(why) => Fault::Common(ProgramFault::from(why)),
+        ClassError::Audit(why) => JudgingFault::Common(ProgramFault::from(why)),
         ClassError::Record(why) => record_fault(why),
-        ClassError::Memory => Fault::Common(ProgramFault::Memory),
-        ClassError::Write => Fault::Common(ProgramFault::Write),
+        ClassError::Memory => JudgingFault::Common(ProgramFault::Memory),
+        ClassError::Write => JudgingFault::Common(ProgramFault::Write),
     }
 }
 
 // Returns the program's error for texts that aren't the record of a class, or can't be read.
-fn record_fault(why: ClassFault) -> Fault
+fn record_fault(why: ClassFault) -> JudgingFault
     ensures { IsOfRecord why result }
 {
     match why {
-        ClassFault::Entry { seat, bad } => Fault::Record(RecordRefusal::of(seat, bad)),
-        ClassFault::Places(amiss) => Fault::Record(RecordRefusal::of_places(amiss)),
-        ClassFault::Unread(SeatFault::Read) => Fault::ReadRecord,
-        ClassFault::Unread(SeatFault::Memory) => Fault::Common(ProgramFault::Memory),
+        ClassFault::Entry { seat, bad } => JudgingFault::Record(RecordRefusal::of(seat, bad)),
+        ClassFault::Places(amiss) => JudgingFault::Record(RecordRefusal::of_places(amiss)),
+        ClassFault::Unread(SeatFault::Read) => JudgingFault::ReadRecord,
+        ClassFault::Unread(SeatFault::Memory) => JudgingFault::Common(ProgramFault::Memory),
     }
 }

@@ -9,7 +9,7 @@ use thiserror::Error;
 
 /// Why a subcommand ended before its work was done.
 #[derive(Debug, Drop, Error)]
-pub enum Fault {
+pub enum JudgingFault {
     /// An error that commands of `mml_program` have too: of the command line, lab, journal, script, output or memory.
     #[error("{0}")]
     Common(ProgramFault),
@@ -21,36 +21,36 @@ pub enum Fault {
     ReadRecord,
 }
 
-impl Fault {
+impl JudgingFault {
     /// Returns the exit status of the error: 3 if the record is refused, and 4 if it can't be read. An error
     /// of `mml_program` has the same status as there.
     pub fn status(&self) -> u8
         ensures { result ≡ exit_status self.now }
     {
         match self {
-            Fault::Common(fault) => fault.status(),
-            Fault::Record(_) => 3,
-            Fault::ReadRecord => 4,
+            JudgingFault::Common(fault) => fault.status(),
+            JudgingFault::Record(_) => 3,
+            JudgingFault::ReadRecord => 4,
         }
     }
 }
 
-impl From<ProgramFault> for Fault {
-    ghost use Rattle.mml_judging_program.specs.declared.fault.Fault.TheVariants.{Common};
+impl From<ProgramFault> for JudgingFault {
+    ghost use Rattle.mml_judging_program.specs.declared.fault.JudgingFault.TheVariants.{Common};
 
     ghost from_gives = { λ fault e. e ≡ Common fault };
 
     // Wraps an error of `mml_program`.
-    fn from(fault: ProgramFault) -> Fault {
-        Fault::Common(fault)
+    fn from(fault: ProgramFault) -> JudgingFault {
+        JudgingFault::Common(fault)
     }
 }
 
-impl From<Memory> for Fault {
+impl From<Memory> for JudgingFault {
     // Turns memory that ran out into the same error as in `mml_program`.
-    fn from(_memory: Memory) -> Fault
-        ensures { result ≡ Fault.Common ProgramFault.Memory }
+    fn from(_memory: Memory) -> JudgingFault
+        ensures { result ≡ JudgingFault.Common ProgramFault.Memory }
     {
-        Fault::Common(ProgramFault::Memory)
+        JudgingFault::Common(ProgramFault::Memory)
     }
 }

@@ -16,7 +16,7 @@ mod words;
 
 pub use answering::answer;
 pub use class_error::ClassError;
-pub use fault::Fault;
+pub use fault::JudgingFault;
 pub use record_refusal::RecordRefusal;
 pub use recorded::tally_class;
 pub use tally::write_tally;

@@ -8,7 +8,7 @@ ghost use Rattle.mml_judging_program.specs.Tallies.{HasNoTally, IsTally};
 
 use crate::class_error::{ClassError, result_of};
 use crate::class_writing::{audit_class, write_class};
-use crate::fault::Fault;
+use crate::fault::JudgingFault;
 use crate::words::TallyTask;
 use mml_board::{Board, Event};
 use mml_ends::Retrying;
@@ -23,7 +23,10 @@ use std::rt::Files;
 
 /// Prints the tally of the journal in a file over the lab in a file. Returns an error if the lab or the journal is
 /// refused or can't be read, a write fails, or memory runs out.
-pub fn tally<R: Files + Print + AllocGlobal>(rt: &R, task: TallyTask<'_>) -> Result<(), Fault> {
+pub fn tally<R: Files + Print + AllocGlobal>(
+    rt: &R,
+    task: TallyTask<'_>,
+) -> Result<(), JudgingFault> {
     let lab = lab_of(rt, task.lab)?;
     let journal = read_journal(rt, task.journal)?;
     let mut writer = Retrying::new(io::writer(rt));

@@ -1,6 +1,6 @@
 //! From the command line to the work that it asks for.
 use crate::answering::answer;
-use crate::fault::Fault;
+use crate::fault::JudgingFault;
 use crate::recorded::tally_recorded;
 use crate::tally::tally;
 use crate::verifying::verify;
@@ -12,7 +12,7 @@ use std::rt::Files;
 pub fn run<R: Files<File = File> + Input + Print + AllocGlobal>(
     rt: &R,
     words: &[String],
-) -> Result<(), Fault> {
+) -> Result<(), JudgingFault> {
     match read_words(rt.alloc(), words)? {
         Task::Answer { lab } => answer(rt, lab),
         Task::Verify(task) => verify(rt, task),

@@ -11,7 +11,7 @@ ghost use Rattle.mml_judging_program.specs.Verifying.{begun_line, end_of, verifi
 
 use crate::class_error::{ClassError, result_of};
 use crate::class_writing::{audit_class, write_class};
-use crate::fault::Fault;
+use crate::fault::JudgingFault;
 use crate::folder::Folder;
 use crate::words::VerifyTask;
 use mml_board::Event;
@@ -32,7 +32,7 @@ use std::rt::Files;
 pub fn verify<R: Files<File = File> + Print + AllocGlobal>(
     rt: &R,
     task: VerifyTask<'_>,
-) -> Result<(), Fault> {
+) -> Result<(), JudgingFault> {
     let lab = lab_of(rt, task.lab)?;
     let journal = read_journal(rt, task.journal)?;
     let seats = Folder {

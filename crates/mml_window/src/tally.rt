@@ -9,10 +9,11 @@ ghost use Rattle.mml_window.specs.inside.Cursors.{left_of, IsStuck};
 
 use crate::house::House;
 use crate::window::Window;
+use mml_lab::MAX_SESSIONS;
 
-/// For each window, the index of the first of its places that isn't counted off yet. There are at most 16 windows, as
-/// many as a lab may have sessions.
-type Cursors = [usize; 16];
+/// For each window, the index of the first of its places that isn't counted off yet. There are at most as many windows
+/// as a lab may have sessions.
+type Cursors = [usize; MAX_SESSIONS as usize];
 
 /// Returns how many places (event numbers) all windows together were granted.
 pub(crate) fn count_places<H: House>(windows: &[Window<H>]) -> u64
@@ -37,7 +38,7 @@ pub(crate) fn is_each_once<H: House>(windows: &[Window<H>], first: u64, most: u6
     if first > most {
         return false;
     }
-    let mut cursors = [0; 16];
+    let mut cursors = [0; MAX_SESSIONS as usize];
     'places: for counted in first..most {
         if !count_off(windows, &mut cursors, counted + 1) {
             return false;

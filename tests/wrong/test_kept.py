@@ -1,0 +1,183 @@
+"""The rounds of wrong bodies that aren't tried again: which changes make the tool try a round again, and which results
+it keeps.
+
+    python3 -B -m unittest tests.wrong.test_kept      a few seconds; needs neither the toolchain nor a library
+"""
+from __future__ import annotations
+
+import os
+import tempfile
+import unittest
+from collections.abc import Iterator
+from contextlib import contextmanager
+from pathlib import Path
+from unittest.mock import patch
+
+from tools.wrong import kept, trying
+from tools.wrong.checks import Ended, Running
+from tools.wrong.edits import Round, read_edits, rounds_of
+from tools.wrong.judging import Judged
+from tools.wrong.kept import Kept, folder_of_user, name_of
+from tools.wrong.libraries import Tree, parse_uses
+from tools.wrong.trying import Results, Tried, try_crate
+
+EDIT = "# refused: f returns\nfile: src/lib.rt\nold: one\nnew: two\n"
+USES = "lowest:\nbelow: lowest json\nabove: below\nbeside:\n"
+FILES = {
+    "kit/KIT-ID": "kit 1\n",
+    "kit/bin/rattle": "prover 1\n",
+    "kit/rlibs/std.rlib/format": "std 1\n",
+    "kit/rlibs/json.rlib/format": "json 1\n",
+    "crates/lowest/out/rlib/lowest.rlib/format": "lowest 1\n",
+    "crates/below/out/rlib/below.rlib/format": "below 1\n",
+    "crates/beside/out/rlib/beside.rlib/format": "beside 1\n",
+    "crates/above/src/lib.rt": "one\n",
+    "crates/above/src/other.rt": "other\n",
+    "crates/above/specs/Lib.antt": "specs\n",
+    "crates/above/proofs/Lib.antt": "proofs\n",
+    "crates/above/README.md": "text\n",
+    "crates/above/wrong/it.edit": EDIT,
+}
+# All files of which a check of the crate `above` depends, and those of which it doesn't.
+READ = [it for it in FILES if not it.startswith(("crates/beside", "crates/above/README"))]
+UNREAD = [it for it in FILES if it not in READ]
+
+
+def write(top: Path, path: str, text: str) -> None:
+    """Writes a file below the folder, and makes its folder."""
+    (top / path).parent.mkdir(parents=True, exist_ok=True)
+    (top / path).write_text(text, encoding="utf-8")
+
+
+@contextmanager
+def tree() -> Iterator[Tree]:
+    """Makes a repository of four crates and a toolchain in a folder of their own."""
+    with tempfile.TemporaryDirectory() as room:
+        for path, text in FILES.items():
+            write(Path(room), path, text)
+        yield Tree(Path(room), Path(room) / "kit", parse_uses(USES))
+
+
+def round_of(made: Tree) -> Round:
+    """Returns the only round of the crate `above`."""
+    folder = made.folder("above")
+    return rounds_of(read_edits(folder)[0], folder)[0]
+
+
+def name_in(made: Tree) -> str:
+    """Returns the name of the only round of the crate `above`, from the files as they are now."""
+    kept.hash_of.cache_clear()
+    return name_of(made, "above", round_of(made))
+
+
+class Names(unittest.TestCase):
+    """The name of a round changes exactly if the result of the round can change."""
+
+    def test_each_file_that_is_read(self) -> None:
+        """Each file that a check reads is in the name."""
+        for path in READ:
+            with self.subTest(path), tree() as made:
+                before = name_in(made)
+                text = FILES[path]
+                changed = text.replace("two", "three") if path.endswith(".edit") else text + "one more\n"
+                write(made.top, path, changed if path != "crates/above/src/lib.rt" else "one \n")
+                self.assertNotEqual(name_in(made), before)
+
+    def test_each_file_that_is_not_read(self) -> None:
+        """Other files aren't in the name."""
+        for path in UNREAD:
+            with self.subTest(path), tree() as made:
+                before = name_in(made)
+                write(made.top, path, "changed\n")
+                self.assertEqual(name_in(made), before)
+
+    def test_new_and_moved_files(self) -> None:
+        """A further file, and a text that moves from one file to another, make another name."""
+        with tree() as made:
+            before = name_in(made)
+            write(made.top, "crates/above/proofs/More.antt", "")
+            more = name_in(made)
+            self.assertNotEqual(more, before)
+            write(made.top, "crates/above/src/other.rt", "")
+            write(made.top, "crates/above/proofs/More.antt", "other\n")
+            self.assertNotIn(name_in(made), (before, more))
+
+    def test_the_goal(self) -> None:
+        """An edit that has to be refused at another goal makes another name."""
+        with tree() as made:
+            before = name_in(made)
+            write(made.top, "crates/above/wrong/it.edit", EDIT.replace("returns", "ends"))
+            self.assertNotEqual(name_in(made), before)
+
+    def test_this_tool(self) -> None:
+        """A change of the tool itself makes another name."""
+        with tree() as made, tempfile.TemporaryDirectory() as other:
+            before = name_in(made)
+            with patch.object(kept, "HERE", Path(other)):
+                self.assertNotEqual(name_in(made), before)
+
+
+class Keeping(unittest.TestCase):
+    """Which results are kept, and what happens then."""
+
+    def try_twice(self, found: Judged, folder: Path | None) -> tuple[Tried, Tried]:
+        """Tries the crate `above` twice, with a check that has this result. Returns what both runs found."""
+        ended = Ended(1, "", 1.0)
+        with tree() as made, patch.object(trying, "try_round", return_value=ended), patch.object(trying, "judge", return_value=found):
+            kept.hash_of.cache_clear()
+            results = Results(kept=Kept(folder))
+            return try_crate(made, "above", Running(), results), try_crate(made, "above", Running(), results)
+
+    def test_refused(self) -> None:
+        """A round that was refused isn't tried again, and its wrong bodies are counted."""
+        with tempfile.TemporaryDirectory() as room:
+            first, second = self.try_twice(Judged(), Path(room) / "new/folder")
+        self.assertEqual((first.checks, first.passed, first.known, first.failed), (1, 1, 0, 0))
+        self.assertEqual((second.checks, second.passed, second.known, second.failed), (0, 1, 1, 0))
+        self.assertEqual(second.line(with_times=False), "above: 1 wrong bodies refused, in 0 checks, 1 of them in an earlier run")
+
+    def test_failed(self) -> None:
+        """A round with a fault is tried again."""
+        faults = (Judged(of_round=["an error of no goal"]), Judged(of_edit={"it.edit": ["f is still proved"]}))
+        for found in faults:
+            with self.subTest(found=found), tempfile.TemporaryDirectory() as room:
+                _, second = self.try_twice(found, Path(room))
+                self.assertEqual((second.checks, second.known), (1, 0))
+
+    def test_no_folder(self) -> None:
+        """Without a folder, or if it can't be made, each run tries everything."""
+        with tempfile.NamedTemporaryFile() as file:
+            for folder in (None, Path(file.name) / "below"):
+                with self.subTest(folder=folder):
+                    _, second = self.try_twice(Judged(), folder)
+                    self.assertEqual((second.checks, second.passed, second.known), (1, 1, 0))
+
+    def test_changed_meanwhile(self) -> None:
+        """The result isn't kept if a file of the crate changed during the check."""
+        with tree() as made, tempfile.TemporaryDirectory() as room:
+            def change(*_: object) -> Ended:
+                write(made.top, "crates/above/src/other.rt", "changed\n")
+                return Ended(1, "", 1.0)
+
+            with patch.object(trying, "try_round", side_effect=change), patch.object(trying, "judge", return_value=Judged()):
+                tried = try_crate(made, "above", Running(), Results(kept=Kept(Path(room))))
+            self.assertEqual((tried.passed, [*Path(room).iterdir()]), (1, []))
+
+    def test_oldest_are_removed(self) -> None:
+        """If there are too many results, the oldest are removed."""
+        with tempfile.TemporaryDirectory() as room, patch.object(kept, "MOST_FILES", 3):
+            for number in range(5):
+                Kept(Path(room)).keep(f"name{number}")
+                os.utime(Path(room) / f"name{number}", (number, number))
+            Kept(Path(room)).keep("name5")
+            self.assertEqual(sorted(it.name for it in Path(room).iterdir()), ["name3", "name4", "name5"])
+
+    def test_folder_of_the_user(self) -> None:
+        """The folder is that of the environment, if it names an absolute path, and else one of the home folder."""
+        for base, expected in (("/somewhere", Path("/somewhere")), ("", Path.home() / ".cache"), ("relative", Path.home() / ".cache")):
+            with self.subTest(base=base), patch.dict(os.environ, {"XDG_CACHE_HOME": base}):
+                self.assertEqual(folder_of_user(), expected / "cenduwa/wrong")
+
+
+if __name__ == "__main__":
+    unittest.main()
