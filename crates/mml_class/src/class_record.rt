@@ -26,7 +26,7 @@ use std::io::Read;
 /// The most bytes of a seat's record.
 pub const MAX_RECORD: u32 = 1_073_741_824;
 
-// The most bytes of the text with the number of events before the record.
+// How many bytes the decimal number of the events before the record may have.
 const MAX_BEGUN: u32 = 20;
 
 /// The result of checking the record of a class, if it is correct.
