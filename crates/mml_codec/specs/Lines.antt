@@ -11,7 +11,7 @@ abbrev pub is_line_memory : LineFault → Bool
 is_line_memory fault.Memory = true
 is_line_memory fault.Malformed = false
 
--- the JSON value in a line, or None if the line isn't one in UTF-8
+-- the JSON value in a line, or None if the line isn't UTF-8 or has no JSON value
 unfoldable pub value_in : List ℕ → Option Data
 value_in line = if is_utf8 line then read line else None
 
