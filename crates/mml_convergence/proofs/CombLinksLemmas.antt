@@ -1,4 +1,4 @@
--- The comb has one link less than nodes, and each node but the last is linked to a higher node.
+-- The comb, the tree of `specs/Comb`, has one link less than nodes. Each node but the last is linked to a higher node.
 use Rattle.std.proofs.Common.{◌≡◌, ℕ, zero, suc, ◌+◌, ◌-◌, ◌<◌, ◌*◌, ◌≤◌, ◌&&◌, ◌==◌, inl, inr, Bool, true, Some, ◌∙◌, sym, refl, ap, arith}
 use Rattle.std.proofs.lemmas.Bool.{cases_lt, false_from_ne_true, lt-ltb, Decides.nat_tests}
 use Rattle.mml_ids.specs.Search.{count_below}

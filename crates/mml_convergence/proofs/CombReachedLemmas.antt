@@ -1,4 +1,5 @@
--- The phases of a run on the comb in which each close applies one move, and the number of all moves.
+-- A run on the comb, the tree of `specs/Comb`, and the number of its moves. Each close applies one move. In phase r of
+-- the run, node r marries the highest node that isn't married.
 use Rattle.std.proofs.Common.{◌≡◌, ℕ, zero, suc, ◌+◌, ◌*◌, ◌-◌, ◌<◌, ◌≤◌, ◌⊎◌, inl, inr, Bool, true, false, cond, not, ◌==◌, Option, None, Some, length, rules, sym, refl, ap, ◌∙◌, arith}
 use Rattle.std.proofs.lemmas.Bool.{cases_lt, cases_eq, eq-eqb, ne_eqb, Decides.nat_tests}
 use Rattle.mml_ids.specs.declared.TheConstants.{MAX_NODES}
@@ -86,7 +87,7 @@ module _ (n r b : ℕ) (sum : r + b + 1 ≡ n) (room : 2 * r + 2 ≤ n) where
       let to = (mate n r j (n - (j + 1)) c couples e (inr (omega (arith, above, sum, lt)))).0 in
       cc
 
-  -- no node points at an unmarried node other than b
+  -- no node points at a node from r to b - 1
   nobody : (g : Option ℕ) (c : Configuration) → Stage g false None false nowhere c → ((g ≡ None) ⊎ (g ≡ Some b)) → (i : ℕ) → r ≤ i → i < b → (j : ℕ) → c.p j ≡ Some i → ⊥
   nobody g c k free i from below j e =
       let range = k.shape.lawful.in_range j i (k.shape.lawful.to_linked j i e) in

@@ -198,7 +198,7 @@ module _ (n : ℕ) (low : ℕ → Bool) (r b : ℕ) (sum : r + b + 1 ≡ n) (roo
     bride = grind (arith, nat_tests, kept, false_from_ne_true, courts-means);
   }
 
-  -- ---- after b is seduced, no node points at a node that isn't low
+  -- ---- after b is seduced, no node points at a node from r to b - 1 for which `low` is false
 
   nobody : (c : Configuration) → Shape n low c → Couples n r c → Between r b low true (Some b) c → Between r b low false None c
       → ((c.p b ≡ None) ⊎ (c.p b ≡ Some r)) → (i j : ℕ) → r ≤ i → i < b → low i ≡ false → c.p j ≡ Some i → ⊥
@@ -214,7 +214,7 @@ module _ (n : ℕ) (low : ℕ → Bool) (r b : ℕ) (sum : r + b + 1 ≡ n) (roo
       at_b f (inl null) = cc
       at_b f (inr to) = let same = some_same r i (sym to ∙ f) in both_ways (low i) high (subst (λ z. low z ≡ true) same (low_r s))
 
-  -- after b is seduced, each node other than b isn't privileged, if this holds of those that point at b
+  -- after b is seduced, only b and the nodes below b that point at b with m false can be privileged
   others_idle : (c : Configuration) → Shape n low c → Couples n r c → Between r b low true (Some b) c → Between r b low false None c
       → ((c.p b ≡ None) ⊎ (c.p b ≡ Some r)) → (i : ℕ) → i < c.size → (i ≡ b → ⊥)
       → (i < b → (c.p i ≡ Some b) × (c.m i ≡ false) → is_privileged c i ≡ false) → is_privileged c i ≡ false

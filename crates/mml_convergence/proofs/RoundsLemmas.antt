@@ -198,8 +198,8 @@ record IsDawn (c : Configuration) : Type 0 where
   within : high < c.size
   either : IsRising c ⊎ IsFacing low high c
 
--- the pointers lead from x to a pointer at a higher node, or to a node with a null pointer at which a higher node
--- points
+-- if a node points at another, `IsDawn` holds: some node points at a higher node, or a node with a null pointer has a
+-- higher neighbour that points at it or at no node
 descend : (n x z : ℕ) (c : Configuration) → IsLawful c → x < n → c.p x ≡ Some z → IsDawn c
 descend zero x z c l room e = absurd (omega arith)
 descend (suc n) x z c l room e = go (λ y. descend n z y c l) (c.p z) refl (cases_order x z)
@@ -347,7 +347,7 @@ last_round : (w : World) (es : List Event) → IsStable (configuration (world_of
 last_round w [] stable i lt = ap not (stable i lt)
 last_round w (e ∷ es) stable i lt = or_right _ _ (or_right _ _ (last_round (after w e) es stable i (omega (arith, lt, size-after w e))))
 
--- events after which no node is privileged have any number of rounds
+-- if no node is privileged after a list of events, the list begins with k rounds for every k
 pub stable_rounds : (k : ℕ) (w : World) (es : List Event) → IsStable (configuration (world_of w es)) → Rounds k w es
 stable_rounds zero w es stable = tt
 stable_rounds (suc k) w es stable = (es, [], sym (append-nil es), last_round w es stable, stable_rounds k (world_of w es) [] stable)

@@ -10,8 +10,8 @@ use Rattle.mml_convergence.proofs.PhaseLemmas.{wed_others, then_free}
 use Rattle.mml_convergence.proofs.OneByOneLemmas.{courts_stand, marriage_stands, updates_stand, abandonments_stand}
 use Rattle.mml_lab.specs.declared.who.Who.TheVariants as who
 
--- A holds of the world u and the number x, to which the moves of one round are added: one for each node below n that
--- passes
+-- A is true of the world u and of the sum of x and the moves of one round: one move for each node below n for which t
+-- is true
 abbrev pub Later : (World → ℕ → Type 0) → ℕ → (ℕ → Bool) → World → ℕ → Type 0
 Later A n t u x = A u (count_below n t + x)
 
@@ -46,7 +46,7 @@ module _ (r : RosterValue) (s n : ℕ) (low : ℕ → Bool) (owned : (i : ℕ) �
           (abandonments_stand n low p b sum room (configuration w) at) (wed_others n low p b sum room (configuration w) at)
           (λ u ku qu moved. next u ku qu (then_free n low p b sum room (configuration w) (configuration u) at moved))
 
-    -- A holds of the world u and the number x, to which the moves of a whole phase are added
+    -- A is true of the world u and of the sum of x and the moves of a whole phase
     abbrev pub AfterPhase : World → ℕ → Type 0
     AfterPhase u x =
         A u (count_below n (courts n low p b sum room) + (count_below n (marries_now n low p b sum room)

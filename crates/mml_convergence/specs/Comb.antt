@@ -15,7 +15,8 @@ first_pointer n i = if nat_lt (2 * i + 1) n then Some (n - (i + 1)) else if nat_
 abbrev pub is_comb : ℕ → ℕ → ℕ → Bool
 is_comb n i j = holds (first_pointer n i) j || holds (first_pointer n j) i
 
--- the comb of n nodes: each node is linked to the node at which it points by first_pointer, and m is true at each node
+-- the comb of n nodes: node i has the pointer `first_pointer n i`, two nodes are linked if one of them points at the
+-- other, and m is true at each node
 abbrev pub comb : ℕ → Network
 comb n = record {
   neighbours = map (λ i. those_below n (is_comb n i)) (range_with_len 0 n);

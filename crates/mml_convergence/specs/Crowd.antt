@@ -15,7 +15,8 @@ is_near n i j = not (i == j) && (nat_lt i n && (nat_lt j n && nat_le n (i + j + 
 abbrev pub first_pointer : ℕ → ℕ → ℕ
 first_pointer n i = if nat_lt (2 * i + 1) n then n - (i + 1) else if nat_lt (i + 1) n then i + 1 else 1
 
--- n nodes; two of them are linked if `is_near` is true; each points by first_pointer, and m is true at each
+-- the network of n nodes: nodes i and j are linked if `is_near n i j`, node i points at `first_pointer n i`, and m is
+-- true at each node
 abbrev pub crowd : ℕ → Network
 crowd n = record {
   neighbours = map (λ i. those_below n (is_near n i)) (range_with_len 0 n);

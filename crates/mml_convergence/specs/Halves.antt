@@ -13,7 +13,7 @@ joins_halves n i j = nat_lt (2 * i) n && (nat_le n (2 * j) && (nat_lt j n && nat
 abbrev pub is_joined : ℕ → ℕ → ℕ → Bool
 is_joined n i j = joins_halves n i j || joins_halves n j i
 
--- n nodes; two of them are linked if `is_joined` is true; p is null and m is true at each node
+-- the network of n nodes: nodes i and j are linked if `is_joined n i j`, and p is null and m is true at each node
 abbrev pub halves : ℕ → Network
 halves n = record {
   neighbours = map (λ i. those_below n (is_joined n i)) (range_with_len 0 n);

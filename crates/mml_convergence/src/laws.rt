@@ -113,7 +113,8 @@ pub fn rounds_in_numbers()
     ensures odd { (k : ℕ) → rounds_for (2 * k + 1) ≡ 4 * k + 1 }
 {}
 
-/// If no node is privileged after a list of events, the list has any number of rounds: the last of them are empty.
+/// If no node is privileged after a list of events, the list begins with k rounds for every k. The whole list is one
+/// round, and empty lists are the further rounds.
 pub fn stable_lists_have_rounds()
     ensures { (w : World) (es : List Event) (k : ℕ) → IsStable (configuration (world_of w es)) →
         Rounds k w es }
