@@ -21,8 +21,8 @@ abbrev pub entered : List Event → Option Event → List Event
 entered l None = l
 entered l (Some e) = l ++ e ∷ []
 
--- the refusals that may come in place of a ruling: `memory` in place of a look or a report, which have lists; `memory`
--- or `journal` in place of a grant; none in place of any other ruling
+-- the refusal may come in place of the ruling: `memory` in place of a look, a report or a grant, and `journal` only in
+-- place of a grant
 abbrev pub MayRefuse : Ruling → Refused → Type 0
 MayRefuse (Looked l) refused.Memory = Unit {0}
 MayRefuse Reported refused.Memory = Unit {0}
