@@ -1,4 +1,4 @@
--- The state of a hall, as contracts see it. A hall answers requests in one thread.
+-- The state of a hall, as contracts describe it. A hall answers requests in one thread.
 use Rattle.std.specs.Prelude.{◌≡◌, ◌≤◌, true, length, All, IfSome}
 use Rattle.mml_lab.specs.{Labs.LabValue, Labs.IsLab, Rosters.IsPrincipal}
 use Rattle.mml_board.specs.{World.IsWorld, World.size, World.opening_of, Runs.is_legal_list, Runs.world_of}

@@ -29,6 +29,6 @@ IsBad sessions held =
 abbrev pub request_on : ℕ → List ℕ → RequestLine
 request_on n request = record { connection = n; request = request }
 
--- the script line as contracts see it, from the fields of the struct
+-- the script line as contracts describe it, computed from the fields of the struct
 abbrev pub line_of : ScriptLine → RequestLine
 line_of s = request_on s.connection s.request.now
