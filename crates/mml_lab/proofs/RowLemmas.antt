@@ -1,4 +1,4 @@
--- Rows of neighbours, to which one more neighbour is added.
+-- The sets of neighbours of all nodes, in a list with a row for each node. One more neighbour is added to a row.
 use Rattle.std.proofs.lemmas.{Bool.cases_eq, Bool.eq-eqb, Bool.ne_eqb, Bool.eqb-true, List.get_or-set_same, List.get_or-set_other, List.get_or_default}
 use Rattle.std.proofs.Common.{◌≡◌, ℕ, ◌<◌, ◌&&◌, ◌||◌, eqb, List, [], length, get_or, set, arith}
 use Rattle.std.specs.{Ordering.nat_cmp, FinSet.FinSet}

@@ -1,4 +1,4 @@
--- The accounts of the program, as contracts see them.
+-- The program's accounts, as contracts describe them: names and keys are lists of bytes.
 use Rattle.std.specs.{Prelude.String, Prelude.string_bytes, declared.alloc.Global.Global}
 use Rattle.mml_lab.specs.{declared.accounts.Account.Account as KeptAccount, Rosters.Account}
 

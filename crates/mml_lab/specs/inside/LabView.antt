@@ -1,7 +1,7 @@
--- A stored lab, as contracts see it.
+-- A stored lab, as contracts describe it.
 use Rattle.mml_lab.specs.{declared.lab.Lab.TheInside.Inside, Labs.LabValue, Labs.IsLab}
 
--- the lab that contracts see
+-- the lab as contracts describe it, computed from the fields
 abbrev pub lab_view : Inside → LabValue
 lab_view a = record {
   ids = a.ids;

@@ -1,9 +1,9 @@
--- A stored roster, as contracts see it.
+-- A stored roster, as contracts describe it.
 use Rattle.std.specs.Prelude.{map, length}
 use Rattle.mml_lab.specs.{declared.roster.Roster.TheInside.Inside, AccountView.account_view, AccountView.entry_account, inside.Owned.AreOwned}
 use Rattle.mml_lab.specs.Rosters.{RosterValue, IsRoster, with_owners}
 
--- the roster that contracts see
+-- the roster as contracts describe it, computed from the fields
 abbrev pub roster_view : Inside → RosterValue
 roster_view a = with_owners (account_view a.teacher) (map entry_account a.students.entries) (map (λ v. v.items) a.owners.items)
 
