@@ -1,4 +1,4 @@
--- The rows of neighbours, while links are added to them one after another.
+-- The rows of neighbours, one for each node, while links are added to them one after another.
 use Rattle.std.proofs.lemmas.{Bool.Decides.nat_tests, Bool.and_right, Bool.cases_lt, Bool.ne_eqb, Bool.lt-ltb, Bool.le-ltb, Grind.common_steps, List.Folds.list_any_more}
 use Rattle.std.proofs.lemmas.{List.Quantifiers.position-Some, List.get_or_default, List.get_or-replicate, List.length-replicate, List.get_or-map, List.length-map, List.same_lists}
 use Rattle.std.proofs.Common.{◌≡◌, ℕ, ℤ, pos, negsuc, ◌+◌, ◌<◌, ◌&&◌, ◌||◌, ltb, List, [], length, get_or, take, map, sym, ◌∙◌, arith, rules}

@@ -1,4 +1,5 @@
--- The tests of a lab have the same results on the values that were read as on those that contracts see.
+-- The tests of a lab file have the same results on the program's values as on their descriptions in contracts. In these
+-- descriptions, a text is the list of its bytes.
 use Rattle.std.proofs.Common.{◌≡◌, ℕ, List, [], ◌∷◌, map, None, Ok, Err, MatchBool, refl, String, Global, string_bytes, arith}
 use Rattle.std.specs.{Prelude.option_map, Prelude.is_some, Prelude.bytes_eq, Prelude.◌==◌, List.list_any, List.find, Map.lookup}
 use Rattle.mml_ids.specs.{Gives.Faults, Ids.id_fault, Ids.is_id_memory, declared.id_table.IdFault.IdFault}
@@ -7,11 +8,11 @@ use Rattle.mml_lab.specs.{AccountView.entry_account, Rosters.has_name}
 use Rattle.mml_lab_file.specs.Reading.{number_of, file_ids, node_with, ids_fault, pass_unless}
 use Rattle.mml_ids.proofs.MapLemmas.{find-map, map-map}
 
--- the identifiers of the nodes that were read are those of the nodes that contracts see
+-- the program's nodes have the same identifiers as their descriptions in contracts
 pub file_ids-read : (nodes : List RawNode) → map (λ node. number_of node.id) nodes ≡ file_ids (map node_view nodes)
 file_ids-read nodes = map-map (λ node. number_of node.id) node_view nodes
 
--- the first node with an identifier is the same among the nodes that were read and among those that contracts see
+-- the first node with an identifier is the same one among the program's nodes and among their descriptions
 pub node_with-read : (nodes : List RawNode) (id : ℕ) → option_map node_view (find (λ node. number_of node.id == id) nodes) ≡ node_with (map node_view nodes) id
 node_with-read nodes id = find-map (λ node. number_of node.id == id) node_view nodes
 

@@ -1,4 +1,4 @@
--- The values that were read, as contracts see them.
+-- The contents of a lab file, as contracts describe them: a text is the list of its bytes.
 use Rattle.std.specs.Prelude.{map, string_bytes}
 use Rattle.mml_lab_file.specs.{declared.raw_lab.RawNode.RawNode, declared.raw_lab.RawLab.RawLab, Shape.NodeSpec, Shape.RawSpec}
 use Rattle.mml_lab.specs.AccountView.{account_view}
