@@ -1,8 +1,9 @@
 //! How a ruling on a command follows from its verdict. Each law is the contract of a function that does nothing.
 //!
-//! The verdict is what the clauses of a command, the conditions for it, decide. The ruling is the verdict, or a refusal
-//! in place of a grant. A world is a network with its registers, its chosen moves, the number of its configuration, and
-//! the number of events so far. The journal is halted if a line couldn't be written to it.
+//! A clause is a condition for a command. The verdict on a command is its denial, or what it may do if all its clauses
+//! hold. The ruling is the verdict, or a refusal in place of a grant. Such a refusal means that the lab allows no more
+//! events, or that the journal is halted. A world is a network with its registers, its chosen moves, the number of its
+//! configuration, and the number of events so far. The journal is halted if a line couldn't be written to it.
 ghost use Rattle.std.specs.Prelude.{◌≡◌, ◌↔◌, ◌<◌, ◌≤◌, ℕ, Bool, true, false, List};
 ghost use Rattle.mml_lab.specs.declared.who.Who.{Who};
 ghost use Rattle.mml_lab.specs.Rosters.{RosterValue};
