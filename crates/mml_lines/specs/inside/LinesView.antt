@@ -4,7 +4,7 @@ use Rattle.std.specs.Vec.{vec_capacity}
 use Rattle.mml_lines.specs.declared.lines.{Lines.TheInside.Inside, TheConstants.MAX_READS, TheConstants.READ_SIZE}
 use Rattle.mml_lines.specs.{LinesOf.IsWithinLimit, Finding.Shows, LinesState.LinesState, NextLine.ending_of}
 
--- the state that contracts see, computed from the fields
+-- the state as contracts describe it, computed from the fields
 abbrev pub lines_view : Inside → LinesState
 lines_view a = record {
   limit = a.limit;

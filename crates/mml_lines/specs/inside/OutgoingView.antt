@@ -12,7 +12,7 @@ abbrev pub total : List ℕ → ℕ
 total [] = 0
 total (n ∷ ns) = n + total ns
 
--- the lines that contracts see, computed from the fields
+-- the lines as contracts describe them, computed from the fields
 abbrev pub outgoing_view : Inside → List (List ℕ)
 outgoing_view a = parted a.lengths.items a.bytes.items
 
