@@ -12,7 +12,7 @@ NamesEachNode k = length k.ids.now ≡ length k.board.now.network.registers
 abbrev pub clauses_in : Course → Who → Command → Result Leave Denial
 clauses_in k x c = clauses k.ids.now k.roster.now k.board.now x c
 
--- a function returns what the clauses of the command decide: `Ok` has what they allow, and `Err` has their denial
+-- a function returns the result of the command's clauses: `Ok` has what the command may do, and `Err` has its denial
 abbrev pub AnswersClauses : {A : Type 0} → Course → Who → Command → (A → Leave) → Result A Denial → Type 0
 AnswersClauses k x c leave found = MatchResult found (λ a. clauses_in k x c ≡ Ok (leave a)) (λ d. clauses_in k x c ≡ Err d)
 

@@ -15,7 +15,7 @@ ruling_on_leave limit is_halted w (Look i) = Looked (look_of w i)
 ruling_on_leave limit is_halted w Report = Reported
 ruling_on_leave limit is_halted w (Grant e) = if nat_le limit w.place then Full else (if is_halted then Journal else Granted e (done_by w e))
 
--- the ruling, given what the clauses decide
+-- the ruling, given the result of the clauses: what the command may do, or its denial
 abbrev pub ruled : ℕ → Bool → World → Result Leave Denial → Ruling
 ruled limit is_halted w (Ok l) = ruling_on_leave limit is_halted w l
 ruled limit is_halted w (Err d) = Denied d

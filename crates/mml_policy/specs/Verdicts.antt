@@ -36,7 +36,7 @@ clauses ids r w x (command.Link a b) = granted (check (owns r) w x (act.Link (ra
 clauses ids r w x (command.Cut a b) = granted (check (owns r) w x (act.Cut (rank_in ids a) (rank_in ids b)))
 clauses ids r w x (command.Release id) = granted (check (owns r) w x (act.Release (rank_in ids id)))
 
--- the verdict, given what the clauses decide
+-- the verdict, given the result of the clauses: what the command may do, or its denial
 abbrev pub settled : Result Leave Denial → Verdict
 settled (Ok (See i)) = verdicts.Show
 settled (Ok (Look i)) = verdicts.Show

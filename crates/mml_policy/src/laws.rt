@@ -2,10 +2,11 @@
 //!
 //! A command asks to be shown something (a see, a look or a report), or for an event. It is granted if all its clauses,
 //! the conditions for it, hold; otherwise it is denied by the first that doesn't. This decision is the verdict. The
-//! ruling is the verdict, or a refusal in place of a grant. A grant chooses a move for a node, a release drops it, and
-//! a close applies all chosen moves at once. A fault sets a node's registers, a link joins two nodes, and a cut removes
-//! a link. The registers of a node are its pointer p and m, which is true or false. An event is legal if all clauses of
-//! its request hold. A node is privileged if some rule is enabled there.
+//! ruling is the verdict, or a refusal in place of a grant. Such a refusal means that the lab allows no more events, or
+//! that the journal is halted. A grant chooses a move for a node, a release drops it, and a close applies all chosen
+//! moves at once. A fault sets a node's registers, a link joins two nodes, and a cut removes a link. The registers of a
+//! node are its pointer p and m, which is true or false. An event is legal if all clauses of its request hold. A node
+//! is privileged if some rule is enabled there.
 ghost use Rattle.std.specs.Prelude.{◌≡◌, ◌≢◌, ◌<◌, ◌↔◌, ◌⊎◌, ℕ, Bool, List, Option, None, Some, true, false, length, slice_index};
 ghost use Rattle.mml_rules.specs.declared.rule.Rule.{Rule};
 ghost use Rattle.mml_rules.specs.Configuration.{Configuration, IsLawful};

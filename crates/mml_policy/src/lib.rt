@@ -1,7 +1,8 @@
 //! The policy, which says who may see and do what: the clauses of each command, and the contents of the answers.
 //!
-//! A clause is a condition for a command. The verdict is what the clauses of a command decide. The ruling is the
-//! verdict, or a refusal in place of a grant.
+//! A clause is a condition for a command. The verdict on a command is its denial, or what it may do if all its clauses
+//! hold. The ruling is the verdict, or a refusal in place of a grant. Such a refusal means that the lab allows no more
+//! events, or that the journal is halted, since a line couldn't be written to it.
 #![tactic(auto)]
 
 mod clause;

@@ -1,8 +1,9 @@
 //! The ruling on a command.
 //!
 //! A clause is a condition under which a request is granted; a denial names the first that doesn't hold. An act is a
-//! request for an event. The verdict is what the clauses decide; the ruling is the verdict, or a refusal in place of a
-//! grant. The journal is halted if a line couldn't be written to it.
+//! request for an event. The verdict on a command is its denial, or what it may do if all its clauses hold. The ruling
+//! is the verdict, or a refusal in place of a grant. Such a refusal means that the lab allows no more events, or that
+//! the journal is halted. The journal is halted if a line couldn't be written to it.
 ghost use Rattle.std.specs.Prelude.{◌≡◌, OnErr, IfOk, true};
 ghost use Rattle.mml_policy.specs.Courses.{NamesEachNode, ruling_in};
 ghost use Rattle.mml_policy.specs.Rulings.{event_of, is_look};
@@ -17,7 +18,7 @@ use mml_ids::Memory;
 use mml_lab::Who;
 use std::alloc::Global;
 
-/// The ruling on a command: the decision of its clauses (the conditions for it), or a refusal in place of a grant.
+/// The ruling on a command: its denial, what it shows, the event that it causes, or a refusal in place of the event.
 #[derive(Debug, Drop)]
 pub enum Ruling {
     /// A clause doesn't hold.
