@@ -1,5 +1,5 @@
 -- The walk along the pointers rises and ends at a node that is privileged or points nowhere. It finds the witness of an
--- open link.
+-- open link. A climb is the walk with a limit on the number of its steps.
 use Rattle.std.proofs.Common.{◌≡◌, ℕ, zero, suc, ◌<◌, ◌≤◌, ◌+◌, Bool, true, false, cond, ◌⊎◌, inl, inr, Option, None, Some, unwrap_or, sym, refl, ap, ◌∙◌, subst, arith, add-one}
 use Rattle.std.proofs.lemmas.Bool.{both_ways, and_parts, Decides.nat_tests}
 use Rattle.mml_rules.specs.{declared.rule.Rule.Rule, declared.rule.Kind.Kind, Configuration.Configuration, Configuration.IsLawful}

@@ -1,4 +1,5 @@
--- If nodes get other names in the same order, each open link has the same node as its witness.
+-- If nodes get other names in the same order, each open link has the same node as its witness. A climb is the walk
+-- along the pointers with a limit on the number of its steps.
 use Rattle.std.proofs.Common.{◌≡◌, ◌⊎◌, ℕ, zero, suc, ◌<◌, ◌≤◌, Bool, true, false, Option, None, Some, unwrap_or, is_some, sym, refl, ap, ◌∙◌, subst, arith, inl, inr}
 use Rattle.std.proofs.lemmas.Bool.{and_parts, not-true, Decides.nat_tests}
 use Rattle.mml_rules.specs.{declared.rule.Kind.Kind, Configuration.Configuration, Configuration.IsLawful, Rules.is_married, Rules.is_privileged, Naming.renamed, Naming.IsRenamed}
