@@ -30,7 +30,7 @@ next_named lab asks now before first r s place name denied b n er es en ed =
     n ∙ ap (λ t. t ++ denials_line name denied) b ∙ append_assoc first (denials_text lab asks place) (denials_line name denied)
     ∙ ap (λ t. first ++ (denials_text lab asks place ++ t)) line ∙ ap (λ t. first ++ t) (sym more)
 
--- ---- by clause and by name
+-- ---- the counts for each clause are sums of the counts for each denial
 
 -- 1 if this is a denial of clause 1, otherwise 0
 abbrev of_first : Option StudentDenial → ℕ

@@ -49,11 +49,11 @@ abbrev pub recorded_run_text : LabValue → World → List Event → Findings �
 recorded_run_text lab w es f asks =
     students_text lab es (length lab.roster.students) ++ (nodes_text lab es (length lab.ids) ++ (record_text lab f asks ++ ends_text w es))
 
--- a line for each student about refusals, and a line for each student about denials by name
+-- for each student a line with the counts of refusals, and then for each student a line with the count of each denial
 abbrev pub turned_down_text : LabValue → List Ask → List ℕ
 turned_down_text lab asks = refused_text lab asks (length lab.roster.students) ++ denials_text lab asks (length lab.roster.students)
 
 -- the tally of a run with a record: the lines of the run, the line with the participants whose lines are all recorded,
--- and the lines about refusals and about denials by name
+-- and the lines with the counts of refusals and of each denial
 abbrev pub recorded_text : LabValue → World → List Event → Findings → List Ask → List ℕ
 recorded_text lab w es f asks = recorded_run_text lab w es f asks ++ (recorded_line lab f ++ turned_down_text lab asks)

@@ -1,5 +1,6 @@
--- The denials of a student's lines by name and by clause, and the student's line in the tally. A clause is a condition
--- under which a request is granted. A participant is known on a connection from a granted hello to the bye.
+-- How many of a student's lines got each denial, the sums for each clause, and the student's line in the tally. A
+-- clause is a condition under which a request is granted. A participant is known on a connection from a granted hello
+-- to the bye.
 use Rattle.std.specs.Prelude.{◌≡◌, ◌+◌, ℕ, Bool, true, false, List, [], ◌∷◌, ◌++◌, codes, Option, None, Some, option_map, count_by}
 use Rattle.mml_lab.specs.{Labs.LabValue, Rosters.name_of}
 use Rattle.mml_board.specs.declared.denial.Denial.{Denial}
@@ -68,7 +69,7 @@ denials_line name n = codes "denials " ++ (name
 abbrev pub denials_text : LabValue → List Ask → ℕ → List ℕ
 denials_text lab asks n = each_below n (λ s. denials_line (name_of lab.roster (who.Student s)) (named_of asks s))
 
--- ---- by clause and by name
+-- ---- the counts for each clause are sums of the counts for each denial
 
 -- a student's line was denied by the clause of its named denial, or by none if it has none; any other line is allowed
 abbrev pub IsNamed : Option ℕ → Option ℕ → Option StudentDenial → Type 0

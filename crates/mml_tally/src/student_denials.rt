@@ -1,4 +1,4 @@
-//! The denials of students' lines by name, and their lines in the tally.
+//! How many of a student's lines got each denial, and the lines of the tally with these counts.
 //!
 //! A denial names the first clause, a condition for a request, that doesn't hold.
 ghost use Rattle.std.specs.Prelude.{◌≡◌, ◌++◌, count_by, length, IfOk, OnOk};
@@ -10,7 +10,7 @@ use mml_ids::{Memory, Piece, put};
 use mml_lab::{Lab, Student, Who};
 use std::alloc::Global;
 
-/// A denial that a student can get after a granted hello, by the name in its reply.
+/// A denial that a student can get after a granted hello. Each has its own name in the reply.
 #[derive(Clone, Copy, Debug, PartialEq, Eq)]
 pub enum StudentDenial {
     /// The connection has a name already.
