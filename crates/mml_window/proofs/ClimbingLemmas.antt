@@ -19,6 +19,6 @@ pub climbs_count : (low : ℕ) (ps : List ℕ) (high : ℕ) → Climbs low ps hi
 climbs_count low [] high c = omega arith
 climbs_count low (p ∷ ps) high c = omega (arith, c.0, climbs_count p ps high c.1)
 
--- if places climb up to the number of events seen, they still do so after more events were seen
+-- if places climb and none is above the number of events seen, the same is true after more events were seen
 pub climbs_on : (ps : List ℕ) (xs ys : List Event) → IsPrefix xs ys → Climbs 0 ps (length xs) → Climbs 0 ps (length ys)
 climbs_on ps xs ys pre c = climbs_more 0 ps (length xs) (length ys) (prefix_length xs ys pre) c

@@ -22,7 +22,7 @@ less_or_not a zero = inr (omega arith)
 less_or_not zero (suc b) = inl (omega arith)
 less_or_not (suc a) (suc b) = ⊎_elim (λ (l : a < b). inl (omega arith)) (λ (l : b ≤ a). inr (omega arith)) (less_or_not a b)
 
--- if places climb from above `low`, none of them is `low` or less
+-- if places are in rising order from above `low`, none of them is `low` or less
 climbs_below : (low : ℕ) (ps : List ℕ) (high p : ℕ) → p ≤ low → Climbs low ps high → times p ps ≡ 0
 climbs_below low [] high p le c = refl
 climbs_below low (q ∷ ps) high p le c = grind (arith, nat_tests, times_skip, climbs_below q ps high p (omega arith) c.1)
@@ -36,7 +36,8 @@ climbs_drop low ps high zero c = c
 climbs_drop low [] high (suc n) c = c
 climbs_drop low (q ∷ ps) high (suc n) c = climbs_drop low ps high n (climbs_lower q low ps high (omega (arith, c.0)) c.1)
 
--- if places climb, and the first one isn't `place`, a smaller one comes before `place`
+-- if places are in rising order and the first one isn't `place`, `IsStuck` holds: if `place` is among them, so is a
+-- smaller place
 pub stuck_before : (place q : ℕ) (qs : List ℕ) (high : ℕ) → (q ≡ place → ⊥) → Climbs 0 (q ∷ qs) high → IsStuck place (q ∷ qs)
 stuck_before place q qs high differ c some =
     let e : times place (q ∷ qs) ≡ times place qs = times_skip place q qs (λ is. differ (sym is)) in

@@ -1,5 +1,5 @@
--- The name and the lab of a house, as contracts see them. A house is one run of a lab that threads share: its list of
--- granted events, the board after them, and their journal.
+-- The name and the lab of a house, as contracts describe them. A house is one run of a lab that threads share: its list
+-- of granted events, the board after them, and their journal.
 use Rattle.std.specs.Prelude.{List, []}
 use denote.RawPtr.{Ptr, block_ptr}
 use Rattle.mml_lab.specs.{Labs.LabValue, Rosters.no_account}

@@ -1,4 +1,4 @@
--- The state of a window, as contracts see it. The place of an event is its number in the list of events, from 1. A
+-- The state of a window, as contracts describe it. The place of an event is its number in the list of events, from 1. A
 -- window is one session's view of the published events and board. A list of events is legal if the rules allow each
 -- event after the earlier ones.
 use Rattle.std.specs.Prelude.{◌≡◌, ◌≤◌, ℕ, true, List, length, Option, None}
@@ -27,7 +27,8 @@ window seen places = window_with seen places None
 abbrev pub HasSeen : List Event → List ℕ → WindowValue → Type 0
 HasSeen seen places w = (w.seen ≡ seen) × (w.places ≡ places)
 
--- the window has seen a legal list of the lab's events, and its places climb to at most the length of this list
+-- the window has seen a legal list of the lab's events; its places are in rising order, and at most the length of this
+-- list
 pub record IsWindow (lab : LabValue) (w : WindowValue) : Type 0 where
   pub lawful : IsLab lab
   pub legal : is_legal_in lab w.seen ≡ true

@@ -28,8 +28,8 @@ pub(crate) fn count_places<H: House>(windows: &[Window<H>]) -> u64
 }
 
 /// Returns whether the places (event numbers) that the windows were granted are those above `first` and up to `most`,
-/// each once. Returns `false` if `first` is above `most`. The places of each window climb, so one pass with a cursor
-/// for each window is enough.
+/// each once. Returns `false` if `first` is above `most`. The places of each window are in rising order, so one pass
+/// with a cursor for each window is enough.
 pub(crate) fn is_each_once<H: House>(windows: &[Window<H>], first: u64, most: u64) -> bool
     requires few { length windows.now ≤ MAX_SESSIONS }
     ensures { MatchBool result (IsEachOnceFrom first most (told_of windows.now))
