@@ -22,13 +22,13 @@ class Ended(NamedTuple):
 
 
 def check(lab: Lab) -> bytes:
-    """Returns the output of `check`: the line about a lab's size."""
+    """Returns what the command `check` prints: the line about a lab's size."""
     links = sum(map(len, lab.world.links.values())) // 2
     return f"ok: {len(lab.owners)} nodes, {links} links, {len(lab.students())} students\n".encode()
 
 
 def script(lab: Lab, file: str, journal: str | None = None) -> bytes:
-    """Returns the output of `script`: the replies to the script in a file. If a journal's file is named, writes it.
+    """Returns what the command `script` prints: the replies to the script in a file. If a journal's file is named, writes it.
 
     The proved program keeps what that file had under another name. Here the file has to be new or empty, and `Fault` is
     raised otherwise."""
@@ -47,20 +47,20 @@ def script(lab: Lab, file: str, journal: str | None = None) -> bytes:
 
 
 def print_audit(lab: Lab, journal: str) -> bytes:
-    """Returns the output of `audit` for the journal in a file. Raises `Fault` if the journal can't be read or doesn't pass."""
+    """Returns what the command `audit` prints for the journal in a file. Raises `Fault` if the journal can't be read or doesn't pass."""
     world, _ = audit(lab, read_file(Path(journal), "journal", MOST_JOURNAL))
     return audited(world).encode()
 
 
 def print_tally(lab: Lab, journal: str, record: str | None = None) -> bytes:
-    """Returns the output of `tally` for the journal in a file, and for the record in a folder if one is named. Raises `Fault` if they don't pass."""
+    """Returns what the command `tally` prints for the journal in a file, and for the record in a folder if one is named. Raises `Fault` if they don't pass."""
     world, events = audit(lab, read_file(Path(journal), "journal", MOST_JOURNAL))
     found = None if record is None else read_record(lab, events, Path(record))
     return tally(lab, world, events, found).encode()
 
 
 def verify(lab: Lab, journal: str, record: str) -> bytes:
-    """Returns the output of `verify` for the record in a folder with the journal in a file. Raises `Fault` if they don't pass."""
+    """Returns what the command `verify` prints for the record in a folder with the journal in a file. Raises `Fault` if they don't pass."""
     _, events = audit(lab, read_file(Path(journal), "journal", MOST_JOURNAL))
     return verified(lab, read_record(lab, events, Path(record)), events).encode()
 

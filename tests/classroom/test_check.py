@@ -200,6 +200,7 @@ class Tables(unittest.TestCase):
                          [(1, "onwer", "owner"), (1, "idd", "id")])
 
     def test_what_stands_below_a_known_table(self) -> None:
+        """A line with a table in braces whose key is quoted, dotted or missing gets no hint, but the line after it does."""
         for line in ('"note" = { idd = 1 }', "note.more = { idd = 1 }", "note.more = [{ idd = 1 },", "{ idd = 1 }"):
             self.assertEqual(self.hints("node = [{ id = 1 }]", line, "sesions = 4"), [(3, "sesions", "sessions")], line)
 
