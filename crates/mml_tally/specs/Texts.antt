@@ -29,7 +29,7 @@ abbrev pub marks_text : Marks → List ℕ
 marks_text m =
     rules_text m.granted ++ (rules_text m.applied ++ (numbers_text (m.closes ∷ []) ++ (place_text m.first ++ (place_text m.last ++ numbers_text (m.shared ∷ [])))))
 
--- the line of a student, by name and marks
+-- the line of the student with this name and these marks
 abbrev pub student_line : List ℕ → Marks → List ℕ
 student_line name m = codes "student " ++ (name ++ (marks_text m ++ codes "\n"))
 
