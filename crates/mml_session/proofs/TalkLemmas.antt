@@ -1,4 +1,5 @@
--- The window after a talk, and the lines that the talk has answered.
+-- The window after a talk, and the lines that the talk has answered. The place of an event is its number in the list of
+-- events, from 1.
 use Rattle.std.proofs.Common.{◌≡◌, ℕ, List, [], ◌∷◌, ◌++◌, flat_map, sym, ◌∙◌, ap, append_assoc, append-nil, subst, inl, inr, All}
 use Rattle.std.{specs.List.AllByRecursion, proofs.lemmas.List.Elements.All-nil, proofs.lemmas.List.Elements.All-cons}
 use mathlib.Core.List.{IsPrefix}

@@ -1,4 +1,5 @@
--- The reply to a command, made from the window's answer.
+-- The reply to a command, made from the window's answer. The place of an event is its number in the list of events,
+-- from 1.
 use Rattle.std.proofs.Common.{◌≡◌, ◌⊎◌, ℕ, List, [], ◌++◌, refl, sym, ap, ◌∙◌, subst, inl, inr, append-nil, Option}
 use Rattle.mml_lab.specs.{declared.who.Who.Who, Labs.LabValue}
 use Rattle.mml_board.specs.{declared.event.Event.Event, declared.done.Done.Done, declared.denial.Denial.Denial, World.World, Events.after, Lists.world_in}
