@@ -247,8 +247,8 @@ impl<
 > Shared<'s, Rt, S, H, B> {
     // Starts a thread that serves a connection (`ends`) in a seat, and returns the thread's handle. The thread rings
     // the bell when the session has ended. If no thread can be made, serves the connection in this thread, and returns
-    // the seat as an error. A connection that isn't at the desk is cut off before that, so that later connections
-    // needn't wait for it.
+    // the seat as an error. In this case a connection that isn't at the desk is cut off before it is served, so that
+    // later connections needn't wait for it.
     fn serve_apart<
         E,
         K: Keep<R, W> + Send + Drop + 's,
