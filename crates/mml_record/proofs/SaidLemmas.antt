@@ -1,4 +1,5 @@
--- An accepted entry describes a turn of a session.
+-- An accepted entry describes a turn of a session. A view is a command that only asks to be shown something: a see, a
+-- look or a report.
 use Rattle.std.proofs.Common.{◌≡◌, ◌⊎◌, ℕ, ◌≤◌, suc, Bool, true, false, true≢false, List, [], ◌∷◌, ◌++◌, length, take, drop, refl, sym, ap, ◌∙◌, subst, inl, inr, Option, None, Some, Result, Ok, Err}
 use Rattle.std.proofs.Common.{arith, append-nil, length-append}
 use Rattle.std.proofs.lemmas.{List.take-append-drop, List.length-take-le, Bool.Decides.nat_tests}
@@ -167,7 +168,8 @@ module _ (lab : LabValue) (l : List Event) (legal : is_legal_in lab l ≡ true) 
   shown_none : (r : Reply) → is_shown r ≡ true → place_in r ≡ None
   shown_none r shown = grind (arith, nat_tests)
 
-  -- a view is shown, which has no entry, and after it the window has seen the first p events
+  -- there is a line whose reply shows something and has no entry; after this turn, the window has seen the first p
+  -- events
   abbrev Quiet : WindowValue → Option Who → Type 0
   Quiet w known =
       (line : List ℕ) × IsWithinLimit MAX_REQUEST line × (v : Reply) × (is_shown v ≡ true) × (new : WindowValue)
