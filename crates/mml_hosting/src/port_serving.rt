@@ -106,8 +106,9 @@ impl<
         seat
     }
 
-    // Returns the index of the busy seat to wait for next. With marks, this is the first one whose thread has ended, or
-    // `None` if all are still running. Without marks, it is the first of all, or `None` if the list is empty.
+    // Returns the index of the busy seat to wait for next. With marks, this is the first seat whose thread has ended,
+    // or `None` if all threads are still running. Without marks, it is the first seat of the list, or `None` if the
+    // list is empty.
     fn next_to_join<M: Mark>(busy: &Vec<Self>, marks: Option<&[M]>) -> Option<usize>
         ensures some { IfSome result (λ index. index < vec_len busy.now) }
         ensures none { IfNone result (IfNone marks.entry (busy.now.items ≡ [])) }
