@@ -1,5 +1,5 @@
 -- An accepted entry describes a turn of a session. A view is a command that only asks to be shown something: a see, a
--- look or a report.
+-- look or a report. The place of an event is its number in the list of events, from 1.
 use Rattle.std.proofs.Common.{◌≡◌, ◌⊎◌, ℕ, ◌≤◌, suc, Bool, true, false, true≢false, List, [], ◌∷◌, ◌++◌, length, take, drop, refl, sym, ap, ◌∙◌, subst, inl, inr, Option, None, Some, Result, Ok, Err}
 use Rattle.std.proofs.Common.{arith, append-nil, length-append}
 use Rattle.std.proofs.lemmas.{List.take-append-drop, List.length-take-le, Bool.Decides.nat_tests}
@@ -99,7 +99,7 @@ module _ (lab : LabValue) (l : List Event) (legal : is_legal_in lab l ≡ true) 
         ),
       )
 
-  -- the window has seen the first p events; or it has seen fewer of them, and is asked
+  -- the window has seen the first p events; or it has seen at most these, and the line makes it read on
   abbrev IsBefore : WindowValue → Bool → Type 0
   IsBefore w asks = (w.seen ≡ take p l) ⊎ (IsPrefix w.seen (take p l) × (asks ≡ true))
 
@@ -141,7 +141,8 @@ module _ (lab : LabValue) (l : List Event) (legal : is_legal_in lab l ≡ true) 
   turns_all w known known' line r same (inl fits) = let t = asked w known known' (request_in line) r (inl same) fits in (t.0, inl t.1, t.2)
   turns_all w known known' line r same (inr fits) = (w, inr (fits.0, ap (λ (k : Option Who). standing k w) fits.1), stays_after w r same (ap place_in fits.0))
 
-  -- this also holds if the window has seen fewer events, and the line asks it
+  -- if a window has seen at most the first p events, and the line makes it read on, a reply that fits after p events is
+  -- that of one of its turns
   pub turns_asked : (w : WindowValue) (known known' : Option Who) (line : List ℕ) (r : Reply) → IsPrefix w.seen (take p l)
       → asks_window lab.roster known (request_in line) ≡ true → FitsAsked lab l (take p l) known (request_in line) r known'
       → (new : WindowValue) × Turn lab (standing known w) line r (standing known' new) × IsAfter w r new

@@ -418,7 +418,7 @@ given_of lab l known stage least (kept.Unrecorded p ∷ es) ps h whole none = ab
 given_of lab l known stage least (kept.Paused p ∷ es) ps h whole none = absurd (false≢true whole)
 given_of lab l known stage least (kept.Resumed p missed ∷ es) ps h whole none = absurd (false≢true (sym none ∙ h.3))
 
--- a whole record begins after as many events as its first entry names
+-- if nothing is left out of a record, its entries go on from a state in which some number n of events was seen
 begins_after : (lab : LabValue) (l : List Event) (es : List KeptEntry) (ps : List ℕ) → IsRecordOf lab l es ps → are_whole es ≡ true
     → (n : ℕ) × (n ≤ length l) × GoesOn lab l None stages.Open n es ps
 begins_after lab l [] ps h whole = (0, omega arith, h)
