@@ -72,7 +72,7 @@ module _ (lab : LabValue) (l first : List Event) (known : Option Who) (r : Reply
 
 -- ---- sessions
 
--- all bytes were kept
+-- a recorder kept exactly these bytes, and left out none
 abbrev keeps_all : List ℕ → Option Kept
 keeps_all bytes = Some (record { bytes = bytes; whole = true })
 
@@ -290,7 +290,7 @@ module _ (lab : LabValue) (is : IsLab lab) (l : List Event) (number : ℕ) where
           begins = x.begins;
         }
 
-    -- a recorded turn, and what follows it
+    -- if entries go on after a turn that is recorded, they go on before it with the entry of the turn in front
     follows : (st : Standing) (new : WindowValue) (known : Option Who) (line : List ℕ) (r : Reply) → Turn lab st line r (standing known new)
         → IsWithinLimit MAX_REQUEST line → new.places ≡ st.window.places ++ places_in r → (q : ℕ) → new.seen ≡ take q l → q ≤ length l
         → (es : List Entry) (ps : List ℕ) → are_whole (all_kept es) ≡ true → are_ended true (all_kept es) ≡ true → Walks es
