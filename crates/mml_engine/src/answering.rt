@@ -17,10 +17,11 @@ use mml_lab::Who;
 use mml_policy::Command;
 use std::alloc::Global;
 
-/// Answers a request line of a connection, and puts the reply into `reply`, since a reply is large to return. `at` is
-/// the session's part of the engine. `known` is the participant who has greeted on the connection, or `None`;
-/// afterwards it is who is known then. `scratch` is working memory for reading the line. Returns `Closed`, and puts no
-/// reply, if a known participant asks to be shown something and the engine shows nothing any more.
+/// Answers a request line of a connection, and puts the reply into `reply`, since a reply is too large to be returned
+/// without a costly copy. `at` is the session's part of the engine. `known` is the participant who has greeted on the
+/// connection, or `None`; afterwards it is who is known then. `scratch` is working memory for reading the line. Returns
+/// `Closed`, and puts no reply, if a known participant asks to be shown something and the engine shows nothing any
+/// more.
 pub fn answer_line<E: Engine>(
     engine: &mut E,
     at: &mut E::View,

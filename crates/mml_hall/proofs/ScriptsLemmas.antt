@@ -55,7 +55,7 @@ nothing_yet contents failures lab first hall a wrote held unsent same fresh sink
 
 module _ {S : Type 0} {contents : S → Option (List ℕ)} {failures : S → ℕ} {lab : LabValue} {first : S} {hall : HallValue S} {count : ℕ}
     {input a wrote c : Option (List ℕ)} {unsent : List (List ℕ)} (so : AnsweredSoFar contents failures lab first hall count input a unsent wrote c) where
-  -- the same after more of the unsent lines were written
+  -- what was answered so far is also right after more of the unsent lines were written
   abbrev pub sent_on : {d : Option (List ℕ)} {unsent' : List (List ℕ)} → Sends c d unsent unsent'
       → AnsweredSoFar contents failures lab first hall count input a unsent' wrote d
   sent_on {d} {unsent'} more = record {
@@ -68,7 +68,7 @@ module _ {S : Type 0} {contents : S → Option (List ℕ)} {failures : S → ℕ
     journals = so.journals;
   }
 
-  -- if no more input was read, and all output lines are written, all lines of the transcript are answered
+  -- if no more input was read, and the remaining output lines are written, all lines of the transcript are answered
   abbrev still : {b d : Option (List ℕ)} → Consumes a b [] → Sends c d unsent [] → AllAnswered lab input b wrote d
   still {b} {d} taken more = record {
     transcript = so.transcript;

@@ -1,4 +1,5 @@
--- The turns of a hall: how it answers one line, and many lines one after another.
+-- The turns of a hall: how it answers one line, and many lines one after another. The place of an event is its number
+-- in the list of events, from 1.
 use Rattle.std.specs.Prelude.{◌≡◌, ◌⊎◌, ℕ, ◌+◌, ◌-◌, ◌<◌, List, [], ◌∷◌, ◌++◌, replicate, Bool, true, false, not, ◌||◌, Option, None, Some, is_some, Result, Ok, Err, slice_index_or, slice_set}
 use Rattle.std.specs.Prelude.{if◌then◌else◌}
 use Rattle.mml_lab.specs.{declared.who.Who.Who, Labs.LabValue}

@@ -69,7 +69,7 @@ module _ (lab other : LabValue) (is : IsLab lab) (too : IsLab other) (t : AreTwi
   she_is : (x : Who) → is_hers s (Some x) ≡ true → x ≡ who.Student s
   she_is x h = grind (arith, nat_tests, false≢true, eqb-true)
 
-  -- the replies are the same, and so is who is known afterwards
+  -- the replies are the same, and the same participant (or nobody) is known afterwards
   abbrev IsSame : Reply → Reply → Standing → Standing → Type 0
   IsSame r q next last = (r ≡ q) × (next.known ≡ last.known)
 

@@ -89,7 +89,8 @@ module _ (lab : LabValue) (s t : ℕ) (st : State) (v : World) (es : List Event)
   unfolding plain_turn
   plain_alike k line h = answer_alike k (request_in line) h
 
-  -- the same with a mishap, if it is the same in both turns
+  -- if two states look the same to a student, the turns of a line look the same to her, also with a mishap, if it is
+  -- the same in both
   turn_alike : (mishap : Mishap) (k : ℕ) (line : List ℕ) → is_hers s (known_on st k) ≡ true
       → TurnsAlike lab t (turn mishap lab st k line) (turn mishap lab su k line)
   turn_alike mishap k line h = grind (arith, nat_tests, plain_alike, either_both)

@@ -198,9 +198,9 @@ pub fn one_event_keeps_worlds_alike()
 {}
 
 /// If an event happens in each of two worlds that are alike for a student, they stay alike if two conditions hold. Both
-/// events make a configuration, or neither does; and each leaves untouched what she may see. Here the numbers of events
-/// and configurations, and the chosen moves that a new configuration drops, don't count as what she may see. An event
-/// out of her sight leaves everything that counts untouched.
+/// events make a configuration, or neither does; and neither changes anything that the student may see. As an
+/// exception, the numbers of events and configurations may change, and a new configuration may drop chosen moves. An
+/// event out of the student's sight changes nothing that the student may see, with the same exception.
 pub fn events_out_of_sight_keep_worlds_alike()
     ensures untouched { (r : RosterValue) (s : ℕ) (w v : World) (e f : Event) → Alike r s w v →
         IsUntouched r s w e → IsUntouched r s v f →

@@ -1,4 +1,4 @@
--- The first and the last lines that a host writes.
+-- The first and the last lines that a host writes. The place of an event is its number in the list of events, from 1.
 use Rattle.std.specs.Prelude.{◌≡◌, ℕ, false, List, [], ◌∷◌, ◌++◌, length, codes, decimal, Option}
 use Rattle.std.specs.{List.concat, Io.KnownBytes.Appends}
 use mathlib.Core.List.{IsPrefix}

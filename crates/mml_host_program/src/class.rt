@@ -38,7 +38,7 @@ pub(crate) enum ClassJournal<'a> {
     Plain(File, &'a JournalWatch<'a>),
     /// A file of another kind, such as a pipe, which can be neither synced nor watched.
     Other(File),
-    /// The journal from which a class goes on.
+    /// The journal from which a class is resumed.
     Old(Past<'a>),
 }
 
@@ -70,8 +70,8 @@ pub(crate) struct Ready<C: Drop> {
 }
 
 /// Serves a class until it is over. Records it if there is a folder. If its journal is a plain file, lets `eye` check
-/// that file meanwhile. Returns the reason if the class can't begin or go on, fails, isn't recorded completely, or lost
-/// its journal's file.
+/// that file meanwhile. Returns the reason if the class can't begin or be resumed, fails, isn't recorded completely, or
+/// lost its journal's file.
 pub(crate) fn serve_class<
     R: System + Files<File = File> + Net<Listener = TcpListener, Stream = TcpStream> + Sync,
     L: Look + Sync,
@@ -206,7 +206,7 @@ fn serve_ports<
 }
 
 // Serves a class at its ports with its kind of journal: none, a plain file that is synced and watched, a file that
-// can't be, or the journal from which the class goes on.
+// can't be, or the journal from which the class is resumed.
 fn serve_journaled<
     R: System + Files<File = File> + Net<Listener = TcpListener, Stream = TcpStream> + Sync,
     C: Recorder + Send + Drop,

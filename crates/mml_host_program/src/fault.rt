@@ -14,7 +14,8 @@ use thiserror::Error;
 /// Why the host ended before its work was done.
 #[derive(Debug, Drop, Error)]
 pub enum Fault {
-    /// An error that commands of `mml_program` have too: of the command line, lab, journal, output or memory.
+    /// An error that commands of `mml_program` have too. It concerns the command line, the lab, the journal or the
+    /// output, or says that memory ran out.
     #[error("{0}")]
     Common(ProgramFault),
     /// The host can't listen on a port.
@@ -109,8 +110,8 @@ impl From<ResumeFault> for Fault {
 
     ghost from_gives = { IsToldAs };
 
-    // Turns the reason why a class didn't go on into the host's error: the audit's error, `Memory`, a journal fault if
-    // the journal couldn't be cut, or the error of serving the class.
+    // Turns the reason why a class wasn't resumed into the host's error: the audit's error, `Memory`, a journal fault
+    // if the journal couldn't be cut, or the error of serving the class.
     fn from(fault: ResumeFault) -> Fault {
         match fault {
             ResumeFault::Refused(why) => Fault::Common(ProgramFault::from(why)),

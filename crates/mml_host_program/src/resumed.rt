@@ -1,4 +1,4 @@
-//! A class that goes on: from the end of its journal to its last line of output.
+//! A class that is resumed: from the end of its journal to its last line of output.
 ghost use Rattle.std.specs.Prelude.{◌≡◌, ◌+◌, IfOk, None, length};
 ghost use Rattle.mml_host_program.specs.Telling.{ports_line, TellsResumed};
 
@@ -21,9 +21,9 @@ use std::net::{Net, TcpListener, TcpStream};
 use std::rt::Files;
 
 impl<C: Recorder + Send + Drop> Ready<C> {
-    /// Serves a class that goes on from the journal `past`, in the host state `state`: writes the first two lines,
-    /// serves the connections, and writes the last line. Returns the log whose events the last line counts. Returns the
-    /// reason if the class doesn't go on, or fails.
+    /// Serves a class that is resumed from the journal `past`, in the host state `state`: writes the first two lines,
+    /// serves the connections, and writes the last line. Returns the log; the last line says how many events the log
+    /// has. Returns the reason if the class isn't resumed, or fails.
     pub(crate) fn go_on<
         'a,
         R: System + Files<File = File> + Net<Listener = TcpListener, Stream = TcpStream> + Sync,
@@ -55,7 +55,7 @@ impl<C: Recorder + Send + Drop> Ready<C> {
         self.go_on_after(rt, bytes, store, first.as_slice(), state, writer)
     }
 
-    // Serves a class that goes on from a journal with the bytes `old`, which `store` cuts to their whole lines. The
+    // Serves a class that is resumed from a journal with the bytes `old`, which `store` cuts to their whole lines. The
     // line `first`, which names the ports, is written together with the next line, about the state that the journal
     // leads to. Returns the log. If a session ran out of memory, returns that error after the last line.
     fn go_on_after<
@@ -109,8 +109,8 @@ fn first_line(alloc: Global, ports: &Ports) -> Result<Vec<u8>, ProgramFault>
     Ok(line)
 }
 
-// Returns the host's error for a class that didn't go on, or failed. If the journal couldn't be cut and memory had run
-// out (`lacked`), that is `Memory`, and otherwise the error of the fault.
+// Returns the host's error for a class that wasn't resumed, or failed. If the journal couldn't be cut and memory had
+// run out (`lacked`), that is `Memory`, and otherwise the error of the fault.
 fn told_as(fault: ResumeFault, lacked: bool) -> Fault {
     match fault {
         ResumeFault::Store if lacked => Fault::Common(ProgramFault::Memory),

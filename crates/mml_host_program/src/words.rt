@@ -12,7 +12,7 @@ use std::alloc::{AllocError, Global};
 pub enum Task<'a> {
     /// Serve a new class.
     Host(HostTask<'a>),
-    /// Serve a class that goes on from its journal.
+    /// Resume a class from its journal, and serve it.
     Resume(ResumeTask<'a>),
 }
 
@@ -27,8 +27,8 @@ pub struct HostTask<'a> {
     pub record: Option<&'a str>,
 }
 
-/// A lab and the two ports of its class, which goes on: the journal has what was granted before, and will have what is
-/// granted from now on.
+/// A lab and the two ports of its class, which is resumed: the journal has what was granted before, and will have what
+/// is granted from now on.
 #[derive(Drop)]
 pub struct ResumeTask<'a> {
     pub lab: &'a str,

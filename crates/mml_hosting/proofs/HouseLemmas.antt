@@ -152,7 +152,7 @@ module _ {H K C R W : Type 0} (t : Terms K C R W) where
     }
     hosted (Err e) kept dismissed desk_is others_is = tt
 
-    -- if there is no log, what is known of the house
+    -- if there is no log, the house ended early, as `HostsEarly` says
     pub unhosted : (f : HostFault) → EndsWithoutLog (length t.begun) t.lab sink desks (windows_of desks ++ windows_of others) f
         → HostsEarly t sink to_desk to_come f
     unhosted fault.Memory without = tt
@@ -184,7 +184,8 @@ module _ {H K C R W : Type 0} (t : Terms K C R W) where
         }
     unhosted _ without = absurd without
 
--- how a house ends, if its windows have seen beginnings of this book's events
+-- Let the windows of a house have seen beginnings of this book's events. Then the house ended with this book, and has
+-- no log if the teacher didn't dismiss it, or if the windows' places aren't those of the book's events
 module _ {S H K C : Type 0} (first : ℕ) (lab : LabValue) (sink : S → Option (List ℕ)) (desks : List (Seat H K C)) (windows all : List WindowValue)
     (b : BookValue S) (same : windows ≡ all) (book : IsBook lab sink b) (seen : All (λ w. IsPrefix w.seen b.events) windows) where
   leaves_all : LeavesBook lab sink all b
@@ -204,7 +205,7 @@ module _ {S H K C : Type 0} (first : ℕ) (lab : LabValue) (sink : S → Option 
         (subst (λ (m : ℕ). ¬ (IsEachOnceFrom first m (told_of windows))) found (is (omega (arith, enough, found))).places),
   )
 
--- what a failed house has written
+-- How much of its lines a failed house has written.
 module _ {S K C R W : Type 0} (t : Terms K C R W) (sink : S → Option (List ℕ)) (to_desk to_come : Option (List (R × W))) where
   -- if there is no log, nothing was written
   pub badly_early : (wrote : Option (List ℕ)) (f : HostFault) → HostsEarly t sink to_desk to_come f → HostsBadly t sink to_desk to_come wrote wrote f

@@ -27,7 +27,8 @@ led_more t old xs w v x c one so_far it =
     (run_longer (λ st s r next. Leads t old.number s st next) (stand (window t.begun []) (t.given old.number)) (stand w (t.recorded old.recorder))
     (stand v (t.recorded c)) (sessions_of t.shows old) (sessions_of t.shows old) (t.shows x) (t.shows x) so_far it)
 
--- one more session, and the note whether the teacher's bye ended it
+-- The sessions of a seat, and one more (`x`). `now` is whether the seat is at the desk and the teacher's bye ended this
+-- session. At the desk, the teacher's bye ended none of the earlier ones
 module _ {R W X : Type 0} (f : X → ServedSession R W) (xs xs' : List X) (x : X) (one : xs' ≡ xs ++ x ∷ []) (desk now : Bool)
     (noted : now ≡ (desk && is_teachers_bye (f x).ending)) (so_far : desk ≡ true → AreGoingOn (map f xs)) where
   pub dismissed_so : now ≡ true → IsDismissed (map f xs')

@@ -1,4 +1,6 @@
--- What holds of houses with two ports that fail.
+-- What holds of houses with two ports that fail. The book of a house has its granted events, the board after them and
+-- their journal. The places of a window are the numbers of the events that it was granted. They went astray if those of
+-- all windows aren't those of the book's events, each once.
 use Rattle.std.specs.{Prelude.◌≡◌, Prelude.◌≤◌, Prelude.ℕ, Prelude.true, Prelude.false, Prelude.List, Prelude.[], Prelude.◌++◌, Prelude.flat_map, Prelude.length, Prelude.All, Prelude.Option, List.AllZip, List.list_all, List.range_with_len, Io.KnownBytes.Appends}
 use mathlib.Core.List.{IsPrefix}
 use Rattle.mml_lab.specs.Labs.{LabValue}

@@ -1,4 +1,4 @@
-//! A house that goes on from events that came before, and from what was recorded.
+//! A house that begins with earlier events, and with what was recorded then.
 //!
 //! A house is one run of a lab that threads share: its list of granted events, the board after them, and their journal.
 //! A seat serves one connection after another, each through the seat's window.

@@ -106,8 +106,9 @@ impl<
         seat
     }
 
-    // Returns the index of the busy seat to wait for next. With marks, this is the first one whose thread has ended, or
-    // `None` if all are still running. Without marks, it is the first of all, or `None` if the list is empty.
+    // Returns the index of the busy seat to wait for next. With marks, this is the first seat whose thread has ended,
+    // or `None` if all threads are still running. Without marks, it is the first seat of the list, or `None` if the
+    // list is empty.
     fn next_to_join<M: Mark>(busy: &Vec<Self>, marks: Option<&[M]>) -> Option<usize>
         ensures some { IfSome result (λ index. index < vec_len busy.now) }
         ensures none { IfNone result (IfNone marks.entry (busy.now.items ≡ [])) }
@@ -247,8 +248,8 @@ impl<
 > Shared<'s, Rt, S, H, B> {
     // Starts a thread that serves a connection (`ends`) in a seat, and returns the thread's handle. The thread rings
     // the bell when the session has ended. If no thread can be made, serves the connection in this thread, and returns
-    // the seat as an error. A connection that isn't at the desk is cut off before that, so that later connections
-    // needn't wait for it.
+    // the seat as an error. In this case a connection that isn't at the desk is cut off before it is served, so that
+    // later connections needn't wait for it.
     fn serve_apart<
         E,
         K: Keep<R, W> + Send + Drop + 's,

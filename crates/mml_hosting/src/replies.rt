@@ -9,7 +9,7 @@ use std::io::Write;
 
 /// An observer of the replies of one connection.
 pub trait ReplyObserver {
-    /// Is called with each reply to the connection, before the reply's bytes are written.
+    /// Notes a reply to the connection, before the reply's bytes are written.
     fn note_reply(&mut self, reply: &Reply);
 }
 

@@ -1,4 +1,5 @@
--- The program's error for each reason why the check of a class fails.
+-- The program's error for each reason why the check of a class fails. The place of an event is its number in the list
+-- of events, from 1.
 use Rattle.std.specs.Prelude.{◌≡◌, ◌+◌, ◌-◌, ◌^◌, min, ℕ, List, codes, Option, None, Some}
 use Rattle.mml_audit.specs.declared.auditing.AuditFault.{AuditFault}
 use Rattle.mml_record.specs.declared.verdict.{BadEntry.BadEntry, Why.Why}

@@ -97,8 +97,8 @@ fn task_over<'a>(lab: &'a str, name: &str, values: &ArgMatches<'a>) -> Option<Ta
     }
 }
 
-// Returns the task of checking the record of a class that these values name. Returns `None` if the journal or the
-// record is missing.
+// Returns the task of the subcommand `verify` with these values. Returns `None` if the journal or the record is
+// missing.
 #[tactic(auto, unfolding(crate::specs::Words::verify_in))]
 fn verify_over<'a>(lab: &'a str, values: &ArgMatches<'a>) -> Option<Task<'a>>
     ensures { option_map wanted_by result ≡ verify_in lab.now (found_of values.now) }

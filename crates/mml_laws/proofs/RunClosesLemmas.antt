@@ -19,12 +19,13 @@ module _ (test : Move → Bool) where
   abbrev counted : ℕ → ℕ → List Event → ℕ
   counted last q es = count_new last (filter test (moves_from q es))
 
-  -- these closes are at most as many as all closes; if the next close was counted already, they are fewer
+  -- the counted closes are at most as many as all closes; if the next close was counted already, they are fewer
   record AreFew (last q : ℕ) (es : List Event) : Type 0 where
     most : counted last q es ≤ count_by is_close es
     fewer : last ≡ next_close q es → next_close q es < q + length es → counted last q es + 1 ≤ count_by is_close es
 
-  -- if an event is neither a counted grant nor a close, this holds with it too
+  -- `AreFew` also holds with one more event at the front, if this event changes neither the two counts nor the next
+  -- close
   passed : (last q : ℕ) (e : Event) (es : List Event) → counted last q (e ∷ es) ≡ counted last (q + 1) es → next_close q (e ∷ es) ≡ next_close (q + 1) es
       → count_by is_close (e ∷ es) ≡ count_by is_close es → AreFew last (q + 1) es → AreFew last q (e ∷ es)
   passed last q e es same next closes rest = grind (arith, nat_tests)

@@ -38,7 +38,7 @@ module _ (ids : List ℕ) (roster : RosterValue) where
   has_refused : (r : Refused) → HasEach (reply_value ids roster (reply.Refuse r)) (found_fields ids roster (reply.Refuse r))
   has_refused r = grind (arith, nat_tests)
 
-  -- the rule that is found under a key of a look
+  -- if a look has the value of a rule (or null) under a key, a program finds the word of this rule (or null) there
   found_rule : (key : List ℕ) (l : Look) (v : Data) → get key (reply_value ids roster (reply.Look l)) ≡ Some v → (k : Option Kind) → v ≡ kind_or_null_value k
       → Has (reply_value ids roster (reply.Look l)) (key, rule_field k)
   found_rule key l v at k e = grind (arith, nat_tests)

@@ -1,4 +1,4 @@
--- The replies of the sessions of a house.
+-- The replies of the sessions of a house. The place of an event is its number in the list of events, from 1.
 use Rattle.std.specs.Prelude.{◌≡◌, ℕ, List, [], ◌∷◌, ◌++◌, flat_map, Option}
 use Rattle.mml_lab.specs.Labs.{LabValue}
 use Rattle.mml_board.specs.declared.event.Event.{Event}

@@ -1,4 +1,5 @@
--- The words of the protocol, as programs write and read them.
+-- The words of the protocol, as programs write and read them. The place of an event is its number in the list of
+-- events, from 1.
 use Rattle.std.specs.Prelude.{◌≡◌, ℕ, Bool, true, false, List, [], ◌∷◌, codes, Option, None, Some, slice_index}
 use Rattle.mml_rules.specs.declared.rule.Kind.{Kind}
 use Rattle.mml_lab.specs.Rosters.{RosterValue, name_of}

@@ -19,7 +19,7 @@ pub behind_number : (n : ℕ) (rest : List ℕ) (m : Option (List ℕ)) → if_c
 unfolding denial_members
 behind_number n rest m h = member n rest ∙ h
 
--- the members of a text are those after its first brace
+-- `denial_members` of a text that begins with a brace is the part that `from_clause` finds after the brace
 first_member : (members : List ℕ) (m : Option (List ℕ)) → from_clause members ≡ m → denial_members (123 ∷ members) ≡ m
 unfolding denial_members
 first_member members m h = h

@@ -1,4 +1,5 @@
--- An accepted entry describes a turn of a session.
+-- An accepted entry describes a turn of a session. A view is a command that only asks to be shown something: a see, a
+-- look or a report. The place of an event is its number in the list of events, from 1.
 use Rattle.std.proofs.Common.{◌≡◌, ◌⊎◌, ℕ, ◌≤◌, suc, Bool, true, false, true≢false, List, [], ◌∷◌, ◌++◌, length, take, drop, refl, sym, ap, ◌∙◌, subst, inl, inr, Option, None, Some, Result, Ok, Err}
 use Rattle.std.proofs.Common.{arith, append-nil, length-append}
 use Rattle.std.proofs.lemmas.{List.take-append-drop, List.length-take-le, Bool.Decides.nat_tests}
@@ -98,7 +99,7 @@ module _ (lab : LabValue) (l : List Event) (legal : is_legal_in lab l ≡ true) 
         ),
       )
 
-  -- the window has seen the first p events; or it has seen fewer of them, and is asked
+  -- the window has seen the first p events; or it has seen at most these, and the line makes it read on
   abbrev IsBefore : WindowValue → Bool → Type 0
   IsBefore w asks = (w.seen ≡ take p l) ⊎ (IsPrefix w.seen (take p l) × (asks ≡ true))
 
@@ -140,7 +141,8 @@ module _ (lab : LabValue) (l : List Event) (legal : is_legal_in lab l ≡ true) 
   turns_all w known known' line r same (inl fits) = let t = asked w known known' (request_in line) r (inl same) fits in (t.0, inl t.1, t.2)
   turns_all w known known' line r same (inr fits) = (w, inr (fits.0, ap (λ (k : Option Who). standing k w) fits.1), stays_after w r same (ap place_in fits.0))
 
-  -- this also holds if the window has seen fewer events, and the line asks it
+  -- if a window has seen at most the first p events, and the line makes it read on, a reply that fits after p events is
+  -- that of one of its turns
   pub turns_asked : (w : WindowValue) (known known' : Option Who) (line : List ℕ) (r : Reply) → IsPrefix w.seen (take p l)
       → asks_window lab.roster known (request_in line) ≡ true → FitsAsked lab l (take p l) known (request_in line) r known'
       → (new : WindowValue) × Turn lab (standing known w) line r (standing known' new) × IsAfter w r new
@@ -167,7 +169,8 @@ module _ (lab : LabValue) (l : List Event) (legal : is_legal_in lab l ≡ true) 
   shown_none : (r : Reply) → is_shown r ≡ true → place_in r ≡ None
   shown_none r shown = grind (arith, nat_tests)
 
-  -- a view is shown, which has no entry, and after it the window has seen the first p events
+  -- there is a line whose reply shows something and has no entry; after this turn, the window has seen the first p
+  -- events
   abbrev Quiet : WindowValue → Option Who → Type 0
   Quiet w known =
       (line : List ℕ) × IsWithinLimit MAX_REQUEST line × (v : Reply) × (is_shown v ≡ true) × (new : WindowValue)

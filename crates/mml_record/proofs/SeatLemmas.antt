@@ -1,4 +1,5 @@
--- Sessions that leave a given record.
+-- Sessions that leave a given record. A view is a command that only asks to be shown something: a see, a look or a
+-- report.
 use Rattle.std.proofs.Common.{◌≡◌, ◌⊎◌, ℕ, ◌≤◌, Bool, true, false, ◌&&◌, not, List, [], ◌∷◌, ◌++◌, length, take, drop, refl, sym, ap, ◌∙◌, subst, inl, inr, Option, None, Some, Result, Ok, Err, arith}
 use Rattle.std.proofs.Common.{append-nil, append_assoc, if◌then◌else◌}
 use Rattle.std.proofs.lemmas.{List.take-append-drop, List.length-take-le, Bool.and_parts, Bool.or_cases, Bool.false≢true, Bool.Decides.nat_tests, Slice.Eq.bytes_eq-Decides}
@@ -71,7 +72,7 @@ module _ (lab : LabValue) (l first : List Event) (known : Option Who) (r : Reply
 
 -- ---- sessions
 
--- all bytes were kept
+-- a recorder kept exactly these bytes, and left out none
 abbrev keeps_all : List ℕ → Option Kept
 keeps_all bytes = Some (record { bytes = bytes; whole = true })
 
@@ -218,7 +219,7 @@ module _ (lab : LabValue) (is : IsLab lab) (l : List Event) (number : ℕ) where
       ap (λ (b : Bool). if b then [] else said (judged_at (length new.seen) r) line (reply_line lab.ids lab.roster r)) unshown
       ∙ ap (λ (n : ℕ). said n line (reply_line lab.ids lab.roster r)) judged ∙ ap (said p line) (sym is)
 
-  -- a reply that isn't the refusal `memory` fits what the line asks
+  -- if a reply fits a line, and isn't the refusal `memory`, it fits what the line asks
   fits_asked : (known : Option Who) (line out : List ℕ) (r : Reply) (known' : Option Who) (p : ℕ) → out ≡ reply_line lab.ids lab.roster r
       → not (is_line lab out (reply.Refuse refused.Memory)) ≡ true → Fits lab l (take p l) known line r known'
       → FitsAsked lab l (take p l) known (request_in line) r known'
@@ -237,7 +238,8 @@ module _ (lab : LabValue) (is : IsLab lab) (l : List Event) (number : ℕ) where
         (prefix_shorter (take least l) (take p l) l (drop least l, take-append-drop least l) (drop p l, take-append-drop p l)
         (omega (arith, le, few, length-take-le p l few, length-take-le least l (omega (arith, le, few)))))
 
-    -- if p events have been seen, or a view lets the window see as many, the rest may go on from there
+    -- if p events have been seen, or the known participant can ask for a view after which the window has seen p events,
+    -- the rest may follow there
     arrives : (known : Option Who) (w : WindowValue) (least p : ℕ) (es : List Entry) (ps : List ℕ) → least ≤ p → p ≤ length l → w.seen ≡ take least l
         → (p ≡ least) ⊎ (sees_some lab.roster known ≡ true)
         → ((v : WindowValue) → v.seen ≡ take p l → Rest (standing known v) es ps) → Rest (standing known w) es ps
@@ -288,7 +290,7 @@ module _ (lab : LabValue) (is : IsLab lab) (l : List Event) (number : ℕ) where
           begins = x.begins;
         }
 
-    -- a recorded turn, and what follows it
+    -- if entries go on after a turn that is recorded, they go on before it with the entry of the turn in front
     follows : (st : Standing) (new : WindowValue) (known : Option Who) (line : List ℕ) (r : Reply) → Turn lab st line r (standing known new)
         → IsWithinLimit MAX_REQUEST line → new.places ≡ st.window.places ++ places_in r → (q : ℕ) → new.seen ≡ take q l → q ≤ length l
         → (es : List Entry) (ps : List ℕ) → are_whole (all_kept es) ≡ true → are_ended true (all_kept es) ≡ true → Walks es
@@ -416,7 +418,7 @@ given_of lab l known stage least (kept.Unrecorded p ∷ es) ps h whole none = ab
 given_of lab l known stage least (kept.Paused p ∷ es) ps h whole none = absurd (false≢true whole)
 given_of lab l known stage least (kept.Resumed p missed ∷ es) ps h whole none = absurd (false≢true (sym none ∙ h.3))
 
--- a whole record begins after as many events as its first entry names
+-- if nothing is left out of a record, its entries go on from a state in which some number n of events was seen
 begins_after : (lab : LabValue) (l : List Event) (es : List KeptEntry) (ps : List ℕ) → IsRecordOf lab l es ps → are_whole es ≡ true
     → (n : ℕ) × (n ≤ length l) × GoesOn lab l None stages.Open n es ps
 begins_after lab l [] ps h whole = (0, omega arith, h)

@@ -1,4 +1,5 @@
--- A participant who sees a node can be shown something at any time.
+-- A participant who sees a node can be shown something at any time. A reply shows something if it is that to a see, a
+-- look or a report.
 use Rattle.std.proofs.Common.{◌≡◌, ◌≢◌, ℕ, ◌<◌, ◌≤◌, ◌^◌, true, false, ◌||◌, List, ◌∷◌, [], ◌++◌, codes, decimal, length, slice_index, refl, sym, ap, subst, Option, None, Some, Ok, ok_or, arith}
 use Rattle.std.proofs.Common.{length-append}
 use Rattle.std.{specs.List.All, proofs.lemmas.Bool.or_right, proofs.lemmas.Bool.false≢true, proofs.lemmas.Fmt.length-decimal-le, proofs.lemmas.List.get_or_default}
@@ -20,12 +21,12 @@ use Rattle.mml_lab.specs.declared.who.Who.TheVariants as who
 use Rattle.mml_policy.specs.declared.command.Command.TheVariants as command
 use Rattle.mml_codec.specs.declared.request.Request.TheVariants as requests
 
--- after these events, the command is answered by a view
+-- after these events, the reply to the command shows something
 abbrev Shows : LabValue → List Event → Who → Command → Type 0
 Shows lab first x c =
     is_shown (reply_of (after_ruling (world_in lab first) (ruling_at lab (world_in lab first) x c)) (ruling_at lab (world_in lab first) x c)) ≡ true
 
--- after these events, some line of the known participant is answered by a view
+-- after these events, the known participant has a line whose reply shows something
 abbrev pub CanBeShown : LabValue → List Event → Option Who → Type 0
 CanBeShown lab first known =
     (who : Who) × (known ≡ Some who) × (line : List ℕ) × IsWithinLimit MAX_REQUEST line × (c : Command) × (request_in line ≡ Ok (requests.Do c))

@@ -1,4 +1,4 @@
-//! A class that goes on from its journal: the audit of the old journal, and a host that begins there.
+//! A class that is resumed from its journal: the audit of the old journal, and a host that continues after its events.
 //!
 //! The audit reads the journal's list of events, and checks that each event is allowed after the earlier ones.
 #![tactic(auto)]

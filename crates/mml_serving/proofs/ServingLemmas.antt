@@ -16,12 +16,14 @@ each_more P [] [] [] x y z so_far one = (one, tt)
 each_more P (a ∷ us) (b ∷ vs) (c ∷ ws) x y z so_far one = (so_far.0, each_more P us vs ws x y z so_far.1 one)
 each_more P _ _ _ x y z so_far one = absurd so_far
 
--- one more thread was joined; `f` returns the connection of a thread's handle
+-- if what `P` says holds of the threads that were joined, it also holds with one more joined thread; `f` returns the
+-- connection of a thread's handle
 pub served_more : {H A B C : Type 0} (P : A → B → C → Type 0) (f : H → A) (hs : List H) (h : H) (ys ys' : List B) (y : B) (zs zs' : List C) (z : C)
     → ys' ≡ ys ++ y ∷ [] → zs' ≡ zs ++ z ∷ [] → Each P (map f hs) ys zs → P (f h) y z → Each P (map f (hs ++ h ∷ [])) ys' zs'
 served_more P f hs h ys ys' y zs zs' z one two so_far it = rw (one, two, map-append f hs (h ∷ [])) (each_more P (map f hs) ys zs (f h) y z so_far it)
 
--- one more thread was started, for the next connection
+-- One more thread was started, for the next connection. The connections that came are still numbered in order, and are
+-- still the first of those to come
 module _ {H R W : Type 0} (f : H → Connection R W) (hs hs' : List H) (h : H) (one : hs' ≡ hs ++ h ∷ []) where
   pub numbered_so : (n : ℕ) (c : Connection R W) → f h ≡ c → c.number ≡ n + length hs → Numbered n (map f hs) → Numbered n (map f hs')
   numbered_so n c it at so_far = grind (arith, map-append f hs (h ∷ []), length-map hs f, numbered_more n (map f hs) c)
@@ -31,7 +33,7 @@ module _ {H R W : Type 0} (f : H → Connection R W) (hs hs' : List H) (h : H) (
   came_so known a b c it so_far next = grind (arith, map-append, append_assoc)
 
 module _ {R W : Type 0} (lab : LabValue) (remaining : R → Option (List ℕ)) (contents : W → Option (List ℕ)) (to_come : Option (List (R × W))) (count : ℕ) where
-  -- all threads were joined
+  -- if each of the connections that came was served in its thread, all connections were served as `ServesAll` says
   pub all_came : {X E : Type 0} (sessions : X → List (EndedSession R W)) (windows : X → List WindowValue) (left : Option (List (R × W)))
       (cs : List (Connection R W)) (r : Result X E)
       → Takes to_come left (map ends_of cs) → length cs ≡ count → Numbered 1 cs → IfOk r (λ p. Each (IsServed lab remaining contents) cs (sessions p) (windows p))
@@ -46,7 +48,8 @@ each_long P [] [] [] h = refl
 each_long P (a ∷ us) (b ∷ vs) (c ∷ ws) h = omega (arith, each_long P us vs ws h.1)
 each_long P _ _ _ h = absurd h
 
--- the first windows were used, and the others are as they were at the beginning
+-- if the connections were served through the first windows, and the others are as they were at the beginning,
+-- `ServesWindows` holds
 pub serves_windows : {R W : Type 0} (lab : LabValue) (remaining : R → Option (List ℕ)) (contents : W → Option (List ℕ))
     (to_come : Option (List (R × W))) (count : ℕ)
     (sessions : List (EndedSession R W)) (used unused fresh : List WindowValue) (n : ℕ) → ServesAll lab remaining contents to_come count sessions used

@@ -1,5 +1,7 @@
--- What holds of a house that failed. A house is one run of a lab that threads share, and its log is its result at the
--- end.
+-- What holds of a house that failed. A house is one run of a lab that threads share. Its book has the granted events,
+-- the board after them and their journal, and its log is its result at the end. The places of a window are the numbers
+-- of the events that it was granted. The places of all windows went astray if they aren't those of the book's events,
+-- each once.
 use Rattle.std.specs.Prelude.{◌≡◌, ◌⊎◌, ℕ, true, false, List, [], All, length, Option, None}
 use Rattle.std.specs.{List.list_all, Io.KnownBytes.Appends}
 use mathlib.Core.List.{IsPrefix}
@@ -10,20 +12,20 @@ use Rattle.mml_serving.specs.declared.{connection.EndedSession.EndedSession, ser
 use Rattle.mml_serving.specs.{Closings.IsCutShort, Closings.done_line, Serving.ServesWindows, Serving.ServesHouse, Serving.had_memory}
 use Rattle.mml_serving.specs.declared.serving.ServeFault.TheVariants as fault
 
--- the house ended with this book: its events are legal, each window has seen a beginning of them, and its sink has
--- their journal
+-- The house ended with this book. The book's events are legal, each window has seen a beginning of their list, and the
+-- house's sink has their journal
 pub record LeavesBook {S : Type 0} (lab : LabValue) (sink : S → Option (List ℕ)) (windows : List WindowValue) (left : BookValue S) : Type 0 where
   pub book : IsBook lab sink left
   pub seen : All (λ w. IsPrefix w.seen left.events) windows
 
--- The house ended with a book, but its windows' places went astray. The places that the windows were given aren't those
--- of the book's events after the first `first` events, each once
+-- The house ended with a book, but the windows' places went astray: they aren't those of the book's events after the
+-- first `first` events, each once
 pub record WentAstrayFrom {S : Type 0} (first : ℕ) (lab : LabValue) (sink : S → Option (List ℕ)) (windows : List WindowValue) : Type 0 where
   pub left : BookValue S
   pub leaves : LeavesBook lab sink windows left
   pub places : ¬ (IsEachOnceFrom first (length left.events) (told_of windows))
 
--- the same for a house that began without events
+-- a house that began without events ended with a book, but the windows' places went astray
 abbrev pub WentAstray : {S : Type 0} → LabValue → (S → Option (List ℕ)) → List WindowValue → Type 0
 WentAstray lab sink windows = WentAstrayFrom 0 lab sink windows
 

@@ -1,4 +1,5 @@
--- Connections that were served in the order in which they came.
+-- Connections that were served in the order in which they came. The place of an event is its number in the list of
+-- events, from 1.
 use Rattle.std.specs.Prelude.{◌≡◌, ℕ, Bool, true, false, not, ◌&&◌, ◌+◌, List, [], ◌∷◌, ◌++◌, All, length, map, ⊤, Option}
 use Rattle.mml_lab.specs.Labs.{LabValue}
 use Rattle.mml_window.specs.{declared.log.Log.Log, Logs.IsLog, Windows.WindowValue, Windows.window}

@@ -85,7 +85,8 @@ module _ {number : ℕ} {lab : LabValue} {old : WindowValue} {st : Standing} {be
         recorded = rw entries (records_trans number x y z (entries_of t) (line_entries one.0) so.recorded one.4);
       }
 
-  -- if nothing more was answered, and the buffer was written, the lines so far are all that were answered
+  -- if no more lines were answered after a talk, and the buffer was written, the session ended with all its lines
+  -- answered
   abbrev all_so : {e : Option (List ℕ)} → after ≡ st → Consumes a (prepend_known unread left) [] → held' ≡ held → d ≡ c → Appends d e held'
       → AllAnswered lab old after.window input (prepend_known unread left) wrote e
   all_so {e} same taken alike still out = record {

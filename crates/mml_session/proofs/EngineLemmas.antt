@@ -1,4 +1,5 @@
--- The turns of a session are those of an engine that replies through the session's window.
+-- The turns of a session are those of an engine that replies through the session's window. A view is a command that
+-- only asks to be shown something: a see, a look or a report.
 use Rattle.std.proofs.Common.{◌≡◌, ◌⊎◌, ℕ, List, Option, Some, None, Result, Ok, Err, refl, ap, ◌∙◌, inl, inr, arith}
 use Rattle.std.{specs.Prelude.⊤, proofs.lemmas.Bool.Decides.nat_tests}
 use Rattle.mml_lab.specs.{declared.who.Who.Who, Labs.LabValue}
@@ -81,6 +82,6 @@ module _ (lab : LabValue) (st next : Standing) (r : Reply) where
       ⊎ IsTold (OverWindow {E = ⊤} lab) st.known line tt st.window r next.known tt next.window
   turn_does line t = does.turn_does (OverWindow {E = ⊤} lab) lab.roster st.known tt st.window line r next.known tt next.window (turn_in line t)
 
--- a line that asks an engine for a view asks the session for a view
+-- a line by which an engine is asked for a view also asks the session for that view
 pub view_over : (known : Option Who) (v : WindowValue) (line : List ℕ) → asking.IsView known line → IsView (standing known v) line
 view_over known v line h = record { who = h.who; command = h.command; known = h.by; asked = h.asked; view = h.view }

@@ -1,4 +1,4 @@
--- The reply to a greeting.
+-- The reply to a greeting. The place of an event is its number in the list of events, from 1.
 use Rattle.std.proofs.Common.{◌≡◌, true, [], refl, Option}
 use Rattle.mml_lab.specs.{declared.who.Who.Who, Rosters.RosterValue}
 use Rattle.mml_codec.specs.declared.{request.Request.Request, greeting.Greeting.Greeting, greeting.Greeting.TheVariants.Answered, greeting.Greeting.TheVariants.LeftToJudge}

@@ -58,7 +58,7 @@ module _ (lab : LabValue) where
       ap (λ (l : List Reply). reply_lines lab l) h.parts ∙ (flat_map-append (reply_line lab.ids lab.roster) h.flushed h.buffered
       ∙ ap (λ l. reply_lines lab h.flushed ++ l) (sym h.lines))
 
-  -- the same with one more reply, which is buffered
+  -- if the lines of the last replies are buffered, this also holds with one more reply, whose line is buffered too
   pub back_more : (a b : Option (List ℕ)) (rs : List Reply) (held : List ℕ) (r : Reply) → HoldsBack lab a b rs held
       → HoldsBack lab a b (rs ++ r ∷ []) (held ++ reply_line lab.ids lab.roster r)
   back_more a b rs held r h = record {
@@ -74,7 +74,8 @@ module _ (lab : LabValue) where
   back_out a b c rs held h k =
       subst (λ (t : List ℕ). Appends a c t) (sym (all_lines a b rs held h)) (Appends-trans a b c (reply_lines lab h.flushed) held h.written k)
 
-  -- the same if the buffered lines are written or stay in the buffer
+  -- if the lines of the last replies are buffered, this holds again after the buffered lines are written or stay in the
+  -- buffer
   pub back_on : (a b c : Option (List ℕ)) (rs : List Reply) (held held' : List ℕ) → HoldsBack lab a b rs held → IsHeldOrOut b c held held'
       → HoldsBack lab a c rs held'
   back_on a b c rs held held' h (inl k) = record {

@@ -1,4 +1,5 @@
--- If memory runs out for the line of a reply that isn't short, the refusal `memory` is sent instead.
+-- If memory runs out for the line of a reply that isn't short, the refusal `memory` is sent instead. The place of an
+-- event is its number in the list of events, from 1.
 use Rattle.std.proofs.Common.{◌≡◌, ◌⊎◌, ℕ, true, false, true≢false, List, [], ◌++◌, Option, refl, sym, ap, ◌∙◌, subst, inl, inr, append-nil, Result}
 use Rattle.mml_lab.specs.{declared.who.Who.Who, Labs.LabValue}
 use Rattle.mml_board.specs.{declared.event.Event.Event, World.World, Lists.world_in}

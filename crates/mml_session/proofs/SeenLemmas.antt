@@ -15,12 +15,12 @@ module _ {lab : LabValue} {old new : WindowValue} where
   seen_to : (t : Talk lab (nobody_known old)) → t.end.window ≡ new → Sees old new
   seen_to t stands = subst (λ (w : WindowValue). Sees old w) stands (talk_seen lab (nobody_known old) t)
 
-  -- the same with one more line
+  -- after a talk and one more answered line, the window has seen what it had seen before the talk, and perhaps more
   seen_on : (t : Talk lab (nobody_known old)) {after : Standing} (s : LineTurn lab t.end after) → after.window ≡ new → Sees old new
   seen_on t {after} s stands = subst (λ (w : WindowValue). Sees old w) stands
       (prefix_trans old.seen t.end.window.seen after.window.seen (talk_seen lab (nobody_known old) t) (turn_seen lab t.end after s))
 
--- this holds after each session, however it ended
+-- after each session, however it ended, the window has seen what it had seen before, and perhaps more
 pub ended_seen : (e : SessionEnd) (lab : LabValue) (old new : WindowValue) (input left wrote wrote' : Option (List ℕ))
     → Ended e lab old new input left wrote wrote' → Sees old new
 ended_seen end.Bye lab old new input left wrote wrote' h = seen_on h.1.talk h.1.last h.1.stands

@@ -1,4 +1,5 @@
--- The window after a talk, and the lines that the talk has answered.
+-- The window after a talk, and the lines that the talk has answered. The place of an event is its number in the list of
+-- events, from 1.
 use Rattle.std.proofs.Common.{◌≡◌, ℕ, List, [], ◌∷◌, ◌++◌, flat_map, sym, ◌∙◌, ap, append_assoc, append-nil, subst, inl, inr, All}
 use Rattle.std.{specs.List.AllByRecursion, proofs.lemmas.List.Elements.All-nil, proofs.lemmas.List.Elements.All-cons}
 use mathlib.Core.List.{IsPrefix}
@@ -20,7 +21,7 @@ pub record WentOn (old new : WindowValue) (r : Reply) : Type 0 where
   pub places : new.places ≡ old.places ++ places_in r
   pub seen : IsPrefix old.seen new.seen
 
--- this holds if the window stays as it was, and the reply names no place
+-- if a reply names no place, and the window stays as it was, `WentOn` holds
 stays : (old new : WindowValue) (r : Reply) → new ≡ old → places_in r ≡ [] → WentOn old new r
 stays old new r same none = record {
   places = ap (λ (w : WindowValue). w.places) same ∙ (sym (append-nil old.places) ∙ sym (ap (λ ps. old.places ++ ps) none));

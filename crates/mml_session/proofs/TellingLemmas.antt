@@ -1,4 +1,5 @@
--- The reply to a command, made from the window's answer.
+-- The reply to a command, made from the window's answer. The place of an event is its number in the list of events,
+-- from 1.
 use Rattle.std.proofs.Common.{◌≡◌, ◌⊎◌, ℕ, List, [], ◌++◌, refl, sym, ap, ◌∙◌, subst, inl, inr, append-nil, Option}
 use Rattle.mml_lab.specs.{declared.who.Who.Who, Labs.LabValue}
 use Rattle.mml_board.specs.{declared.event.Event.Event, declared.done.Done.Done, declared.denial.Denial.Denial, World.World, Events.after, Lists.world_in}
@@ -39,7 +40,7 @@ granted_told lab old new who c place number done answers =
 has_seen : (l : List Event) (ps : List ℕ) (new : WindowValue) {why : Option Refusal} → new ≡ window_with l ps why → HasSeen l ps new
 has_seen l ps new is = (ap (λ (w : WindowValue). w.seen) is, ap (λ (w : WindowValue). w.places) is)
 
--- the same for a reply that names no place
+-- a reply that names no place adds no place to those of the window
 seen_so : (l : List Event) (ps : List ℕ) (new : WindowValue) {why : Option Refusal} → new ≡ window_with l ps why → HasSeen l (ps ++ []) new
 seen_so l ps new is = (ap (λ (w : WindowValue). w.seen) is, ap (λ (w : WindowValue). w.places) is ∙ sym (append-nil ps))
 

@@ -1,4 +1,5 @@
--- The end of a session: what was read of its input, what was written, and its window.
+-- The end of a session: what was read of its input, what was written, and its window. A view is a command that only
+-- asks to be shown something: a see, a look or a report.
 use Rattle.std.specs.Prelude.{◌≡◌, ℕ, ◌<◌, false, List, [], ◌++◌, length, take, Option, None, Some, Ok}
 use Rattle.std.specs.Io.KnownBytes.{Appends, Consumes, IsAtEnd, prepend_known}
 use Rattle.mml_lab.specs.{declared.who.Who.Who, Labs.LabValue}

@@ -1,4 +1,5 @@
--- The result of the next line of a session.
+-- The result of the next line of a session. A view is a command that only asks to be shown something: a see, a look or
+-- a report.
 use Rattle.std.specs.Prelude.{◌≡◌, ◌≢◌, ℕ, ◌<◌, Bool, false, true, List, [], ◌++◌, length, take, Option, Result, Ok, Err, ⊤}
 use Rattle.std.specs.Io.KnownBytes.{Appends, Consumes, IsAtEnd, prepend_known}
 use Rattle.mml_lab.specs.Labs.{LabValue}

@@ -36,6 +36,6 @@ bytes_written {lab} t = reply_lines lab t.replies
 abbrev pub line_read : {lab : LabValue} {st after : Standing} → LineTurn lab st after → List ℕ
 line_read t = ended t.line
 
--- the bytes of the line of its reply
+-- the bytes of the reply to the answered line, with its newline
 abbrev pub line_written : {lab : LabValue} {st after : Standing} → LineTurn lab st after → List ℕ
 line_written {lab} t = reply_line lab.ids lab.roster t.reply

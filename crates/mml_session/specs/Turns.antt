@@ -1,4 +1,5 @@
--- The turns of a session: how it answers one line, and many lines one after another.
+-- The turns of a session: how it answers one line, and many lines one after another. The place of an event is its
+-- number in the list of events, from 1.
 use Rattle.std.specs.Prelude.{◌≡◌, ◌⊎◌, ℕ, Bool, true, false, List, [], ◌∷◌, ◌++◌, Option, None, Some, Result, Ok, Err}
 use mathlib.Core.List.{IsPrefix}
 use Rattle.mml_lab.specs.{declared.who.Who.Who, Labs.LabValue}

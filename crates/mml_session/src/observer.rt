@@ -18,21 +18,21 @@ pub trait Observer {
     // them.
     ghost kept: { Self → Option Kept };
 
-    /// Is called when a line has come in the seat with this number, before the line is answered.
+    /// Observes a line that has come in the seat with this number, before the line is answered.
     fn came(&mut self, number: u8, line: &[u8])
         ensures { kept self.new ≡ kept self.old };
 
-    /// Is called when a line was answered by `reply`, before the reply is written. `line` has no newline. `out` is the
-    /// line of the reply, with its newline. The session's window has seen `seen` events.
+    /// Observes that `reply` answers a line, before the reply is written. `line` has no newline. `out` is the line of
+    /// the reply, with its newline. The session's window has seen `seen` events.
     fn answered(&mut self, number: u8, seen: u64, line: &[u8], reply: &Reply, out: &[u8])
         ensures { Records number (kept self.old) (kept self.new)
             (entry_for seen line.now reply.now out.now) };
 
-    /// Is called when replies were written to the connection: `replies` of them since the last call.
+    /// Observes that replies were written to the connection: `replies` of them since the last call.
     fn wrote(&mut self, number: u8, replies: u32)
         ensures { kept self.new ≡ kept self.old };
 
-    /// Is called when a session in the seat with this number has ended, as `ending` says. Its window had seen `seen`
+    /// Observes that a session in the seat with this number has ended, as `ending` says. Its window had seen `seen`
     /// events.
     fn left(&mut self, number: u8, ending: &Ending, seen: u64)
         ensures { Records number (kept self.old) (kept self.new) (left seen) };

@@ -229,7 +229,8 @@ fn refuses_the_second<H: House, R: Wait>(
 }
 
 /// Takes the book out of a house whose sink fails at its second line. Returns the result of `refuses_the_second` for
-/// it, and how the house has ended. The windows of this house have no place. Returns `Memory` if memory runs out.
+/// it, and how the house has ended. No event was granted through the windows of this house. Returns `Memory` if memory
+/// runs out.
 fn decides_alone<H: House, R: Wait>(
     rt: &R,
     alloc: Global,

@@ -32,8 +32,9 @@ pub fn a_look_is_whole()
         IsWholeLook w i (look_of w i) }
 {}
 
-/// Commands show the world in which they are ruled on. A see shows the node that it names, and that node's registers. A
-/// look shows the node that it names. A see, a look and a report show the number of that world's configuration.
+/// The reply to a command shows the world in which the command is ruled on. A see shows the node that it names, and
+/// that node's registers. A look shows the node that it names. A see, a look and a report show the number of that
+/// world's configuration.
 pub fn what_is_shown_is_of_the_present()
     ensures see { (ids : List ℕ) (r : RosterValue) (limit : ℕ) (is_halted : Bool) (w : World)
         (x : Who) (id : ℕ) (s : See) → IsLawful (configuration w) →

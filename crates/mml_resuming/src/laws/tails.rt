@@ -1,4 +1,5 @@
-//! What a class that goes on drops of its old journal. Each law is the contract of a function that does nothing.
+//! What is dropped of the old journal when a class is resumed. Each law is the contract of a function that does
+//! nothing.
 ghost use Rattle.std.specs.Prelude.{◌≢◌, ◌<◌, ◌+◌, ℕ, List, length};
 ghost use Rattle.mml_resuming.specs.Resuming.{counted_of, whole_of};
 

@@ -91,8 +91,8 @@ fn results_of_acts<R: Wait>(rt: &R, alloc: Global, is_there: bool) -> Result<Opt
     Ok(refused.flatten().filter(|_| ending_of(&end) == wanted))
 }
 
-/// A visit that asks for the first act while its nth request for memory is refused, and then for the second act while
-/// none is. `is_there` says whether the library that refuses requests is loaded.
+/// A visit that asks for two acts. While the first is answered, the nth request for memory is refused; while the second
+/// is answered, none is refused. `is_there` says whether the library that refuses requests is loaded.
 #[derive(Clone, Copy)]
 struct FirstThenSecond {
     nth: usize,

@@ -44,9 +44,9 @@ fn is_read_once(alloc: Global, script: &str, replies: &str) -> Result<bool, Fail
     Ok(is_read_by_bytes && is_read_at_once)
 }
 
-/// Tries a failed read after each number of good reads of `GREETING`, of one byte each. Returns the first number for
-/// which the error isn't reported, or the answered lines aren't exactly those that came whole. Returns `None` if there
-/// is no such number.
+/// Runs the script `GREETING` once for each number of its bytes: reads so many bytes one by one, and then a read fails.
+/// Returns the first number for which the error isn't reported, or the answered lines aren't exactly those that came
+/// whole. Returns `None` if there is no such number.
 fn first_other_read(alloc: Global) -> Result<Option<usize>, Fail> {
     let script = GREETING.as_bytes();
     for good in 0..=script.len() {
