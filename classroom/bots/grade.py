@@ -31,10 +31,10 @@ from classroom.core.program import Fault, host, program
 from classroom.core.statuses import FAILED, WARNED
 from classroom.run.daemons import daemons
 
-MOST_AT_ONCE = 16  # bots that run side by side
+MOST_AT_ONCE = 16  # the most bots that run side by side
 ROOMS: set[Path] = set()  # the folders of the running bots
 LONG = 0.5  # seconds: if writing the results takes longer, they aren't written after each case
-SPARING = 9  # after a slow writing, the next one comes this many times as long after it as it took
+SPARING = 9  # after a slow write, the pause before the next one is this many times as long as the write
 
 
 def add_words(words: argparse.ArgumentParser) -> None:
