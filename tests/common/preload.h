@@ -22,8 +22,8 @@ static inline word number(const char *name) {
     return value;
 }
 
-/* Returns the bytes of the file that an environment variable names, in memory that is shared with readers of the file. If
-   there is no such variable, returns `own`. */
+/* Returns the bytes of the file that an environment variable names, in memory that is shared with readers of the file.
+   If there is no such variable, returns `own`. */
 static inline void *shared_with(const char *name, void *own, size_t bytes) {
     const char *file = getenv(name);
     int opened;

@@ -1,8 +1,8 @@
 /* A library that is loaded before a program, and shortens a write to a socket that ends with the reply to a bye.
 
-   With CUT=N only the first N bytes of the first such write are written, if it has more. Later writes to the same socket
-   are complete, or with CUT_EACH=1 have one byte each. With CUT_COUNTS=FILE, FILE has two numbers of eight bytes: how
-   many bytes the first such write was to have, and how many writes were shortened. */
+   With CUT=N only the first N bytes of the first such write are written, if it has more. Later writes to the same
+   socket are complete, or with CUT_EACH=1 have one byte each. With CUT_COUNTS=FILE, FILE has two numbers of eight bytes:
+   how many bytes the first such write was to have, and how many writes were shortened. */
 
 #include "preload.h"
 

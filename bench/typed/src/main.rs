@@ -1,5 +1,5 @@
-//! The program that a good programmer would write without proofs. It has the same protocol as `mml`, reads each line into
-//! a struct, reuses its buffers, and writes once after each read. The speed of `mml` is compared with that of this
+//! The program that a good programmer would write without proofs. It has the same protocol as `mml`, reads each line
+//! into a struct, reuses its buffers, and writes once after each read. The speed of `mml` is compared with that of this
 //! program. No class uses it.
 //!
 //!     typed script LAB SCRIPT [JOURNAL]

@@ -97,8 +97,8 @@ pub fn put_ids(out: &mut Vec<u8>, lab: &Lab, row: Row) {
     });
 }
 
-/// Returns the first privileged node to which the pointers lead from a node, and its enabled rule. Returns `None` if there
-/// is no such node, or its rule is Seduction.
+/// Returns the first privileged node to which the pointers lead from a node, and its enabled rule. Returns `None` if
+/// there is no such node, or its rule is Seduction.
 fn walked(world: &World, from: usize) -> Option<(usize, Rule)> {
     let mut rank = from;
     while !world.privileged().contains(rank) {
