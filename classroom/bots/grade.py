@@ -58,8 +58,8 @@ def add_words(words: argparse.ArgumentParser) -> None:
                        help="a folder that bots may read, in addition to their own folders and programs")
     words.add_argument("--not-apart", action="store_true", help="run bots one after another, as your user, so that they can read your files")
     words.add_argument("--into", default="grades", help="the folder for the records and pages of the cases (grades)")
-    for form, what in (("json", "a list of cases"), ("junit", "JUnit's form"), ("gradescope", "Gradescope's form")):
-        words.add_argument(f"--{form}", metavar="FILE", help=what)
+    for form, what in (("json", "as a list of cases"), ("junit", "in JUnit's format"), ("gradescope", "in Gradescope's format")):
+        words.add_argument(f"--{form}", metavar="FILE", help=f"write the results to this file, {what}")
     parts.add_words(words, "cases", "files of --json")
     words.set_defaults(work=grade)
 
