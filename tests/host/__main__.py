@@ -26,8 +26,8 @@ def move(at: int, node: int, rule: str) -> bytes:
 
 
 def acts(talk: Talk, student: Caller, teacher: Caller, turn: int) -> None:
-    """Sends a move of ana's, its close, and a fault that makes the move possible again: three events. `turn` is the
-    number of times before."""
+    """Sends a move of ana's, its close, and a fault that makes the move possible again: three events. `turn` says
+    how often this was done before."""
     talk.ask(student, move(2 * turn, 1, "seduction"))
     talk.ask(teacher, CLOSE)
     talk.ask(student, look("ana"))
