@@ -10,8 +10,8 @@ from collections.abc import Callable
 from tools.check.processes import processes
 from tests.check.tree import LIMIT, WELL, InTree, is_there, part
 
-# Starts processes in this session and in a new one, of which one ignores the signals to end. Then writes a file, says
-# by another file that it has begun, and never ends.
+# Starts processes in this session and in a new one. One of them ignores the signals to end. Then writes a file, creates
+# another file to show that it has begun, and never ends.
 GOES_ON = """
 setsid sleep 1000 & echo $! >> "$ROOM/pids"
 sh -c 'trap "" TERM HUP INT; while :; do sleep 1000; done' & echo $! >> "$ROOM/pids"

@@ -201,7 +201,7 @@ def deadlines(room: Path) -> None:
             fail(f"host: connections without a greeting are ended after {times} seconds")
         if [lines[-1:] for lines in told] != [[LATE]] * len(kept):
             fail(f"host: connections without a greeting are answered {told}")
-        # A client that has greeted may be silent for longer than that.
+        # A client that has greeted may be silent for longer than the time limit of a hello.
         if early.ask(BYE) != BID:
             fail("host: who is silent after a greeting is ended too")
         if host.dismissed(let_in(host.desk, hello("tess"))[0]) != NONE:

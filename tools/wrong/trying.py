@@ -58,8 +58,8 @@ def try_crate(tree: Tree, crate: str, running: Running, logs: Path | None = None
     with tempfile.TemporaryDirectory(prefix="mml-wrong-") as room:
         name = saved.result() if saved else ""
         for it in rounds_of(edits, folder):
-            # Before each round, since the last round left the proofs of its wrong bodies there. Otherwise the right
-            # bodies would be proved anew.
+            # The last round replaced the kept proofs by those of its wrong bodies. So the library's proofs are put there
+            # before each round, because otherwise the right bodies would be proved anew.
             if name:
                 hand_on(tree.library(crate), Path(room) / "kept" / name)
             ended = try_round(tree, crate, it, Path(room), running)
