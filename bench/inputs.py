@@ -9,7 +9,7 @@ PEOPLE = ("ana", "ben", "cyd")
 TESS = '1 {"do":"hello","key":"chalk","name":"tess"}'
 ANA = '2 {"do":"hello","key":"a-key","name":"ana"}'
 BEN = '1 {"do":"hello","key":"b-key","name":"ben"}'
-# The nodes of the greatest lab, of which the last is ben's.
+# The first and the last identifier in the greatest lab. The last node is ben's.
 FIRST, LAST = 65280, 65535
 
 

@@ -9,7 +9,7 @@ from pathlib import Path
 
 HERE = Path(__file__).parent
 TAG = "py3-none-any"
-# An archive has the client beside this file, a clone in its own folder alone.
+# In an archive the client is beside this file. In a clone it is in the folder `classroom`.
 CLIENTS = (HERE / "client.py", HERE.parent / "classroom/client.py")
 
 

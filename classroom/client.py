@@ -418,7 +418,7 @@ class Client:
         return self._edit(do="cut", a=a, b=b)
 
     def release(self, node: int) -> Edit:
-        """Takes the chosen move of a node back, for a teacher."""
+        """Drops the chosen move of a node, for a teacher."""
         return self._edit(do="release", node=node)
 
     def _edit(self, **request: object) -> Edit:
@@ -561,7 +561,7 @@ def wrong(line: str) -> str | None:
     except json.JSONDecodeError as error:
         if error.pos >= len(line.rstrip()) and line.strip():
             return "not JSON: the object isn't closed at its end, and a request is one line"
-        return f"not JSON at byte {len(sent(line[:error.pos])) + 1}{mend(line, error)}"
+        return f"not JSON at byte {len(sent(line[:error.pos])) + 1}{hint_for_json(line, error)}"
     except RecursionError:
         return DEEP
     if strange:
@@ -569,7 +569,7 @@ def wrong(line: str) -> str | None:
     return wrong_value(asked) or wrong_keys(asked) or (f"{doubled[0]} is there twice, and the last one counts" if doubled else None)
 
 
-def mend(line: str, error: json.JSONDecodeError) -> str:
+def hint_for_json(line: str, error: json.JSONDecodeError) -> str:
     """Returns a hint how to correct a line that isn't JSON, in parentheses, or an empty text if no hint is known."""
     rest, before = line[error.pos:], line[:error.pos].rstrip()
     word = (re.match(r"\w*", rest) or [""])[0]
@@ -601,7 +601,7 @@ def meant(word: str, known: Iterable[str]) -> str:
     return f" (did you mean {found[0]}?)" if found else ""
 
 
-def mend_value(kind: str, value: object) -> str:
+def hint_for_value(kind: str, value: object) -> str:
     """Returns a correction of a value that has the wrong kind, in parentheses, or an empty text if none is known."""
     text = value.strip() if isinstance(value, str) else ""
     if isinstance(value, list) and len(value) == 1 and is_a(kind, value[0]):
@@ -618,7 +618,7 @@ def mend_value(kind: str, value: object) -> str:
     return f' (write "{value}", in double quotes)' if kind == "a string" and is_a(NODE, value) else ""
 
 
-def mend_key(key: str, asked: dict[str, Any]) -> str:
+def hint_for_key(key: str, asked: dict[str, Any]) -> str:
     """Returns a guess, in parentheses, which of the keys of `asked` was written in place of the missing key, or an empty text."""
     if key == "do" and (word := next((each for each in asked if each in KEYS), None)):
         return f' (write {{"do":"{word}"}} for {word})'
@@ -655,17 +655,17 @@ def wrong_keys(asked: object) -> str | None:
     if not isinstance(asked, dict):
         return f"{said(asked)}, not an object"
     if "do" not in asked:
-        return f'missing "do"{mend_key("do", asked)}'
+        return f'missing "do"{hint_for_key("do", asked)}'
     word = asked["do"]
     if not isinstance(word, str) or word not in KEYS:
         return f"unknown do: {word}{meant(word, KEYS) if isinstance(word, str) else ''}"
     keys = KEYS[word] | ({"with": NODE} if asked.get("rule") == "marriage" and word == "move" else {})
     for key, kind in keys.items():
         if key not in asked:
-            return f'missing "{key}"{mend_key(key, asked)}'
+            return f'missing "{key}"{hint_for_key(key, asked)}'
         if not is_a(kind, asked[key]):
             it = f'"{asked[key]}"' if kind == "a rule" and isinstance(asked[key], str) else said(asked[key])
-            return f"{key} is {it}, not {'one of ' + ', '.join(RULES) if kind == 'a rule' else kind}{mend_value(kind, asked[key])}"
+            return f"{key} is {it}, not {'one of ' + ', '.join(RULES) if kind == 'a rule' else kind}{hint_for_value(kind, asked[key])}"
     return None
 
 

@@ -18,7 +18,7 @@ from classroom.run.typed import HELP
 
 
 class Parser(argparse.ArgumentParser):
-    """A parser that exits with the status of usage on a bad command line."""
+    """A parser that exits with the status USAGE if the command line is wrong."""
 
     def error(self, message: str) -> NoReturn:
         """Prints the message, and exits with the status of a wrong command line."""
@@ -157,7 +157,7 @@ EACH: dict[str, tuple[str, Callable[[argparse.ArgumentParser], None]]] = {
 def parser(asked: str | None = None) -> argparse.ArgumentParser:
     """Returns the parser with all subcommands. If `asked` is None, each has its options. Otherwise only the subcommand
     with the name `asked` has them, and the modules of the others aren't imported."""
-    every = Parser(prog="class", description="A class from its list of names to its marks.", epilog=TABLE)
+    every = Parser(prog="class", description="Prepares, runs and marks classes, and tests bots.", epilog=TABLE)
     every.add_argument("--version", action="store_true", help="show version, commit and toolchain, and exit")
     each = every.add_subparsers(title="words", required=True)
     for name, (what, add) in EACH.items():

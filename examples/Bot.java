@@ -4,8 +4,9 @@ import java.nio.file.*;
 import java.util.*;
 import java.util.regex.Pattern;
 
-/** Plays a student's nodes with no library: java Bot.java SLIP, or java Bot.java PORT NAME KEYFILE NODE,..
- *  SLIP - is the environment's CENDUWA_SLIP, KEYFILE - its CENDUWA_KEY. Lines are taken apart by hand; Java from 14 on. */
+/** Plays a student's nodes, without libraries: java Bot.java SLIP, or java Bot.java PORT NAME KEYFILE NODE,..
+ *  If SLIP is -, the slip is read from the environment's CENDUWA_SLIP. If KEYFILE is -, the key is read from CENDUWA_KEY.
+ *  Replies are searched by patterns, without a JSON reader. Needs Java 14 or later. */
 public class Bot {
     static PrintStream requests;
     static Scanner replies;
@@ -16,12 +17,12 @@ public class Bot {
         return sentence;
     }
 
-    /** What a pattern's first place in a text has in brackets, or an empty text. */
+    /** Returns the group of a pattern's first match in a text, or an empty text. */
     static String find(String pattern, String text) {
         return Pattern.compile(pattern, Pattern.MULTILINE).matcher(text).results().map(it -> it.group(1)).findFirst().orElse("");
     }
 
-    /** Sends a line, and gives the reply to it. Some denials and refusals end the bot; the others mean: look again. */
+    /** Sends a line, and returns the reply. Some denials and refusals end the bot. After any other one, the bot looks again. */
     static String ask(String line) {
         requests.print(line + "\n");
         String reply = replies.next();
@@ -35,7 +36,7 @@ public class Bot {
         };
     }
 
-    /** Looks at a node, and asks for its enabled rule; a marriage is with the neighbour that points at it. */
+    /** Looks at a node, and asks for its enabled rule. A marriage is with the first neighbour that points at the node. */
     static void move(String node) {
         String look = ask("{\"do\":\"look\",\"node\":" + node + "}"), rule = find("\"rule\":\"([a-z]+)\"", look);
         if (rule.isEmpty() || !look.contains("\"chosen\":null")) return;
@@ -44,7 +45,7 @@ public class Bot {
         System.out.println(ask(move));
     }
 
-    /** Connects, says hello and plays; where no seat is free, or the connection was lost, again each second, for a minute. */
+    /** Connects, says hello and plays. If no seat is free or the connection is lost, tries again each second for a minute. */
     static void play(String port, String name, String key, String[] nodes) throws InterruptedException {
         boolean wasGreeted = false;
         for (int second = 0; second <= 60; second++, Thread.sleep(1000)) {

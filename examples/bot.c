@@ -1,5 +1,6 @@
 /* Plays a student's nodes: cc -o bot bot.c, then ./bot SLIP, or ./bot PORT NAME KEYFILE NODE,..
-   SLIP - is the environment's CENDUWA_SLIP, KEYFILE - its CENDUWA_KEY. Lines are taken apart by hand. */
+   If SLIP is -, the slip is read from the environment's CENDUWA_SLIP. If KEYFILE is -, the key is read from CENDUWA_KEY.
+   Texts are searched in the replies, without a JSON reader. */
 #include <arpa/inet.h>
 #include <signal.h>
 #include <stdio.h>
@@ -11,14 +12,15 @@
 #define ASK(...) (fprintf(server, __VA_ARGS__), hear())
 static char reply[1 << 16], text[1 << 12];
 static FILE *server;
-/* Denials and refusals that end the bot: its status, a space, and a sentence. The others mean: look again. */
+/* The denials and refusals that end the bot, each with its exit status, a space, and a line. After any other one, the bot
+   looks again. */
 static const char *STOPS[][2] = {
     {"\"unknown\"", "2 name and key don't match: take both from your slip"},
     {"\"not-owner\"", "3 a node isn't yours: correct the nodes by your slip"},
     {"\"malformed\"", "3 the server couldn't read a line as a request: correct the program"},
     {"\"full\"", "6 nothing is granted any longer: tell your teacher"},
     {"\"journal\"", "6 nothing is granted any longer: tell your teacher"}, {"\"over\"", "0 the run is over"}};
-/* Whether a line comes that answers what was sent. */
+/* Sends what was written, and reads the reply. Returns whether there is one. */
 static int hear(void) {
     if (fflush(server) || !fgets(reply, sizeof reply, server)) return 0;
     int is_no = !strncmp(reply, "{\"refuse\"", 9) || strstr(reply, "\"deny\"");
@@ -27,7 +29,8 @@ static int hear(void) {
     return 1;
 }
 
-/* Looks at a node, and asks for its enabled rule; a marriage with a neighbour that points at it. Whether all was answered. */
+/* Looks at a node, and asks for its enabled rule. A marriage is with a neighbour that points at the node. Returns whether
+   all requests were answered. */
 static int move(long node) {
     char rule[32], with[64] = "";
     if (!ASK("{\"do\":\"look\",\"node\":%ld}\n", node)) return 0;
@@ -38,11 +41,11 @@ static int move(long node) {
         if (*rule == 'm' && sscanf(strchr(near, ',') + 1, "\"node\":%ld,\"p\":%ld}", &other, &p) == 2 && p == node)
             sprintf(with, ",\"with\":%ld", other);
     if (!ASK("{\"do\":\"move\",\"node\":%ld,\"rule\":\"%s\",\"at\":%ld%s}\n", node, rule, at, with)) return 0;
-    if (printf("%s", reply) < 0 || fflush(stdout)) exit(141); /* Nobody reads it. */
+    if (printf("%s", reply) < 0 || fflush(stdout)) exit(141); /* The reader of the output has closed it. */
     return 1;
 }
 
-/* Connects, says hello and plays; where no seat is free, or the connection was lost, again each second, for a minute. */
+/* Connects, says hello and plays. If no seat is free or the connection is lost, tries again each second for a minute. */
 static void play(const char *port, const char *name, const char *key, const char *nodes) {
     struct sockaddr_in to = {.sin_family = AF_INET, .sin_port = htons(atoi(port)), .sin_addr.s_addr = htonl(INADDR_LOOPBACK)};
     int was_greeted = 0;

@@ -1,9 +1,9 @@
-// Plays a student's nodes with no library: node bot.js SLIP, or node bot.js PORT NAME KEYFILE NODE,..
-// SLIP - is the environment's CENDUWA_SLIP, KEYFILE - its CENDUWA_KEY.
+// Plays a student's nodes, without libraries: node bot.js SLIP, or node bot.js PORT NAME KEYFILE NODE,..
+// If SLIP is -, the slip is read from the environment's CENDUWA_SLIP. If KEYFILE is -, the key is read from CENDUWA_KEY.
 "use strict";
 const [fs, net, readline] = [require("fs"), require("net"), require("readline")];
 
-// Denials and refusals that end the bot, with its status and a sentence. The others mean: look again.
+// The denials and refusals that end the bot, each with its exit status and a line. After any other one, the bot looks again.
 const STOPS = {
   unknown: [2, "name and key don't match: take both from your slip"],
   "not-owner": [3, "a node isn't yours: correct the nodes by your slip"],
@@ -20,7 +20,7 @@ function stop(status, sentence) {
   process.exit(status);
 }
 
-// Connects to a port: what it gives sends a request, and gives the reply.
+// Connects to a port. Returns a function that sends a request and returns the reply.
 async function connect(port) {
   const socket = net.connect(port, "127.0.0.1");
   await new Promise((done) => socket.once("connect", done).on("error", done));
@@ -30,16 +30,16 @@ async function connect(port) {
   socket.on("close", () => input.close());
   return async (request) => {
     socket.write(JSON.stringify(request) + "\n");
-    const line = await lines.next().catch(() => ({ done: true })); // It may have been reset.
+    const line = await lines.next().catch(() => ({ done: true })); // The connection may have been reset.
     if (line.done) throw LOST;
     if (!line.value.startsWith("{")) stop(4, `at port ${port} is another program; ask your teacher for the port`);
-    const reply = await Promise.resolve(line.value).then(JSON.parse).catch(() => { throw LOST; }); // A lost one's last line may be cut short.
+    const reply = await Promise.resolve(line.value).then(JSON.parse).catch(() => { throw LOST; }); // If the connection was lost, the last line may be incomplete.
     const why = STOPS[reply.deny ?? reply.refuse];
     return why ? stop(...why) : reply;
   };
 }
 
-// Looks at a node, and asks for its enabled rule; a marriage is with the neighbour that points at it.
+// Looks at a node, and asks for its enabled rule. A marriage is with the first neighbour that points at the node.
 async function move(ask, node) {
   const look = await ask({ do: "look", node });
   if (!look.rule || look.chosen) return;
@@ -48,7 +48,7 @@ async function move(ask, node) {
   console.log(JSON.stringify(await ask(request)));
 }
 
-// Connects, says hello and plays; where no seat is free, or the connection was lost, again each second, for a minute.
+// Connects, says hello and plays. If no seat is free or the connection is lost, tries again each second for a minute.
 async function play(port, name, key, nodes) {
   let wasGreeted = false;
   for (let second = 0; second <= 60; second++, await wait(1)) {

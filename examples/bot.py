@@ -1,7 +1,7 @@
 #!/usr/bin/env python3
 """Plays a student's nodes, until the run ends or nothing was new for SECONDS:
 bot.py SLIP [SECONDS], or bot.py PORT NAME KEYFILE NODE,.. [SECONDS]
-SLIP - is the environment's CENDUWA_SLIP, KEYFILE - its CENDUWA_KEY."""
+If SLIP is -, the slip is read from the environment's CENDUWA_SLIP. If KEYFILE is -, the key is read from CENDUWA_KEY."""
 import sys
 import time
 from pathlib import Path

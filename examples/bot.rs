@@ -1,9 +1,11 @@
-//! Plays a student's nodes with no crate: rustc -O bot.rs, then ./bot SLIP, or ./bot PORT NAME KEYFILE NODE,..
-//! SLIP - is the environment's CENDUWA_SLIP, KEYFILE - its CENDUWA_KEY. Lines are taken apart by hand.
+//! Plays a student's nodes, without crates: rustc -O bot.rs, then ./bot SLIP, or ./bot PORT NAME KEYFILE NODE,..
+//! If SLIP is -, the slip is read from the environment's CENDUWA_SLIP. If KEYFILE is -, the key is read from CENDUWA_KEY.
+//! Keys are searched in the replies, without a JSON reader.
 use std::io::{BufRead, BufReader, Write};
 use std::net::TcpStream;
 use std::{env, fs, iter, process, thread, time::Duration};
-/// Denials and refusals that end the bot, with its status and a sentence. The others mean: look again.
+/// The denials and refusals that end the bot, each with its exit status and a line. After any other one, the bot looks
+/// again.
 const STOPS: [(&str, i32, &str); 5] = [
     ("unknown", 2, "name and key don't match: take both from your slip"),
     ("not-owner", 3, "a node isn't yours: correct the nodes by your slip"),
@@ -16,13 +18,13 @@ fn stop(status: i32, sentence: &str) -> ! {
     process::exit(status)
 }
 
-/// What stands between a key and the next comma or bracket, without quotes.
+/// Returns the text between a key and the next comma or bracket, without quotes, or `None` if the key is missing.
 fn at<'a>(reply: &'a str, key: &str) -> Option<&'a str> {
     let (_, rest) = reply.split_once(&format!("\"{key}\":"))?;
     rest.split([',', '}']).next().map(|found| found.trim_matches('"'))
 }
 
-/// Sends a line, and gives the line that answers it; none where the connection was lost.
+/// Sends a line, and returns the reply, or `None` if the connection is lost.
 fn ask(server: &mut BufReader<TcpStream>, line: &str) -> Option<String> {
     let mut reply = String::new();
     server.get_mut().write_all(format!("{line}\n").as_bytes()).ok()?;
@@ -32,7 +34,7 @@ fn ask(server: &mut BufReader<TcpStream>, line: &str) -> Option<String> {
     Some(reply)
 }
 
-/// Connects and says hello; where no seat is free, or the connection was lost, again each second, for a minute.
+/// Connects and says hello. If no seat is free or the connection was lost, tries again each second for a minute.
 fn enter(port: u16, name: &str, key: &str, is_lost: bool) -> BufReader<TcpStream> {
     for second in 0..=60 {
         thread::sleep(Duration::from_secs(if second > 0 || is_lost { 1 } else { 0 }));
@@ -48,7 +50,8 @@ fn enter(port: u16, name: &str, key: &str, is_lost: bool) -> BufReader<TcpStream
     stop(if is_lost { 7 } else { 5 }, if is_lost { "the connection was lost: start again" } else { "all seats were taken for a minute: come again later" })
 }
 
-/// Looks at a node, and asks for its enabled rule; a marriage with a neighbour that points at the node.
+/// Looks at a node, and asks for its enabled rule. A marriage is with a neighbour that points at the node. Returns `None`
+/// if the connection is lost.
 fn play(server: &mut BufReader<TcpStream>, node: &str) -> Option<()> {
     let look = ask(server, &format!(r#"{{"do":"look","node":{node}}}"#))?;
     let (number, rule, chosen) = (at(&look, "at").unwrap_or(""), at(&look, "rule").unwrap_or("null"), at(&look, "chosen"));

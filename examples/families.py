@@ -1,6 +1,6 @@
 #!/usr/bin/env python3
 """Prints the lab of a network on which runs take longest, with its worst start: families.py crowd|comb|halves N > lab.toml
-One student owns all nodes. docs/SELF-STABILISATION.md says what runs on these networks take."""
+One student owns all nodes. docs/SELF-STABILISATION.md says how long runs on these networks are."""
 import sys
 
 

@@ -1,6 +1,6 @@
 #!/usr/bin/env python3
-"""Closes a step every half second until no node is privileged, and says whom it waits for:
-teacher.py SLIP [LAB], or teacher.py PORT NAME KEYFILE [LAB]. With the lab's file it names the owners."""
+"""Closes a step every half second until no node is privileged, and prints the nodes for which it waits:
+teacher.py SLIP [LAB], or teacher.py PORT NAME KEYFILE [LAB]. With the lab's file it also prints their owners."""
 import sys
 import time
 import tomllib

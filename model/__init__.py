@@ -1,8 +1,8 @@
 """A second opinion: the rules of Cenduwa as a plain program, for whoever doubts the proved one.
 
 It follows the documents, needs nothing but Python 3.11, and prints byte for byte what the proved program prints
-(`python3 -B -m model` prints the words). It is slow and keeps nothing beside the world: whatever it says, it computes
-from the registers as they are. Read the modules in this order:
+(`python3 -B -m model` prints the commands). It is slow, and stores nothing but the world: it computes each answer from
+the present registers. Read the modules in this order:
 
 1. `world`: the network, its registers, and the four rules of the algorithm.
 2. `lab`: the lab file, and each error of it (`docs/LAB.md`).

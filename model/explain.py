@@ -2,8 +2,8 @@
 
     python3 -B -m model.explain LAB SCRIPT
 
-A line each: the number of the script's line, or `now`, then the node, then the explanation. It is for people who look for
-their mistake. Nothing is granted, denied or marked by it.
+A line each: the number of the script's line, or `now`, then the node, then the explanation. It is for people who look
+for a mistake. It has no effect on what is granted, denied or counted.
 """
 import sys
 from pathlib import Path

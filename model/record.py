@@ -22,8 +22,8 @@ ASKED = re.compile(STAMP + rb"> ")
 # The kinds of entries. Another kind has its pattern here, and what it means in `Seat.take`.
 SAID = re.compile(STAMP + rb"(>) ([^\n]*)\n" + STAMP + rb"< ([^\n]*)\n")
 MARK = re.compile(STAMP + rb"(?:([.!-])|(\+) %s)\n" % NUMERAL)
-# The stages of a session: nothing was recorded yet; lines may come, or none until its end, after a bye or because anything
-# may be missing, or none until recording resumes, or only a hello.
+# The stages of a session. FRESH: nothing was recorded yet. OPEN: lines may come. OVER: after a bye. CUT: entries may be
+# missing up to the end. PAUSED: recording has paused. RESUMING: it resumes, and a granted hello or the end has to follow.
 FRESH, OPEN, OVER, CUT, PAUSED, RESUMING = "fresh", "open", "over", "cut", "paused", "resuming"
 
 
@@ -121,12 +121,12 @@ class Seat:
         elif entry.mark == b"!":
             self.known, self.stage = None, CUT
             self.record.is_cut = True
-        # Recording pauses, for whoever is known.
+        # Recording pauses. If an account is known, its lines aren't recorded from here on.
         elif entry.mark == b"-":
             self.stage = PAUSED
             self.record.is_paused = True
             self.record.lacking.update([] if self.known is None else [self.known])
-        # Recording resumes, which it does after a pause only.
+        # Recording resumes, which is possible only after a pause.
         elif entry.mark == b"+":
             if self.stage != PAUSED:
                 return "not after a pause"
@@ -137,13 +137,13 @@ class Seat:
 
     def may_rise(self, entry: Entry) -> bool:
         """Returns whether the number of events at an entry may be greater than at the entry before."""
-        # Recording pauses at a line that isn't recorded; it resumes, or is cut, after what isn't recorded.
+        # The seat's record begins here, or lines that aren't recorded may have come since the entry before.
         if self.stage in (FRESH, PAUSED, CUT) or entry.mark in (b"!", b"+") or entry.mark == b"-" and self.known is not None:
             return True
-        # The teacher, and whoever owns a node, may have been shown something.
+        # The teacher, and students who own a node, may have had a granted view, which has no entry.
         if self.known == self.lab.teacher or any(self.known in owners for owners in self.lab.owners.values()):
             return True
-        # A command asks the window, unless memory is refused before.
+        # The reply to a command takes new events into account, unless the line is refused with `memory`.
         return entry.mark == b">" and entry.reply != NO_MEMORY and self.known is not None and is_command(entry.line)
 
     def judge(self, entry: Entry) -> str | None:
@@ -152,7 +152,7 @@ class Seat:
             return "not the session's end"
         before = self.known
         why = self.check(entry)
-        # The line after a pause is a hello that is granted: nobody was known, and somebody is.
+        # The line after a pause has to be a granted hello: before it no account was known, and after it one is.
         if self.stage == RESUMING and (why or before is not None or self.known is None):
             return "not a hello that is granted"
         self.stage = OVER if entry.reply == BYE else OPEN
@@ -163,7 +163,7 @@ class Seat:
         place = self.world.place
         found = answer(self.lab, self.world, self.known, entry.line)
         said = Said(self.known, entry.line, entry.reply)
-        # Memory may be refused to any line, and a granted event by the journal: then nothing changes.
+        # Any line may be refused with `memory`, and a granted event with `journal`. A refused line changes nothing.
         refusals = [NO_MEMORY] if found.event is None else [NO_MEMORY, NO_JOURNAL]
         if entry.reply in refusals and len(entry.line) <= LONGEST_REQUEST:
             self.record.said.append(said)

@@ -95,7 +95,7 @@ def lines_asked(lab: Lab, said: Iterable[Said]) -> list[list[object]]:
     denied = {name: dict.fromkeys([*CLAUSES, "malformed"], 0) for name in lab.students()}
     moves = {i: {name: none() for name in owners} for i, owners in lab.shared().items()}
     for it in said:
-        # Only lines of a student who is known count; what the teacher or nobody asked doesn't.
+        # Only lines that came while a student was known count, and not those of the teacher or before a hello.
         if it.known not in denied:
             continue
         asked, reply = read_request(it.line), json.loads(it.reply)

@@ -16,8 +16,8 @@ class Move:
 class World:
     """A configuration with its number, the chosen moves, and the place of the last event.
 
-    Node i has two registers: `p[i]`, which is None or names the neighbour that i points at, and `m[i]`, whether i holds
-    itself married. `links[i]` is the set of the neighbours of i.
+    Node i has two registers: `p[i]`, which is None or names the neighbour that i points at, and `m[i]`, which says
+    whether i believes that it is married. `links[i]` is the set of the neighbours of i.
     """
 
     links: dict[int, set[int]]

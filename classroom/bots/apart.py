@@ -31,7 +31,7 @@ LINKS = (("fd", "/proc/self/fd"), ("stdin", "/proc/self/fd/0"), ("stdout", "/pro
 OF_KERNEL = ("sys", "sysrq-trigger", "irq", "bus", "fs")  # files and folders below /proc that the superuser could change
 OWN = ("/tmp", "/dev/shm")  # folders that programs expect to write to
 MOST_FILES = 16_384
-SPARE = 16  # megabytes beyond the limit, so that reaching it is seen
+SPARE = 16  # megabytes beyond the limit, so that the keeper notices when the limit is exceeded
 LIBC = ctypes.CDLL(None, use_errno=True)
 
 
@@ -41,7 +41,7 @@ class World:
     connect."""
 
     shown: tuple[tuple[str, str], ...]  # the files and folders that it can read: the path at which it sees each, and the path on the host
-    hidden: tuple[str, ...]  # the paths among these that are covered
+    hidden: tuple[str, ...]  # those of these paths at which the program sees an empty file or folder instead
     slip: str
     port: int  # the port of its server
 

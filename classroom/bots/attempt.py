@@ -35,9 +35,9 @@ HINTS = {
 IN_PIECES = "; replies are long here and arrive in pieces: a bot reads until the newline"
 ON = "; a bot keeps running until the class is over"
 AGAIN = "a bot connects again, says hello and looks again; if no server listens, it tries again for a minute"
-LATEST = 120.0  # seconds in which a bot's namespaces are made
+LATEST = 120.0  # the most seconds that making a bot's namespaces may take
 MOST_KEPT = 1 << 20  # bytes of a bot's output that are kept
-Seen = tuple[tuple[tuple[str, str], ...], tuple[str, ...]]  # what a bot sees: pairs of a path there and a path of this machine, and the paths that are covered
+Seen = tuple[tuple[tuple[str, str], ...], tuple[str, ...]]  # what a bot sees: its paths, each with the path on this machine, and those that are hidden
 
 
 class Fails(Exception):

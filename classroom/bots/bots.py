@@ -30,7 +30,7 @@ KEPT = ("PATH", "LANG", "LC_ALL", "JAVA_HOME")
 RUN_BY = {".py": [sys.executable], ".java": ["java", "-XX:TieredStopAtLevel=1", "-XX:+UseSerialGC"], ".js": ["node"]}
 SHOWN = 400  # bytes at the end of a bot's output in which its last line is searched
 PATIENCE = 30.0  # seconds that a keeper has to end its bot
-AGAIN = 0.1  # seconds between two signals that let a keeper continue, since its bot may stop it again and again
+AGAIN = 0.1  # seconds between two signals that make a stopped keeper continue, since its bot may stop it again and again
 
 
 @dataclass(frozen=True)

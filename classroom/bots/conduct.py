@@ -15,12 +15,12 @@ from typing import Any
 # The most moves for nodes that a reply has shown to be chosen already, and the most `stale` answers for one node and
 # number.
 MOST_AGAIN = 2
-# Moves with another number than the last look's are a fault if there are more than MOST_BEHIND of them, and if they are
-# also more than one move in SHARE. Fewer are none, since the lines of threads may overtake each other.
+# Moves with another number than that of the last look are a fault if they are more than MOST_BEHIND, and also more than
+# one in SHARE of all moves. Fewer such moves are no fault, since the lines of two threads may overtake each other.
 MOST_BEHIND, SHARE = 9, 4
-MOST_ACROSS = 4  # moves that may be sent on a new connection with the number of a look on a lost one, since threads overtake
+MOST_ACROSS = 4  # the most moves on a new connection with the number of a look on a lost one, since threads may send late
 FLOOD = 200  # the number of last lines among which pauses are counted
-RATE = 50  # lines a second, times one more than its nodes, that a bot may send while nothing changes
+RATE = 50  # while nothing changes, a bot of n nodes may send n + 1 times this number of lines a second
 QUITS = 4  # connections that a bot may end by itself, in addition to one for each node
 MINUTE = 60.0
 FLOODS = "it floods the server: it sends line after line without a pause; a bot waits when it has looked at its nodes"
@@ -62,12 +62,12 @@ class Conduct:
     looked: set[tuple[int, int]] = field(default_factory=set)  # node and number of each look
     before: set[tuple[int, int]] = field(default_factory=set)  # node and number of each look on a lost connection
     unanswered: set[tuple[int, int]] = field(default_factory=set)  # node and number of each move whose reply was lost
-    across: int = 0  # moves on a new connection by a look on one that was lost
+    across: int = 0  # moves on a new connection with the number of a look on a lost one
     newest: dict[int, int] = field(default_factory=dict)  # the number of the last look, by node
     behind: int = 0  # moves with another number than that of the last look at their node
     asked: int = 0  # moves that it asked for
     seen: set[int] = field(default_factory=set)  # nodes that it looked at
-    recent: set[int] = field(default_factory=set)  # nodes that it looked at since the class has come to rest
+    recent: set[int] = field(default_factory=set)  # nodes that it looked at since the class became stable
     chosen: dict[int, int] = field(default_factory=dict)  # the number at which a reply said that the node has a chosen move, by node
     in_vain: int = 0  # moves for nodes that it knew to be chosen
     stale: Counter[tuple[int, int]] = field(default_factory=Counter)  # `stale` answers by node and number

@@ -1,7 +1,7 @@
 """`./class experiment`: measures how many moves, closes and rounds runs take, and compares them with the proved
 bounds.
 
-A *daemon* decides in which steps, the *closes*, which nodes move. A *setting* is a family of networks with a size, a
+A *daemon* decides which nodes move in each step, and a *close* is the end of a step. A *setting* is a family of networks with a size, a
 daemon and a start, and a run is a setting with a seed. The *table* is the file of `--csv`, with a *row* for each run,
 and a *part* is one machine's share of the runs.
 """
@@ -36,7 +36,7 @@ from classroom.pages import colours
 from classroom.run.daemons import Daemon, daemons
 
 COLUMNS = [each.name for each in fields(Row)]
-CHUNK = 20  # runs of a task
+CHUNK = 20  # the most runs of a task
 OTHER = "name another file by --csv; the same command continues this table"
 DIES = 1  # prctl's PR_SET_PDEATHSIG
 Key = tuple[str, int, str, str, int]  # what identifies a run: its family, nodes, daemon, start and seed

@@ -31,10 +31,10 @@ from classroom.core.program import Fault, host, program
 from classroom.core.statuses import FAILED, WARNED
 from classroom.run.daemons import daemons
 
-MOST_AT_ONCE = 16  # bots that run side by side
+MOST_AT_ONCE = 16  # the most bots that run side by side
 ROOMS: set[Path] = set()  # the folders of the running bots
 LONG = 0.5  # seconds: if writing the results takes longer, they aren't written after each case
-SPARING = 9  # after a slow writing, the next one comes this many times as long after it as it took
+SPARING = 9  # after a slow write, the pause before the next one is this many times as long as the write
 
 
 def add_words(words: argparse.ArgumentParser) -> None:
@@ -58,8 +58,8 @@ def add_words(words: argparse.ArgumentParser) -> None:
                        help="a folder that bots may read, in addition to their own folders and programs")
     words.add_argument("--not-apart", action="store_true", help="run bots one after another, as your user, so that they can read your files")
     words.add_argument("--into", default="grades", help="the folder for the records and pages of the cases (grades)")
-    for form, what in (("json", "a list of cases"), ("junit", "JUnit's form"), ("gradescope", "Gradescope's form")):
-        words.add_argument(f"--{form}", metavar="FILE", help=what)
+    for form, what in (("json", "as a list of cases"), ("junit", "in JUnit's format"), ("gradescope", "in Gradescope's format")):
+        words.add_argument(f"--{form}", metavar="FILE", help=f"write the results to this file, {what}")
     parts.add_words(words, "cases", "files of --json")
     words.set_defaults(work=grade)
 

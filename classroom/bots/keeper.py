@@ -31,8 +31,8 @@ SELDOM = 1.0  # seconds between two measurements of all files in a folder
 MOST_PROCESSES = 64
 FILE_BYTES = 16 << 20  # the size of one file
 FOLDER_MEGABYTES = 64
-LEAST = 1 << 12  # bytes that each file counts at least, also an empty one
-Identity = tuple[int, int]  # of a file: the number of its device and of its inode
+LEAST = 1 << 12  # the least bytes that a file counts as, even if it is empty
+Identity = tuple[int, int]  # what identifies a file: the numbers of its device and of its inode
 
 
 @dataclass(frozen=True)

@@ -39,7 +39,7 @@ SHOWN, SHOWN_LINE = 40, 120  # characters of a word and of a line that are shown
 OWN_RULE = "with --own-rule no look shows the rule whose guard holds: a program has to find it from p, m and near (docs/STUDENT.md)"
 MEMORY = b'{"refuse":"memory"}'
 RULE = re.compile(rb',"rule":"[a-z]+"}$')  # the enabled rule at the end of a reply to a look
-PATIENCE = 0.5  # seconds without a grant after which the random daemon tosses its coins
+PATIENCE = 0.5  # seconds without a grant after which the random daemon closes a step
 
 
 @dataclass
@@ -117,11 +117,11 @@ class Playing:
         self.own_rule = own_rule
         self.is_held = False  # whether steps stay open, regardless of the daemon
         self.links = lab.links  # the present links
-        self.overtakes = 0  # the number of next moves before each of which a step is closed
-        self.turns = 0  # the number of next moves before each of which their node is set so that another rule is enabled
+        self.overtakes = 0  # before each of this many next moves, a step is closed
+        self.turns = 0  # before each of this many next moves, its node's registers are set so that another rule is enabled
         self.short: Counter[str] = Counter()  # how many of the next lines with a `do` are refused as if out of memory
         self.forestalls = False  # whether the house asks for the move of a shared node just before its other owner does
-        self.loses, self.has_lost = False, False  # whether the next granted move's reply is lost, and whether one was
+        self.loses, self.has_lost = False, False  # whether to drop the reply to the next granted move, and whether one was dropped
         self.closes = self.moves = self.since_moves = 0
         self.news = self.closed = self.paced = time.monotonic()
         self.program = Answering(lab)
@@ -178,10 +178,10 @@ class Playing:
         return is_refused
 
     def interfere(self, node: int, rule: str) -> None:
-        """Disturbs a program's move of a node by a rule just before it is answered, in the first of these ways that is
-        due. Makes a new configuration (`overtakes`). Sets the registers of a node that the house doesn't play, so that
-        another rule is enabled (`turns`). Lets the house ask for the move of a node that it plays too (`forestalls`).
-        Does nothing if none is due."""
+        """Disturbs a program's request for a move just before it is answered. Does the first of three things that is
+        due: makes a new configuration (`overtakes`); sets the registers of the node, if the house doesn't play it, so
+        that another rule is enabled (`turns`); or lets the house, if it plays the node too, ask for its move
+        (`forestalls`). Does nothing if none of them is due."""
         if self.overtakes:
             self.overtakes -= 1
             self.next_configuration()
@@ -335,7 +335,7 @@ class Playing:
         self.news = time.monotonic()
 
     def release(self, node: int) -> None:
-        """Takes the chosen move of a node back without a close."""
+        """Drops the chosen move of a node, without a close."""
         self.program.ask(TEACHER, do="release", node=node)
         self.chosen.pop(node)
 

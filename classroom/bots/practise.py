@@ -40,7 +40,7 @@ from classroom.setup.new import start
 QUIET = 10.0  # seconds without news after which it prints for whom the class waits
 MEGABYTES = 4096  # the memory limit of a program at home
 PAGE_PORT = 4790  # the port of the page to play by, or the first one from which a free one is searched
-REST = 0.3  # seconds that a stable class is held, for late lines
+REST = 0.3  # seconds for which a stable class still answers late lines
 SEED = 5503  # With this seed and the default network and start, both of the student's nodes need all four rules.
 
 

@@ -31,7 +31,7 @@ class Caller:
         """Begins without lines and replies. `its` is the connection's socket."""
         self.socket, self.number = its, number
         self.rest, self.out = b"", b""
-        self.is_leaving = False  # Whether it ends when its replies are taken.
+        self.is_leaving = False  # Whether the connection is closed as soon as its replies are sent.
         self.quiet = PAUSE + 1  # turns since its last line; its first line counts as one after a pause
         self.held = 0.0  # the time before which no more of a reply is sent
 

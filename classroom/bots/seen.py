@@ -17,7 +17,7 @@ SYSTEM = ("/usr", "/bin", "/sbin", "/lib", "/lib32", "/lib64", "/libx32", "/nix/
 OF_ETC = ("alternatives", "ld.so*", "java*", "python*", "node*", "localtime", "passwd", "group", "nsswitch.conf", "hosts", "ssl/certs")
 OF_PROGRAMS = ("bin", "sbin", "shims")  # the names of folders in which an installation has its programs
 BESIDE = ("lib", "lib64", "libexec")  # the names of folders that an installation has beside these
-CLIENT = "client.py"  # which students copy beside their bots
+CLIENT = "client.py"  # the module that students copy beside their bots
 APART = "=:,"  # the letters that separate paths in a word of a command
 
 

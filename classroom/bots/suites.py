@@ -19,15 +19,15 @@ from classroom.setup.new import start
 
 BOT, HOUSE = "bot", "house"
 TEACHER = "teacher"
-# The names of the troubles. Most of them have a fault at a node of the bot, and FAULT has nothing else.
-# CUT: the connections are closed. REST: the class rests for some seconds. OPEN: a step stays open. RELEASE: a move is
-# taken back. OVERTAKE: a step is closed between look and move. LOST: a reply is lost, and its server is gone for a
+# The names of the troubles. Most of them end with a fault at a node of the bot, and FAULT is only such a fault.
+# CUT: the connections are closed. REST: the class rests for some seconds. OPEN: a step stays open. RELEASE: a move
+# is dropped. OVERTAKE: a step is closed between look and move. LOST: a reply is lost, and its server is gone for a
 # while. TAKEN: another owner is faster. RULES: many configurations come one after another. TURN: a change between look
 # and move enables another rule. DROP: a fault elsewhere drops a grant. RELINK: a link is added, and one is cut.
 # MEMORY: a line is refused with `memory`. SEAT: the bot's seat goes to a newcomer. LONG_REST: a minute of rest.
 FAULT, CUT, REST, OPEN, RELEASE, OVERTAKE, LOST, TAKEN, RULES = "fault", "cut", "rest", "open", "release", "overtake", "lost", "taken", "rules"
 TURN, DROP, RELINK, MEMORY, SEAT, LONG_REST = "turn", "drop", "relink", "memory", "seat", "long-rest"
-BUSY, OVER = "busy", "over"  # no seat is free at first; the class ends, and the bot with it
+BUSY, OVER = "busy", "over"  # BUSY: at first no seat is free. OVER: the class ends, and the bot has to end too.
 USUAL = [Daemon("central"), Daemon("synchronous"), Daemon("random", 0.5)]
 
 

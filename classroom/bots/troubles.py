@@ -22,11 +22,11 @@ from classroom.bots.suites import (
 from classroom.core import networks
 from classroom.core.program import Fault
 
-QUIET = 0.6  # seconds that a bot is watched at rest
+QUIET = 0.6  # seconds for which a bot is watched while its class is stable
 LATE = 0.2  # seconds of rest after which a bot's requests are counted
 RESTING, LONGEST_REST, LONG_OPEN, GONE, TURNED_AWAY = 12.0, 65.0, 2.0, 8.0, 3.0  # All are in seconds.
 MOST_FAULTS = 4  # nodes of the bot that are hurt one after another
-OVERTAKES, ROUNDS = 5, 8  # moves before which a step is closed, and the most faults that are made for these
+OVERTAKES, ROUNDS = 5, 8  # the number of moves before which a step is closed, and the most faults that are made for them
 TURNS = 2  # the number of moves before which their node is set to other registers
 DRAWS, TRIES = 20, 12  # the number of different configurations at a node, and the most draws for each
 LOOKED = 0.15  # seconds after a look within which a bot asks for a move, if it does
@@ -150,8 +150,7 @@ def open_step(attempt: Attempt) -> None:
 
 
 def release(attempt: Attempt) -> None:
-    """Takes the bot's granted move back without a close, so that the number stays the same. The bot has to ask
-    again."""
+    """Drops the bot's granted move without a close, so that the number stays the same. The bot has to ask again."""
     playing = attempt.playing
     playing.is_held = True
     node = hurt(attempt)

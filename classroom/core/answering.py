@@ -16,9 +16,9 @@ from classroom.core import lab as labs
 from classroom.core.processes import begin
 from classroom.core.program import Fault, host
 
-AT_ONCE = 16_000  # bytes of lines that are sent before their replies are read; a pipe takes more
-MOST_SCRIPT = 1_000_000  # bytes of a script that is kept, fewer than those of the largest script
-SOME = 24  # lines, at most, that are sent before their replies are read
+AT_ONCE = 16_000  # the most bytes of lines that are sent before their replies are read; a pipe has room for more
+MOST_SCRIPT = 1_000_000  # the most bytes of a script that is kept; `mml` accepts a larger script
+SOME = 24  # the most lines that are sent before their replies are read
 
 
 def started(lab: labs.Lab) -> subprocess.Popen[bytes]:

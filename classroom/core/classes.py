@@ -107,7 +107,7 @@ def name_of(files: Sequence[Path]) -> str:
     return re.sub(r"[-_. ]\d*$", "", common) or "class"
 
 
-def begun(into: Path, networks: list[Network]) -> Path:
+def make_folder(into: Path, networks: list[Network]) -> Path:
     """Makes the folder of a class of these networks below `into`, and returns it. Its `class.json` names this process
     as the one that holds the desks. The folder's name has the minute and the name of the class. Raises `Fault` if the
     folder can't be made."""

@@ -23,7 +23,7 @@ class Entry:
     pauses, and `+` if it resumes."""
 
     seat: int
-    place: int  # The number of events that had been seen.
+    place: int  # The number of events that the server took into account for it.
     line: bytes = b""
     reply: bytes = b""
     mark: str = ""

@@ -80,7 +80,7 @@ def context(file: Path) -> ssl.SSLContext:
     it = ssl.SSLContext(ssl.PROTOCOL_TLS_SERVER)
     it.minimum_version = ssl.TLSVersion.TLSv1_2
     it.options |= ssl.OP_NO_RENEGOTIATION | ssl.OP_NO_COMPRESSION
-    setattr(it, "num_tickets", 0)  # Nobody resumes a session, and nothing is sent that no line asked for.
+    setattr(it, "num_tickets", 0)  # Clients don't resume TLS sessions. So the server sends no tickets for that.
     try:
         it.load_cert_chain(file)
     except (OSError, ValueError) as error:

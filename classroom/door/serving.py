@@ -109,12 +109,12 @@ def serve(folder: Path, listener: socket.socket) -> None:
     door.routes.reload()
     DoorData(kept.address, door.port, kept.certificate, Process.of(os.getpid())).write(folder)
     with asyncio.Runner() as runner:
-        runner.get_loop().set_exception_handler(lambda *_: None)  # A connection's errors are its own.
+        runner.get_loop().set_exception_handler(lambda *_: None)  # An error in one connection has no effect on the others.
         runner.run(Serving(listener, door).run())
     forget(folder)
 
 
 if __name__ == "__main__":
-    signal.signal(signal.SIGHUP, signal.SIG_IGN)  # The class goes on without a terminal.
+    signal.signal(signal.SIGHUP, signal.SIG_IGN)  # The door continues if the terminal is closed.
     signal.signal(signal.SIGINT, signal.SIG_IGN)
     serve(Path(sys.argv[1]), socket.socket(fileno=int(sys.argv[2])))

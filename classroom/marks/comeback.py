@@ -17,7 +17,7 @@ from classroom.core.program import Fault
 from classroom.core.rounds import Recovery, counts_told
 from classroom.pages.replay import REPORT, Replay, Script
 
-MOST_COUNTED = 50  # faults, links and cuts of a run for which it prints how the class came back
+MOST_COUNTED = 50  # the most faults, links and cuts of a run for which its recoveries are printed
 
 
 class Comeback:

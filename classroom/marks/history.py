@@ -37,7 +37,7 @@ MARKS = {
 GOES_ON = "this connection goes on"
 GUARD = "guard"  # the denial of a move by its rule's guard
 Session = list[Entry]
-Said = tuple[Vouched, Session, set[str]]  # a session with its record and the names that it is of
+Said = tuple[Vouched, Session, set[str]]  # a session with its record, and the names under which it greeted or tried to
 
 
 @dataclass(frozen=True)

@@ -1,7 +1,7 @@
 "use strict";
-// A student's page: it says hello, shows what the server's replies tell, and asks for the moves that the student wants.
+// A student's page: it says hello, shows what is in the server's replies, and asks for the moves that the student chooses.
 
-// The lines of a text that comes in pieces.
+// Yields the lines of a text that arrives in pieces.
 async function* linesOf(body) {
   const reader = body.pipeThrough(new TextDecoderStream()).getReader();
   for (let rest = ""; ;) {
@@ -15,7 +15,7 @@ async function* linesOf(body) {
 
 const VERBS = { update: "update m", marriage: "marry", seduction: "seduce", abandonment: "abandon" };
 const HOLDS = "can be applied now";
-// Why a move was denied, in a sentence; a denial that isn't here is told by the server's own text.
+// For some denials, the reason why a move was denied, as text. For any other denial, the server's own text is shown.
 const WHY = {
   guard: (rule) => `the guard of ${rule} doesn't hold at this node now`,
   stale: () => "the step was closed meanwhile: choose again",
@@ -23,7 +23,7 @@ const WHY = {
   "not-owner": () => "this node isn't yours",
 };
 
-// The registers and the rules of one node.
+// Shows the registers and the rules of one node.
 class Card {
   constructor(root, node, ask) {
     this.root = root;
@@ -60,7 +60,7 @@ class Card {
     if (isQuiz) this.root.querySelector("details").open = true;
   }
 
-  // What the student may do now, as large buttons; or why there is nothing to do.
+  // Shows the moves that are possible now as large buttons, or why there is nothing to do.
   showDoing(look, isQuiz) {
     const isOpen = look.rule !== null && look.chosen === null, partners = look.rule === "marriage" ? look.pointing : [null];
     const texts = isOpen && !isQuiz ? partners.map((partner) => [partner, `Node ${this.node}: ${VERBS[look.rule]}${partner === null ? "" : " " + partner}`]) : [];
@@ -112,7 +112,7 @@ class Hand {
 
   say(name, text) { this.find(name).textContent = text; }
 
-  // Shows the form, or what is played.
+  // Shows the student's nodes if `played` is set, and otherwise the form for name and key.
   play(played) {
     this.find("enter").hidden = played;
     for (const name of ["played", "stage", "nodes", "tools", "state"]) this.find(name).hidden = !played;
@@ -137,7 +137,7 @@ class Hand {
     this.say("connection", `The connection has ended: ${ended || "the page's server went away"}. You can come in again.`);
   }
 
-  // Takes a line; gives why it is the last, where it is.
+  // Handles a line from the page's server. Returns the reason of the end if the line is the last one.
   take(row) {
     if (row.token) {
       this.token = row.token;
@@ -164,7 +164,7 @@ class Hand {
     if (document.body.dataset.played !== "true") this.play(true);
   }
 
-  // Says in a line whether there is anything to do.
+  // Shows in a line whether there is anything to do.
   showState(looks, isQuiz) {
     const open = looks.filter((look) => look.rule !== null && look.chosen === null).length;
     const text = isQuiz ? "Which rule can be applied?" : open > 0 ? `${open} of your ${looks.length === 1 ? "node" : "nodes"} can move` : "Nothing to do now: wait for the next step";
@@ -172,7 +172,7 @@ class Hand {
     this.find("state").classList.toggle("wait", open === 0 || isQuiz);
   }
 
-  // For a quiz: the picture says of no node that it can move.
+  // Removes the enabled rules from the picture, for the quiz.
   hideRules() {
     for (const node of this.find("stage").querySelectorAll('.node[data-chosen=""]')) {
       node.dataset.rule = "";

@@ -1,10 +1,10 @@
-// The chart of the nodes that can move, a bar a configuration, which is the timeline too.
-const MOST_STEP = 60, LEAST_SHOWN = 12; // pixels of a bar; configurations for which there is room at least
-const LEAST_TEXT = 12.5, TEXT_SHARE = 0.2; // pixels; of the chart's height
+// The chart with a bar for each configuration, whose height is the number of nodes that can move. It is also the timeline.
+const MOST_STEP = 60, LEAST_SHOWN = 12; // the most pixels of a bar; the least number of bars for which there is room
+const LEAST_TEXT = 12.5, TEXT_SHARE = 0.2; // the least size of texts in pixels; their size as a share of the chart's height
 
 class Chart {
-  // `bars` has for each configuration: its number, how many nodes can move (null: not known), how many were chosen, the kind of
-  // event that led to it, and whether it is at rest.
+  // `bars` has for each configuration: its number, how many nodes can move (null if that isn't known), how many were chosen, the
+  // kind of event that led to it, and whether it is stable.
   constructor(svg, bars, edits, go) {
     Object.assign(this, { svg, bars, edits, go, now: 0 });
     let isDown = false;
@@ -20,7 +20,7 @@ class Chart {
 
   choose(bar) { if (this.go && this.bars.length > 0) this.go(Math.max(0, Math.min(this.bars.length - 1, bar))); }
 
-  // Draws all bars: the height is how many can move, the full part those that were chosen.
+  // Draws all bars. The height of a bar is the number of nodes that can move, and its filled part the number of chosen ones.
   draw() {
     const wide = this.svg.clientWidth, high = this.svg.clientHeight, { bars } = this;
     if (!wide || !high) return;
@@ -52,7 +52,7 @@ class Chart {
 
   dot(x, radius) { return `M${x - radius} ${this.base - 5}a${radius} ${radius} 0 1 1 ${2 * radius} 0a${radius} ${radius} 0 1 1 ${-2 * radius} 0z`; }
 
-  // Frames the bar of a configuration, and numbers as many as have room.
+  // Draws a frame around the bar of a configuration. Also writes the numbers of as many configurations as there is room for.
   show(now) {
     this.now = now;
     if (!this.step) return;

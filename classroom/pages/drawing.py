@@ -20,9 +20,9 @@ from classroom.pages.labels import FULL, View, view_of
 from classroom.pages.layout import RING, WIDE, Field
 from classroom.pages.springs import Point
 
-WITNESSES_MOST = 60  # open links up to which each names its witness
-OPEN_MOST = 2000  # open links above which only their number is given
-FAINT_ABOVE = 8  # links for each node above which their lines are the fainter the more they are
+WITNESSES_MOST = 60  # up to this number of open links, the witness of each is named
+OPEN_MOST = 2000  # above this number of open links, only their number is shown
+FAINT_ABOVE = 8  # above this number of links per node, the lines become fainter with each further link
 LETTERS = f"letters: {', '.join(f'{rule[:1].upper()} {rule}' for rule in RULES)}"
 KEY_HIGH, KEY_SIZE = 26.0, 14.0  # the height and the letters' size of the line below a drawing that explains its letters
 ANCHORS = ("start", "middle", "end")

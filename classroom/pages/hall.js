@@ -1,16 +1,16 @@
 "use strict";
-// Shows the state of a class, which the server sends as a whole each time that it has changed. What is the same stays as it is.
+// Shows the state of a class. The server sends the whole state each time it has changed. Unchanged elements aren't replaced.
 
 const acts = document.body.classList.contains("acts");
 const here = location.href.replace(/\/[^/]*$/, "/");
 const order = (word) => fetch(here + "act", {method: "POST", body: word});
 const NS = "http://www.w3.org/2000/svg";
-const LINES = 3; // of the desk, the newest
-const SMALLEST = 12, SMALLEST_ON_PHONE = 11; // pixels of a text that can be read
-const LETTER = 0.37; // of a radius: what a digit takes, if it is as large as the radius
-const PILL_AT = [1.1, -1.25]; // in radii, from a node's middle: the middle of its rule's frame
-const PILL_HIGH = 1.45; // of its letter's size
-const PILL_MOST = 1.2; // of a radius: how large the letter of a rule may be beside its node
+const LINES = 3; // the number of lines of the desk that are shown, the newest ones
+const SMALLEST = 12, SMALLEST_ON_PHONE = 11; // the least size of a text in pixels, so that it can be read
+const LETTER = 0.37; // n digits fit into a disc if n times this multiple of their size is at most the radius
+const PILL_AT = [1.1, -1.25]; // the middle of the frame of a rule, relative to the node's middle, in radii
+const PILL_HIGH = 1.45; // the height of the frame of a rule, as a multiple of its letter's size
+const PILL_MOST = 1.2; // the greatest size of the letter of a rule, in radii of its node
 
 /** Returns a new element with a text and a class. */
 function made(kind, text = "", of = "") {
@@ -20,23 +20,23 @@ function made(kind, text = "", of = "") {
   return it;
 }
 
-/** Sets attributes of an element, which it returns. */
+/** Sets attributes of an element, and returns the element. */
 function set(element, attributes) {
   for (const [name, value] of Object.entries(attributes)) element.setAttribute(name, value);
   return element;
 }
 
-/** Returns a new element of a drawing. */
+/** Returns a new SVG element with these attributes. */
 function drawn(kind, attributes) {
   return set(document.createElementNS(NS, kind), attributes);
 }
 
-/** Sets a text if it is another one: a reader who listens isn't told the same twice. */
+/** Sets the text of an element if it differs, so that a screen reader doesn't read the same text twice. */
 function say(element, text) {
   if (element.textContent !== text) element.textContent = text;
 }
 
-/** Returns the buttons that send a word to a network, or to all of them. An end is asked for twice. */
+/** Returns the buttons that send a command to one network, or to all. The button for the end asks before it sends. */
 function buttons(to, isDown) {
   const row = made("p", "", "acts");
   const words = isDown ? ["resume", "end"] : ["close", "shake 3", "shake all", "end"];
@@ -51,7 +51,7 @@ function buttons(to, isDown) {
   return row;
 }
 
-/** Returns a number with what is counted. */
+/** Returns a number and a noun, to which an s is added unless the number is 1. */
 function counted(number, word) {
   return `${number} ${word}${number === 1 ? "" : "s"}`;
 }
@@ -64,13 +64,13 @@ function told(network) {
   return network.state.stable ? "At rest" : `${counted(network.state.privileged.length, "node")} can move`;
 }
 
-/** Returns who is missing, as a text. */
+/** Returns a text with the names of the missing students. */
 function missing(state) {
   const names = state.missing;
   return names.length ? `missing: ${names.join(", ")}` : "nobody is missing";
 }
 
-// A small drawing of a network, of the same forms as the large ones.
+// A small drawing of a network, with the same signs as the large ones.
 class Picture {
   constructor(view, number) {
     this.view = view;
@@ -104,7 +104,7 @@ class Picture {
     return `M${x} ${y}L${u} ${v}`;
   }
 
-  // An arrow from the rim of one node to the ring of another.
+  // Returns the path data of an arrow from the rim of one node to the ring of another.
   arrow(a, b) {
     const [x, y] = this.at.get(a), [u, v] = this.at.get(b), length = Math.hypot(u - x, v - y) || 1, { radius } = this.view.measures;
     const point = (far) => `${(x + (u - x) * far / length).toFixed(1)} ${(y + (v - y) * far / length).toFixed(1)}`;
@@ -133,7 +133,7 @@ class Picture {
     say(group.querySelector(".rule"), (chosen ? "✓" : "") + word.slice(0, 1).toUpperCase());
   }
 
-  // Makes texts large enough to be read, and hides those for which a disc is too small then.
+  // Makes texts large enough to be read. Hides identifiers and rules if the discs are then too small for them.
   fit() {
     const { width, height, measures, nodes } = this.view, scale = Math.min(this.root.clientWidth / width, this.root.clientHeight / height);
     const least = (innerWidth <= 700 ? SMALLEST_ON_PHONE : SMALLEST) / scale, digits = String(Math.max(...nodes)).length;
@@ -148,7 +148,7 @@ class Picture {
   }
 }
 
-// The card of a network.
+// Shows a network: its state, its drawing and its buttons.
 class Card {
   constructor(view, number) {
     this.root = made("article");
@@ -205,7 +205,7 @@ const views = JSON.parse(document.getElementById("views").textContent);
 const cards = new Map();
 let lines = [];
 
-/** Shows the lines of the desk: those that are new come at the end. */
+/** Shows the newest lines of the desk. Adds new ones at the end, and keeps the elements of the others. */
 function showLines(all) {
   const list = document.getElementById("lines"), shown = all.slice(-LINES);
   let same = Math.min(lines.length, shown.length);
@@ -215,7 +215,7 @@ function showLines(all) {
   lines = shown;
 }
 
-/** Shows the class. */
+/** Shows the state of the class. */
 function show(state) {
   const root = document.getElementById("networks");
   root.style.setProperty("--columns", Math.ceil(Math.sqrt(state.networks.length)));

@@ -1,8 +1,8 @@
-// Shows a run that is going on, and sends what the teacher does. What it shows comes as changes, the first of
-// them to a state in which nothing is known.
+// Shows a run that continues, and sends the teacher's commands. The server sends changes of the state. The first change is
+// from a state in which nothing is known.
 const LINES = 6;
-const WAITED = 12; // nodes of which it is said by name that they are waited for
-const ENDS = "end"; // the button that asks before it sends its line, twice
+const WAITED = 12; // the most nodes that are listed among those for which the class waits
+const ENDS = "end"; // the button that asks before it sends its line, and then sends the line twice
 
 class Live {
   constructor(data, drawing, document) {
@@ -73,7 +73,7 @@ class Live {
     this.chart.draw();
   }
 
-  // How steps are closed, in words, and at the buttons.
+  // Shows how steps are closed, as a text and by the buttons.
   showClosing(closing) {
     const [name, seconds] = closing.split(":");
     const words = { "by-hand": "steps are closed by hand", "when-idle": `steps are closed ${seconds} s after the last move`, every: `steps are closed every ${seconds} s` };
@@ -82,7 +82,7 @@ class Live {
     for (const each of Object.keys(words)) this.find(each).setAttribute("aria-pressed", String(each === name));
   }
 
-  // Who is waited for: the nodes that can move, as the report says, and for which no move is chosen.
+  // Lists the nodes for which the class waits: those that can move, by the report, and have no chosen move.
   showWaits() {
     const { state, data } = this, nodes = [...data.nodes.keys()].filter((node) => state.rule[node] > 0 && state.chosen[node] === 0);
     const chosen = state.chosen.reduce((sum, rule) => sum + (rule > 0), 0);
@@ -137,7 +137,8 @@ class Live {
     new ResizeObserver(() => this.placePanel()).observe(find("panel").parentNode);
   }
 
-  // Sends a button's line, in which #NAME stands for a field's value, or for the node that is picked: that one is left then.
+  // Sends the line of a button. In the line, #NAME stands for the value of that field, and #picked for the picked node. If the
+  // line has #picked, the node isn't picked any longer.
   send(line) {
     this.act(line.replace(/#(\w+)/g, (_, field) => (field === "picked" ? this.idOf(this.picked) : this.find(field).value)));
     if (line.includes("#picked")) this.pick(null);
@@ -188,7 +189,7 @@ class Live {
     if (setting) this.find("p").focus({ preventScroll: true });
   }
 
-  // Puts the panel beside the node that is picked, on the side where there is room.
+  // Moves the panel beside the picked node, to the side that has room for it.
   placePanel() {
     if (this.picked === null) return;
     const panel = this.find("panel"), stage = panel.parentNode.getBoundingClientRect();

@@ -1,7 +1,7 @@
 "use strict";
-// The configuration that is shown, and the drawing of it: each change touches the elements that it changes.
+// The state of a run and its drawing. A change of the state changes only those elements of the drawing that differ.
 const REGISTERS = ["pointer", "m", "married", "rule", "chosen"];
-const NEVER = -9; // a value that nothing has: what is shown there isn't known
+const NEVER = -9; // a value that no element of a state has, for a part whose drawing isn't known
 
 class State {
   constructor(nodes, links) {
@@ -13,11 +13,11 @@ class State {
     this.linked = new Int8Array(links);
     this.witness = new Int32Array(links).fill(-1);
     this.reason = new Int8Array(links);
-    Object.assign(this, { privileged: 0, paired: 0, open: 0 }); // nodes, nodes, links
-    Object.assign(this, { linksAt: -1, openAt: -1 }); // the rows that changed links, and open links, last
+    Object.assign(this, { privileged: 0, paired: 0, open: 0 }); // the numbers of privileged nodes, of nodes in pairs, and of open links
+    Object.assign(this, { linksAt: -1, openAt: -1 }); // the last row that changed links, and the last one that changed open links
   }
 
-  // A state of its own, with room for so many links.
+  // Returns a copy of the state, with room for this number of links.
   copy(links = this.linked.length) {
     const copy = Object.assign(new State(0, 0), this);
     for (const [name, value] of Object.entries(this)) if (ArrayBuffer.isView(value)) copy[name] = value.slice();
@@ -29,7 +29,7 @@ class State {
     return copy;
   }
 
-  // What a row says has changed.
+  // Applies the changes in a row to the state.
   apply(row, at) {
     for (const [node, pointer, m] of row.registers || []) { this.pointer[node] = pointer; this.m[node] = m; }
     for (const [node, rule] of row.chosen || []) this.chosen[node] = rule;
@@ -53,8 +53,8 @@ class State {
 }
 
 const NS = "http://www.w3.org/2000/svg";
-const SMALLEST = 12, SMALLEST_ON_PHONE = 11; // pixels of a text that can be read
-const PHONE = 500; // pixels of a stage's width under which it is a phone's
+const SMALLEST = 12, SMALLEST_ON_PHONE = 11; // the least size of a text in pixels, so that it can be read
+const PHONE = 500; // if the drawing's area has fewer pixels in width, the drawing for phones is used
 const GROWING = 450; // milliseconds in which new arrows grow
 const ANCHORS = ["start", "middle", "end"], SIDES = [0.5, 0, -0.5];
 
@@ -82,7 +82,7 @@ class Drawing {
     this.mark = root.querySelector("text.mark");
     this.marker = root.querySelector("#arrow");
     this.segments = [];
-    this.lower = data.nodes.map(() => []); // the links whose lower end a node is: their lines stand in one path
+    this.lower = data.nodes.map(() => []); // for each node the links of which it is the lower end: their lines are in one path
     this.growing = null;
     this.place(data.views[0]);
     this.fit();
@@ -94,7 +94,7 @@ class Drawing {
     return { group, ring: part(".ring"), disc: part(".disc"), identifier: part(".identifier"), owner: part(".owner"), pill: part(".pill"), frame: part(".pill rect"), rule: part("text.rule") };
   }
 
-  // Draws everything where a view has it.
+  // Draws everything at the positions of a view.
   place(view) {
     this.view = view;
     this.points = view.points;
@@ -128,7 +128,7 @@ class Drawing {
     if (parts.owner) parts.owner.textContent = label ? label[0] : "";
   }
 
-  // Chooses the view of the stage's width, and hides texts that would be too small to be read.
+  // Chooses the view for the width of the drawing's area, and hides texts that would be too small to be read.
   fit() {
     const stage = this.root.parentNode, wide = stage.clientWidth, high = stage.clientHeight;
     if (!wide || !high) return;
@@ -145,7 +145,7 @@ class Drawing {
     if (this.last) this.show(...this.last);
   }
 
-  // Nothing is known of what is shown: the next time everything is drawn anew.
+  // Forgets what is drawn, so that everything is drawn again the next time.
   forget() {
     const nodes = this.nodes.length, links = this.segments.length;
     this.said = new Map();
@@ -156,7 +156,7 @@ class Drawing {
     this.none = new Int32Array(links).fill(-1);
   }
 
-  // Forgets all links, to be told of them anew.
+  // Forgets all links. `grow` adds them again.
   empty() {
     for (const rows of Object.values(this.rows)) for (const row of rows) row.setAttribute("d", "");
     this.segments = [];
@@ -165,7 +165,7 @@ class Drawing {
     this.forget();
   }
 
-  // Takes in the links that the data have got.
+  // Adds the links that are new in the data.
   grow() {
     const { links } = this.data, known = this.segments.length;
     if (known === links.length) return;
@@ -186,7 +186,7 @@ class Drawing {
 
   half(a, b) { return this.segment(a, [(a[0] + b[0]) / 2, (a[1] + b[1]) / 2]); }
 
-  // An arrow from the rim of one node to the ring of another, or the part of it that has grown.
+  // Returns the path data of an arrow from the rim of one node to the ring of another, or of its first part, the share `grown`.
   arrow(a, b, grown) {
     const [x, y] = this.points[a], [u, v] = this.points[b], length = Math.hypot(u - x, v - y) || 1;
     const { radius, head } = this.view.measures, along = [(u - x) / length, (v - y) / length];
@@ -197,7 +197,7 @@ class Drawing {
 
   word(rule) { return this.view.words ? rule : rule.slice(0, 1).toUpperCase(); }
 
-  // Sets an attribute of an element that has few, where it is another than the last time.
+  // Sets an attribute of an element if it differs from the last value. This is for elements whose attributes change seldom.
   set(element, name, value) {
     const values = this.said.get(element) || {};
     if (values[name] === value) return;
@@ -205,7 +205,7 @@ class Drawing {
     this.said.set(element, { ...values, [name]: value });
   }
 
-  // Shows a state; new arrows grow if the reader goes on by a step.
+  // Shows a state. If `moves` is set, new arrows grow.
   show(state, row, moves = false) {
     this.last = [state, row];
     cancelAnimationFrame(this.growing);
@@ -235,12 +235,12 @@ class Drawing {
     turn(start);
   }
 
-  // Draws arrows whole that were still growing.
+  // Draws the arrows completely that were still growing.
   finish() {
     for (const [node, pointer] of this.grown || []) if (this.shown.pointer[node] === pointer && this.shown.married[node] < 0) this.arrows[node].setAttribute("d", this.arrow(node, pointer, 1));
   }
 
-  // Answers whether the node has another partner than before.
+  // Shows a node in a state. Returns whether the node has another partner than before.
   showNode(node, state) {
     const { shown } = this, parts = this.nodes[node];
     const pointer = state.pointer[node], partner = state.married[node];
@@ -263,7 +263,7 @@ class Drawing {
     return paired;
   }
 
-  // A node in words, for who doesn't see it.
+  // Returns the description of a node for people who don't see the drawing.
   describe(node, state) {
     const { nodes, rules } = this.data, id = (other) => (other < 0 ? "null" : String(nodes[other].id));
     const words = [`node ${id(node)} of ${nodes[node].owners.join(" and ")}`, "p " + id(state.pointer[node]), "m " + (state.m[node] > 0)];
@@ -273,7 +273,7 @@ class Drawing {
     return words.join(", ");
   }
 
-  // The rule by which a node can move, in a frame; the frame is full if the move is chosen.
+  // Shows the enabled or chosen rule of a node in a frame.
   showPill(parts, node, rule, isChosen) {
     const width = this.view.widths[rule][Number(isChosen)], label = this.view.labels[node];
     const at = label ? [label[2] + SIDES[label[1]] * width, label[4]] : this.view.corners[node];
@@ -292,7 +292,7 @@ class Drawing {
     this.layers.pairs.setAttribute("d", pairs.join(""));
   }
 
-  // Lines of links cost most, so a path is made anew only where one of its links has changed.
+  // Shows the links. Drawing them takes longest, so only paths with a changed link are drawn again.
   showLinks(state) {
     const { shown } = this;
     if (state.linksAt !== shown.linksAt) {
@@ -311,7 +311,7 @@ class Drawing {
     [shown.linksAt, shown.openAt] = [state.linksAt, state.openAt];
   }
 
-  // The nodes with a lower end of a link whose value isn't what it was, which is kept.
+  // Returns the lower ends of all links whose value has changed. Copies the new values to `before`.
   changed(values, before) {
     const rows = new Set();
     for (let link = 0; link < values.length; link += 1) {
@@ -342,7 +342,7 @@ class Drawing {
     return element("text", { x: (from[0] + to[0]) / 2, y: (from[1] + to[1]) / 2 }, this.data.nodes[state.witness[link]].id + ": " + this.word(rule));
   }
 
-  // Marks the nodes of a fault, link or cut, and says what it was.
+  // Marks the nodes of a fault, link or cut, and shows the name of the event.
   showMark(row) {
     const isEdit = this.data.edits.includes(row.kind), nodes = isEdit ? row.nodes : [];
     const places = nodes.map((node) => this.points[node]), text = isEdit ? "⚡ " + row.kind : "";
@@ -361,7 +361,7 @@ class Drawing {
 
 const counted = (count, word) => `${count} ${word}${count === 1 ? "" : "s"}`;
 
-// What stands above the drawing, each text set where it is another than the last time.
+// The texts above the drawing. Each is set only if it differs from the last one.
 class Aside {
   constructor(document) {
     this.find = (name) => document.getElementById(name);
@@ -389,14 +389,14 @@ class Aside {
     this.announce(`step ${row.number}: ${told}, ${pairs}`);
   }
 
-  // Says a new state once, when it has been there for a moment: who listens isn't told each step of a run that is played.
+  // Announces a new state to screen readers after a short pause, so that not each step of a playing run is read aloud.
   announce(text) {
     clearTimeout(this.waiting);
     this.waiting = setTimeout(() => this.say("said", text), 300);
   }
 }
 
-// The page as large as the screen, and back: by a button, or by the key f.
+// Lets a button and the key f switch the page to the full screen and back.
 function wholeScreen(document) {
   const turn = () => (document.fullscreenElement ? document.exitFullscreen() : document.documentElement.requestFullscreen());
   document.getElementById("whole").addEventListener("click", turn);
@@ -406,7 +406,7 @@ function wholeScreen(document) {
   });
 }
 
-// A button that shows open links and their witnesses, which are left out at first.
+// Lets a button show or hide open links and their witnesses, which are hidden at first.
 function witnessButton(document) {
   const button = document.getElementById("witnesses");
   button.addEventListener("click", () => {
@@ -429,7 +429,7 @@ function nodeButtons(drawing, act) {
   });
 }
 
-// An event as a reader wants it.
+// Returns the text of an event for people.
 function toldEvent(data, row) {
   if (!row.kind) return "the beginning";
   const words = row.text.split(" ");
@@ -448,7 +448,7 @@ async function dataOf(document) {
   return new Response(stream).json();
 }
 
-// Links lie behind the rest as a picture of their own, which is painted anew only where they change.
+// Moves the links into a drawing of their own under the rest. The browser paints it again only if links change. Returns this drawing.
 function splitLinks(root) {
   const back = root.cloneNode(false);
   for (const name of ["id", "role", "aria-label"]) back.removeAttribute(name);

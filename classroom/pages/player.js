@@ -1,9 +1,9 @@
-// Plays a run: the frames of the page's data, each as what changed since the one before.
+// Plays a run. Each frame of the page's data has what changed since the frame before.
 const SNAPSHOT_EVERY = 50;
-const LISTED = 60; // events before and after the one at hand that are listed
-const NEAR_END = 20; // of the list: nearer to it another part of the events is listed
-const REST = 200; // milliseconds without a step after which the address says the place
-const TURN = 900; // milliseconds between two steps of a run that is played
+const LISTED = 60; // the number of events that are listed before the current one, and after it
+const NEAR_END = 20; // if the current event is nearer to an end of the list than this, other events are listed
+const REST = 200; // milliseconds without a step after which the page's address gets the place
+const TURN = 900; // milliseconds between two steps while a run is played
 
 class Run {
   constructor(data) {
@@ -14,7 +14,7 @@ class Run {
     this.goTo(0);
   }
 
-  // The state after a frame: from the nearest one that is kept.
+  // Computes the state after a frame, from the nearest state that is stored.
   goTo(target) {
     if (target < this.at) {
       const kept = Math.floor(target / SNAPSHOT_EVERY);
@@ -31,7 +31,7 @@ class Run {
   }
 }
 
-// The configurations of a run: of each the first frame and the last, and what the chart shows of it.
+// Returns the configurations of a run, each with its first and last frame and the data for its bar in the chart.
 function configurationsOf(data) {
   const rules = new Int8Array(data.nodes.length), chosen = new Int8Array(data.nodes.length), found = [];
   let can = 0, moved = 0;
@@ -103,13 +103,13 @@ class Player {
 
   later() { return this.configurations[this.configuration() + 1]?.first ?? this.last; }
 
-  // Where a run that is played goes on: to all that is chosen for a step, and then to what the step makes.
+  // Returns the next place while a run is played: first the one at which all moves of a step are chosen, then the one after the step.
   following() {
     const { end } = this.configurations[this.configuration()];
     return this.at < end ? end : this.later();
   }
 
-  // Goes where the address says: to a place of the journal, or to the beginning of a step.
+  // Goes to the place or the step that the page's address names.
   follow() {
     this.address = location.hash;
     const place = /^#p=(\d+)$/.exec(location.hash), step = /^#step=(\d+)$/.exec(location.hash);
@@ -129,7 +129,8 @@ class Player {
     this.resting = setTimeout(() => this.writeAddress(), REST);
   }
 
-  // A browser takes few new addresses a second. One that the reader has typed in between isn't written over.
+  // Writes the place into the page's address. `goTo` calls this only after a pause, since a browser accepts few new addresses a
+  // second. If the reader has typed another address meanwhile, doesn't overwrite it.
   writeAddress() {
     if (location.hash !== this.address) return;
     this.address = "#p=" + this.at;
@@ -147,7 +148,7 @@ class Player {
 
   line(frame) { return frame.kind ? frame.place + ": " + frame.text : "the beginning"; }
 
-  // Lists the events around the one at hand, which stands in the middle, and marks those of its step.
+  // Lists the events around the current one, which is in the middle, and marks those of its step.
   list() {
     const isNear = this.rows && (this.at - this.from >= NEAR_END || this.from === 0) && (this.from + this.rows.length - this.at > NEAR_END || this.from + this.rows.length > this.last);
     if (!isNear) {
@@ -186,7 +187,7 @@ class Player {
     return row;
   }
 
-  // Shows a node's own story: what it is now, and all events that name it.
+  // Shows a node's present values, and all events that name the node. Hides them if there is no node.
   pick(node) {
     if (this.picked !== null) this.drawing.nodes[this.picked].group.classList.remove("picked");
     this.picked = node;

@@ -15,7 +15,7 @@ from classroom.pages.frames import State
 from classroom.pages.labels import view_of
 from classroom.pages.layout import CELL
 
-NEIGHBOUR = "a neighbour"  # instead of its owners, whom no reply names; no student has such a name
+NEIGHBOUR = "a neighbour"  # shown in place of the owners of a neighbour, whom no reply names; no student can have this name
 Told = TypeVar("Told")
 Looks = dict[int, Look]  # the look at each node
 

@@ -14,7 +14,7 @@ from contextlib import contextmanager
 from classroom.pages.web import PageRequest, Web
 
 STILL_HERE = 10.0  # seconds without news after which a page gets a line that says so
-MOST_BYTES = 200  # of a line that a page sends
+MOST_BYTES = 200  # the most bytes of a line that a page sends
 
 
 def new_token() -> str:

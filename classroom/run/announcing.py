@@ -21,9 +21,9 @@ from classroom.marks.comeback import Comeback, Recount
 from classroom.run import wording
 from classroom.run.following import Follower, News
 
-MOST_TOLD = 0.9  # the share of the limit of events from which on the events that are left are printed
-MOST_WAITING = 8  # the most nodes that are named of those for which the class waits
-LOOKS, PAUSE = 30, 0.1  # how often the server's output is read for the reason of a lost journal, and seconds between
+MOST_TOLD = 0.9  # from this share of the limit of events on, the number of remaining events is printed
+MOST_WAITING = 8  # the most nodes that are named among those for which the class waits
+LOOKS, PAUSE = 30, 0.1  # how often the server's output is read for the reason of a lost journal, and seconds between two reads
 
 
 def report_line(report: Report) -> str:

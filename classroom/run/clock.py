@@ -9,7 +9,7 @@ from classroom.core.counts import plural
 from classroom.core.program import Fault
 
 WARNINGS = (10, 5, 1)  # minutes before the end
-LATEST = timedelta(hours=12)  # An hour that is over counts as tomorrow's if that is so near.
+LATEST = timedelta(hours=12)  # A time of day that has passed today stands for tomorrow's if that is at most so far away.
 
 
 def time_of_day(word: str) -> str:

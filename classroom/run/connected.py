@@ -14,7 +14,7 @@ ELSEWHERE = "someone from elsewhere"
 PAUSE = 1.0  # seconds between two looks
 AGAIN = 0.02  # seconds between two readings of one look
 READINGS = 5
-Row = tuple[int, int, str, str]  # of a socket: its own port, the port of the other end, its state and its number
+Row = tuple[int, int, str, str]  # a socket: its own port, the port of the other end, its state and its number
 
 
 def rows() -> Iterator[Row]:

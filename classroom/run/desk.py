@@ -139,7 +139,7 @@ class Desk:
         old, or once nothing more is granted."""
         if self.house is None or self.known.is_old or self.announcer.over:
             return
-        self.house.begun = self.heard is None or self.heard.came
+        self.house.student_came = self.heard is None or self.heard.came
         waiting = [node for node, _ in self.known.waiting()]
         is_central = self.closing.kind == "central"
         self.house.turn(waiting, len(waiting) if not is_central else 0 if self.known.book.chosen else 1)

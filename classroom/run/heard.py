@@ -82,7 +82,7 @@ class Heard:
         self.step = 0
         self.came = False  # Whether a student has greeted.
         self.students = lab.without_house().students.keys()
-        self.over = ""  # `full` or `journal` once a line was refused so, since then nothing more is granted
+        self.over = ""  # `full` or `journal` once a line was refused for this reason; from then on nothing is granted
         self.due = self.last = time.monotonic()
 
     def catch_up(self, step: int) -> None:

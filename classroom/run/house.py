@@ -36,7 +36,7 @@ class House:
         self.students = {name: self.held.intersection(nodes) for name in lab.without_house().students if (nodes := lab.nodes_of(name))}
         self.played, self.keep = {name for name in played if name in self.students}, keep
         self.since: dict[int, float] = {}  # for each node, the time from which the class waits for it
-        self.begun = False  # Whether a student has come, until whom the house waits.
+        self.student_came = False  # Whether a student has come. Until then, the house waits.
         self.again = 0.0
         self.told_busy = False
 
@@ -72,7 +72,7 @@ class House:
     def waits(self) -> bool:
         """Returns whether the house plays after some seconds, but doesn't count them yet, because no student has
         come."""
-        return self.seconds is not None and not self.begun
+        return self.seconds is not None and not self.student_came
 
     def note(self, event: Event) -> None:
         """Notes an event. The class no longer waits for a node whose move was granted."""
@@ -82,7 +82,7 @@ class House:
     def due(self, waiting: Collection[int], now: float) -> list[int]:
         """Returns the nodes that the house may play at the time `now`, among those that the class waits for. The node
         for which it has waited longest comes first. No time is counted before a first student has come."""
-        before = self.since if self.begun else {}
+        before = self.since if self.student_came else {}
         self.since = {node: before.get(node, now) for node in waiting if node in self.held}
         at_once = set[int]().union(*(self.students[name] for name in self.played))
         late = [node for node, since in self.since.items() if self.seconds is not None and now - since >= self.seconds]

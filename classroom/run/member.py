@@ -60,7 +60,7 @@ class Member:
     alarm: str = ""  # Why the network is down, and which command is the remedy; empty if it isn't down.
     code: int = 0  # The exit status of the network's last process.
     why: str = ""  # The reason that the process gave for its end.
-    begun: bool = False  # Whether the process has printed that it accepts commands.
+    is_ready: bool = False  # Whether the process has printed that it accepts commands.
     has_desk: bool = False  # Whether a process ever held the network's desk.
 
     @property
@@ -78,7 +78,7 @@ class Member:
             words = ["attach", str(self.folder), *self.resume_words("--door-at")]
         else:
             words = ["run", "--resume", str(self.folder), *self.resume_words(), *(["--again"] if record.ended else [])]
-        self.status, self.alarm, self.why, self.begun, self.facts = STARTS, "", "", False, {}
+        self.status, self.alarm, self.why, self.is_ready, self.facts = STARTS, "", "", False, {}
         self.wanted = wanted(self.more, record)
         self.child = subprocess.Popen(
             [sys.executable, TOP / "class", *words, "--typed"], stdin=subprocess.PIPE, stdout=subprocess.PIPE,
@@ -112,8 +112,8 @@ class Member:
         if fact:
             self.facts[fact] = value
         self.why = line if DIED.fullmatch(line) else self.why
-        self.begun = self.has_desk = self.begun or line.startswith(READY)
-        if self.status == STARTS and self.begun and self.wanted <= self.facts.keys():
+        self.is_ready = self.has_desk = self.is_ready or line.startswith(READY)
+        if self.status == STARTS and self.is_ready and self.wanted <= self.facts.keys():
             self.status = RUNS
         if self.status == STARTS or is_new or line.startswith(READY):
             return not (fact or line.startswith(TOLD_IN_TABLE))

@@ -20,7 +20,7 @@ from pathlib import Path
 
 from classroom.core import lab as labs
 from classroom.core.class_state import DOWN, ENDED, RUNS, STARTS, ClassState
-from classroom.core.classes import Class, Network, begun, title
+from classroom.core.classes import Class, Network, make_folder, title
 from classroom.core.counts import plural
 from classroom.core.folders import Process
 from classroom.core.printable import printable
@@ -392,7 +392,7 @@ def side_by_side(words: argparse.Namespace) -> int:
     end_of(words.ends)  # A time that has passed raises an error before anything is made, as does a lab that is refused.
     networks, news = networks_of(words), News()
     members = members_of(Path(), networks, words, news)
-    folder = begun(Path(words.into), networks)
+    folder = make_folder(Path(words.into), networks)
     for member in members:
         member.folder = folder / member.name
 

@@ -13,7 +13,7 @@ from classroom.run.closing import SECONDS, Closing
 from classroom.run.daemons import Sight, applied
 from classroom.run.desk import Desk
 
-LOOKS = 5  # how often the moves that were granted meanwhile are checked for
+LOOKS = 5  # how often it checks whether moves were granted meanwhile
 
 
 class Striker:

@@ -16,9 +16,9 @@ TOP = Path(__file__).resolve().parents[2]
 LIMIT = 300.0  # seconds after which a command counts as hanging
 CRATES = "# A line a crate.\nlow: itoa\nunused: low\nleft: low\nright: low\nmml_server: left\nmml_host: left right\n"
 # A program in place of the toolchain's `rt`, which proves one crate after another by a process with the prover's name.
-# In the first repository of a build, if nothing is to be proved, that process doesn't end. Files in the room change
-# what it does: it waits before the crate that `waits` names, and fails at the one that `fails` names. Those that
-# `meets` names have to be proved side by side, and `lacks` makes it keep nothing.
+# In the first repository of a build, if nothing is to be proved, that process doesn't end. Files in the test's folder
+# change what the program does: it waits before the crate that `waits` names, and fails at the one that `fails` names.
+# The crates that `meets` names have to be proved side by side. If there is a file `lacks`, the program keeps nothing.
 STAND_IN = '''#!{python}
 import os, pathlib, re, subprocess, sys, time
 if sys.argv[1:] == ["version"]:
@@ -104,7 +104,7 @@ class InClone(unittest.TestCase):
         return subprocess.run(words, cwd=self.clone, stdin=subprocess.DEVNULL, capture_output=True, text=True,
                               env=self.environment(**more), timeout=LIMIT, check=False)
 
-    def begun(self, *words: str | Path) -> subprocess.Popen[str]:
+    def started(self, *words: str | Path) -> subprocess.Popen[str]:
         """Starts a command of the clone as the leader of a group of processes, and waits until the stand-in runs in it.
         Returns its process."""
         (self.room / "pids").unlink(missing_ok=True)

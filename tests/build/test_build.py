@@ -117,7 +117,7 @@ class Builds(InClone):
         git = self.clone / ".git"
         git.mkdir()
         self.set("waits", "left")
-        going = self.begun("./mml", "build")
+        going = self.started("./mml", "build")
         self.assertRegex(str(Path(f"/proc/{self.pids()[0]}/cwd").readlink()), f"^{re.escape(str(git))}/mml-build-[0-9]+-[^/]+/[0-9]+$")
         self.assertTrue(Path((self.room / "temporary").read_text(encoding="utf-8")).is_relative_to(self.temporary))
         os.kill(going.pid, signal.SIGTERM)
@@ -203,7 +203,7 @@ class Builds(InClone):
         for number, is_group in ((signal.SIGINT, True), (signal.SIGTERM, False), (signal.SIGTERM, True), (signal.SIGHUP, True)):
             with self.subTest(number=number, is_group=is_group):
                 self.set("waits", "right")
-                going = self.begun("./mml", "build")
+                going = self.started("./mml", "build")
                 (os.killpg if is_group else os.kill)(going.pid, number)
                 error = self.ended(going)
                 self.assertEqual(going.returncode, -number)
@@ -218,7 +218,7 @@ class Builds(InClone):
     def test_killed(self) -> None:
         """If the build is killed, `rt` is ended, and the next call cleans up."""
         self.set("waits", "right")
-        going = self.begun("./mml", "build")
+        going = self.started("./mml", "build")
         rt = self.pids()[0]
         parent = Path(f"/proc/{rt}/stat").read_text(encoding="utf-8").rpartition(") ")[2].split()[1]
         os.kill(int(parent), signal.SIGKILL)

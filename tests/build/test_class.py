@@ -82,7 +82,7 @@ class SetsUp(InClone):
         """A signal ends the build and the command, which leaves nothing. The next command continues the build."""
         for number, is_group in ((signal.SIGINT, True), (signal.SIGINT, False), (signal.SIGTERM, False)):
             self.set("waits", "right")
-            going = self.begun("./class", "new", *WORDS)
+            going = self.started("./class", "new", *WORDS)
             (os.killpg if is_group else os.kill)(going.pid, number)
             self.ended(going)
             self.assertEqual((going.returncode, self.made()), (128 + number, []))

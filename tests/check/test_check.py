@@ -10,8 +10,8 @@ from collections.abc import Callable
 from tools.check.processes import processes
 from tests.check.tree import LIMIT, WELL, InTree, is_there, part
 
-# Starts processes in this session and in a new one, of which one ignores the signals to end. Then writes a file, says
-# by another file that it has begun, and never ends.
+# Starts processes in this session and in a new one. One of them ignores the signals to end. Then writes a file, creates
+# another file to show that it has begun, and never ends.
 GOES_ON = """
 setsid sleep 1000 & echo $! >> "$ROOM/pids"
 sh -c 'trap "" TERM HUP INT; while :; do sleep 1000; done' & echo $! >> "$ROOM/pids"
@@ -189,7 +189,7 @@ class Beside(InTree):
     def test_both_ended(self) -> None:
         """If the check is ended, nothing is left of either."""
         self.stand_in(part("well", WELL), wrong=GOES_ON, proofs="sleep 1000")
-        going = self.begun()
+        going = self.started()
         going.send_signal(signal.SIGTERM)
         said, _ = going.communicate(timeout=LIMIT)
         self.assertRegex(said, "check: ended by SIGTERM, in proofs, wrong\n")
@@ -205,7 +205,7 @@ class Ends(InTree):
         for name in ("begun", "pids"):
             (self.room / name).unlink(missing_ok=True)
         self.stand_in(part("well", WELL), part("on", GOES_ON))
-        going = self.begun("quick")
+        going = self.started("quick")
         pids = [int(pid) for pid in (self.room / "pids").read_text(encoding="utf-8").split()]
         self.assertEqual([pid for pid in pids if not is_there(pid)], [])
         (os.killpg if whole_group else os.kill)(going.pid, number)
@@ -226,7 +226,7 @@ class Ends(InTree):
 
     def test_an_output_that_nobody_reads(self) -> None:
         self.stand_in(part("waits", WAITS), part("well", WELL))
-        going = self.begun("quick")
+        going = self.started("quick")
         assert going.stdout is not None
         going.stdout.close()
         (self.room / "go").touch()
@@ -235,7 +235,7 @@ class Ends(InTree):
 
     def test_two_at_once(self) -> None:
         self.stand_in(part("waits", WAITS))
-        going = self.begun("quick")
+        going = self.started("quick")
         for words in ("quick", "proofs", ""):
             second = self.check_beside(*words.split())
             self.assertEqual((second.returncode, second.stdout), (3, ""))
@@ -251,7 +251,7 @@ class Ends(InTree):
         for name in ("begun", "pids"):
             (self.room / name).unlink(missing_ok=True)
         self.stand_in(part("on", GOES_ON))
-        going = self.begun("quick")
+        going = self.started("quick")
         pids = [int(pid) for pid in (self.room / "pids").read_text(encoding="utf-8").split()]
         kill(going.pid)
         said, _ = going.communicate(timeout=LIMIT)  # the pipe ends with the last process of the check

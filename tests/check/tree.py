@@ -88,7 +88,7 @@ class InTree(unittest.TestCase):
         self.assertEqual([*self.temporary.iterdir()], [])
         self.assertEqual(self.files(), self.stood)
 
-    def begun(self, *words: str) -> subprocess.Popen[str]:
+    def started(self, *words: str) -> subprocess.Popen[str]:
         """Starts `./check` as the leader of a group of processes, and waits until one of its parts has made the file
         `begun`. Returns its process."""
         going = subprocess.Popen(

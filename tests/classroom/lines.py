@@ -3,8 +3,8 @@
     python3 -B -m tests.classroom.lines      writes the table anew
 
 It has the lines of the programs, of `class`, of the bots and of the pages. Each is a text in a source, with `{}` for
-each value. If a line changes, the table changes too, so that the change is read there by itself. The help of options is
-in `operate/class.1`.
+each value. If a line changes, the table changes too, so that a reviewer sees the new text there without the code around
+it. The help of options is in `operate/class.1`.
 """
 from __future__ import annotations
 

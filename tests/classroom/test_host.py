@@ -47,7 +47,7 @@ class Hosted(Cycle):
         """Returns the desk's port."""
         return next(int(line.removeprefix("desk ")) for line in going.lines if line.startswith("desk "))
 
-    def test_to_stable_with_bots_that_die_and_come_again(self) -> None:
+    def test_run_until_stable_with_bots_that_die_and_come_again(self) -> None:
         going = self.begin(8, "--close", "when-idle:0.3", "--until", "stable")
         for name in KEYS:
             for _ in range(3):

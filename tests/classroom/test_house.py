@@ -38,7 +38,7 @@ class Alone(unittest.TestCase):
         """Returns a house that plays a node for which the class has waited for `seconds` seconds. A first student has
         come already."""
         house = House(self.lab, 1, seconds, self.told.append)
-        house.begun = True
+        house.student_came = True
         return house
 
     def test_a_node_waits_its_time_and_a_move_begins_it_anew(self) -> None:
@@ -60,7 +60,7 @@ class Alone(unittest.TestCase):
         house.play("gus")
         self.assertEqual(house.due([1, 2], 201), [1])
         house.stop("gus")
-        house.begun = True
+        house.student_came = True
         self.assertEqual((house.due([1, 2], 202), house.due([1, 2], 220.9)), ([], []))  # The house checked at second 201, before he came.
         self.assertEqual(house.due([1, 2], 221), [1, 2])
         self.assertFalse(house.waits())

@@ -23,7 +23,7 @@ class Keys(unittest.TestCase):
         parts = [key.split("-") for key in made]
         self.assertTrue(all(len(each) == 4 and set(each[:3]) <= set(WORDS) and re.fullmatch("[0-9]{2}", each[3]) for each in parts))
         self.assertTrue(all(1 <= len(key) <= 64 for key in made))
-        for place in range(3):  # Each place of a key has many words, and no word occurs often there.
+        for place in range(3):  # At each place of a key many different words occur.
             self.assertGreater(len({each[place] for each in parts}), 1300)
         self.assertGreater(len({each[3] for each in parts}), 90)
         self.assertGreater(3 * math.log2(len(WORDS)) + math.log2(100), 42)

@@ -9,8 +9,8 @@ from tests.classroom.browser import Played, is_ready, shown, until
 from tests.classroom.runs import largest_run, long_run
 
 # The most milliseconds in which the page opens and steps, on a machine where LOAD takes LOADED milliseconds if nothing
-# else runs. A machine that is slower by a factor gets that factor more. On such a machine the page opens in 400
-# milliseconds and steps in 56, so that the limits are met beside other work too.
+# else runs. On a slower machine, the limits are multiplied by the factor by which LOAD takes longer. On a machine of this
+# speed the page opens in 400 milliseconds and steps in 56, so it meets the limits even if other programs run too.
 OPENS, STEPS, LOADED = 2000, 250, 170
 LOAD = """
 for (let round = 0; round < 10; round += 1) {

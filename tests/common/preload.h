@@ -1,4 +1,5 @@
-/* What the preloaded libraries share: what they call, numbers from the environment, and counts in a file. */
+/* The part that all preloaded libraries have in common: the functions that they call, numbers from the environment, and
+   counts in a file. */
 
 typedef unsigned long size_t;
 typedef unsigned long word;
@@ -21,7 +22,8 @@ static inline word number(const char *name) {
     return value;
 }
 
-/* The bytes of a file that the environment names, shared with whoever reads it; without one these. */
+/* Returns the bytes of the file that an environment variable names, in memory that is shared with readers of the file.
+   If there is no such variable, returns `own`. */
 static inline void *shared_with(const char *name, void *own, size_t bytes) {
     const char *file = getenv(name);
     int opened;

@@ -160,7 +160,8 @@ class Server:
 
     def __init__(self, words: Callable[[int], list[str]], variables: Mapping[str, str], before: Sequence[str] = ()) -> None:
         """Starts the server. `words` returns its arguments for a port, and `before` are words before the call."""
-        # A port that somebody took in between would want a second try, whose calls a library counts on from the first's.
+        # Nobody else can take the port while it is held. Otherwise a second try might be necessary, and a library would
+        # count its calls in addition to those of the first.
         self.held = held_port()
         self.port: int = self.held.getsockname()[1]
         self.process = subprocess.Popen(

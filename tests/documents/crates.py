@@ -1,10 +1,10 @@
-"""Draws `docs/crates.svg` from `crates.txt`: the groups of crates in their order, the contract that each group hands
-up, and the tests of each crate.
+"""Draws `docs/crates.svg` from `crates.txt`: the groups of crates in their order, a function or law that each group
+provides, and the tests of each crate.
 
     python3 -B -m tests.documents.crates > docs/crates.svg
 
 A group begins with a comment line. The words of that line up to the first colon or comma are the group's title, and a
-comment `Hands up NAME of CRATE` names its contract. An arrow leads to each group from the last one of those that it
+comment `Provides NAME of CRATE` names such a function or law. An arrow leads to each group from the last one of those that it
 uses. A crate is tested in the crates `mml_tests_..` that use it, and in the folders of `tests/` that FOLDERS names.
 """
 from __future__ import annotations
@@ -48,10 +48,10 @@ text { fill: var(--text); } .small { font-size: 11px; } .title { font-weight: bo
 
 @dataclass
 class Group:
-    """A group of crates in the order of reading, and the contract that it provides."""
+    """A group of crates in the order of reading, and a function or law that it provides."""
 
     title: str
-    hands_up: str = ""
+    provides: str = ""
     of: str = ""
     crates: dict[str, list[str]] = field(default_factory=dict)
 
@@ -60,9 +60,9 @@ def groups(text: str) -> list[Group]:
     """Returns the groups in `crates.txt`."""
     found: list[Group] = []
     for line in text.splitlines():
-        handed = re.fullmatch(r"# Hands up (\w+) of (\w+)\.", line)
-        if handed:
-            found[-1].hands_up, found[-1].of = handed[1], handed[2]
+        provided = re.fullmatch(r"# Provides (\w+) of (\w+)\.", line)
+        if provided:
+            found[-1].provides, found[-1].of = provided[1], provided[2]
         elif line.startswith("# "):
             found.append(Group(re.split(r"[:,]", line[2:])[0]))
         elif ":" in line:
@@ -92,8 +92,8 @@ def band(group: Group, top: int, all_groups: list[Group]) -> tuple[list[str], in
     height = 30 + rows * (HEIGHT + GAP) + GAP
     width = COLUMNS * (WIDTH + GAP) + GAP
     drawn = [f'<rect class="band" x="{MARGIN}" y="{top}" width="{width}" height="{height}" rx="6"/>', text_at(MARGIN + GAP, top + 20, group.title, "title")]
-    if group.hands_up:
-        drawn.append(text_at(MARGIN + GAP + 2 * (WIDTH + GAP), top + 20, f"hands up {group.hands_up} ({group.of})"))
+    if group.provides:
+        drawn.append(text_at(MARGIN + GAP + 2 * (WIDTH + GAP), top + 20, f"provides {group.provides} ({group.of})"))
     for at, crate in enumerate(group.crates):
         x, y = MARGIN + GAP + at % COLUMNS * (WIDTH + GAP), top + 30 + at // COLUMNS * (HEIGHT + GAP)
         drawn.append(f'<rect class="crate" x="{x}" y="{y}" width="{WIDTH}" height="{HEIGHT}" rx="4"/>')
@@ -136,9 +136,9 @@ def faults() -> list[str]:
     found = [] if is_so else ["docs/crates.svg isn't that of crates.txt: python3 -B -m tests.documents.crates"]
     for group in groups(text):
         sources = (TOP / "crates" / group.of / "src").rglob("*.rt") if group.of in group.crates else iter(())
-        declared = any(re.search(rf"pub fn {group.hands_up}\b", it.read_text(encoding="utf-8")) for it in sources)
-        if group.hands_up and not declared:
-            found.append(f"crates.txt: {group.of} has no {group.hands_up}")
+        declared = any(re.search(rf"pub fn {group.provides}\b", it.read_text(encoding="utf-8")) for it in sources)
+        if group.provides and not declared:
+            found.append(f"crates.txt: {group.of} has no {group.provides}")
     missing = [it for its in FOLDERS.values() for it in its if not (TOP / "tests" / it).is_dir()]
     return found + [f"no folder tests/{it}" for it in missing]
 

@@ -1,10 +1,10 @@
-/* Preloaded before a program: one call of a kind fails, or does only a part of what it was asked for.
+/* A library that is loaded before a program, and makes one call of a kind fail, or transfer only one byte.
 
-   FAIL=read is about read and recv, FAIL=write about write and send, FAIL=open about open, FAIL=accept about
-   accept4, FAIL=thread about pthread_create. FAIL_AT=N is the Nth call of that kind in the process. FAIL_WITH=E is the number of
-   the error that it answers; with 0 it answers 0, and did nothing. FAIL_SHORT=1 lets a read or a write do one
-   byte at most instead. FAIL_COUNTS=FILE keeps two numbers of eight bytes in FILE: how many calls of the kind
-   were made, and how many failed or were cut short. */
+   FAIL=read is about read and recv, FAIL=write about write and send, FAIL=open about open, FAIL=accept about accept4,
+   and FAIL=thread about pthread_create. With FAIL_AT=N the Nth call of that kind in the process fails. FAIL_WITH=E is
+   the number of its error. With FAIL_WITH=0 the call does nothing and returns 0. With FAIL_SHORT=1 a read or a write
+   doesn't fail, but transfers at most one byte. With FAIL_COUNTS=FILE, FILE has two numbers of eight bytes: how many
+   calls of the kind were made, and how many failed or were shortened. */
 
 #include "preload.h"
 
@@ -19,7 +19,7 @@ static struct { word made, failed; } own, *counts = &own;
 static word at, with, is_short;
 static char kind;
 
-/* What becomes of this call, if it is of the kind. */
+/* Counts this call if it is of the kind, and returns what it has to do. */
 static enum how meets(char of) {
     if (of != kind) return AS_ASKED;
     if (__atomic_add_fetch(&counts->made, 1, __ATOMIC_SEQ_CST) != at) return AS_ASKED;
@@ -61,7 +61,7 @@ long send(int file, const void *from, size_t bytes, int flags) {
     return how == FAILED ? failed() : next(file, from, how == SHORT ? cut(bytes) : bytes, flags);
 }
 
-/* A mode is given where the file may be made. */
+/* The caller passes a mode only if the call may make the file. */
 int open(const char *path, int flags, ...) {
     int (*next)(const char *, int, ...) = dlsym(NEXT, "open");
     unsigned mode = 0;
@@ -79,7 +79,7 @@ int accept4(int file, void *who, void *bytes, int flags) {
     return meets('a') == FAILED ? (int)failed() : next(file, who, bytes, flags);
 }
 
-/* A thread that can't be made is told by the answer, not by errno. */
+/* pthread_create returns its error, and doesn't set errno. */
 int pthread_create(void *thread, const void *attributes, void *(*body)(void *), void *given) {
     int (*next)(void *, const void *, void *(*)(void *), void *) = dlsym(NEXT, "pthread_create");
     return meets('t') == FAILED ? (int)with : next(thread, attributes, body, given);

@@ -26,8 +26,8 @@ def move(at: int, node: int, rule: str) -> bytes:
 
 
 def acts(talk: Talk, student: Caller, teacher: Caller, turn: int) -> None:
-    """Sends a move of ana's, its close, and a fault that makes the move possible again: three events. `turn` is the
-    number of times before."""
+    """Sends a move of ana's, its close, and a fault that makes the move possible again: three events. `turn` says
+    how often this was done before."""
     talk.ask(student, move(2 * turn, 1, "seduction"))
     talk.ask(teacher, CLOSE)
     talk.ask(student, look("ana"))
@@ -201,7 +201,7 @@ def deadlines(room: Path) -> None:
             fail(f"host: connections without a greeting are ended after {times} seconds")
         if [lines[-1:] for lines in told] != [[LATE]] * len(kept):
             fail(f"host: connections without a greeting are answered {told}")
-        # A client that has greeted may be silent for longer than that.
+        # A client that has greeted may be silent for longer than the time limit of a hello.
         if early.ask(BYE) != BID:
             fail("host: who is silent after a greeting is ended too")
         if host.dismissed(let_in(host.desk, hello("tess"))[0]) != NONE:

@@ -42,7 +42,7 @@ def sizes() -> list[Row]:
         Row(f"{few} nodes, {many} students", (MOST + HEAD + students(many) + nodes(ids[:few])).encode(), says=line)
         for (few, many), line in wanted.items()
     ]
-    # Too many comes before out of range.
+    # A lab with too many nodes, one of them out of range, is refused because of their number.
     document = MOST + HEAD + students(1) + nodes([*ids[:256], 0])
     return [*rows, Row("too many nodes, one of them 0", document.encode(), says="lab: too many nodes")]
 

@@ -37,8 +37,8 @@ TRIES = 4  # tries to send a line: one may be refused, and some more are lost if
 MORE = 12  # requests for memory by which a run may exceed the first one, since threads make some of them
 PATIENCE = 30.0  # seconds for the reply to a first line, which a host without a thread for the students never gives
 LAST = 100.0  # seconds for a host's end
-# The most runs in which only the desk is served, for want of a thread. A thread takes one or two requests for memory,
-# and their numbers may differ from run to run.
+# The most runs in which only the desk is served, because a thread can't be started. Starting a thread takes one or two
+# requests for memory, and their numbers may differ from run to run.
 MOST_ALONE = 4
 
 

@@ -1,12 +1,13 @@
-/* Preloaded before a program: refuses requests for memory, and counts them.
+/* A library that is loaded before a program, refuses requests for memory, and counts them.
 
-   REFUSE=N refuses the Nth request of the process, REFUSE_FROM=N each from the Nth on. REFUSE_COUNTS=FILE
-   keeps two numbers of eight bytes in FILE: how many requests were made, and how many were refused.
+   REFUSE=N refuses the Nth request of the process, and REFUSE_FROM=N each request from the Nth on. With
+   REFUSE_COUNTS=FILE, FILE has two numbers of eight bytes: how many requests were made, and how many were refused.
 
-   A test arms it from inside, by requests of more bytes than there are. Of those that follow,
-   ARM + N refuses the Nth, FROM + N each from the Nth on, and ARM + 0 none: all three are refused
-   themselves and begin the counts anew. MADE + N is granted exactly where N requests were made since,
-   and MET + N where N were refused. None of these five is counted. */
+   A test can control the library from inside the program, by requests of more bytes than any machine has. After the
+   request ARM + N, the Nth further request is refused. After FROM + N each one from the Nth on is refused, and after
+   ARM + 0 none. These control requests themselves are refused, and the counts begin again. The request MADE + N is
+   granted if and only if N requests were made since then, and MET + N if and only if N were refused. No control
+   request is counted. */
 
 #include "preload.h"
 
@@ -37,7 +38,7 @@ static void arm(word nth, word since) {
     set(&from, since);
 }
 
-/* Whether this request is refused, which it is counted for. */
+/* Counts a request, unless it is a control request. Returns whether it is refused. */
 static int refuses(size_t bytes) {
     word made, since;
     switch (KIND(bytes)) {

@@ -266,8 +266,8 @@ def silent_ones(room: Path) -> None:
 
 
 def a_third(room: Path) -> None:
-    """Connections without a hello get a third of the seats, and one at the desk. The first of them leaves for the
-    next."""
+    """Connections without a hello get a third of the seats at the students' port, and one at the desk. If another such
+    connection comes, it gets the seat of the first of them."""
     lab = lab_of(room, 16)
     with Host(lab, 0, 0) as host:
         for port, share in ((host.port, 5), (host.desk, 1)):

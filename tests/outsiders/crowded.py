@@ -12,10 +12,10 @@ RATE = 1000  # the number of outsiders a second, fewer on a slow machine
 HELLOS = 10  # the number of hellos, of which nine have to be in time
 WAIT = 1.0  # seconds that a hello takes on this project's usual machine, beside outsiders
 SLOWER = 10  # how many times as long a hello may take on other machines
-AGAIN = 20  # times what a hello takes without outsiders, besides
+AGAIN = 20  # how many times as long as without outsiders a hello may take, in addition
 SETTLED = 60.0  # seconds after which a name has given up its seats, on a slow machine
 OWN = 4  # the number of seats that a name keeps
-NAMED = 150  # others a second, of whom more than sixteen come in a quarter of one
+NAMED = 150  # the number of other clients a second, so that more than sixteen come in a quarter of a second
 
 
 def reply_to(port: int, line: bytes, seconds: float) -> bytes:

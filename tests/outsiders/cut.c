@@ -1,8 +1,8 @@
-/* Preloaded before a program: a write to a socket that ends with the reply to a bye is cut short.
+/* A library that is loaded before a program, and shortens a write to a socket that ends with the reply to a bye.
 
-   CUT=N lets only the first N bytes of the first such write go out, if it has more; what follows goes out as it is
-   asked, or byte by byte if CUT_EACH=1. CUT_COUNTS=FILE keeps two numbers of eight bytes in FILE: how many bytes the
-   first such write was to have, and how many writes were cut. */
+   With CUT=N only the first N bytes of the first such write are written, if it has more. Later writes to the same
+   socket are complete, or with CUT_EACH=1 have one byte each. With CUT_COUNTS=FILE, FILE has two numbers of eight bytes:
+   how many bytes the first such write was to have, and how many writes were shortened. */
 
 #include "preload.h"
 
@@ -16,7 +16,7 @@ static struct { word bytes, cut; } own, *counts = &own;
 static word at, is_each;
 static int file_cut = -1;
 
-/* Whether these bytes end with the reply to a bye. */
+/* Returns whether these bytes end with the reply to a bye. */
 static int ends_with_bid(const char *bytes, size_t count) {
     size_t index;
     if (count < LENGTH) return 0;
@@ -25,7 +25,7 @@ static int ends_with_bid(const char *bytes, size_t count) {
     return 1;
 }
 
-/* How many of the bytes go out. */
+/* Returns how many of the bytes are to be written. */
 static size_t most(int file, const char *bytes, size_t count) {
     size_t found = count;
     if (file == file_cut) {

@@ -11,7 +11,7 @@ from tests.common.side_by_side import Test
 
 NONE = Ended(0, b"done: 0 events, configuration 0\n", b"")
 SLOW = 100  # how many times slower the clock is: 1.2 seconds lie between two denials
-GUESSES = 8  # by as many connections, of whom each sends the one before it away
+GUESSES = 8  # the number of connections that guess a key, each of which takes the seat of the one before it
 
 
 def slowed(room: Path) -> dict[str, str]:

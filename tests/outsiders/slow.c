@@ -1,7 +1,7 @@
-/* Preloaded before a program: its clock goes slower.
+/* A library that is loaded before a program, and slows down the program's clock.
 
-   SLOW=N lets N seconds pass for each second of the program's, from its start on. What waits for a time that is short in
-   the program's seconds waits so long that a test sees what happens meanwhile, on a slow machine too. */
+   With SLOW=N, N seconds pass for each second of the program's clock, from the program's start on. So if the program
+   waits for a short time, a test can see what happens meanwhile, even on a slow machine. */
 
 #include "preload.h"
 

@@ -1,7 +1,7 @@
-/* Preloaded before a program: keeps how long its sockets' reads may wait.
+/* A library that is loaded before a program, and records how long reads of its sockets may wait.
 
-   WAITS=FILE keeps two numbers of eight bytes in FILE: how many reads of a socket were begun, and how many
-   milliseconds the last one may wait, where 0 is no limit. */
+   With WAITS=FILE, FILE has two numbers of eight bytes: how many reads of sockets were begun, and how many milliseconds
+   the last one may wait, in which 0 means no limit. */
 
 #include "preload.h"
 
@@ -25,7 +25,7 @@ int setsockopt(int file, int level, int name, const void *value, unsigned bytes)
     return next(file, level, name, value, bytes);
 }
 
-/* A new socket's reads may wait for ever. */
+/* Removes the limit of a socket that is closed. A new socket with the same number has no limit. */
 int close(int file) {
     int (*next)(int) = dlsym(NEXT, "close");
     if (file >= 0 && file < FILES) __atomic_store_n(&limits[file], 0, __ATOMIC_SEQ_CST);

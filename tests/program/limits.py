@@ -20,11 +20,11 @@ from tests.common.limits import LIMITS, MOST, TEXT
 from tests.common.preload import TOP, Ended, fail, in_room, run
 from tests.documents.numbers import WORDS
 
-Copy = tuple[str, object, object]  # what a copy is called, what it is, and what it has to be
-# The threads and processes of a run under the service: a thread for each session, both pages with a thread for each
-# connection and one more, and others: of the host, of the run, and of the door and the programs that it starts.
+Copy = tuple[str, object, object]  # a copy of a limit: its name, its value, and the value that it has to have
+# The threads and processes of a run under the service: one for each session, one for each connection to each of two
+# pages and one more for each page, and OTHERS for the host, the run, the door and the programs that these start.
 PAGES, OTHERS = 2, 24
-LEAST_LITERAL = 1000  # a smaller number in the launcher may be anything
+LEAST_LITERAL = 1000  # smaller numbers in the launcher aren't taken for limits
 
 
 def text_of(path: str) -> str:

@@ -46,7 +46,7 @@ ROWS = [
     (long_bye(4096, "\n"), '1 {"ok":"bye"}\n', None),
     (long_bye(4097, "\n"), "", 1),
     (long_bye(4098, "\n"), "", 1),
-    # 4099 bytes without a newline may stand at the end, and no more.
+    # At the end there may be at most 4099 bytes without a newline.
     (long_bye(4097, ""), "", None),
     (long_bye(4098, ""), "", 1),
     ('1 {"do":"hello","key":"' + "k" * 2000 + '","name":"' + "n" * 2000 + '"}\n', UNKNOWN, None),

@@ -25,7 +25,7 @@ OTHER = Ended(2, b"", b"resume: another lab\n")
 FAULT = Ended(4, b"", b"journal fault\n")
 BREAK = fault_at(1)
 SEDUCES = seduction(0)
-# Two whole lines of the lab that is built into the program, and the longest that may come third.
+# The first two lines of a journal over the built-in lab, and the longest line that may be the third.
 FIRST = b"1 0 grant ana 1 seduction\n2 0 close\n"
 THIRD = b"3 1 grant ben 2 marriage 1"
 LONGEST = 101
@@ -111,7 +111,7 @@ def kills(room: Path) -> None:
     with Host(lab, 0, 0, journal, word="resume") as host:
         at = place_of(resumed(host))
         ended = host.dismissed(players.play_out(host))
-    last = max(at, players.told)  # The reply to the last event may have been lost with a host, without a later event.
+    last = max(at, players.told)  # A host may have been killed between the last event and its reply.
     if ended.status != 0 or ended.out != b"done: %d events, " % last + ended.out.split(b"events, ")[-1]:
         fail(f"resume: after {KILLS} kills it ends with {ended}, and place {last} was last")
     if b", stable" not in audit(lab, journal, last) or players.told < 50:
@@ -168,7 +168,7 @@ def failed_sync_after_a_resume(room: Path) -> None:
     lab, journal = lab_of(room, 4), room / "journal"
     for torn in (b"", b"3 1 gr"):
         journal.write_bytes(FIRST + torn)
-        # The first sync is the one of the journal's old lines, so that the second fails.
+        # The first sync is that of the journal's old lines, so the second is that of a new line, and fails.
         with Host(lab, 0, 0, journal, word="resume", variables=library.variables({"POWER_FAIL_AT": "2"})) as host:
             line, tess = resumed(host), let_in(host.desk, hello("tess"))[0]
             said = tess.ask(BREAK), tess.ask(BREAK)

@@ -1,8 +1,9 @@
-/* Preloaded before a program: keeps what it changes in files and folders, and what it syncs.
+/* A library that is loaded before a program, and records its changes of files and folders, and its syncs.
 
-   CHANGES=FILE has a line of FILE for each such call: `changed PATH` after a file was written or cut, and of a folder
-   after a name came or went there; `synced PATH` before a file or folder is synced, and `changed PATH` again if that
-   fails. Files that the program didn't open itself, as its output, are left out. */
+   With CHANGES=FILE, FILE has a line for each such call. It is `changed PATH` after a file was written or shortened, or
+   after a name was added to a folder or removed there. It is `synced PATH` before a file or folder is synced, followed
+   by another `changed PATH` if the sync fails. Files that the program didn't open itself, such as its output, have no
+   lines. */
 
 #include "preload.h"
 
@@ -22,7 +23,7 @@ extern char *strrchr(const char *, int);
 static char is_written[FILES];
 static int kept = -1;
 
-/* Keeps a line, if a file for that is open; the program doesn't see that. */
+/* Appends a line to the file, if there is one. Leaves errno unchanged. */
 static void keep(const char *what, const char *path, long length) {
     long (*next)(int, const void *, size_t) = dlsym(NEXT, "write");
     char line[ROOM];
@@ -40,14 +41,15 @@ static void keep_file(const char *what, int file) {
     if (length > 0) keep(what, path, length);
 }
 
-/* Keeps that the folder has another name, or one less, if the call was done. */
+/* If a call succeeded, records that a name was added to the folder of this path, or removed there. Returns the call's
+   result. */
 static int named(int answer, const char *path) {
     const char *end = strrchr(path, '/');
     if (answer == 0 && end) keep("changed", path, end - path);
     return answer;
 }
 
-/* A mode is given where the file may be made. */
+/* The caller passes a mode only if the call may make the file. */
 int open(const char *path, int flags, ...) {
     int (*next)(const char *, int, ...) = dlsym(NEXT, "open");
     unsigned mode = 0;

@@ -1,10 +1,10 @@
-/* Preloaded before a program: it tells how much of the journal a power cut would leave.
+/* A library that is loaded before a program, and records how much of the journal a power cut would leave.
 
-   The journal is the file that was opened to append last. POWER_COUNTS=FILE keeps two numbers of eight bytes in
-   FILE: how many of its bytes have reached the device, which is what it had at the last sync that succeeded or was
-   cut to since, and how many syncs there were. POWER_IGNORED=1 lets each sync answer that it is done, and do
-   nothing. POWER_FAIL_AT=N fails the Nth sync of the journal, as a device that is gone. POWER_FOLDERS=N fails each
-   sync of a folder with the error N. */
+   The journal is the file that was last opened for appending. With POWER_COUNTS=FILE, FILE has two numbers of eight
+   bytes: how many of the journal's bytes have reached the device, and how many syncs there were. The first number is
+   the size of the journal when it was opened, or at its last successful sync. With POWER_IGNORED=1 each sync does
+   nothing, and reports success. With POWER_FAIL_AT=N the Nth sync of the journal fails, as if the device were gone.
+   With POWER_FOLDERS=N each sync of a folder fails with the error N. */
 
 #include "preload.h"
 
@@ -20,10 +20,11 @@ extern long lseek(int, long, int);
 
 static struct { word durable, syncs; } own, *counts = &own;
 static word is_ignored, fail_at, folder_error;
-/* What was opened last to be read alone: a folder that is synced next. */
+/* The descriptors of the journal, and of the file or folder that was last opened only for reading. The program syncs a
+   folder directly after opening it. */
 static int journal = -1, folder = -1;
 
-/* A mode is given where the file may be made. */
+/* The caller passes a mode only if the call may make the file. */
 int open(const char *path, int flags, ...) {
     int (*next)(const char *, int, ...) = dlsym(NEXT, "open");
     unsigned mode = 0;

@@ -6,9 +6,9 @@ import math
 
 from tools.build.crates import Uses
 
-TRUST = 120.0  # seconds of work that have to be measured before they weigh as much as the table does
-NEAR = 0.9  # the share of the longest chain's time from which on another chain is as urgent
-OVERRUN = 0.1  # the share of the time of a proof so far that is still expected once it takes longer than in the table
+TRUST = 120.0  # after this many measured seconds of work, the measured pace counts as much as the table
+NEAR = 0.9  # a chain is as urgent as the longest one if it takes at least this share of its time
+OVERRUN = 0.1  # if a proof takes longer than in the table, this share of its time so far is still expected
 
 
 def chains(crates: Uses, seconds: dict[str, float]) -> dict[str, float]:

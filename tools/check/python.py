@@ -14,8 +14,9 @@ import tempfile
 
 from tools.check.parts import TOP
 
-# Files whose modules have names of their own, and programs that aren't modules of this tree: one call each.
 EXAMPLES_PYTHON = "3.10"  # the oldest version of Python on which a student's client and bot run
+# The arguments of each call of mypy. Modules of the same name need separate calls, and so do programs that aren't
+# modules of this tree.
 CALLS = (("class", "bench", "classroom", "model", "tests", "tools"), ("check",), ("examples",), ("--python-version", EXAMPLES_PYTHON, "examples/bot.py"),
          ("--python-version", EXAMPLES_PYTHON, "student/bot.py"), ("--python-version", EXAMPLES_PYTHON, "classroom-client/building.py"))
 

@@ -21,27 +21,27 @@ LEFT_OUT = {
 
 def taking(least: float) -> str:
     """Returns a text with the time, `least` minutes on four processors, that a subcommand takes."""
-    return f"some {least + 0.5:.0f} minutes on four processors"
+    return f"about {least + 0.5:.0f} minutes on four processors"
 
 
 def parser() -> argparse.ArgumentParser:
     """Returns the parser of the command line with all subcommands."""
     whole = sum(minutes_of([[PROOFS], QUICK, [wrong_beside()]], 4))
     every = argparse.ArgumentParser(
-        prog="check", description=f"Tests all of it, {taking(whole)}: proofs, scripts, wrong bodies.",
+        prog="check", description=f"Checks everything: proofs, tests and wrong bodies. Takes {taking(whole)}.",
         epilog="The last line is 'N passed, M failed'. The status is 0 if all passed, 1 if a part failed, "
-        f"2 if the words aren't understood, {TAKEN} if another check runs in this tree.",
+        f"2 if the command line is wrong, {TAKEN} if another check runs in this tree.",
     )
-    each = every.add_subparsers(title="words, for a part of it", dest="word", metavar="WORD")
-    quick = each.add_parser("quick", help=f"what needs no proof, over the program that is built: {taking(minutes(QUICK, 4))}")
-    quick.add_argument("names", nargs="*", metavar="PART", help="only these: " + ", ".join(it.name for it in QUICK))
-    proofs = each.add_parser("proofs", help=f"rt ci, every proof and the tests inside: {taking(minutes([PROOFS], 4))}")
-    proofs.add_argument("names", nargs="*", metavar="CRATE", help="only these crates and those below them")
-    wrong = each.add_parser("wrong", help=f"the bodies that the prover must refuse: {taking(minutes([WRONG], 4))}")
-    wrong.add_argument("names", nargs="*", metavar="CRATE", help="only those of these crates")
-    longest = each.add_parser("chain", help="the longest chain of proofs of the last run here that proved something, with times")
-    longest.add_argument("names", nargs="*", metavar="CRATE", help="the chain to these crates (the one that was proved last)")
-    longest.add_argument("--table", action="store_true", help="what each proof took, for tools/build/seconds.txt")
+    each = every.add_subparsers(title="words that select a part of the check", dest="word", metavar="WORD")
+    quick = each.add_parser("quick", help=f"run the tests that need no proof, with the built program: {taking(minutes(QUICK, 4))}")
+    quick.add_argument("names", nargs="*", metavar="PART", help="run only these parts: " + ", ".join(it.name for it in QUICK))
+    proofs = each.add_parser("proofs", help=f"run rt ci, that is, all proofs and the tests inside the crates: {taking(minutes([PROOFS], 4))}")
+    proofs.add_argument("names", nargs="*", metavar="CRATE", help="prove only these crates and those below them")
+    wrong = each.add_parser("wrong", help=f"try the bodies that the prover must refuse: {taking(minutes([WRONG], 4))}")
+    wrong.add_argument("names", nargs="*", metavar="CRATE", help="try only those of these crates")
+    longest = each.add_parser("chain", help="print the longest chain of proofs, with times, of the last run in this tree that proved something")
+    longest.add_argument("names", nargs="*", metavar="CRATE", help="print the chains to these crates instead of the one that was proved last")
+    longest.add_argument("--table", action="store_true", help="print the time of each proof, as tools/build/seconds.txt has it")
     return every
 
 

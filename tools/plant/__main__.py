@@ -38,12 +38,12 @@ LAST = 300  # how many of the last characters of a test's output are kept
 def words() -> argparse.Namespace:
     """Returns the parsed arguments of the command line."""
     parser = argparse.ArgumentParser(prog="tools.plant", description=__doc__, formatter_class=argparse.RawDescriptionHelpFormatter)
-    parser.add_argument("plants", nargs="*", metavar="PLANT", help="try these alone")
+    parser.add_argument("plants", nargs="*", metavar="PLANT", help="try only these")
     parser.add_argument("--prove", action="store_true", help="ask the prover, and run no test")
-    parser.add_argument("--build", type=Path, metavar="TO", help="build the program with all of them, and try nothing")
-    parser.add_argument("--draw", type=int, metavar="N", help="draw so many bugs from the crates named, or from all that are no tests, and ask the prover")
-    parser.add_argument("--seed", type=int, default=1, metavar="S", help="which bugs are drawn (1)")
-    parser.add_argument("--list", action="store_true", help="say which there are")
+    parser.add_argument("--build", type=Path, metavar="TO", help="build the program with all of them at this path, and try nothing")
+    parser.add_argument("--draw", type=int, metavar="N", help="draw N bugs from these crates, or from all but test crates, and ask the prover")
+    parser.add_argument("--seed", type=int, default=1, metavar="S", help="draw the bugs from this seed (1)")
+    parser.add_argument("--list", action="store_true", help="print all plants")
     return parser.parse_args()
 
 

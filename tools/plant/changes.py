@@ -10,7 +10,7 @@ STRING = re.compile(r'b?"(?:[^"\\]|\\.)*"')
 NUMBER = re.compile(r"(?<![\w.])\d+(?=(?:[iu](?:8|16|32|64)|usize)?(?![\w.]))")
 CONDITION = re.compile(r"\bif (?!let\b)(?P<test>[^{}]+) \{")
 PAIR = re.compile(r"\((?P<first>[a-z_]\w*), (?P<second>[a-z_]\w*)\)")
-# A plain variant that isn't the pattern of an arm, whose change leaves two arms with one pattern.
+# A plain variant outside of the patterns of arms: if one of those was changed, two arms would have the same pattern.
 VARIANT = re.compile(r"\b(?P<enum>[A-Z]\w*)::(?P<variant>[A-Z]\w*)(?![\w({:])(?! \{)(?!.*=>)")
 STATEMENT = re.compile(r"(?!let\b|return\b|break\b|continue\b|use\b|const\b)[a-z_*].*;")
 EXCHANGED = (

@@ -149,7 +149,7 @@ def asked_once(tree: Tree, crate: str, drawn: list[list[Plant]], kept: str, runn
         if told.ending is None and len(tried) > 1:
             todo += [tried[: len(tried) // 2], tried[len(tried) // 2 :]]
             continue
-        # Such a plant's function calls a function that another plant changes.
+        # These plants are asked about again, because their functions call functions that other plants change.
         resting = [plant for plant in tried if plant.function in told.resting and verdict(plant.function, told) == UNDECIDED]
         again = resting if len(resting) < len(tried) else []
         todo.append(again)

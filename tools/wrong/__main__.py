@@ -40,13 +40,13 @@ TOP = Path(__file__).resolve().parents[2]
 def words() -> argparse.Namespace:
     """Returns the parsed arguments of the command line."""
     parser = argparse.ArgumentParser(prog="tools.wrong", description=__doc__, formatter_class=argparse.RawDescriptionHelpFormatter)
-    parser.add_argument("crates", nargs="*", metavar="CRATE", help="try these alone")
-    parser.add_argument("--jobs", type=int, metavar="N", help="at most N checks side by side (else RT_JOBS, or the processors)")
-    parser.add_argument("--times", action="store_true", help="say the processor seconds of each crate and of all")
+    parser.add_argument("crates", nargs="*", metavar="CRATE", help="try only the wrong bodies of these crates")
+    parser.add_argument("--jobs", type=int, metavar="N", help="run at most N checks side by side (by default RT_JOBS, or the number of processors)")
+    parser.add_argument("--times", action="store_true", help="print the processor seconds of each crate and of all")
     parser.add_argument("--logs", type=Path, metavar="FOLDER", help="keep what each check prints")
-    parser.add_argument("--anew", action="store_true", help="try again what was refused in an earlier run")
-    parser.add_argument("--rounds", action="store_true", help="say only what is tried together")
-    parser.add_argument("--as-proved", action="store_true", help="beside an rt ci whose crates are named on standard input")
+    parser.add_argument("--anew", action="store_true", help="try also what was refused in an earlier run")
+    parser.add_argument("--rounds", action="store_true", help="print only which of them are tried together")
+    parser.add_argument("--as-proved", action="store_true", help="run beside an rt ci, and read the names of the crates that it has proved from standard input")
     return parser.parse_args()
 
 

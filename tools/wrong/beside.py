@@ -20,7 +20,7 @@ def give_way() -> None:
     os.nice(LAST_IN_TURN)
     changes = {"oom_score_adj": FIRST_TO_END}
     if os.getsid(0) == os.getpid():
-        # A session shares processors with others as one, whatever its processes say of themselves.
+        # Linux may schedule all processes of a session as one group, which has a priority of its own.
         changes["autogroup"] = LAST_IN_TURN
     for file, number in changes.items():
         with contextlib.suppress(OSError):

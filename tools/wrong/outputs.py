@@ -12,7 +12,7 @@ ERROR = re.compile(r"\S+?(?::\d+:\d+)?: error\b.*|error\b.*")
 GOAL = re.compile(r"(?:\./)?proofs/(\S+)/(?:Answers|Invariants|Proof)\.antt:\d+:\d+: error: `([^`]+)`: (.*)")
 CYCLE = re.compile(r"\+\w+$")
 LOST = re.compile(r"has no field|is not in scope|has no `|was not admitted")
-# What rests on an answer that has an error of its own.
+# The line about proofs that weren't checked because they cite an answer with an error.
 RESTS_ON_ANSWER = re.compile(r"error: \d+ declarations? that depends? on `[^`]+`, which was rejected, (?:was|were) not checked")
 ENDING = re.compile(r"only=(\d+) proved=(\d+)")
 

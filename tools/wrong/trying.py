@@ -80,8 +80,8 @@ def try_crate(tree: Tree, crate: str, running: Running, results: Results = Resul
             if results.kept.has(key):
                 tried.add_known(it)
                 continue
-            # Before each round, since the last round left the proofs of its wrong bodies there. Otherwise the right
-            # bodies would be proved anew.
+            # The last round replaced the kept proofs by those of its wrong bodies. So the library's proofs are put there
+            # before each round, because otherwise the right bodies would be proved anew.
             if name:
                 hand_on(tree.library(crate), Path(room) / "kept" / name)
             ended = try_round(tree, crate, it, Path(room), running)

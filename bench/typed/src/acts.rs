@@ -7,7 +7,7 @@ use crate::rule::Rule;
 use crate::views::put_ids;
 use crate::world::{Done, Event, World};
 
-/// The event that is asked for, or the first clause that doesn't hold.
+/// Returns the event that a request asks for, or the denial by the first clause that doesn't hold.
 pub fn event_of(lab: &Lab, world: &World, who: Who, act: Act) -> Result<Event, Denial> {
     if let Act::Move { node, rule, with, at } = act {
         let rank = lab.rank(node).filter(|&rank| lab.owns(who, rank)).ok_or(Denial::NotOwner)?;
@@ -75,7 +75,7 @@ fn release_of(world: &World, rank: usize) -> Result<Event, Denial> {
     }
 }
 
-/// Puts the reply to a granted request, in the world after it.
+/// Appends the reply to a granted request. `number` is that of the configuration after the event.
 pub fn put_granted(lab: &Lab, number: u64, place: u64, event: Event, done: Done, out: &mut Vec<u8>) {
     if let Event::Link(a, _) | Event::Cut(a, _) = event {
         put(out, r#"{"a":"#);
@@ -108,7 +108,7 @@ pub fn put_granted(lab: &Lab, number: u64, place: u64, event: Event, done: Done,
     put_end(place, event, out);
 }
 
-/// Puts the word, the place, and a move's rule.
+/// Appends the last part of the reply to a granted request: its word, its place, and for a move its rule.
 fn put_end(place: u64, event: Event, out: &mut Vec<u8>) {
     match event {
         Event::Move { .. } => put(out, r#","ok":"move","place":"#),

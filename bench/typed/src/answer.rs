@@ -1,4 +1,4 @@
-//! What a line is answered.
+//! The answer to a line.
 use crate::acts::{event_of, put_granted};
 use crate::denial::Denial;
 use crate::journal::put_event;
@@ -11,7 +11,7 @@ use std::fs::File;
 use std::io::Write;
 use std::sync::RwLock;
 
-/// A world, how many events it has had, and their journal.
+/// A world, the number of events so far, and the file of their journal.
 pub struct Book {
     pub world: World,
     pub events: u64,
@@ -20,7 +20,7 @@ pub struct Book {
 }
 
 impl Book {
-    /// A book without events.
+    /// Returns a book without events.
     pub fn new(world: World, journal: Option<File>) -> Book {
         Book { world, events: 0, journal, line: Vec::with_capacity(256) }
     }
@@ -43,11 +43,11 @@ impl Book {
     }
 }
 
-/// Where a book is: one's own, or behind a lock.
+/// A book that only one thread uses, or one under a lock.
 pub trait Shared {
-    /// Reads its world.
+    /// Calls a function with the world of the book.
     fn view<R>(&mut self, call: impl FnOnce(&World) -> R) -> R;
-    /// Changes it.
+    /// Calls a function that may change the book.
     fn change<R>(&mut self, call: impl FnOnce(&mut Book) -> R) -> R;
 }
 
@@ -75,7 +75,7 @@ impl Shared for &RwLock<Book> {
     }
 }
 
-/// Answers a line, with a newline; whether it was a bye.
+/// Appends the reply to a line, with a newline. Returns whether the line was a bye.
 #[inline(always)]
 pub fn answer<S: Shared>(lab: &Lab, book: &mut S, known: &mut Option<Who>, line: &[u8], out: &mut Vec<u8>) -> bool {
     let mut is_bye = false;

@@ -1,7 +1,7 @@
 //! Why a request isn't granted.
 use crate::put::{put, put_number};
 
-/// The clause that doesn't hold, or that the lab has had all its events.
+/// The clause that doesn't hold, or `Full` if the lab allows no further event.
 #[derive(Clone, Copy)]
 pub enum Denial {
     NotGreeted,
@@ -24,7 +24,7 @@ pub enum Denial {
 }
 
 impl Denial {
-    /// Puts the reply that tells it.
+    /// Appends the reply.
     pub fn put(self, out: &mut Vec<u8>) {
         if let Denial::Stale(number) = self {
             put(out, r#"{"at":"#);

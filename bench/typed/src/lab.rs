@@ -1,4 +1,4 @@
-//! The lab file. It is taken as good: `mml check` tells what is wrong with one.
+//! The lab file. It has to be valid: `mml check` reports what is wrong with a lab.
 use crate::row::Row;
 use crate::world::World;
 use serde::Deserialize;
@@ -7,18 +7,18 @@ use std::path::Path;
 
 const NO_RANK: u16 = u16::MAX;
 
-/// One who takes part.
+/// A participant.
 #[derive(Clone, Copy, PartialEq, Eq)]
 pub enum Who {
     Teacher,
     Student(u16),
 }
 
-/// Who takes part, who owns what, and the limits.
+/// The participants, the owners of the nodes, and the limits.
 pub struct Lab {
-    /// How many events there may be.
+    /// The greatest number of events.
     pub events: u64,
-    /// How many connections there may be.
+    /// The greatest number of connections.
     pub sessions: usize,
     /// The nodes' identifiers in rising order.
     pub ids: Vec<u16>,
@@ -59,7 +59,7 @@ struct Node {
 }
 
 impl Lab {
-    /// The lab of a file, and its world at the beginning.
+    /// Returns the lab in a file, and its world at the beginning.
     pub fn read(path: &Path) -> (Lab, World) {
         let text = std::fs::read_to_string(path).expect("the lab can't be read");
         let mut file: File = toml::from_str(&text).expect("the lab is none");
@@ -105,7 +105,7 @@ impl Lab {
         World::new(links, registers.collect())
     }
 
-    /// The rank of a node.
+    /// Returns the rank of the node with an identifier.
     #[inline]
     pub fn rank(&self, id: u64) -> Option<usize> {
         match self.ranks.get(usize::try_from(id).ok()?) {
@@ -114,13 +114,13 @@ impl Lab {
         }
     }
 
-    /// The identifier of a node.
+    /// Returns the identifier of the node with a rank.
     #[inline(always)]
     pub fn id(&self, rank: usize) -> u64 {
         u64::from(self.ids[rank])
     }
 
-    /// Who has that name and key.
+    /// Returns the participant with this name and key.
     pub fn greeted(&self, name: &str, key: &str) -> Option<Who> {
         match self.people.get(name) {
             Some((right, who)) if right == key => Some(*who),
@@ -128,12 +128,12 @@ impl Lab {
         }
     }
 
-    /// The student with that name.
+    /// Returns the student with this name.
     pub fn student(&self, name: &str) -> Option<Who> {
         self.people.get(name).map(|(_, who)| *who).filter(|who| *who != Who::Teacher)
     }
 
-    /// The name of one who takes part.
+    /// Returns the name of a participant.
     pub fn name(&self, who: Who) -> &str {
         match who {
             Who::Teacher => &self.teacher,
@@ -141,7 +141,7 @@ impl Lab {
         }
     }
 
-    /// Whether a student owns a node; the teacher owns none.
+    /// Returns whether a participant owns a node. The teacher owns none.
     #[inline]
     pub fn owns(&self, who: Who, rank: usize) -> bool {
         match who {
@@ -150,7 +150,7 @@ impl Lab {
         }
     }
 
-    /// Whether one may see a node with these neighbours.
+    /// Returns whether a participant may see a node with these neighbours.
     #[inline]
     pub fn may_see(&self, who: Who, rank: usize, near: Row) -> bool {
         match who {

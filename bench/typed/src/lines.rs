@@ -1,8 +1,8 @@
-//! Lines of what is read, and their replies.
+//! Splitting input into lines, and answering them.
 use std::io::{Read, Write};
 
-/// Answers each line of what is read, by one write for each read, until the end, a line that has no room, a
-/// write that fails, or an answer that says that it is the last.
+/// Answers each line of the input, with one write after each read. Stops at the end of the input, at a line for which
+/// there is no room, after a failed write, or when `answer` returns true.
 #[inline(always)]
 pub fn answer_lines(
     input: &mut impl Read,

@@ -1,5 +1,6 @@
-//! What a good programmer would write without proofs: the same protocol as `mml`, a line read into a struct,
-//! buffers that are kept, and one write a read. It is what `mml` is measured beside, and no class uses it.
+//! The program that a good programmer would write without proofs. It has the same protocol as `mml`, reads each line
+//! into a struct, reuses its buffers, and writes once after each read. The speed of `mml` is compared with that of this
+//! program. No class uses it.
 //!
 //!     typed script LAB SCRIPT [JOURNAL]
 //!     typed serve LAB PORT CONNECTIONS [JOURNAL]

@@ -1,20 +1,21 @@
-//! How replies and journals are put into bytes.
+//! Appending the parts of replies and journals to a buffer.
 use crate::lab::Lab;
 use crate::rule::Rule;
 
-/// Puts a text.
+/// Appends a text.
 #[inline(always)]
 pub fn put(out: &mut Vec<u8>, text: &str) {
     out.extend_from_slice(text.as_bytes());
 }
 
-/// Puts a number in decimal.
+/// Appends a number in decimal.
 #[inline(always)]
 pub fn put_number(out: &mut Vec<u8>, number: u64) {
     put(out, itoa::Buffer::new().format(number));
 }
 
-/// Puts `true` or `false`: each literal by itself, since a copy of a known length is no call.
+/// Appends `true` or `false`. There is a call for each literal, because the compiler needs no call to copy a text whose
+/// length it knows.
 #[inline(always)]
 pub fn put_truth(out: &mut Vec<u8>, truth: bool) {
     if truth {
@@ -24,13 +25,13 @@ pub fn put_truth(out: &mut Vec<u8>, truth: bool) {
     }
 }
 
-/// Puts a node's identifier.
+/// Appends the identifier of a node.
 #[inline(always)]
 pub fn put_id(out: &mut Vec<u8>, lab: &Lab, rank: usize) {
     put_number(out, lab.id(rank));
 }
 
-/// Puts a register `p`.
+/// Appends a register `p`.
 #[inline(always)]
 pub fn put_pointer(out: &mut Vec<u8>, lab: &Lab, p: Option<usize>) {
     match p {
@@ -39,7 +40,7 @@ pub fn put_pointer(out: &mut Vec<u8>, lab: &Lab, p: Option<usize>) {
     }
 }
 
-/// Puts a rule's name in quotes, or null.
+/// Appends the name of a rule in quotes, or null.
 #[inline(always)]
 pub fn put_rule(out: &mut Vec<u8>, rule: Option<Rule>) {
     match rule {
@@ -51,7 +52,7 @@ pub fn put_rule(out: &mut Vec<u8>, rule: Option<Rule>) {
     }
 }
 
-/// Puts the comma before each item of a list but the first.
+/// Appends a comma, unless the next item is the first one of its list.
 #[inline(always)]
 pub fn put_comma(out: &mut Vec<u8>, is_first: &mut bool) {
     if !std::mem::take(is_first) {

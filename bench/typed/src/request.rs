@@ -1,10 +1,10 @@
-//! Requests: a line is read into a struct, with no tree.
+//! Requests. A line is read into a struct, without a tree of its values.
 use crate::rule::Rule;
 use serde::{Deserialize, Deserializer};
 use serde_json::Value;
 use std::borrow::Cow;
 
-/// What a line asks. Nodes go by identifier, as the line has them.
+/// A request. Its nodes are identifiers, as in the line.
 pub enum Request<'a> {
     Hello { name: Cow<'a, str>, key: Cow<'a, str> },
     Bye,
@@ -14,7 +14,7 @@ pub enum Request<'a> {
     Act(Act),
 }
 
-/// What is asked to happen.
+/// A request for an event.
 #[derive(Clone, Copy)]
 pub enum Act {
     Move { node: u64, rule: Rule, with: Option<u64>, at: u64 },
@@ -41,7 +41,8 @@ enum Word {
     Report,
 }
 
-/// All keys that a request may name. `p` may be absent, or null.
+/// The values of all keys that a request may have. `p` is the outer `None` if it is missing, and the inner `None` if it
+/// is null.
 #[derive(Deserialize)]
 struct Line<'a> {
     r#do: Word,
@@ -63,7 +64,7 @@ fn given<'de, D: Deserializer<'de>>(from: D) -> Result<Option<Option<u64>>, D::E
 }
 
 impl<'a> Request<'a> {
-    /// The request of a line, where it is one.
+    /// Returns the request in a line, or `None` if the line isn't a request.
     #[inline(always)]
     pub fn read(line: &'a [u8]) -> Option<Request<'a>> {
         let text = std::str::from_utf8(line).ok()?;
@@ -90,8 +91,8 @@ impl<'a> Request<'a> {
         })
     }
 
-    /// The slow way, for what the struct doesn't take: escapes, a key twice, another kind under a key that
-    /// this word doesn't name.
+    /// Reads a line in a slower way, by a tree of its values. This is for lines that the struct doesn't accept: with
+    /// escapes, with a key that occurs twice, or with a wrong kind of value under a key that this request doesn't need.
     #[cold]
     #[inline(never)]
     fn read_by_value(line: &str) -> Option<Request<'a>> {
@@ -110,7 +111,7 @@ impl<'a> Request<'a> {
 }
 
 impl Act {
-    /// A move. A marriage wants `with`, which no other rule reads.
+    /// Returns the request for a move. A marriage needs `with`, and the other rules ignore it.
     #[inline(always)]
     fn of_move(node: u64, rule: Rule, with: Option<u64>, at: u64) -> Option<Act> {
         let with = if rule == Rule::Marriage { Some(with?) } else { None };

@@ -1,4 +1,4 @@
-//! Sets of nodes by rank, as four words of bits.
+//! Sets of nodes by their ranks, as the bits of four words.
 
 const BITS: usize = 64;
 
@@ -7,16 +7,16 @@ const BITS: usize = 64;
 pub struct Row([u64; 4]);
 
 impl Row {
-    /// The set of nothing.
+    /// The empty set.
     pub const EMPTY: Row = Row([0; 4]);
 
-    /// Whether a rank is in it.
+    /// Returns whether a rank is in the set.
     #[inline]
     pub fn contains(&self, rank: usize) -> bool {
         self.0[rank / BITS] >> (rank % BITS) & 1 == 1
     }
 
-    /// Puts a rank in, or takes it out.
+    /// Adds a rank to the set if `is_in` is true, and removes it otherwise.
     #[inline]
     pub fn set(&mut self, rank: usize, is_in: bool) {
         let bit = 1 << (rank % BITS);
@@ -27,21 +27,21 @@ impl Row {
         }
     }
 
-    /// What is in both.
+    /// Returns the intersection of two sets.
     #[inline]
     pub fn and(self, other: Row) -> Row {
         let (a, b) = (self.0, other.0);
         Row([a[0] & b[0], a[1] & b[1], a[2] & b[2], a[3] & b[3]])
     }
 
-    /// What is in the first alone.
+    /// Returns the ranks that are in this set and not in the other.
     #[inline]
     pub fn minus(self, other: Row) -> Row {
         let (a, b) = (self.0, other.0);
         Row([a[0] & !b[0], a[1] & !b[1], a[2] & !b[2], a[3] & !b[3]])
     }
 
-    /// All ranks that are greater.
+    /// Returns the set of all ranks greater than this one.
     #[inline]
     pub fn above(rank: usize) -> Row {
         let mut row = Row::EMPTY;
@@ -55,20 +55,20 @@ impl Row {
         row
     }
 
-    /// Whether nothing is in it.
+    /// Returns whether the set is empty.
     #[inline]
     pub fn is_empty(&self) -> bool {
         *self == Row::EMPTY
     }
 
-    /// The greatest rank in it.
+    /// Returns the greatest rank in the set.
     #[inline]
     pub fn greatest(&self) -> Option<usize> {
         let index = (0..4).rev().find(|&index| self.0[index] != 0)?;
         Some(index * BITS + BITS - 1 - self.0[index].leading_zeros() as usize)
     }
 
-    /// Calls for each rank, in rising order.
+    /// Calls a function with each rank in the set, in rising order.
     #[inline]
     pub fn for_each(self, mut call: impl FnMut(usize)) {
         for (index, word) in self.0.iter().enumerate() {

@@ -1,7 +1,7 @@
 //! The four rules.
 use serde::Deserialize;
 
-/// A rule, by its name in requests, replies and journals.
+/// A rule. Its name is the same in requests, replies and journals.
 #[derive(Deserialize, Clone, Copy, PartialEq, Eq)]
 #[serde(rename_all = "lowercase")]
 pub enum Rule {
@@ -12,7 +12,7 @@ pub enum Rule {
 }
 
 impl Rule {
-    /// Its name.
+    /// Returns the name of the rule.
     #[inline]
     pub fn name(self) -> &'static str {
         match self {
@@ -23,7 +23,7 @@ impl Rule {
         }
     }
 
-    /// The rule of that name.
+    /// Returns the rule with this name.
     pub fn named(name: &str) -> Option<Rule> {
         let all = [Rule::Update, Rule::Marriage, Rule::Seduction, Rule::Abandonment];
         all.into_iter().find(|rule| rule.name() == name)

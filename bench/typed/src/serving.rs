@@ -9,13 +9,13 @@ use std::os::unix::io::{AsRawFd, FromRawFd};
 use std::sync::RwLock;
 use std::thread;
 
-/// The longest request line.
+/// The length of the longest request line in bytes.
 const MAX_LINE: usize = 4096;
 
-/// What the echo answers.
+/// The reply of the echo server to each line.
 const ECHOED: &[u8] = b"{\"at\":0,\"m\":false,\"node\":2,\"ok\":\"see\",\"p\":null}\n";
 
-/// Answers a script on standard output. A line that is no script line ends it.
+/// Answers a script on standard output. Stops at a line that isn't a line of a script.
 pub fn run_script(lab: &Lab, book: &mut Book, mut input: File) {
     let mut known: Vec<Option<Who>> = vec![None; lab.sessions + 1];
     let mut output = unbuffered();
@@ -29,13 +29,13 @@ pub fn run_script(lab: &Lab, book: &mut Book, mut input: File) {
     });
 }
 
-/// Standard output without a buffer, since all replies of a read go out together.
+/// Returns the standard output without a buffer, since all replies to the lines of one read are written together.
 fn unbuffered() -> File {
     // Safety: the descriptor is open until the program ends, which closes it.
     unsafe { File::from_raw_fd(stdout().as_raw_fd()) }
 }
 
-/// The number of a script line's connection, and where its request begins.
+/// Returns the number of the connection in a line of a script, and the position at which the request begins.
 #[inline(always)]
 fn split(lab: &Lab, line: &[u8]) -> Option<(usize, usize)> {
     let (connection, front) = match *line {
@@ -46,7 +46,7 @@ fn split(lab: &Lab, line: &[u8]) -> Option<(usize, usize)> {
     (connection <= lab.sessions && line.len() - front <= MAX_LINE).then(|| (connection, front))
 }
 
-/// Serves so many connections, each in a thread of its own, and gives the book back.
+/// Serves `count` connections, each in its own thread. Returns the book at the end.
 pub fn serve(lab: Lab, book: Book, port: u16, count: u16) -> Book {
     let book = RwLock::new(book);
     serve_each(port, count, |stream| {
@@ -58,7 +58,7 @@ pub fn serve(lab: Lab, book: Book, port: u16, count: u16) -> Book {
     book.into_inner().expect("a thread panicked")
 }
 
-/// Answers each line by a write of its own, with a line as long as the reply to a view.
+/// Answers each line with a separate write of a line that is as long as the reply to a `see`.
 pub fn echo(port: u16, count: u16) {
     serve_each(port, count, |mut stream| {
         let mut line = Vec::with_capacity(MAX_LINE);
@@ -72,7 +72,7 @@ pub fn echo(port: u16, count: u16) {
     });
 }
 
-/// Serves so many connections, each in a thread of its own.
+/// Serves `count` connections, each in its own thread.
 fn serve_each(port: u16, count: u16, serve: impl Fn(&TcpStream) + Sync) {
     let listener = TcpListener::bind(("127.0.0.1", port)).expect("the port may not be used");
     println!("listening on port {port}");

@@ -6,7 +6,7 @@ use crate::row::Row;
 use crate::rule::Rule;
 use crate::world::World;
 
-/// Answers `see`.
+/// Appends the reply to `see`.
 #[inline(always)]
 pub fn see(lab: &Lab, world: &World, who: Who, node: u64, out: &mut Vec<u8>) -> Result<(), Denial> {
     let shown = lab.rank(node).filter(|&rank| lab.may_see(who, rank, world.near(rank)));
@@ -23,7 +23,7 @@ pub fn see(lab: &Lab, world: &World, who: Who, node: u64, out: &mut Vec<u8>) -> 
     Ok(())
 }
 
-/// Answers `look`.
+/// Appends the reply to `look`.
 #[inline(always)]
 pub fn look(lab: &Lab, world: &World, who: Who, node: u64, out: &mut Vec<u8>) -> Result<(), Denial> {
     let shown = lab.rank(node).filter(|&rank| who == Who::Teacher || lab.owns(who, rank));
@@ -63,7 +63,7 @@ fn put_near(lab: &Lab, world: &World, rank: usize, out: &mut Vec<u8>) {
     });
 }
 
-/// Answers `report`.
+/// Appends the reply to `report`.
 pub fn report(lab: &Lab, world: &World, who: Who, out: &mut Vec<u8>) -> Result<(), Denial> {
     if who != Who::Teacher {
         return Err(Denial::NotTeacher);
@@ -88,7 +88,7 @@ pub fn report(lab: &Lab, world: &World, who: Who, out: &mut Vec<u8>) -> Result<(
     Ok(())
 }
 
-/// Puts the identifiers of nodes, with commas between.
+/// Appends the identifiers of nodes, separated by commas.
 pub fn put_ids(out: &mut Vec<u8>, lab: &Lab, row: Row) {
     let mut is_first = true;
     row.for_each(|rank| {
@@ -97,7 +97,8 @@ pub fn put_ids(out: &mut Vec<u8>, lab: &Lab, row: Row) {
     });
 }
 
-/// The privileged node that the pointers lead to, with its rule, unless it may only seduce.
+/// Returns the first privileged node to which the pointers lead from a node, and its enabled rule. Returns `None` if
+/// there is no such node, or its rule is Seduction.
 fn walked(world: &World, from: usize) -> Option<(usize, Rule)> {
     let mut rank = from;
     while !world.privileged().contains(rank) {

@@ -1,8 +1,8 @@
-//! The network with its registers, and what events do to it.
+//! The network with its registers, and the effects of events.
 use crate::row::Row;
 use crate::rule::Rule;
 
-/// What a granted request makes happen. Nodes go by rank.
+/// An event. Its nodes are ranks.
 #[derive(Clone, Copy)]
 pub enum Event {
     Move { rank: usize, rule: Rule, mate: Option<usize> },
@@ -13,14 +13,14 @@ pub enum Event {
     Cut(usize, usize),
 }
 
-/// What an event did: which nodes moved in a close, else how many chosen moves were dropped.
+/// The result of an event: the nodes that moved in a close, or else the number of chosen moves that were dropped.
 #[derive(Clone, Copy)]
 pub enum Done {
     Moved(Row),
     Dropped(usize),
 }
 
-/// A world kept up to date: rows of bits tell at once what a request asks.
+/// A world. Its sets of nodes are updated by each event, so that requests can be answered quickly.
 pub struct World {
     /// The number of the configuration.
     pub number: u64,
@@ -37,7 +37,7 @@ pub struct World {
 }
 
 impl World {
-    /// A world with these links and, by rank, these registers.
+    /// Returns a world with these links, and these registers in the order of the nodes' ranks.
     pub fn new(links: impl Iterator<Item = (usize, usize)>, registers: Vec<(Option<usize>, bool)>) -> World {
         let size = registers.len();
         let mut world = World {
@@ -65,58 +65,58 @@ impl World {
         world
     }
 
-    /// How many nodes there are.
+    /// Returns the number of nodes.
     pub fn size(&self) -> usize {
         self.p.len()
     }
 
-    /// A node's neighbours.
+    /// Returns the neighbours of a node.
     #[inline]
     pub fn near(&self, rank: usize) -> Row {
         self.links[rank]
     }
 
-    /// A node's register `p`.
+    /// Returns the register `p` of a node.
     #[inline]
     pub fn p(&self, rank: usize) -> Option<usize> {
         self.p[rank].map(usize::from)
     }
 
-    /// A node's register `m`.
+    /// Returns the register `m` of a node.
     #[inline]
     pub fn m(&self, rank: usize) -> bool {
         self.m.contains(rank)
     }
 
-    /// Who is privileged.
+    /// Returns the privileged nodes.
     pub fn privileged(&self) -> Row {
         self.privileged
     }
 
-    /// How many moves are chosen.
+    /// Returns the number of chosen moves.
     pub fn count(&self) -> usize {
         self.count
     }
 
-    /// The chosen move of a node.
+    /// Returns the rule of the chosen move of a node.
     #[inline]
     pub fn chosen(&self, rank: usize) -> Option<Rule> {
         self.chosen.contains(rank).then(|| self.moves[rank].0)
     }
 
-    /// Whether a node and the one that it points at point at each other.
+    /// Returns whether a node is married, that is, points at a node that points back.
     #[inline]
     pub fn is_married(&self, rank: usize) -> bool {
         self.p(rank).map_or(false, |mate| self.p(mate) == Some(rank))
     }
 
-    /// Whom a node may seduce.
+    /// Returns the greatest node that a node may seduce.
     fn seduced(&self, rank: usize) -> Option<usize> {
         let willing = self.idle.minus(self.m);
         self.links[rank].and(Row::above(rank).and(willing)).greatest()
     }
 
-    /// The rule that is enabled at a node.
+    /// Returns the rule that is enabled at a node.
     pub fn enabled(&self, rank: usize) -> Option<Rule> {
         let m = self.m(rank);
         if m != self.is_married(rank) {
@@ -130,7 +130,7 @@ impl World {
         }
     }
 
-    /// Whether the guard of a rule holds at a node, of a marriage with that mate.
+    /// Returns whether the guard of a rule holds at a node. For a marriage, `mate` is the other node.
     pub fn holds(&self, rank: usize, rule: Rule, mate: Option<usize>) -> bool {
         let courts = |mate: Option<usize>| mate.map_or(false, |mate| self.suitors[rank].contains(mate));
         self.enabled(rank) == Some(rule) && (rule != Rule::Marriage || courts(mate))
@@ -163,14 +163,14 @@ impl World {
         self.m.set(rank, m);
     }
 
-    /// The next configuration, where nothing is chosen; how many moves were.
+    /// Begins the next configuration, in which no move is chosen. Returns the number of moves that were chosen before.
     fn go_on(&mut self) -> usize {
         self.number += 1;
         self.chosen = Row::EMPTY;
         std::mem::take(&mut self.count)
     }
 
-    /// What a chosen move makes of its node's registers.
+    /// Returns the registers of a node after its chosen move.
     fn moved(&self, rank: usize) -> (Option<usize>, bool) {
         let m = self.m(rank);
         match self.moves[rank] {
@@ -209,7 +209,7 @@ impl World {
         Done::Dropped(self.go_on())
     }
 
-    /// Makes an event happen that is legal.
+    /// Applies a legal event.
     pub fn apply(&mut self, event: Event) -> Done {
         match event {
             Event::Move { rank, rule, mate } => {

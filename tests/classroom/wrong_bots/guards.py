@@ -37,14 +37,14 @@ class UpdatesOnlyToTrue(Bot):
 
 
 class TakesAPointerForAPair(Bot):
-    """Holds itself married as soon as it points at somebody."""
+    """Believes that a node is married as soon as it points at a neighbour."""
 
     def is_married(self, look: Look) -> bool:
         return look.p is not None
 
 
 class TakesASuitorForAPair(Bot):
-    """Holds itself married as soon as somebody points at it."""
+    """Believes that a node is married as soon as a neighbour points at it."""
 
     def is_married(self, look: Look) -> bool:
         return any(near.p == look.node for near in look.near)
