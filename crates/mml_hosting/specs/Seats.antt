@@ -9,9 +9,9 @@ use Rattle.mml_hosting.specs.declared.seat.{ServedSession.ServedSession, Seat.Se
 use Rattle.mml_lab.specs.declared.who.Who.TheVariants as who
 use Rattle.mml_session.specs.declared.session.SessionEnd.TheVariants as end
 
--- the parameters of a house's contracts: its lab, the events that came before it was opened, and what the recorder of
+-- the parameters of a house's contracts: its lab, the events that came before it was opened, and what the observer of
 -- the seat with each number had kept then; the bytes that a connection's reader has still to return, and those that
--- were written to its writer; what a recorder has kept; and the session that is shown by what is kept of it
+-- were written to its writer; what an observer has kept; and the session that is shown by what is kept of it
 pub record Terms (K C R W : Type 0) : Type 0 where
   pub lab : LabValue
   pub begun : List Event
@@ -35,18 +35,18 @@ terms lab begun given remaining contents recorded shows = record {
 }
 
 -- the connection was served until this end, which led the window from the state `a` to the state `b`; and what was
--- recorded of it under this number led the recorder likewise
+-- recorded of it under this number led the observer likewise
 abbrev pub Leads : {K C R W : Type 0} → Terms K C R W → ℕ → ServedSession R W → Stand → Stand → Type 0
 Leads t number s a b =
     EndedRecorded s.ending.end s.ending.who number t.lab a.window b.window (t.remaining s.came.value.0) (t.remaining s.reader)
     (t.contents s.came.value.1) (t.contents s.writer) a.kept b.kept
 
--- what the recorder of the seat with this number has kept, if they are numbered from the first number on
+-- what the observer of the seat with this number has kept, if they are numbered from the first number on
 abbrev pub kept_from : {C : Type 0} → (C → Option Kept) → ℕ → List C → ℕ → Option Kept
 kept_from kept first [] n = None
 kept_from kept first (c ∷ cs) n = if n == first then kept c else kept_from kept (first + 1) cs n
 
--- the recorders of seats that are numbered from `n` on have kept what `given` says for each
+-- the observers of seats that are numbered from `n` on have kept what `given` says for each
 abbrev pub AreGiven : {C : Type 0} → (ℕ → Option Kept) → (C → Option Kept) → ℕ → List C → Type 0
 AreGiven given kept n [] = ⊤
 AreGiven given kept n (c ∷ cs) = (kept c ≡ given n) × AreGiven given kept (n + 1) cs
@@ -77,10 +77,10 @@ abbrev pub IsDismissed : {R W : Type 0} → List (ServedSession R W) → Type 0
 IsDismissed {R} {W} ss =
     (before : List (ServedSession R W)) × (s : ServedSession R W) × (ss ≡ before ++ s ∷ []) × (is_teachers_bye s.ending ≡ true) × AreGoingOn before
 
--- the sessions of a seat led its window from having seen the events before the house to this window, and its recorder
--- from what the recorder of its number had kept before the house to what it has kept now
+-- the sessions of a seat led its window from having seen the events before the house to this window, and its observer
+-- from what the observer of its number had kept before the house to what it has kept now
 abbrev pub Led : {K C R W : Type 0} → Terms K C R W → SeatRecord K C → WindowValue → Type 0
-Led t r w = Chain (Leads t r.number) (stand (window t.begun []) (t.given r.number)) (sessions_of t.shows r) (stand w (t.recorded r.recorder))
+Led t r w = Chain (Leads t r.number) (stand (window t.begun []) (t.given r.number)) (sessions_of t.shows r) (stand w (t.recorded r.observer))
 
 -- the seat's sessions led its window, and at the desk, which has the number 1, it is noted whether the teacher's bye
 -- came
