@@ -12,14 +12,14 @@ use mml_ids::Piece;
 use mml_journal::Sink;
 use mml_ports::{HostState, SocketSession, TwoPorts, bell_of, open_ports};
 use mml_program::{Fault as ProgramFault, write_pieces};
-use mml_session::Recorder;
+use mml_session::Observer;
 use mml_window::Log;
 use std::alloc::Global;
 use std::io::Write;
 use std::net::{Net, TcpListener, TcpStream};
 use std::sync::Wait;
 
-impl<C: Recorder + Send + Drop> Ready<C> {
+impl<C: Observer + Send + Drop> Ready<C> {
     /// Serves a new class: writes the first line, serves the connections, and writes the last line. Granted events go
     /// to the journal's `sink`. Returns the log whose events the last line counts. Returns the reason if the class
     /// can't begin, or fails.
@@ -30,7 +30,7 @@ impl<C: Recorder + Send + Drop> Ready<C> {
     >(self, rt: &R, sink: S, writer: &mut W) -> Result<Log<S>, Fault>
         requires fresh { IsFresh (S.contents sink) }
         requires countable { S.failures sink < 2 ^ 64 - 1 }
-        requires as_many { length self.recorders.others.items + 1 ≡ self.lab.sessions }
+        requires as_many { length self.observers.others.items + 1 ≡ self.lab.sessions }
         ensures { IfOk result (TellsClass self.lab S.contents self.ports.port self.ports.desk
             (W.contents writer.old) (W.contents writer.new)) }
     {
@@ -47,7 +47,7 @@ impl<C: Recorder + Send + Drop> Ready<C> {
     >(self, rt: &R, sink: S, writer: &mut W) -> Result<Log<S>, Fault>
         requires fresh { IsFresh (S.contents sink) }
         requires countable { S.failures sink < 2 ^ 64 - 1 }
-        requires as_many { length self.recorders.others.items + 1 ≡ self.lab.sessions }
+        requires as_many { length self.observers.others.items + 1 ≡ self.lab.sessions }
         ensures { IfOk result (EndsWell 0 self.lab S.contents (W.contents writer.old) (W.contents writer.new)) }
     {
         let state = HostState::new(rt.alloc(), &self.lab);
@@ -65,7 +65,7 @@ impl<C: Recorder + Send + Drop> Ready<C> {
     >(self, rt: &R, sink: S, state: &HostState, writer: &mut W) -> Result<Log<S>, Fault>
         requires fresh { IsFresh (S.contents sink) }
         requires countable { S.failures sink < 2 ^ 64 - 1 }
-        requires as_many { length self.recorders.others.items + 1 ≡ self.lab.sessions }
+        requires as_many { length self.observers.others.items + 1 ≡ self.lab.sessions }
         ensures { IfOk result (EndsWell 0 self.lab S.contents (W.contents writer.old) (W.contents writer.new)) }
     {
         let alloc = rt.alloc();
@@ -73,14 +73,14 @@ impl<C: Recorder + Send + Drop> Ready<C> {
         let Ready {
             lab,
             ports,
-            recorders,
+            observers,
         } = self;
         let TwoPorts {
             at_desk,
             elsewhere: at_port,
         } = open_ports(rt, alloc, state, ports);
         let served = serve_host::<_, _, SocketSession<'_, R>, _, _, _, _, _, _, _, _>(
-            rt, alloc, lab, sink, recorders, at_desk, at_port, &bell, writer,
+            rt, alloc, lab, sink, observers, at_desk, at_port, &bell, writer,
         );
         match served {
             Ok(house) => Ok(log_of(house)),

@@ -7,13 +7,13 @@ use crate::journal_watch::{JournalWatch, Look, WatchedSink};
 use crate::system::System;
 use mml_ends::Retrying;
 use mml_files::OldJournal;
-use mml_hosting::{Recorders, no_recorders};
+use mml_hosting::{Observers, no_observers};
 use mml_journal::{FileSink, NullSink};
 use mml_lab::Lab;
 use mml_ports::{HostState, Ports};
 use mml_program::memory_if_lacked;
 use mml_recording::{RecordFolder, RecordState, Seats, end_syncing, sync_until_done};
-use mml_session::Recorder;
+use mml_session::Observer;
 use mml_window::Log;
 use std::fs::File;
 use std::io::Write;
@@ -66,7 +66,7 @@ pub(crate) struct Class<'a> {
 pub(crate) struct Ready<C: Drop> {
     pub lab: Lab,
     pub ports: Ports,
-    pub recorders: Recorders<C>,
+    pub observers: Observers<C>,
 }
 
 /// Serves a class until it is over. Records it if there is a folder. If its journal is a plain file, lets `eye` check
@@ -126,8 +126,8 @@ fn serve_recorded<
 fn serve_unrecorded<
     R: System + Files<File = File> + Net<Listener = TcpListener, Stream = TcpStream> + Sync,
 >(rt: &R, class: Class<'_>) -> Result<(), Fault> {
-    let recorders = no_recorders(rt.alloc(), &class.lab)?;
-    serve_ports(rt, class, recorders)
+    let observers = no_observers(rt.alloc(), &class.lab)?;
+    serve_ports(rt, class, observers)
 }
 
 // Serves a class, and records it in this folder. Returns the error of the class, or else `Unrecorded` if something
@@ -154,27 +154,27 @@ fn serve_seats<
 // the end. Returns the error of the class.
 fn serve_synced<
     R: System + Files<File = File> + Net<Listener = TcpListener, Stream = TcpStream> + Sync,
-    C: Recorder + Send + Drop,
+    C: Observer + Send + Drop,
 >(
     rt: &R,
     class: Class<'_>,
-    recorders: Recorders<C>,
+    observers: Observers<C>,
     files: &[File],
     state: &RecordState,
 ) -> Result<(), Fault>
-    requires as_many { length recorders.others.items + 1 ≡ class.lab.sessions }
+    requires as_many { length observers.others.items + 1 ≡ class.lab.sessions }
 {
     thread::scope(
         thread::scope_env(),
         rt,
         |scope| -> Result<(), Fault>
             requires { IsSync R.row × IsSend C.row
-                × (length recorders.others.items + 1 ≡ class.lab.sessions) }
+                × (length observers.others.items + 1 ≡ class.lab.sessions) }
         {
             let is_synced = scope
                 .spawn(move || sync_until_done(rt, state, files))
                 .is_ok();
-            let served = serve_ports(rt, class, recorders);
+            let served = serve_ports(rt, class, observers);
             end_syncing(rt, state, files, is_synced);
             served
         },
@@ -194,12 +194,12 @@ fn told_whole(state: &RecordState) -> Result<(), Fault> {
 // earlier journal, and the end. If a write ran out of memory, returns `Memory` instead of any other error.
 fn serve_ports<
     R: System + Files<File = File> + Net<Listener = TcpListener, Stream = TcpStream> + Sync,
-    C: Recorder + Send + Drop,
->(rt: &R, class: Class<'_>, recorders: Recorders<C>) -> Result<(), Fault>
-    requires as_many { length recorders.others.items + 1 ≡ class.lab.sessions }
+    C: Observer + Send + Drop,
+>(rt: &R, class: Class<'_>, observers: Observers<C>) -> Result<(), Fault>
+    requires as_many { length observers.others.items + 1 ≡ class.lab.sessions }
 {
     let mut writer = Retrying::new(io::writer(rt));
-    match serve_journaled(rt, class, recorders, &mut writer) {
+    match serve_journaled(rt, class, observers, &mut writer) {
         Ok(()) => Ok(()),
         Err(fault) => Err(memory_if_lacked(fault, writer.lacked_memory)),
     }
@@ -209,10 +209,10 @@ fn serve_ports<
 // can't be, or the journal from which the class is resumed.
 fn serve_journaled<
     R: System + Files<File = File> + Net<Listener = TcpListener, Stream = TcpStream> + Sync,
-    C: Recorder + Send + Drop,
+    C: Observer + Send + Drop,
     W: Write,
->(rt: &R, class: Class<'_>, recorders: Recorders<C>, writer: &mut W) -> Result<(), Fault>
-    requires as_many { length recorders.others.items + 1 ≡ class.lab.sessions }
+>(rt: &R, class: Class<'_>, observers: Observers<C>, writer: &mut W) -> Result<(), Fault>
+    requires as_many { length observers.others.items + 1 ≡ class.lab.sessions }
 {
     let Class {
         lab,
@@ -222,7 +222,7 @@ fn serve_journaled<
     let ready = Ready {
         lab,
         ports,
-        recorders,
+        observers,
     };
     match journal {
         ClassJournal::None => without_log(ready.begin(rt, NullSink::new(), writer)),

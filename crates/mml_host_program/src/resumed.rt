@@ -12,7 +12,7 @@ use mml_journal::Sink;
 use mml_ports::{HostState, Ports, SocketSession, TwoPorts, bell_of, open_ports};
 use mml_program::Fault as ProgramFault;
 use mml_resuming::{ResumeFault, Store, resume_class};
-use mml_session::Recorder;
+use mml_session::Observer;
 use mml_window::Log;
 use std::alloc::Global;
 use std::fs::File;
@@ -20,7 +20,7 @@ use std::io::Write;
 use std::net::{Net, TcpListener, TcpStream};
 use std::rt::Files;
 
-impl<C: Recorder + Send + Drop> Ready<C> {
+impl<C: Observer + Send + Drop> Ready<C> {
     /// Serves a class that is resumed from the journal `past`, in the host state `state`: writes the first two lines,
     /// serves the connections, and writes the last line. Returns the log; the last line says how many events the log
     /// has. Returns the reason if the class isn't resumed, or fails.
@@ -35,7 +35,7 @@ impl<C: Recorder + Send + Drop> Ready<C> {
         past: Past<'a>,
         writer: &mut W,
     ) -> Result<Log<WatchedSink<'a>>, Fault>
-        requires as_many { length self.recorders.others.items + 1 ≡ self.lab.sessions }
+        requires as_many { length self.observers.others.items + 1 ≡ self.lab.sessions }
         ensures { IfOk result (TellsResumed self.lab (λ _. None) past.entry.bytes.now
             self.ports.port self.ports.desk (W.contents writer.old) (W.contents writer.new)) }
     {
@@ -72,7 +72,7 @@ impl<C: Recorder + Send + Drop> Ready<C> {
         state: &HostState,
         writer: &mut W,
     ) -> Result<Log<S>, Fault>
-        requires as_many { length self.recorders.others.items + 1 ≡ self.lab.sessions }
+        requires as_many { length self.observers.others.items + 1 ≡ self.lab.sessions }
         requires first { first.now ≡ ports_line self.ports.port self.ports.desk }
         ensures { IfOk result (TellsResumed self.lab S.contents old.now self.ports.port
             self.ports.desk (W.contents writer.old) (W.contents writer.new)) }
@@ -82,14 +82,14 @@ impl<C: Recorder + Send + Drop> Ready<C> {
         let Ready {
             lab,
             ports,
-            recorders,
+            observers,
         } = self;
         let TwoPorts {
             at_desk,
             elsewhere: at_port,
         } = open_ports(rt, alloc, state, ports);
         let resumed = resume_class::<_, _, _, SocketSession<'_, R>, _, _, _, _, _, _, _, _>(
-            rt, alloc, lab, old, store, first, recorders, at_desk, at_port, &bell, writer,
+            rt, alloc, lab, old, store, first, observers, at_desk, at_port, &bell, writer,
         );
         let log = match resumed {
             Ok(house) => log_of(house),

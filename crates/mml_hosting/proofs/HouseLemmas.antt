@@ -53,7 +53,7 @@ pub numbers_more : {H K C : Type 0} (first n m : ℕ) (ss ss' : List (Seat H K C
 numbers_more first n m ss ss' s one more before here =
     rw (one, map-append (λ q. q.record) ss (s ∷ []), map-append (λ r. r.number) (records_of ss) (s.record ∷ []), more, range_more first n, before, here) refl
 
--- if `given` says what each recorder has kept, the recorders have kept what `given` says for their numbers
+-- if `given` says what each observer has kept, the observers have kept what `given` says for their numbers
 pub are_given : {C : Type 0} (given : ℕ → Option Kept) (kept : C → Option Kept) (n : ℕ) (cs : List C)
     → ((m : ℕ) → n ≤ m → given m ≡ kept_from kept n cs m) → AreGiven given kept n cs
 are_given given kept n [] same = tt
@@ -67,7 +67,7 @@ module _ {H K C R W : Type 0} (t : Terms K C R W) where
   fresh_seat : (s : Seat H K C) → IsUnused t.begun t.given t.recorded s → IsSeat t s
   fresh_seat s h = record {
     desk = h.desk;
-    led = rw (h.sessions, h.unseen, h.recorder) refl;
+    led = rw (h.sessions, h.unseen, h.observer) refl;
     dismissed = λ so. absurd (search (rules, so, h.dismissed));
     going_on = λ at so. rw h.sessions (All-nil (λ s. is_teachers_bye s.ending ≡ false));
   }

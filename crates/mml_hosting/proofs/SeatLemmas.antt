@@ -20,11 +20,11 @@ sum_more f xs xs' x one = rw one (sum_by_push f xs x)
 
 -- a session that begins in the state after the earlier ones makes their chain longer by one
 pub led_more : {K C R W : Type 0} (t : Terms K C R W) (old : SeatRecord K C) (xs : List K) (w v : WindowValue) (x : K) (c : C)
-    → xs ≡ old.sessions.items ++ x ∷ [] → Led t old w → Leads t old.number (t.shows x) (stand w (t.recorded old.recorder)) (stand v (t.recorded c))
+    → xs ≡ old.sessions.items ++ x ∷ [] → Led t old w → Leads t old.number (t.shows x) (stand w (t.recorded old.observer)) (stand v (t.recorded c))
     → Chain (Leads t old.number) (stand (window t.begun []) (t.given old.number)) (map t.shows xs) (stand v (t.recorded c))
 led_more t old xs w v x c one so_far it =
     rw (one, map-append t.shows old.sessions.items (x ∷ []))
-    (run_longer (λ st s r next. Leads t old.number s st next) (stand (window t.begun []) (t.given old.number)) (stand w (t.recorded old.recorder))
+    (run_longer (λ st s r next. Leads t old.number s st next) (stand (window t.begun []) (t.given old.number)) (stand w (t.recorded old.observer))
     (stand v (t.recorded c)) (sessions_of t.shows old) (sessions_of t.shows old) (t.shows x) (t.shows x) so_far it)
 
 -- The sessions of a seat, and one more (`x`). `now` is whether the seat is at the desk and the teacher's bye ended this
@@ -47,4 +47,4 @@ led_seen t r w =
     run_keeps (λ st s ss next. Leads t r.number s st next) (λ st next. Sees st.window next.window)
     (λ st. prefix_self st.window.seen) (λ st next end. prefix_trans st.window.seen next.window.seen end.window.seen)
     (λ st next s ss h. ended_seen s.ending.end t.lab st.window next.window (t.remaining s.came.value.0) (t.remaining s.reader) (t.contents s.came.value.1) (t.contents s.writer) h.0)
-    (stand (window t.begun []) (t.given r.number)) (stand w (t.recorded r.recorder)) (sessions_of t.shows r) (sessions_of t.shows r)
+    (stand (window t.begun []) (t.given r.number)) (stand w (t.recorded r.observer)) (sessions_of t.shows r) (sessions_of t.shows r)

@@ -9,18 +9,18 @@ use Rattle.mml_hosting.specs.{declared.seat.ServedSession.ServedSession, declare
 use Rattle.mml_session.specs.Records.{Kept}
 use Rattle.mml_hosting.specs.Seats.{IsDismissed, Led, came_to, sessions_of, terms}
 
--- nobody was served in the seat so far, and its recorder is as at the beginning; the desk's seat has the number 1
+-- nobody was served in the seat so far, and its observer is as at the beginning; the desk's seat has the number 1
 pub record IsUnused {H K C : Type 0} (begun : List Event) (given : ℕ → Option Kept) (recorded : C → Option Kept) (s : Seat H K C) : Type 0 where
   pub desk : s.is_desk ≡ (s.record.number == 1)
   pub unseen : s.window ≡ window begun []
-  pub recorder : recorded s.record.recorder ≡ given s.record.number
+  pub observer : recorded s.record.observer ≡ given s.record.number
   pub sessions : s.record.sessions.items ≡ []
   pub dismissed : s.is_dismissed ≡ false
 
 -- The house has the log of one legal list of events, which begins with the events from before it was opened. The places
 -- of the other events are those that all windows were given, each once. Each window has seen a beginning of the list,
 -- and at least the events from before. The seats have the numbers from 1 to the number of the lab's sessions, each
--- once. The sessions of each seat, in order, changed its window and its recorder to their present states. At the desk,
+-- once. The sessions of each seat, in order, changed its window and its observer to their present states. At the desk,
 -- the teacher's bye ended the last session, and no earlier one. The connections that came to a port were served, each
 -- once, or turned away
 pub record HostsFrom {S K C R W : Type 0} (begun : List Event) (given : ℕ → Option Kept) (lab : LabValue) (sink : S → Option (List ℕ))

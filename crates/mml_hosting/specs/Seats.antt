@@ -10,8 +10,8 @@ use Rattle.mml_lab.specs.declared.who.Who.TheVariants as who
 use Rattle.mml_session.specs.declared.session.SessionEnd.TheVariants as end
 
 -- The parameters of a house's contracts. The first three are its lab, the events from before it was opened, and what
--- the recorder of the seat with each number had kept then. The others are functions. They return the bytes that a
--- connection's reader has still to return, the bytes that were written to its writer, what a recorder has kept, and the
+-- the observer of the seat with each number had kept then. The others are functions. They return the bytes that a
+-- connection's reader has still to return, the bytes that were written to its writer, what an observer has kept, and the
 -- session that a kept value shows
 pub record Terms (K C R W : Type 0) : Type 0 where
   pub lab : LabValue
@@ -36,18 +36,18 @@ terms lab begun given remaining contents recorded shows = record {
 }
 
 -- The connection was served until its session ended, which changed the window from the state `a` to the state `b`. What
--- was recorded of the session under this number changed the recorder from `a` to `b`
+-- was recorded of the session under this number changed the observer from `a` to `b`
 abbrev pub Leads : {K C R W : Type 0} → Terms K C R W → ℕ → ServedSession R W → Stand → Stand → Type 0
 Leads t number s a b =
     EndedRecorded s.ending.end s.ending.who number t.lab a.window b.window (t.remaining s.came.value.0) (t.remaining s.reader)
     (t.contents s.came.value.1) (t.contents s.writer) a.kept b.kept
 
--- what the recorder of the seat with number n has kept, if the seats are numbered from `first` on
+-- what the observer of the seat with number n has kept, if the seats are numbered from `first` on
 abbrev pub kept_from : {C : Type 0} → (C → Option Kept) → ℕ → List C → ℕ → Option Kept
 kept_from kept first [] n = None
 kept_from kept first (c ∷ cs) n = if n == first then kept c else kept_from kept (first + 1) cs n
 
--- the recorders of seats that are numbered from `n` on have kept what `given` says for each
+-- the observers of seats that are numbered from `n` on have kept what `given` says for each
 abbrev pub AreGiven : {C : Type 0} → (ℕ → Option Kept) → (C → Option Kept) → ℕ → List C → Type 0
 AreGiven given kept n [] = ⊤
 AreGiven given kept n (c ∷ cs) = (kept c ≡ given n) × AreGiven given kept (n + 1) cs
@@ -79,11 +79,11 @@ IsDismissed {R} {W} ss =
     (before : List (ServedSession R W)) × (s : ServedSession R W) × (ss ≡ before ++ s ∷ []) × (is_teachers_bye s.ending ≡ true) × AreGoingOn before
 
 -- The sessions of a seat changed its window from having seen the events from before the house to `w`. They changed its
--- recorder from what the recorder of this number had kept then to what it has kept now
+-- observer from what the observer of this number had kept then to what it has kept now
 abbrev pub Led : {K C R W : Type 0} → Terms K C R W → SeatRecord K C → WindowValue → Type 0
-Led t r w = Chain (Leads t r.number) (stand (window t.begun []) (t.given r.number)) (sessions_of t.shows r) (stand w (t.recorded r.recorder))
+Led t r w = Chain (Leads t r.number) (stand (window t.begun []) (t.given r.number)) (sessions_of t.shows r) (stand w (t.recorded r.observer))
 
--- the seat's sessions have changed its window and its recorder as `Led` says; at the desk, whose seat has the number 1,
+-- the seat's sessions have changed its window and its observer as `Led` says; at the desk, whose seat has the number 1,
 -- it is noted whether the teacher's bye came
 pub record IsSeat {H K C R W : Type 0} (t : Terms K C R W) (s : Seat H K C) : Type 0 where
   pub desk : s.is_desk ≡ (s.record.number == 1)

@@ -5,7 +5,7 @@
 use mml_window::{Brand, House};
 
 /// Names one house (one run of a lab) for contracts. Such a house may go on from an earlier one: it has the events that
-/// came before it was opened, and what the recorders of its seats had kept by then.
+/// came before it was opened, and what the observers of its seats had kept by then.
 pub trait Begun: House {
     ghost use Rattle.std.specs.Prelude.{ℕ, List, Option};
     ghost use Rattle.mml_session.specs.Records.{Kept};
@@ -14,7 +14,7 @@ pub trait Begun: House {
     // The events that came before, in their order.
     ghost begun: { List Event };
 
-    // What the recorder of the seat with each number had kept, if contracts can name it.
+    // What the observer of the seat with each number had kept, if contracts can name it.
     ghost given: { ℕ → Option Kept };
 }
 

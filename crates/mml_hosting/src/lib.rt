@@ -2,7 +2,7 @@
 //! teacher says bye at the desk.
 //!
 //! A house is one run of a lab that threads share: its list of granted events, the board after them, and their journal.
-//! A seat serves one connection after another, each through the seat's window. A recorder writes the seat's record.
+//! A seat serves one connection after another, each through the seat's window. Its observer may record its sessions.
 #![tactic(auto)]
 
 mod accepting;
@@ -15,7 +15,7 @@ mod seat;
 
 pub use accepting::{Accept, Accepted, Bell, CutOff};
 pub use begun::Begun;
-pub use hosted::{HostFault, Hosted, Recorders, no_recorders, resume_host, serve_host};
+pub use hosted::{HostFault, Hosted, Observers, no_observers, resume_host, serve_host};
 pub use port_serving::{BUSY, serve_port};
 pub use replies::{NoReplies, Observed, ReplyObserver};
 pub use seat::{Keep, Seat, SeatRecord, ServedSession, serve_in};

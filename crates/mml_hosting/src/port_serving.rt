@@ -19,7 +19,7 @@ use mml_ids::Memory;
 use mml_journal::Sink;
 use mml_lines::{WriteFault, put_all};
 use mml_serving::HangUp;
-use mml_session::{Recorder, Setting};
+use mml_session::{Observer, Setting};
 use mml_window::Desk;
 use std::alloc::Global;
 use std::io::{Read, Write};
@@ -39,7 +39,7 @@ struct SeatPledge<H: Begun, K: Drop, C: Drop, R: Drop, W: Drop>(
     Snapshot<(R, W)>,
 );
 
-impl<H: Begun, K: Keep<R, W> + Drop, C: Recorder + Drop, R: Read + Drop, W: Write + Drop> Promise<
+impl<H: Begun, K: Keep<R, W> + Drop, C: Observer + Drop, R: Read + Drop, W: Write + Drop> Promise<
     Seat<H, K, C>,
 > for SeatPledge<H, K, C, R, W> {
     ghost use Rattle.mml_hosting.specs.Seats.{ServesIn, terms};
@@ -52,7 +52,7 @@ impl<H: Begun, K: Keep<R, W> + Drop, C: Recorder + Drop, R: Read + Drop, W: Writ
 struct Busy<
     H: Begun,
     K: Keep<R, W> + Drop,
-    C: Recorder + Drop,
+    C: Observer + Drop,
     R: Read + Drop,
     W: Write + Drop,
     U: Drop,
@@ -66,7 +66,7 @@ struct Busy<
 impl<
     H: Begun,
     K: Keep<R, W> + Drop,
-    C: Recorder + Drop,
+    C: Observer + Drop,
     R: Read + Drop,
     W: Write + Drop,
     U: CutOff + Drop,
@@ -150,7 +150,7 @@ impl<
 // Takes the last of the free seats, with memory for the record of one more session, and returns it. Returns `None` if
 // no seat is free. Also returns `None`, and leaves the seat in the list, if the teacher's bye has ended its service, or
 // memory runs out.
-fn next_free<H: Begun, K: Keep<R, W> + Drop, C: Recorder + Drop, R: Read + Drop, W: Write + Drop>(
+fn next_free<H: Begun, K: Keep<R, W> + Drop, C: Observer + Drop, R: Read + Drop, W: Write + Drop>(
     free: &mut Vec<Seat<H, K, C>>,
 ) -> Option<Seat<H, K, C>>
     requires seats { All (IsSeat (terms H.lab H.begun H.given R.remaining W.contents C.kept K.shows)) free.old.items }
@@ -174,7 +174,7 @@ fn next_free<H: Begun, K: Keep<R, W> + Drop, C: Recorder + Drop, R: Read + Drop,
 
 // Makes a seat ready for one more session: reserves memory for that session's record. Returns whether the session may
 // be served there. Returns `false` if the teacher's bye has ended the seat's service, or memory runs out.
-fn make_ready<H: Begun, K: Keep<R, W> + Drop, C: Recorder + Drop, R: Read + Drop, W: Write + Drop>(
+fn make_ready<H: Begun, K: Keep<R, W> + Drop, C: Observer + Drop, R: Read + Drop, W: Write + Drop>(
     seat: &mut Seat<H, K, C>,
 ) -> bool
     requires seat { IsSeat (terms H.lab H.begun H.given R.remaining W.contents C.kept K.shows) seat.old }
@@ -202,7 +202,7 @@ fn turn_away<R: Drop, W: Write + HangUp + Drop>(ends: (R, W)) -> Result<(), Writ
 fn cut_off_all<
     H: Begun,
     K: Keep<R, W> + Drop,
-    C: Recorder + Drop,
+    C: Observer + Drop,
     R: Read + Drop,
     W: Write + Drop,
     U: CutOff + Drop,
@@ -253,7 +253,7 @@ impl<
     fn serve_apart<
         E,
         K: Keep<R, W> + Send + Drop + 's,
-        C: Recorder + Send + Drop + 's,
+        C: Observer + Send + Drop + 's,
         R: Read + Send + Drop + 's,
         W: Write + HangUp + Observed + Send + Drop + 's,
         U: CutOff,
@@ -308,7 +308,7 @@ impl<
     fn take_in<
         E,
         K: Keep<R, W> + Send + Drop + 's,
-        C: Recorder + Send + Drop + 's,
+        C: Observer + Send + Drop + 's,
         R: Read + Send + Drop + 's,
         W: Write + HangUp + Observed + Send + Drop + 's,
         U: CutOff + Drop,
@@ -353,7 +353,7 @@ impl<
     fn serve_until_over<
         E,
         K: Keep<R, W> + Send + Drop + 's,
-        C: Recorder + Send + Drop + 's,
+        C: Observer + Send + Drop + 's,
         R: Read + Send + Drop + 's,
         W: Write + HangUp + Observed + Send + Drop + 's,
         U: CutOff + Drop,
@@ -401,7 +401,7 @@ pub fn serve_port<
     S: Sink + Send + Drop,
     H: Begun + Send + Sync,
     K: Keep<R, W> + Send + Drop,
-    C: Recorder + Send + Drop,
+    C: Observer + Send + Drop,
     R: Read + Send + Drop,
     W: Write + HangUp + Observed + Send + Drop,
     U: CutOff + Drop,

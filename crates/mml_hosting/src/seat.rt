@@ -12,7 +12,7 @@ use crate::replies::{Both, Observed};
 use mml_journal::Sink;
 use mml_lab::Who;
 use mml_serving::HangUp;
-use mml_session::{Ending, Gated, NoGate, Recorder, SessionEnd, Setting, serve_observed};
+use mml_session::{Ending, Observer, SessionEnd, Setting, serve_observed};
 use mml_window::Window;
 use std::io::{Read, Write};
 use std::snapshot::Snapshot;
@@ -64,17 +64,17 @@ impl<R: Drop, W: Drop> Keep<R, W> for Snapshot<ServedSession<R, W>> {
     }
 }
 
-/// What is known of a seat's service: its number, its sessions, and their recorder.
+/// What is known of a seat's service: its number, its sessions, and their observer.
 #[derive(Drop)]
 pub struct SeatRecord<K: Drop, C: Drop> {
     pub number: u8,
     /// What was kept of each session that was served in the seat, in order.
     pub sessions: Vec<K>,
-    /// The recorder of the sessions.
-    pub recorder: C,
+    /// The observer of the sessions.
+    pub observer: C,
 }
 
-/// A window through which one connection after another is served, and the record of its service. A recorder knows the
+/// A window through which one connection after another is served, and the record of its service. An observer knows the
 /// seat by its number.
 #[derive(Drop)]
 pub struct Seat<H: Begun, K: Drop, C: Drop> {
@@ -94,7 +94,7 @@ pub fn serve_in<
     S: Sink + Drop,
     H: Begun,
     K: Keep<R, W> + Drop,
-    C: Recorder + Drop,
+    C: Observer + Drop,
     R: Read + Drop,
     W: Write + HangUp + Observed + Drop,
 >(
@@ -115,9 +115,9 @@ pub fn serve_in<
     let SeatRecord {
         number,
         mut sessions,
-        recorder,
+        observer,
     } = record;
-    let (session, recorder) = serve_session(setting, &mut window, ends, number, recorder);
+    let (session, observer) = serve_session(setting, &mut window, ends, number, observer);
     // From here on this thread waits for nobody, so the thread that joins it doesn't have to wait either.
     set_mark(marks, number, true);
     let is_dismissed = is_dismissed_by(&session.ending, is_desk);
@@ -128,19 +128,19 @@ pub fn serve_in<
         record: SeatRecord {
             number,
             sessions,
-            recorder,
+            observer,
         },
         is_dismissed,
     }
 }
 
 // Serves a connection through the window of the seat with this number, and closes its writing end. Returns the session
-// that has ended, and the seat's recorder.
+// that has ended, and the seat's observer.
 fn serve_session<
     Rt: Wait,
     S: Sink + Drop,
     H: Begun,
-    C: Recorder + Drop,
+    C: Observer + Drop,
     R: Read + Drop,
     W: Write + HangUp + Observed + Drop,
 >(
@@ -148,36 +148,22 @@ fn serve_session<
     window: &mut Window<H>,
     ends: (R, W),
     number: u8,
-    recorder: C,
+    observer: C,
 ) -> (ServedSession<R, W>, C)
     ensures came { result.0.came.value ≡ ends }
     ensures ended { EndedRecorded result.0.ending.end result.0.ending.who number H.lab window.old
         window.new (R.remaining ends.0) (R.remaining result.0.reader) (W.contents ends.1)
-        (W.contents result.0.writer) (C.kept recorder) (C.kept result.1) }
+        (W.contents result.0.writer) (C.kept observer) (C.kept result.1) }
 {
     let came = Snapshot::of(&ends);
     let (mut reader, mut writer) = ends;
     let replies = writer.reply_observer();
-    let mut observer = Both {
-        observer: Gated {
-            gate: &NoGate,
-            recorder,
-        },
-        replies,
-    };
-    let ending = serve_observed(
-        setting,
-        window,
-        &mut reader,
-        &mut writer,
-        number,
-        &mut observer,
-    );
+    let mut both = Both { observer, replies };
+    let ending = serve_observed(setting, window, &mut reader, &mut writer, number, &mut both);
     let Both {
         observer,
         replies: _,
-    } = observer;
-    let Gated { gate: _, recorder } = observer;
+    } = both;
     writer.hang_up();
     let session = ServedSession {
         came,
@@ -185,7 +171,7 @@ fn serve_session<
         reader,
         writer,
     };
-    (session, recorder)
+    (session, observer)
 }
 
 // Returns whether a session that ended like this ends the house: it was at the desk, and its last line was the

@@ -56,7 +56,7 @@ module _ {K C R W : Type 0} (t : Terms K C R W) where
   served [] (w ∷ ws) led = absurd led
   served (r ∷ rs) [] led = absurd led
   served (r ∷ rs) (w ∷ ws) led =
-      let one = talked r.number (sessions_of t.shows r) (stand (window t.begun []) (t.given r.number)) (stand w (t.recorded r.recorder)) led.0 in
+      let one = talked r.number (sessions_of t.shows r) (stand (window t.begun []) (t.given r.number)) (stand w (t.recorded r.observer)) led.0 in
       let rest = served rs ws led.1 in
       (one.0 ∷ rest.0, (one.1, rest.1))
 
@@ -99,8 +99,8 @@ module _ {K C R W : Type 0} (t : Terms K C R W) where
   resumed_seat : (r : SeatRecord K C) (w : WindowValue) → t.given r.number ≡ Some fresh → Led t r w
       → IsResumedSeat t.lab t.begun (seat_of t.recorded t.shows r) w
   resumed_seat r w empty led =
-      let h = held r.number (sessions_of t.shows r) (stand (window t.begun []) (t.given r.number)) (stand w (t.recorded r.recorder)) fresh empty led in
-      let kept : unwrap_or (t.recorded r.recorder) fresh ≡ h.0 = ap (λ (o : Option Kept). unwrap_or o fresh) h.1 in
+      let h = held r.number (sessions_of t.shows r) (stand (window t.begun []) (t.given r.number)) (stand w (t.recorded r.observer)) fresh empty led in
+      let kept : unwrap_or (t.recorded r.observer) fresh ≡ h.0 = ap (λ (o : Option Kept). unwrap_or o fresh) h.1 in
       subst (λ (k : Kept). Chain (Held t.lab r.number) (stand (window t.begun []) (Some fresh)) (map (λ s. s.ending.end) (sessions_of t.shows r)) (stand w (Some k)))
       (sym kept) h.2
 

@@ -7,7 +7,7 @@ use Rattle.mml_record.specs.RecordedSeats.{RecordedSeat, fresh}
 -- a seat's number, how its sessions ended, and what its recorder has kept
 abbrev pub seat_of : {K C R W : Type 0} → (C → Option Kept) → (K → ServedSession R W) → SeatRecord K C → RecordedSeat
 seat_of recorded shows r =
-    record { number = r.number; ends = map (λ s. s.ending.end) (sessions_of shows r); kept = unwrap_or (recorded r.recorder) fresh }
+    record { number = r.number; ends = map (λ s. s.ending.end) (sessions_of shows r); kept = unwrap_or (recorded r.observer) fresh }
 
 -- all seats of a class, the desk's first
 abbrev pub seats_of : {S K C R W : Type 0} → (C → Option Kept) → (K → ServedSession R W) → Hosted S K C → List RecordedSeat

@@ -12,7 +12,7 @@ use Rattle.mml_codec.specs.declared.greeting.Greeting.{Greeting, TheVariants.Ans
 use Rattle.mml_codec.specs.{Greetings.greeting, Greetings.admitted, Lines.request_in, Replies.reply_line, Replies.place_in}
 use Rattle.mml_window.specs.{Rulings.ruling_at, Windows.WindowValue, Windows.window}
 use Rattle.mml_window.proofs.PrefixLemmas.{prefix_shorter, prefix_length}
-use Rattle.mml_session.specs.{declared.recorder.Entry.Entry, declared.session.SessionEnd.SessionEnd, Talks.Talk, Talks.LineTurn, Talks.nobody_known}
+use Rattle.mml_session.specs.{declared.entry.Entry.Entry, declared.session.SessionEnd.SessionEnd, Talks.Talk, Talks.LineTurn, Talks.nobody_known}
 use Rattle.mml_session.specs.Turns.{Standing, standing, places_in, Turn, is_bye}
 use Rattle.mml_session.specs.Records.{Kept, stand, judged_at, is_shown, turn_entries, entries_of, line_entries, left_at, said, entry_text, record_text}
 use Rattle.mml_record.specs.{declared.kept_entry.Entry.Entry as KeptEntry, declared.stage.Stage.Stage, RecordedSeats.Held, RecordedSeats.RecordedSeat, RecordedSeats.IsResumedSeat}
@@ -23,7 +23,7 @@ use Rattle.mml_record.proofs.SaidLemmas.{turns_all, turns_asked, judged_there, q
 use Rattle.mml_codec.specs.declared.request.Request.TheVariants as requests
 use Rattle.mml_codec.specs.declared.reply.Refused.TheVariants as refused
 use Rattle.mml_codec.specs.declared.reply.Reply.TheVariants as reply
-use Rattle.mml_session.specs.declared.recorder.Entry.TheVariants as entry
+use Rattle.mml_session.specs.declared.entry.Entry.TheVariants as entry
 use Rattle.mml_session.specs.declared.session.SessionEnd.TheVariants as ends
 use Rattle.mml_record.specs.declared.kept_entry.Entry.TheVariants as kept
 use Rattle.mml_record.specs.declared.stage.Stage.TheVariants as stages

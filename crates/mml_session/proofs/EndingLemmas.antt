@@ -8,7 +8,7 @@ use Rattle.mml_lines.specs.declared.lines.TheConstants.{READ_SIZE}
 use Rattle.mml_lines.proofs.{KnownBytesLemmas.nothing_held, KnownBytesLemmas.none_taken, KnownBytesLemmas.put_back, RunsLemmas.empty, RunsLemmas.longer, RunsLemmas.flat_longer}
 use Rattle.mml_codec.specs.Replies.{reply_line}
 use Rattle.mml_window.specs.Windows.{WindowValue}
-use Rattle.mml_session.specs.declared.{session.SessionEnd.SessionEnd, session.Ending.Ending, session.Next.Next, recorder.Entry.Entry}
+use Rattle.mml_session.specs.declared.{session.SessionEnd.SessionEnd, session.Ending.Ending, session.Next.Next, entry.Entry.Entry}
 use Rattle.mml_session.specs.{declared.held.TheConstants.HELD_BYTES, Turns.Standing, Ends.AllAnswered, Ends.LastAnswered, Ends.IsView, Holding.HoldsBack, Holding.BreaksOff, Holding.LetsOut, Serving.ServesNext}
 use Rattle.mml_session.specs.Talks.{Talk, LineTurn, nobody_known, bytes_read, bytes_written, line_read, line_written}
 use Rattle.mml_session.specs.Records.{Kept, Records, EndedRecorded, entries_of, line_entries, left_at}

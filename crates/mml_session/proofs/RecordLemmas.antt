@@ -1,7 +1,7 @@
--- The entries that a recorder was given, one list after another.
+-- The entries that an observer was given, one list after another.
 use Rattle.std.proofs.Common.{◌≡◌, ℕ, Bool, true, false, List, [], ◌∷◌, ◌++◌, refl, sym, ap, ◌∙◌, append_assoc, append-nil, Option, None, Some, subst}
 use mathlib.Core.List.{IsPrefix}
-use Rattle.mml_session.specs.{declared.recorder.Entry.Entry, Records.Kept, Records.AddsTo, Records.Adds, Records.Records, Records.record_text, Records.entry_text}
+use Rattle.mml_session.specs.{declared.entry.Entry.Entry, Records.Kept, Records.AddsTo, Records.Adds, Records.Records, Records.record_text, Records.entry_text}
 
 adds_to_nil : (b : Bool) (xs : List ℕ) → AddsTo b b xs xs []
 adds_to_nil true xs = sym (append-nil xs)

@@ -5,16 +5,16 @@
 #![tactic(auto)]
 
 mod answering;
+mod entry;
 mod gate;
 mod held;
 pub mod laws;
 mod observer;
-mod recorder;
 mod session;
 mod setting;
 
+pub use entry::Entry;
 pub use gate::{Gate, NoGate, Point};
-pub use observer::{Gated, Observer};
-pub use recorder::{Entry, NoRecorder, Recorder};
+pub use observer::{Gated, NoObserver, Observer};
 pub use session::{Ending, SessionEnd, is_bye, is_hello, serve_observed, serve_one};
 pub use setting::Setting;

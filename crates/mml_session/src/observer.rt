@@ -2,17 +2,17 @@
 //!
 //! A seat serves one connection after another, each through the seat's window. A gate is a point at which tests can
 //! stop a session.
-ghost use Rattle.std.specs.Prelude.{◌≡◌, Option};
+ghost use Rattle.std.specs.Prelude.{◌≡◌, Option, None};
 ghost use Rattle.mml_session.specs.Records.{Kept, Records, entry_for, left};
 
 use crate::gate::{Gate, Point};
-use crate::recorder::Recorder;
 use crate::session::Ending;
 use mml_codec::Reply;
 
 /// An observer of the sessions of a seat, in which one session follows another. It is called when a line has come, when
 /// it was answered, when replies were written, and when a session ended. Its calls return nothing, so they can't end a
-/// session. A seat is a window through which one connection after another is served.
+/// session. If an observer that records sessions can't keep the whole of an entry, it keeps nothing from then on, and
+/// reports that. A seat is a window through which one connection after another is served.
 pub trait Observer {
     // The bytes that it has kept of these calls, and whether these are all of them; `None` if contracts can't name
     // them.
@@ -38,62 +38,58 @@ pub trait Observer {
         ensures { Records number (kept self.old) (kept self.new) (left seen) };
 }
 
-/// A gate, which may pause a session, and a recorder, combined into one observer.
-#[derive(Drop)]
-pub struct Gated<'a, G, K: Drop> {
-    pub gate: &'a G,
-    pub recorder: K,
+/// An observer that does nothing.
+#[derive(Clone, Copy, Debug)]
+pub struct NoObserver;
+
+impl Observer for NoObserver {
+    ghost kept = { λ _. None };
+
+    // Does nothing when a line has come.
+    fn came(&mut self, _number: u8, _line: &[u8]) {}
+
+    // Does nothing: the line and its reply aren't recorded.
+    fn answered(&mut self, _number: u8, _seen: u64, _line: &[u8], _reply: &Reply, _out: &[u8]) {}
+
+    // Does nothing when replies were written.
+    fn wrote(&mut self, _number: u8, _replies: u32) {}
+
+    // Does nothing: the session's end isn't recorded.
+    fn left(&mut self, _number: u8, _ending: &Ending, _seen: u64) {}
 }
 
-impl<'a, G: Gate, K: Recorder + Drop> Observer for Gated<'a, G, K> {
-    ghost kept = { λ o. K.kept o.recorder };
+/// A gate, which may pause a session, around another observer.
+#[derive(Drop)]
+pub struct Gated<'a, G, O: Drop> {
+    pub gate: &'a G,
+    pub observer: O,
+}
 
-    // Waits at the gate until the session may go on, before its line is answered.
-    fn came(&mut self, number: u8, _line: &[u8]) {
+impl<'a, G: Gate, O: Observer + Drop> Observer for Gated<'a, G, O> {
+    ghost kept = { λ g. O.kept g.observer };
+
+    // Passes the line to the inner observer. Then waits at the gate until the session may go on, before its line is
+    // answered.
+    fn came(&mut self, number: u8, line: &[u8]) {
+        self.observer.came(number, line);
         self.gate.pass(number, Point::Line);
     }
 
-    // Passes the line, the reply and the reply's line to the recorder. A reply that shows a view isn't recorded.
+    // Passes the line, the reply and the reply's line to the inner observer.
     fn answered(&mut self, number: u8, seen: u64, line: &[u8], reply: &Reply, out: &[u8]) {
-        record(&mut self.recorder, number, seen, line, reply, out);
+        self.observer.answered(number, seen, line, reply, out);
     }
 
-    // Waits at the gate once for each reply that was written.
+    // Passes the number of written replies to the inner observer. Then waits at the gate once for each reply.
     fn wrote(&mut self, number: u8, replies: u32) {
+        self.observer.wrote(number, replies);
         for _ in 0..replies {
             self.gate.pass(number, Point::Told);
         }
     }
 
-    // Records that the session has ended, after its window had seen `seen` events.
-    fn left(&mut self, number: u8, _ending: &Ending, seen: u64) {
-        self.recorder.left(number, seen);
+    // Passes the end of a session to the inner observer.
+    fn left(&mut self, number: u8, ending: &Ending, seen: u64) {
+        self.observer.left(number, ending, seen);
     }
-}
-
-// Records a line, its reply and `out`, the reply's line, in a recorder, unless the reply shows a view. `seen` is how
-// many events the window has seen after the line. The record instead gets how many it had seen when the line was
-// judged. This is one less if the reply grants an event, and otherwise `seen`.
-fn record<K: Recorder>(
-    recorder: &mut K,
-    number: u8,
-    seen: u64,
-    line: &[u8],
-    reply: &Reply,
-    out: &[u8],
-)
-    ensures { Records number (K.kept recorder.old) (K.kept recorder.new)
-        (entry_for seen line.now reply.now out.now) }
-{
-    let before = match reply {
-        Reply::See(_) | Reply::Look(_) | Reply::Report(_) => return,
-        Reply::Move { .. }
-        | Reply::Close { .. }
-        | Reply::Fault { .. }
-        | Reply::Link { .. }
-        | Reply::Cut { .. }
-        | Reply::Release { .. } => seen.saturating_sub(1),
-        _ => seen,
-    };
-    recorder.said(number, before, line, reply, out);
 }

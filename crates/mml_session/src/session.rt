@@ -19,8 +19,7 @@ ghost use Rattle.mml_codec.specs.Replies.{IsAbout};
 use crate::answering::answer_into;
 use crate::gate::Gate;
 use crate::held::Held;
-use crate::observer::{Gated, Observer};
-use crate::recorder::NoRecorder;
+use crate::observer::{Gated, NoObserver, Observer};
 use crate::setting::Setting;
 use mml_codec::{LineScratch, MAX_REQUEST, REPLY_ROOM, Reply, append_reply, tell_reply};
 use mml_ids::Memory;
@@ -82,7 +81,7 @@ pub fn serve_one<Rt: Wait, S: Sink + Drop, H: House, R: Read, W: Write, G: Gate>
     let setting = Setting { rt, alloc, desk };
     let mut observer = Gated {
         gate,
-        recorder: NoRecorder,
+        observer: NoObserver,
     };
     serve_observed(&setting, window, reader, writer, connection, &mut observer).end
 }

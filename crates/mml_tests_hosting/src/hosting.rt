@@ -3,7 +3,7 @@
 use crate::texts::{Count, Left, Texts, Timed, cycle_of_six, sent_to};
 use mml_fakes::lines;
 use mml_fakes::scripts::{CLOSED_JOURNAL, NOTHING_CLOSED, ONE_CLOSED, TESS_CLOSES};
-use mml_hosting::{HostFault, no_recorders, serve_host};
+use mml_hosting::{HostFault, no_observers, serve_host};
 use mml_journal::MemorySink;
 use mml_lab::Lab;
 use std::alloc::{AllocError, Global};
@@ -115,12 +115,12 @@ fn host_in_memory<R: Threads + Wait + Sync>(
     count: &Count,
     out: &mut Vec<u8>,
 ) -> Result<Left, HostFault> {
-    let Ok(recorders) = no_recorders(alloc, &lab) else {
+    let Ok(observers) = no_observers(alloc, &lab) else {
         return Err(HostFault::Memory);
     };
     let sink = MemorySink::new(alloc, None);
     serve_host(
-        rt, alloc, lab, sink, recorders, at_desk, at_port, count, out,
+        rt, alloc, lab, sink, observers, at_desk, at_port, count, out,
     )
 }
 

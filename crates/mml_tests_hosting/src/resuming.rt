@@ -7,7 +7,7 @@ use crate::texts::{Count, Left, Texts, Timed, cycle_of_six, sent_to};
 use mml_audit::AuditFault;
 use mml_fakes::lines;
 use mml_fakes::scripts::CLOSED_JOURNAL;
-use mml_hosting::no_recorders;
+use mml_hosting::no_observers;
 use mml_journal::{MemorySink, Sink};
 use mml_lab::Lab;
 use mml_policy::Denial;
@@ -119,7 +119,7 @@ fn resume_in<R: Threads + Wait + Sync>(
     count: &Count,
     out: &mut Vec<u8>,
 ) -> Result<Left, ResumeFault> {
-    let Ok(recorders) = no_recorders(alloc, &lab) else {
+    let Ok(observers) = no_observers(alloc, &lab) else {
         return Err(ResumeFault::Memory);
     };
     resume_class(
@@ -129,7 +129,7 @@ fn resume_in<R: Threads + Wait + Sync>(
         old.as_bytes(),
         Shelf(alloc),
         FIRST.as_bytes(),
-        recorders,
+        observers,
         at_desk,
         at_port,
         count,

@@ -10,7 +10,7 @@ use mml_journal::MemorySink;
 use mml_lab::Lab;
 use mml_lab_file::read_lab;
 use mml_serving::HangUp;
-use mml_session::NoRecorder;
+use mml_session::NoObserver;
 use std::alloc::{AllocError, Global};
 use std::collections::VecDeque;
 use std::io;
@@ -163,7 +163,7 @@ pub fn cycle_of_six(alloc: Global, events: u64) -> Result<Lab, Fail> {
 }
 
 /// The result of a house over connections in memory, with a journal in memory and no record.
-pub type Left = Hosted<MemorySink, ServedSession<VecDeque<u8>, NumberedWriter>, NoRecorder>;
+pub type Left = Hosted<MemorySink, ServedSession<VecDeque<u8>, NumberedWriter>, NoObserver>;
 
 /// Returns the bytes that were sent to the connection with this number, or `None` if the connection wasn't served.
 pub fn sent_to(left: &Left, number: u64) -> Option<&[u8]> {

@@ -6,6 +6,6 @@ use Rattle.mml_hosting.proofs.hosted.resume_host.Given as goal
 abbrev pub ghosts-host_in_house-H-House : goal.ghosts-host_in_house-H-House
 ghosts-host_in_house-H-House g a = record { name = a.house.name; lab = a.house.lab }
 
--- the events that came before, and what the recorders had kept
+-- the events that came before, and what the observers had kept
 abbrev pub ghosts-host_in_house-H-Begun : goal.ghosts-host_in_house-H-Begun
-ghosts-host_in_house-H-Begun g a = record { begun = a.house.begun; given = kept_from g.C.Recorder.kept 1 (a.recorders.at_desk ∷ a.recorders.others.items) }
+ghosts-host_in_house-H-Begun g a = record { begun = a.house.begun; given = kept_from g.C.Observer.kept 1 (a.observers.at_desk ∷ a.observers.others.items) }

@@ -5,30 +5,30 @@ use Rattle.mml_hosting.specs.Hosting.{IsUnused}
 use Rattle.mml_hosting.proofs.{HouseLemmas.desk_is_one, HouseLemmas.numbers_more, SeatLemmas.all_more}
 use Rattle.mml_hosting.proofs.hosted.seats_over.Goals as goal
 
-pub loop-recorder-preserved : goal.loop-recorder-preserved
-loop-recorder-preserved g c =
-    let at = c.loop-recorder.invariant in
+pub loop-observer-preserved : goal.loop-observer-preserved
+loop-observer-preserved g c =
+    let at = c.loop-observer.invariant in
     let put = c.push_reserved.ensures in
-    let goes : into_iter_items c.loop-recorder.recorder-iterator ≡ c.in-Some.recorder ∷ into_iter_items c.next.new.self = search rules in
-    let recorder = rw goes at at.given in
+    let goes : into_iter_items c.loop-observer.observer-iterator ≡ c.in-Some.observer ∷ into_iter_items c.next.new.self = search rules in
+    let observer = rw goes at at.given in
     let total : vec_len c.args.windows ≡ length c.args.windows.items = search rules in
-    let below : vec_len c.loop-recorder.seats < length c.args.windows.items = omega (arith, at.count, at.left, ap length goes, total) in
+    let below : vec_len c.loop-observer.seats < length c.args.windows.items = omega (arith, at.count, at.left, ap length goes, total) in
     let popped = All-pop (λ w. w ≡ window g.H.Begun.begun []) _ _ (Some c.in-Some-pop.window) c.in-Some-pop.ensures.items at.rest in
     record {
       rest = popped.0;
-      given = recorder.1;
+      given = observer.1;
       unused =
-          all_more (IsUnused g.H.Begun.begun g.H.Begun.given g.C.Recorder.kept) c.loop-recorder.seats.items c.push_reserved.new.self.items _ put.items at.unused
+          all_more (IsUnused g.H.Begun.begun g.H.Begun.given g.C.Observer.kept) c.loop-observer.seats.items c.push_reserved.new.self.items _ put.items at.unused
           (record {
-            desk = desk_is_one c.args.is_desk c.args.first (vec_len c.loop-recorder.seats) (length c.args.windows.items) c.loop-recorder.number
+            desk = desk_is_one c.args.is_desk c.args.first (vec_len c.loop-observer.seats) (length c.args.windows.items) c.loop-observer.number
                 c.requires.desk at.next below;
             unseen = popped.1;
-            recorder = recorder.0;
+            observer = observer.0;
             sessions = search rules;
             dismissed = refl;
           });
       numbers =
-          numbers_more c.args.first (vec_len c.loop-recorder.seats) (vec_len c.push_reserved.new.self) c.loop-recorder.seats.items
+          numbers_more c.args.first (vec_len c.loop-observer.seats) (vec_len c.push_reserved.new.self) c.loop-observer.seats.items
           c.push_reserved.new.self.items _ put.items (omega (arith, put.len)) at.numbers at.next;
       next = omega (arith, put.len, at.next);
       count = search rules;

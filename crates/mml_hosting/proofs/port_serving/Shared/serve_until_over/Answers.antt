@@ -52,7 +52,7 @@ returns-clause-serves g c =
 
 pub returns-clause-away : goal.returns-clause-away
 returns-clause-away g c =
-    let t = terms g.H.House.lab g.H.Begun.begun g.H.Begun.given g.R.Read.remaining g.W.Write.contents g.C.Recorder.kept g.K.Keep.shows in
+    let t = terms g.H.House.lab g.H.Begun.begun g.H.Begun.given g.R.Read.remaining g.W.Write.contents g.C.Observer.kept g.K.Keep.shows in
     let joined = c.gather-2.ensures in
     rw (sym c.reserve.ensures.items)
     (port_attended t _ _ _ c.reserve.new.self.items _ c.gather-2.new.free.items _ _ c.loop.invariant.history joined.all joined.count)
