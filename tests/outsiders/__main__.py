@@ -447,9 +447,9 @@ def ten_minutes(room: Path) -> None:
         for piece in (hello("ana"), look("ana"), look("ana"), b" ", b" "):
             waits.append(next_wait(library, student, piece))
             time.sleep(5)
-        # If two lines shared their time, the second would have five seconds less. If the bytes of one line began the
-        # time anew, the later waits would be longer.
-        if any(not 595.1 < wait <= 600 for wait in waits[:3]) or not 500 < waits[3] <= 595 or not 500 < waits[4] <= 590:
+        # If the bytes of one line restarted the time, the last two waits would be longer. If the lines shared the time
+        # since the hello, these waits would be ten seconds shorter.
+        if any(not 595.1 < wait <= 600 for wait in waits[:3]) or not 585 < waits[3] <= 595 or not 580 < waits[4] <= 590:
             fail(f"outsiders: a student's lines have {waits} seconds")
         teacher = Caller(host.desk)
         if next_wait(library, teacher, hello("tess")) != 0:

@@ -1,4 +1,4 @@
-//! Observers of a connection's replies.
+//! Observers of a connection's replies, and of the end of its session.
 //!
 //! A seat serves one connection after another, each through the seat's window.
 ghost use Rattle.std.specs.Prelude.{◌≡◌};
@@ -7,10 +7,13 @@ use mml_codec::Reply;
 use mml_session::{Ending, Observer};
 use std::io::Write;
 
-/// An observer of the replies of one connection.
+/// An observer of the replies of one connection, and of the end of its session.
 pub trait ReplyObserver {
     /// Notes a reply to the connection, before the reply's bytes are written.
     fn note_reply(&mut self, reply: &Reply);
+
+    /// Is called when the connection's session has ended, as `ending` says, before the connection is closed.
+    fn note_end(&mut self, ending: &Ending);
 }
 
 /// An observer that notes nothing.
@@ -20,6 +23,9 @@ pub struct NoReplies;
 impl ReplyObserver for NoReplies {
     // Does nothing: no reply is noted.
     fn note_reply(&mut self, _reply: &Reply) {}
+
+    // Does nothing: the end of the session isn't noted.
+    fn note_end(&mut self, _ending: &Ending) {}
 }
 
 /// An observer, or none.
@@ -28,6 +34,13 @@ impl<E: ReplyObserver> ReplyObserver for Option<E> {
     fn note_reply(&mut self, reply: &Reply) {
         if let Some(observer) = self {
             observer.note_reply(reply);
+        }
+    }
+
+    // Passes the end of the session to the observer, if there is one.
+    fn note_end(&mut self, ending: &Ending) {
+        if let Some(observer) = self {
+            observer.note_end(ending);
         }
     }
 }
@@ -68,8 +81,9 @@ impl<O: Observer + Drop, E: ReplyObserver + Drop> Observer for Both<O, E> {
         self.observer.wrote(number, replies);
     }
 
-    // Passes the end of a session to the seat's observer.
+    // Passes the end of a session to both observers.
     fn left(&mut self, number: u8, ending: &Ending, seen: u64) {
         self.observer.left(number, ending, seen);
+        self.replies.note_end(ending);
     }
 }

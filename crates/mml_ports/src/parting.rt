@@ -89,9 +89,9 @@ pub(crate) fn send_line(stream: &TcpStream, line: &[u8]) {
     let _ = stream.write(line);
 }
 
-/// Reads and drops up to 4096 bytes of what the other side sent. Without this, closing the socket would discard the
-/// bytes that the system has still to send. Waits for at most the stream's read timeout. Returns whether the other side
-/// may send more: `false` if it has ended or is gone.
+/// Reads and drops up to `PARTING_SIZE` bytes of what the other side sent. Without this, closing the socket would
+/// discard the bytes that the system has still to send. Waits for at most the stream's read timeout. Returns whether
+/// the other side may send more: `false` if it has ended or is gone.
 pub(crate) fn drain(stream: &TcpStream) -> bool {
     let mut stream = stream;
     let mut unwanted = [0; PARTING_SIZE];

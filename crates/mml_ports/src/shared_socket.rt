@@ -47,6 +47,8 @@ pub struct SharedSocket {
     pub(crate) is_farewell: AtomicBool,
     // Whether a reply was sent.
     pub(crate) is_answered: AtomicBool,
+    // Whether a line was answered since the reader last read.
+    pub(crate) is_line_answered: AtomicBool,
     // How many hellos of the connection were denied.
     denied: AtomicU64,
     // Whether the next reply to write is the denial of a hello.
@@ -72,6 +74,7 @@ impl SharedSocket {
             may_stay: AtomicBool::new(false),
             is_farewell: AtomicBool::new(false),
             is_answered: AtomicBool::new(false),
+            is_line_answered: AtomicBool::new(false),
             denied: AtomicU64::new(0),
             is_denial_next: AtomicBool::new(false),
             is_writing: AtomicBool::new(false),

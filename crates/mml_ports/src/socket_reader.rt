@@ -6,7 +6,6 @@ ghost use Rattle.std.specs.Io.{ReadsAtMost};
 
 use crate::connection::SharedConnection;
 use crate::end_reason::EndReason;
-use mml_codec::MAX_REQUEST;
 use mml_ends::Retrying;
 use std::io;
 use std::io::{Error, ErrorKind, Read};
@@ -46,10 +45,8 @@ pub struct SocketReader<'a, Rt> {
     may_stay: bool,
     // How the first line begins.
     first: FirstLine,
-    // Whether the first line was read to its end.
-    is_first_line_read: bool,
-    // How many bytes of the current line have come.
-    size: usize,
+    // Whether the bytes that were read last end within a line, so that the rest of it has still to come.
+    is_in_line: bool,
     // The read timeout that the socket has now.
     limit: Option<Duration>,
 }
@@ -73,8 +70,7 @@ impl<'a, Rt: Clock + Wait> SocketReader<'a, Rt> {
             patience,
             may_stay: false,
             first: FirstLine::Awaited,
-            is_first_line_read: false,
-            size: 0,
+            is_in_line: false,
             limit: None,
         }))
     }
@@ -82,7 +78,7 @@ impl<'a, Rt: Clock + Wait> SocketReader<'a, Rt> {
     // Returns how long a read may still wait, or `None` if it may wait for ever. After the hello, a line that hasn't
     // begun has its whole time. Returns the error `TimedOut` if the deadline has passed, or another if the clock fails.
     fn time_left(&self) -> io::Result<Option<Duration>> {
-        if self.may_stay && self.size == 0 {
+        if self.may_stay && !self.is_in_line {
             return Ok(self.patience);
         }
         let Some(deadline) = self.deadline else {
@@ -144,44 +140,33 @@ impl<'a, Rt: Clock + Wait> SocketReader<'a, Rt> {
         }
     }
 
-    // Notes the bytes that were read. Counts those of the current line; if there are more than a request may have,
-    // keeps `Long` as the reason of the end. Notes how the first line begins. If a line ended after the hello was
-    // granted, restarts the deadline. Returns an error if the clock fails.
-    fn note_bytes(&mut self, bytes: &[u8]) -> io::Result<()> {
-        let mut has_line = false;
-        let mut is_long = false;
-        for byte in bytes.iter() {
-            if *byte == b'\n' {
-                has_line = true;
-                self.size = 0;
-            } else {
-                self.size = self.size.saturating_add(1);
-                is_long = is_long || self.size > MAX_REQUEST;
-            }
-            self.note_first_line(*byte);
-        }
-        if is_long {
-            self.connection.note_end_reason(EndReason::Long);
-        }
-        if has_line && self.may_stay {
+    // Updates the deadline before a read. If the hello was granted since the last read, or a line was answered since
+    // then, the next line has its whole time from now on. The lines that were read aren't searched for their ends here:
+    // `SocketReplies` notes each line that is answered. Returns an error if the clock fails.
+    fn update_deadline(&mut self) -> io::Result<()> {
+        let socket = &self.connection.socket;
+        let has_answered = socket.is_line_answered.swap(false, Ordering::SeqCst);
+        let is_granted = !self.may_stay && socket.may_stay.load(Ordering::SeqCst);
+        self.may_stay = self.may_stay || is_granted;
+        if is_granted || has_answered && self.may_stay {
             self.restart_deadline()?;
         }
         Ok(())
     }
 
-    // Notes one byte of the first line: how that line begins, and whether it has ended. Ignores bytes of later lines.
-    fn note_first_line(&mut self, byte: u8) {
-        if self.is_first_line_read {
-            return;
+    // Returns whether the first line was read to its end, and didn't begin like a JSON object. Before the hello a read
+    // returns at most one line, so the first line has ended if the last read ended with a newline.
+    fn is_no_request(&self) -> bool {
+        self.first == FirstLine::Other && !self.is_in_line
+    }
+
+    // Notes whether the bytes that were read end within a line, and how the first line begins.
+    fn note_bytes(&mut self, bytes: &[u8]) {
+        if let Some(last) = bytes.last() {
+            self.is_in_line = *last != b'\n';
         }
-        match (self.first, byte) {
-            (FirstLine::Awaited, b' ' | b'\t' | b'\r') => {}
-            (FirstLine::Awaited, b'{') => self.first = FirstLine::Object,
-            (FirstLine::Awaited, _) => self.first = FirstLine::Other,
-            _ => {}
-        }
-        if byte == b'\n' {
-            self.is_first_line_read = true;
+        if self.first == FirstLine::Awaited {
+            self.first = beginning_of(bytes);
         }
     }
 }
@@ -194,13 +179,10 @@ impl<'a, Rt: Clock + Wait> Read for SocketReader<'a, Rt> {
         let socket = &self.connection.socket;
         socket.is_served.store(true, Ordering::SeqCst);
         // If the first line didn't begin like a JSON object, nothing more is read after it.
-        if socket.is_done() || self.is_first_line_read && self.first == FirstLine::Other {
+        if socket.is_done() || self.is_no_request() {
             return Ok(0);
         }
-        if !self.may_stay && socket.may_stay.load(Ordering::SeqCst) {
-            self.may_stay = true;
-            self.restart_deadline()?;
-        }
+        self.update_deadline()?;
         let read = if self.may_stay {
             self.read_in_time(buf)
         } else {
@@ -213,7 +195,7 @@ impl<'a, Rt: Clock + Wait> Read for SocketReader<'a, Rt> {
                 Ok(0)
             }
             Ok(count) => {
-                self.note_bytes(&buf[..count])?;
+                self.note_bytes(&buf[..count]);
                 Ok(count)
             }
             Err(error) => {
@@ -224,6 +206,19 @@ impl<'a, Rt: Clock + Wait> Read for SocketReader<'a, Rt> {
             }
         }
     }
+}
+
+// Returns how a line begins, from its first bytes. Skips spaces, tabs and carriage returns. Returns `Awaited` if there
+// are no other bytes.
+fn beginning_of(bytes: &[u8]) -> FirstLine {
+    for byte in bytes.iter() {
+        match *byte {
+            b' ' | b'\t' | b'\r' => {}
+            b'{' => return FirstLine::Object,
+            _ => return FirstLine::Other,
+        }
+    }
+    FirstLine::Awaited
 }
 
 // Returns how many of the first `count` bytes belong to the first line, with its newline. If no line ends there,

@@ -1,16 +1,20 @@
-//! What the replies to a connection say about it: whether a hello was granted or denied, and the teacher's bye.
+//! What the replies to a connection say about it: that a line was answered, whether a hello was granted or denied, and
+//! the teacher's bye. And what the end of its session says: whether a line was too long.
 //!
 //! A stranger is a connection on which no hello was granted; at the desk only the teacher's counts.
 use crate::connection::SharedConnection;
+use crate::end_reason::EndReason;
 use mml_board::Denial;
 use mml_codec::Reply;
 use mml_hosting::ReplyObserver;
 use mml_lab::Who;
+use mml_session::{Ending, SessionEnd};
 use std::sync::Wait;
 use std::sync::atomic::Ordering;
 
-/// The observer of the replies to a connection. For the connection's writer and the port's crowd, it notes whose hello
-/// was granted, which hellos were denied, and the teacher's bye.
+/// The observer of the replies to a connection. It notes that a line was answered, for the connection's reader. For the
+/// connection's writer and the port's crowd, it notes whose hello was granted, which hellos were denied, the teacher's
+/// bye, and that the session was ended by a line that was too long.
 #[derive(Drop)]
 pub struct SocketReplies<'a, Rt> {
     connection: SharedConnection<'a, Rt>,
@@ -45,11 +49,12 @@ impl<'a, Rt: Wait> SocketReplies<'a, Rt> {
 }
 
 impl<'a, Rt: Wait> ReplyObserver for SocketReplies<'a, Rt> {
-    // Notes what a reply means for the connection. The first granted hello is handled by `note_greeting`. Before that,
-    // a denial of a hello's name and key is counted, and the writer will delay it. The reply to the teacher's bye at
-    // the desk is noted as the one that dismisses the class. Any other reply is ignored.
+    // Notes that a line was answered, and what the reply means for the connection. The first granted hello is handled
+    // by `note_greeting`. Before that, a denial of a hello's name and key is counted, and the writer will delay it. The
+    // reply to the teacher's bye at the desk is noted as the one that dismisses the class.
     fn note_reply(&mut self, reply: &Reply) {
         let socket = &self.connection.socket;
+        socket.is_line_answered.store(true, Ordering::SeqCst);
         let is_greeted = socket.is_greeted.load(Ordering::SeqCst);
         match reply {
             Reply::Hello(who) if !is_greeted => self.note_greeting(*who),
@@ -58,6 +63,13 @@ impl<'a, Rt: Wait> ReplyObserver for SocketReplies<'a, Rt> {
                 socket.is_farewell.store(true, Ordering::SeqCst);
             }
             _ => {}
+        }
+    }
+
+    // Keeps `Long` as the reason of the end if the session was ended by a line that was longer than a request may be.
+    fn note_end(&mut self, ending: &Ending) {
+        if matches!(ending.end, SessionEnd::TooLong) {
+            self.connection.note_end_reason(EndReason::Long);
         }
     }
 }
