@@ -62,6 +62,7 @@ class Hosted(Cycle):
         self.assertIn(", stable", (going.folder / "audit.txt").read_text(encoding="utf-8"))
 
     def test_a_full_house(self) -> None:
+        """If all seats are taken, newcomers get `busy`. A seat becomes free when a bot is killed."""
         going = self.begin(3, "--close", "by-hand")
         gus = self.bot(going, "gus")
         going.until("^connected: gus$")
@@ -100,6 +101,8 @@ class Hosted(Cycle):
         self.ended(going)
 
     def test_the_host_goes_on_where_the_run_is_killed(self) -> None:
+        """If `run` is killed, its server keeps running until the teacher says bye at the desk. Then the journal can be
+        marked."""
         going = self.begin(3, "--close", "by-hand")
         server = Path(f"/proc/{going.server()}/stat")
         with Client(going.port, "gus", KEYS["gus"]) as gus:

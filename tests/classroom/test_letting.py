@@ -57,6 +57,7 @@ class Doors(InRoom):
         return client.move(look).place if look.rule and not look.chosen else 0
 
     def test_a_killed_server_s_run_goes_on_behind_the_same_door(self) -> None:
+        """If the server is killed, the process of the door ends. `run --resume` starts a new one at the same address."""
         going = self.begin()
         address = going.until("^page to look at from elsewhere https://")
         with self.comes() as client:
@@ -96,6 +97,7 @@ class Doors(InRoom):
         wait_until(lambda: not door.lives() and not self.door(again).process.lives())
 
     def test_slips_that_lead_elsewhere_are_named(self) -> None:
+        """`run` prints a warning if the slips name another address than that of the door."""
         self.port = a_port()
         going = self.begin()
         self.assertTrue(any(line.startswith(f"the slips of {self.lab} lead to another address: ") for line in going.lines), going.lines)
