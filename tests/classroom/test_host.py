@@ -48,6 +48,7 @@ class Hosted(Cycle):
         return next(int(line.removeprefix("desk ")) for line in going.lines if line.startswith("desk "))
 
     def test_run_until_stable_with_bots_that_die_and_come_again(self) -> None:
+        """Bots are killed, and others connect in their place. The run still becomes stable."""
         going = self.begin(8, "--close", "when-idle:0.3", "--until", "stable")
         for name in KEYS:
             for _ in range(3):
@@ -87,6 +88,7 @@ class Hosted(Cycle):
         self.assertEqual(sum("all seats are taken" in line for line in going.lines), 1)
 
     def test_the_desk_is_held_and_the_teacher_comes_to_the_port_too(self) -> None:
+        """Nobody else gets the seat of the desk while `run` has it. The teacher can also connect to the students' port."""
         going = self.begin(4, "--close", "by-hand")
         with self.assertRaises(Refused) as refused:
             Client(self.desk(going), *TEACHER)
@@ -125,6 +127,7 @@ class Hosted(Cycle):
         self.assertEqual(json.loads(marks.stdout)["runs"][0]["events"], 2)
 
     def test_an_interrupt_in_a_terminal(self) -> None:
+        """Ctrl-C in the terminal of `run` ends the run with status 0."""
         terminal = InTerminal(self)
         terminal.type(b"fault 1 2 true\n", b"fault at node 1: p 2, m true;")
         terminal.type(b"\x03", b"all of it is in ")

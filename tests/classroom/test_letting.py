@@ -109,6 +109,7 @@ class Doors(InRoom):
         self.assertEqual(going.ended(), 0, going.lines)
 
     def test_another_certificate(self) -> None:
+        """With `--certificate` the door has this certificate, and the slips have its fingerprint."""
         own = self.room / "own.pem"
         subprocess.run(["openssl", "req", "-x509", "-newkey", "ec", "-pkeyopt", "ec_paramgen_curve:prime256v1", "-nodes", "-subj", "/CN=own",
                         "-keyout", own, "-out", self.room / "certificate"], check=True, capture_output=True)
@@ -137,6 +138,7 @@ class Ports(InRoom):
 
     @unittest.skipUnless(host(), "not tried: no host is built")
     def test_labs_in_another_order(self) -> None:
+        """Each network gets the port on its slips, whatever the order of the labs on the command line."""
         students, first = self.file("names", "".join(f"Student {number}\n" for number in range(6))), a_port()
         done = words("new", self.room / "maths.toml", "--students", students, "--groups", "2", "--port", str(first), "--page-port", str(first + 100))
         self.assertEqual(done.returncode, 0, done.stderr)
