@@ -147,8 +147,8 @@ class PageRequest(BaseHTTPRequestHandler):
         self.wfile.write(content)
 
     def send_head(self, status: int, kind: str = "", size: int | None = 0, policy: str = "") -> None:
-        """Sends the status and the headers of an answer with a content of this size. If `size` is None, the answer ends
-        with the connection."""
+        """Sends the status and the headers of an answer. `kind` is the type of its content, and `policy` is added to
+        its Content-Security-Policy. If `size`, the size of the content, is None, the answer ends with the connection."""
         self.connection.settimeout(TAKING)
         self.send_response_only(status)
         for name, value in (("Cache-Control", "no-store"), ("Referrer-Policy", "no-referrer"),

@@ -93,7 +93,7 @@ class Beside:
         del self.book.chosen[node]
 
     def read(self) -> None:
-        """Grants the next move, as if it had been granted meanwhile."""
+        """Stands in for reading the journal's new lines. They contain one more grant as long as `later` has a node."""
         if self.later:
             self.book.chosen[self.later.pop()] = ("cyd", "update")
 

@@ -48,6 +48,7 @@ class Hosted(Cycle):
         return next(int(line.removeprefix("desk ")) for line in going.lines if line.startswith("desk "))
 
     def test_run_until_stable_with_bots_that_die_and_come_again(self) -> None:
+        """Bots are killed, and others connect in their place. The run still becomes stable."""
         going = self.begin(8, "--close", "when-idle:0.3", "--until", "stable")
         for name in KEYS:
             for _ in range(3):
@@ -62,6 +63,7 @@ class Hosted(Cycle):
         self.assertIn(", stable", (going.folder / "audit.txt").read_text(encoding="utf-8"))
 
     def test_a_full_house(self) -> None:
+        """If all seats are taken, newcomers get `busy`. A seat becomes free when a bot is killed."""
         going = self.begin(3, "--close", "by-hand")
         gus = self.bot(going, "gus")
         going.until("^connected: gus$")
@@ -86,6 +88,7 @@ class Hosted(Cycle):
         self.assertEqual(sum("all seats are taken" in line for line in going.lines), 1)
 
     def test_the_desk_is_held_and_the_teacher_comes_to_the_port_too(self) -> None:
+        """Nobody else gets the seat of the desk while `run` has it. The teacher can also connect to the students' port."""
         going = self.begin(4, "--close", "by-hand")
         with self.assertRaises(Refused) as refused:
             Client(self.desk(going), *TEACHER)
@@ -100,6 +103,8 @@ class Hosted(Cycle):
         self.ended(going)
 
     def test_the_host_goes_on_where_the_run_is_killed(self) -> None:
+        """If `run` is killed, its server keeps running until the teacher says bye at the desk. Then the journal can be
+        marked."""
         going = self.begin(3, "--close", "by-hand")
         server = Path(f"/proc/{going.server()}/stat")
         with Client(going.port, "gus", KEYS["gus"]) as gus:
@@ -122,6 +127,7 @@ class Hosted(Cycle):
         self.assertEqual(json.loads(marks.stdout)["runs"][0]["events"], 2)
 
     def test_an_interrupt_in_a_terminal(self) -> None:
+        """Ctrl-C in the terminal of `run` ends the run with status 0."""
         terminal = InTerminal(self)
         terminal.type(b"fault 1 2 true\n", b"fault at node 1: p 2, m true;")
         terminal.type(b"\x03", b"all of it is in ")

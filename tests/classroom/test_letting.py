@@ -57,6 +57,7 @@ class Doors(InRoom):
         return client.move(look).place if look.rule and not look.chosen else 0
 
     def test_a_killed_server_s_run_goes_on_behind_the_same_door(self) -> None:
+        """If the server is killed, the process of the door ends. `run --resume` starts a new one at the same address."""
         going = self.begin()
         address = going.until("^page to look at from elsewhere https://")
         with self.comes() as client:
@@ -96,6 +97,7 @@ class Doors(InRoom):
         wait_until(lambda: not door.lives() and not self.door(again).process.lives())
 
     def test_slips_that_lead_elsewhere_are_named(self) -> None:
+        """`run` prints a warning if the slips name another address than that of the door."""
         self.port = a_port()
         going = self.begin()
         self.assertTrue(any(line.startswith(f"the slips of {self.lab} lead to another address: ") for line in going.lines), going.lines)
@@ -107,6 +109,7 @@ class Doors(InRoom):
         self.assertEqual(going.ended(), 0, going.lines)
 
     def test_another_certificate(self) -> None:
+        """With `--certificate` the door has this certificate, and the slips have its fingerprint."""
         own = self.room / "own.pem"
         subprocess.run(["openssl", "req", "-x509", "-newkey", "ec", "-pkeyopt", "ec_paramgen_curve:prime256v1", "-nodes", "-subj", "/CN=own",
                         "-keyout", own, "-out", self.room / "certificate"], check=True, capture_output=True)
@@ -135,6 +138,7 @@ class Ports(InRoom):
 
     @unittest.skipUnless(host(), "not tried: no host is built")
     def test_labs_in_another_order(self) -> None:
+        """Each network gets the port on its slips, whatever the order of the labs on the command line."""
         students, first = self.file("names", "".join(f"Student {number}\n" for number in range(6))), a_port()
         done = words("new", self.room / "maths.toml", "--students", students, "--groups", "2", "--port", str(first), "--page-port", str(first + 100))
         self.assertEqual(done.returncode, 0, done.stderr)

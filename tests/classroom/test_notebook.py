@@ -41,11 +41,13 @@ class Notebook(InRoom):
         return printed.getvalue()
 
     def test_its_cells_count_what_the_table_has(self) -> None:
+        """The cells print the numbers of the table's runs."""
         told = self.done(self.table)
         for line in WANTED:
             self.assertIn(line, told)
 
     def test_a_run_above_a_bound_is_news(self) -> None:
+        """A cell raises an error if a run has more moves or rounds than the bound allows."""
         for moves, rounds in ((21, 6), (12, 9)):
             table = self.file("news.csv", f"{HEADS}crowd,4,4,central,worst,1,{moves},12,{rounds},true\n")
             with self.assertRaisesRegex(AssertionError, "would be news"):

@@ -114,11 +114,13 @@ class Seated(Cycle):
         self.assertEqual(self.whole(going.folder), events + 1)
 
     def test_a_student_before_run(self) -> None:
+        """A student who says hello at the desk before `run` connects loses the seat to `run`."""
         going = Going(self, CYCLE, "--close", "by-hand", MML_HOST=self.relayed("seated"))
         self.assertEqual(self.told(), '{"ok":"hello","who":"gus"}\n')
         self.goes_on(going, 0)
 
     def test_a_student_before_a_class_goes_on(self) -> None:
+        """A student who says hello at the desk before `run --resume` connects loses the seat to it."""
         going, record = self.killed()
         self.end(record.server)
         while record.server.lives():
@@ -129,6 +131,7 @@ class Seated(Cycle):
         self.goes_on(again, 1)
 
     def test_a_student_before_attach(self) -> None:
+        """A student who has the seat of the desk of a running server loses it to `attach`, with the refusal `busy`."""
         going, record = self.killed()
         gus = Client(record.desk, "gus", KEYS["gus"])
         self.addCleanup(gus.hang_up)
@@ -148,6 +151,7 @@ class Seated(Cycle):
         return again, tess
 
     def test_the_teacher_at_the_desk_is_waited_for(self) -> None:
+        """If another connection of the teacher has the desk, `attach` connects when that connection has ended."""
         going, record = self.killed()
         again, tess = self.attached(going, record)
         tess.hang_up()
@@ -157,6 +161,8 @@ class Seated(Cycle):
         self.goes_on(again, 1)
 
     def test_a_server_that_was_found_is_not_ended(self) -> None:
+        """An `attach` that waits for the desk gets SIGTERM: it ends with status 4, and the server that it found keeps
+        running."""
         going, record = self.killed()
         again, tess = self.attached(going, record)
         again.process.send_signal(signal.SIGTERM)
@@ -173,11 +179,13 @@ class Seated(Cycle):
         self.goes_on(Going(self, None, "attach", going.folder), 2)
 
     def test_the_first_at_the_desk_is_run(self) -> None:
+        """`run` connects to the desk before the server's first line is passed on to it."""
         going = Going(self, CYCLE, "--close", "by-hand", MML_HOST=self.relayed("knocked"))
         self.assertEqual(self.told(), "somebody came\n")
         self.goes_on(going, 0)
 
     def test_the_first_at_the_desk_of_a_class_that_goes_on_is_run(self) -> None:
+        """The same holds for `run --resume`, which keeps the ports of the class."""
         going, record = self.killed()
         self.end(record.server)
         while record.server.lives():

@@ -44,8 +44,8 @@ def jobs_of(number: int) -> int:
 
 def at_once_of(number: int) -> int:
     """Returns the number of crates that are proved side by side on `number` processors. It is the number of proofs
-    whose processes (`jobs_of`) occupy all processors. If a proof has several processes, it is one more, since such a
-    proof begins and ends with a single one."""
+    whose processes (`jobs_of`) occupy all processors. If a proof has several processes, one more crate is proved, since
+    each proof begins and ends with a single process."""
     each = jobs_of(number)
     return -(-number // each) + (each > 1)
 

@@ -18,12 +18,12 @@ from classroom.client import Client, Closed, Denied, NoServer, Over, Refused, Sl
 PAUSE = 0.3  # seconds between two looks
 
 
-def play(slip: Slip, told: Path) -> None:
-    """Plays the nodes of a slip until the class is over or the slip's key has changed. Appends the name to the file of
-    the second parameter for each hello."""
+def play(slip: Slip, log: Path) -> None:
+    """Plays the nodes of a slip until the class is over or the slip's key has changed. After each granted hello, appends
+    a line with the slip's name to the file `log`."""
     me = come(slip)
     while True:
-        with told.open("a", encoding="utf-8") as it:
+        with log.open("a", encoding="utf-8") as it:
             it.write(f"{slip.name}\n")
         try:
             turns(me, slip)
