@@ -1,4 +1,5 @@
--- The result of the next line of a script. An output line that isn't written yet is held.
+-- The result of the next line of a script. An output line has a reply, and before it the number of its connection. An
+-- output line that isn't written yet is held.
 use Rattle.std.specs.Prelude.{Bool, true, false, ◌≡◌, ◌≢◌, ℕ, ◌<◌, List, [], ◌∷◌, ◌++◌, length, Option, Result, Ok, Err, OnOk, IfErr, ⊤}
 use Rattle.std.specs.Io.KnownBytes.{Consumes, IsAtEnd, prepend_known}
 use Rattle.mml_lab.specs.Labs.{LabValue}
