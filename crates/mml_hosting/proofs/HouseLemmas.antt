@@ -1,4 +1,7 @@
--- The seats of a house before anybody was served, their records, and how the house ends.
+-- The seats of a house before anybody was served, their records, and how the house ends. A house is one run of a lab
+-- that threads share. Its book has the granted events, the board after them and their journal; its log is its result. A
+-- window is what the sessions of a seat have seen of the list of events, and the places of the events that were granted
+-- to them. The desk is dismissed by the teacher's bye.
 use Rattle.std.proofs.Common.{rules, ◌≡◌, ◌∙◌, ap, sym, subst, ℕ, zero, suc, ◌+◌, ◌<◌, ◌≤◌, ◌==◌, Bool, true, false, List, [], ◌∷◌, ◌++◌, flat_map, length, length-append, refl, All, Option, Result, Ok, Err, IfOk, MatchBool, arith}
 use Rattle.std.{specs.List.AllZip, specs.List.list_all, specs.List.range_with_len, specs.List.sum_by, proofs.KnownBytes.Appends-nil}
 use Rattle.std.proofs.lemmas.{Bool.Decides.nat_tests, List.length-map, List.map-append, List.Sums.AllPass-from_list_all, List.Sums.sum_by-append, List.Sums.sum_by-cons, List.Sums.sum_by_push, List.Concat.flat_map-cons}
@@ -41,7 +44,7 @@ all_numbers n total desk_old old desk others count one rest at_desk elsewhere = 
     let first : sum_by g desk_old ≡ 0 + g 1 = ap (sum_by g) one ∙ sum_by_push g [] 1 in
     omega (arith, all, first, ap (sum_by g) rest, sum_by-append g desk others, at_desk g, elsewhere g)
 
--- the numbers of seats that are numbered in order, with one more seat
+-- the n + 1 numbers from `a` on are the n numbers from `a` on, and then a + n
 range_more : (a n : ℕ) → range_with_len a (suc n) ≡ range_with_len a n ++ (a + n) ∷ []
 range_more a zero = let same : a ≡ a + 0 = omega arith in ap (λ (k : ℕ). k ∷ []) same
 range_more a (suc n) =
@@ -53,7 +56,7 @@ pub numbers_more : {H K C : Type 0} (first n m : ℕ) (ss ss' : List (Seat H K C
 numbers_more first n m ss ss' s one more before here =
     rw (one, map-append (λ q. q.record) ss (s ∷ []), map-append (λ r. r.number) (records_of ss) (s.record ∷ []), more, range_more first n, before, here) refl
 
--- if `given` says what each recorder has kept, the recorders have kept what `given` says for their numbers
+-- if `given` has, for each number from n on, what the recorder of this number has kept, `AreGiven` is true
 pub are_given : {C : Type 0} (given : ℕ → Option Kept) (kept : C → Option Kept) (n : ℕ) (cs : List C)
     → ((m : ℕ) → n ≤ m → given m ≡ kept_from kept n cs m) → AreGiven given kept n cs
 are_given given kept n [] same = tt
@@ -127,7 +130,7 @@ module _ {H K C R W : Type 0} (t : Terms K C R W) where
       came = rw (none_came old fresh) at at_port.attends;
     }
 
-    -- a list of which each window has seen a beginning begins with the events from before the house
+    -- if each window has seen a beginning of a list, this list begins with the events from before the house
     begun_with : (l : List Event) → All (λ w. IsPrefix w.seen l) (windows_of desks ++ windows_of others) → IsPrefix t.begun l
     begun_with l seen = begins_with t.begun l desks (windows_of others) (at_desk.count ∙ one) (all_seen desks at_desk.seats) seen
 
@@ -205,7 +208,7 @@ module _ {S H K C : Type 0} (first : ℕ) (lab : LabValue) (sink : S → Option 
         (subst (λ (m : ℕ). ¬ (IsEachOnceFrom first m (told_of windows))) found (is (omega (arith, enough, found))).places),
   )
 
--- How much of its lines a failed house has written.
+-- What a failed house has written.
 module _ {S K C R W : Type 0} (t : Terms K C R W) (sink : S → Option (List ℕ)) (to_desk to_come : Option (List (R × W))) where
   -- if there is no log, nothing was written
   pub badly_early : (wrote : Option (List ℕ)) (f : HostFault) → HostsEarly t sink to_desk to_come f → HostsBadly t sink to_desk to_come wrote wrote f
@@ -214,7 +217,7 @@ module _ {S K C R W : Type 0} (t : Terms K C R W) (sink : S → Option (List ℕ
   badly_early wrote fault.Astray early = (early, Appends-nil wrote)
   badly_early wrote _ early = absurd early
 
-  -- if there is a log, the error says why its last line wasn't written whole
+  -- if there is a log, the error is the reason why its last line wasn't written whole
   pub badly_logged : (house : Hosted S K C)
       → HostsFrom t.begun t.given t.lab sink t.remaining t.contents t.recorded t.shows to_desk to_come house
       → (wrote wrote' : Option (List ℕ)) (f : ServeFault)

@@ -66,8 +66,8 @@ sum_numbers shows g (s ∷ ss) = omega (
   sum_none (came_to shows s.record),
 )
 
--- if no seat is busy any longer, each connection that came was served once or turned away, and each seat's number is
--- there once
+-- if no seat is busy any longer, each connection that came was served once or turned away, and the seats have the same
+-- numbers as at first
 module _ {H K C R W U : Type 0} (t : Terms K C R W) (IsAway : R × W → Type 0) (known now : Option (List (R × W))) (first free last : List (Seat H K C))
     (busy gone : List (Busy H K C R W U)) (so_far : History t.shows IsAway known now first free busy) (over : gone ≡ [])
     (joined : KeepCounts t.shows free busy last gone) where

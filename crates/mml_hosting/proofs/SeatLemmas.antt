@@ -1,4 +1,5 @@
--- Seats in which sessions are served one after another.
+-- Seats in which sessions are served one after another. A window is what the sessions of a seat have seen of the list
+-- of events, and the places of the events that were granted to them.
 use Rattle.std.proofs.Common.{◌≡◌, ◌∙◌, ap, ℕ, ◌+◌, Bool, true, false, ◌&&◌, List, [], ◌∷◌, ◌++◌, map, All, arith}
 use Rattle.std.{specs.List.sum_by, proofs.lemmas.Bool.Decides.nat_tests, proofs.lemmas.List.map-append, proofs.lemmas.List.Elements.All-push, proofs.lemmas.List.Sums.sum_by_push}
 use Rattle.mml_lines.specs.Runs.{Chain}

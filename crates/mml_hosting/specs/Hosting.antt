@@ -1,5 +1,6 @@
--- A house through whose windows one connection after another was served. The place of an event is its number in the
--- list of events, from 1.
+-- A house through whose windows one connection after another was served. A house is one run of a lab that threads
+-- share. A window is what the sessions of a seat have seen of the list of events, and the places of the events that
+-- were granted to them. The place of an event is its number in this list, from 1.
 use Rattle.std.specs.{Prelude.◌≡◌, Prelude.◌==◌, Prelude.ℕ, Prelude.false, Prelude.List, Prelude.[], Prelude.◌++◌, Prelude.flat_map, Prelude.length, Prelude.All, Prelude.Option, List.AllZip, List.range_with_len}
 use Rattle.mml_lab.specs.Labs.{LabValue}
 use Rattle.mml_window.specs.{Windows.WindowValue, Windows.window, Logs.IsLogFrom}

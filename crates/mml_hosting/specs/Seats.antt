@@ -1,4 +1,5 @@
--- Seats, each of which serves one connection after another through its window.
+-- Seats, each of which serves one connection after another through its window. A window is what the sessions of a seat
+-- have seen of the list of events, and the places of the events that were granted to them.
 use Rattle.std.specs.Prelude.{◌≡◌, ◌<◌, ℕ, ◌+◌, ◌==◌, if◌then◌else◌, Bool, true, false, List, [], ◌∷◌, ◌++◌, map, All, ⊤, Option, None, Some, vec_len, vec_capacity}
 use Rattle.mml_lab.specs.{Labs.LabValue, declared.who.Who.Who}
 use Rattle.mml_board.specs.declared.event.Event.{Event}
@@ -47,7 +48,7 @@ abbrev pub kept_from : {C : Type 0} → (C → Option Kept) → ℕ → List C �
 kept_from kept first [] n = None
 kept_from kept first (c ∷ cs) n = if n == first then kept c else kept_from kept (first + 1) cs n
 
--- the recorders of seats that are numbered from `n` on have kept what `given` says for each
+-- the recorders of seats that are numbered from `n` on have kept what `given` has for each number
 abbrev pub AreGiven : {C : Type 0} → (ℕ → Option Kept) → (C → Option Kept) → ℕ → List C → Type 0
 AreGiven given kept n [] = ⊤
 AreGiven given kept n (c ∷ cs) = (kept c ≡ given n) × AreGiven given kept (n + 1) cs
