@@ -36,7 +36,7 @@ module _ {S R W : Type 0} (lab : LabValue) (sink : S → Option (List ℕ)) (rem
   badly_early wrote fault.Write early = absurd early
   badly_early wrote _ early = Appends-nil wrote
 
-  -- if there is a log, the error says why its last line wasn't written whole
+  -- if there is a log, the error is the reason why its last line wasn't written whole
   pub badly_logged : (sessions : List (EndedSession R W)) (log : Log S) → ServesHouse lab sink remaining contents to_come count sessions log
       → (wrote wrote' : Option (List ℕ)) (f : ServeFault)
       → LacksLastLine log.halted wrote wrote' (done_line (length log.events) log.board.number) f

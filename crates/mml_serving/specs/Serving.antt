@@ -1,5 +1,6 @@
--- Connections that were served in the order in which they came. The place of an event is its number in the list of
--- events, from 1.
+-- Connections that were served in the order in which they came. A window is what a session has seen of the list of
+-- events, and the places of the events that were granted to it. The place of an event is its number in this list, from
+-- 1.
 use Rattle.std.specs.Prelude.{◌≡◌, ℕ, Bool, true, false, not, ◌&&◌, ◌+◌, List, [], ◌∷◌, ◌++◌, All, length, map, ⊤, Option}
 use Rattle.mml_lab.specs.Labs.{LabValue}
 use Rattle.mml_window.specs.{declared.log.Log.Log, Logs.IsLog, Windows.WindowValue, Windows.window}
