@@ -65,7 +65,8 @@ module _ {K C R W : Type 0} (t : Terms K C R W) where
   still_kept : (old new : Option Kept) (k : Kept) (bytes : List ℕ) → old ≡ Some k → Adds old new bytes → (k' : Kept) × (new ≡ Some k')
   still_kept old new k bytes e adds = grind (arith, nat_tests)
 
-  -- if the recorder of a seat has kept something, it has kept the sessions that follow as a record has them
+  -- if contracts can name what a seat's recorder has kept before some sessions, they can name it afterwards, and these
+  -- are the sessions of a recorded seat (`Held`)
   held : (n : ℕ) (ss : List (ServedSession R W)) (a b : Stand) (k : Kept) → a.kept ≡ Some k → Chain (Leads t n) a ss b
       → (k' : Kept) × (b.kept ≡ Some k') × Chain (Held t.lab n) (stand a.window (Some k)) (map (λ s. s.ending.end) ss) (stand b.window (Some k'))
   held n [] a b k e led = (k, ap (λ (s : Stand). s.kept) led ∙ e, ap (λ (s : Stand). stand s.window (Some k)) led)
