@@ -1,4 +1,6 @@
--- In worlds that are alike for a student, each command of the student has the same reply.
+-- In worlds that are alike for a student, each command of the student has the same reply. A world is the state of the
+-- network after some events. Two worlds are alike for a student if everything that the student may see is the same in
+-- both.
 use Rattle.std.proofs.Common.{◌≡◌, ℕ, Bool, true, false, cond, List, Option, None, Some, Result, refl, ap, subst, arith}
 use Rattle.std.{proofs.lemmas.Bool.false≢true, proofs.lemmas.Bool.Decides.nat_tests, specs.Result.IfOk, specs.Option.option_map_or}
 use Rattle.mml_ids.proofs.GivesLemmas.{bind-if, need-if}
@@ -55,7 +57,7 @@ pub same_reply_to : (ids : List ℕ) (r : RosterValue) (limit : ℕ) (h : Bool) 
     → reply_to ids r limit h w (who.Student s) k ≡ reply_to ids r limit h v (who.Student s) k
 same_reply_to ids r limit h w v s k in_w in_v a = grind (arith, nat_tests, alike_afterwards, same_reply_of, student_unreported, same_ruling)
 
--- each command of the student has the same reply line too
+-- in worlds that are alike for a student, each command of the student has the same reply line
 pub same_line_to : (ids : List ℕ) (r : RosterValue) (limit : ℕ) (h : Bool) (w v : World) (s : ℕ) (k : Command) → IsWorldOf ids w
     → IsWorldOf ids v → Alike r s w v
     → line_to ids r limit h w (who.Student s) k ≡ line_to ids r limit h v (who.Student s) k
