@@ -28,7 +28,8 @@ abbrev pub record_limits : List ℕ
 record_limits = limit_line (codes "entry") 8388608 (codes "bytes") ++ (limit_line (codes "seat-written") 1072693248 (codes "bytes")
     ++ limit_line (codes "seat-read") 1073741824 (codes "bytes"))
 
--- the deadlines of a connection: of its greeting at the students' port and at the desk, of its next line, and of a write to it
+-- the deadlines of a connection: of its greeting at the students' port and at the desk, of its next line, and of a
+-- write to it
 abbrev pub deadlines : List ℕ
 deadlines = limit_line (codes "greeting") 10 (codes "seconds") ++ (limit_line (codes "desk-greeting") 5 (codes "seconds")
     ++ (limit_line (codes "next-line") 600 (codes "seconds") ++ limit_line (codes "write") 10 (codes "seconds")))
