@@ -1,6 +1,7 @@
 -- What a turn doesn't change, and when the refusal `memory` may replace a reply. A turn computes the reply to one line
 -- and the state after it. It is plain if memory doesn't run out and no write fails. The place of an event is its number
--- in the list of events, from 1. A participant is known on a connection from a granted hello to a bye.
+-- in the list of events, from 1. A participant is known on a connection from a granted hello to a bye. A world is the
+-- state of a run after some events: its network and its chosen moves.
 use Rattle.std.proofs.lemmas.{Bool.Decides.nat_tests, Bool.or_right, List.get_or-set_other, List.set-get_or}
 use Rattle.std.proofs.Common.{◌≡◌, ◌≢◌, ◌⊎◌, ◌<◌, ◌-◌, ℕ, Bool, true, false, true≢false, not, cond, List, Option, Some, None, Result, Ok, Err, refl, sym, ap, ◌∙◌, arith, subst, inl, inr}
 use Rattle.mml_lab.specs.{declared.who.Who.Who, Labs.LabValue}
