@@ -1,7 +1,7 @@
 -- Turns and scripts in two labs that look the same to a coalition. A coalition is a group of students, given by a test
--- of its members. A world is the state of the network after some events. Two worlds are alike for a student if
--- everything that the student may see is the same in both. A participant is known on a connection from a granted hello
--- to a bye.
+-- of its members. A world is the state of a run after some events: its network and its chosen moves. Two worlds are
+-- alike for a student if everything that the student may see is the same in both. A participant is known on a
+-- connection from a granted hello to a bye.
 use Rattle.std.proofs.Common.{◌≡◌, ℕ, Bool, true, false, List, [], ◌∷◌, ◌++◌, Option, refl, ap, arith}
 use Rattle.std.{proofs.lemmas.Bool.false≢true, proofs.lemmas.Bool.Decides.nat_tests, specs.Prelude.decimal}
 use Rattle.mml_lab.specs.{declared.who.Who.Who, Labs.LabValue}

@@ -1,6 +1,6 @@
--- Scripts that are run in two labs that look the same to a student. A world is the state of the network after some
--- events. Two worlds are alike for a student if everything that the student may see is the same in both. A participant
--- is known on a connection from a granted hello to a bye.
+-- Scripts that are run in two labs that look the same to a student. A world is the state of a run after some events:
+-- its network and its chosen moves. Two worlds are alike for a student if everything that the student may see is the
+-- same in both. A participant is known on a connection from a granted hello to a bye.
 use Rattle.std.proofs.Common.{◌≡◌, ◌≢◌, ℕ, ◌-◌, ◌==◌, Bool, true, false, cond, List, [], ◌∷◌, ◌++◌, Option, None, Result, Ok, All, refl, sym, ap, ◌∙◌, arith}
 use Rattle.std.specs.{List.concat, Prelude.slice_index_or, Prelude.decimal}
 use Rattle.std.proofs.lemmas.{Bool.cases_lt, Bool.Decides.nat_tests, List.Elements.All-set, List.Elements.All-replicate, List.get_or_past}

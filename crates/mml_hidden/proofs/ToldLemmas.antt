@@ -1,6 +1,6 @@
--- In worlds that are alike for a student, each command of the student has the same reply. A world is the state of the
--- network after some events. Two worlds are alike for a student if everything that the student may see is the same in
--- both.
+-- In worlds that are alike for a student, each command of the student has the same reply. A world is the state of a run
+-- after some events: its network and its chosen moves. Two worlds are alike for a student if everything that the
+-- student may see is the same in both.
 use Rattle.std.proofs.Common.{◌≡◌, ℕ, Bool, true, false, cond, List, Option, None, Some, Result, refl, ap, subst, arith}
 use Rattle.std.{proofs.lemmas.Bool.false≢true, proofs.lemmas.Bool.Decides.nat_tests, specs.Result.IfOk, specs.Option.option_map_or}
 use Rattle.mml_ids.proofs.GivesLemmas.{bind-if, need-if}

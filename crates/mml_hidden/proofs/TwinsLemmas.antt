@@ -1,6 +1,7 @@
--- The turn of a line in two states that are alike for a student. A world is the state of the network after some events.
--- Two worlds are alike for a student if everything that the student may see is the same in both. A participant is known
--- on a connection from a granted hello to a bye.
+-- The turn of a line in two states that are alike for a student. A world is the state of a run after some events: its
+-- network and its chosen moves. Two worlds are alike for a student if everything that the student may see is the same
+-- in both. A participant is known on a connection from a granted hello to a bye. A mishap is what goes wrong in a turn:
+-- memory runs out, or a write fails.
 use Rattle.std.proofs.Common.{◌≡◌, ◌⊎◌, ℕ, Bool, true, false, cond, List, Option, Result, refl, sym, ap, ◌∙◌, subst, inl, inr, arith}
 use Rattle.std.{proofs.lemmas.Bool.false≢true, proofs.lemmas.Bool.eqb-true, proofs.lemmas.Bool.Decides.nat_tests, specs.Option.option_map_or}
 use Rattle.mml_lab.specs.{declared.who.Who.Who, Labs.LabValue}

@@ -1,6 +1,6 @@
 -- Students who combine what they are shown. Such a group is a coalition, given by a test of its members. A world is the
--- state of the network after some events. Two worlds are alike for a student if everything that the student may see is
--- the same in both. A participant is known on a connection from a granted hello to a bye.
+-- state of a run after some events: its network and its chosen moves. Two worlds are alike for a student if everything
+-- that the student may see is the same in both. A participant is known on a connection from a granted hello to a bye.
 use Rattle.std.specs.Prelude.{◌≡◌, ℕ, Bool, true, false, Option, None, Some, List, [], ◌∷◌}
 use Rattle.mml_lab.specs.{declared.who.Who.Who, Labs.LabValue, Labs.IsLab, Rosters.RosterValue}
 use Rattle.mml_board.specs.World.{World, opening_of}

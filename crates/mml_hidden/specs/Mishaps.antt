@@ -1,7 +1,8 @@
 -- The turns of a script's lines with mishaps, and their output on the connections of one student. A mishap is what goes
--- wrong in a turn: memory runs out, or a write to the journal fails. A world is the state of the network after some
--- events. Two worlds are alike for a student if everything that the student may see is the same in both. A participant
--- is known on a connection from a granted hello to a bye.
+-- wrong in a turn: memory runs out, or a write to the journal fails. A world is the state of a run after some events:
+-- its network and its chosen moves. Two worlds are alike for a student if everything that the student may see is the
+-- same in both. A participant is known on a connection from a granted hello to a bye. A transcript has the script lines
+-- so far, with their replies.
 use Rattle.std.specs.Prelude.{◌≡◌, ℕ, Bool, true, false, List, [], ◌∷◌, map}
 use Rattle.mml_lab.specs.Labs.{LabValue}
 use Rattle.mml_policy.specs.Alike.{Alike}
