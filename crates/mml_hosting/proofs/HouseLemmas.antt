@@ -155,7 +155,7 @@ module _ {H K C R W : Type 0} (t : Terms K C R W) where
     }
     hosted (Err e) kept dismissed desk_is others_is = tt
 
-    -- if there is no log, the house ended early, as `HostsEarly` says
+    -- if there is no log, the house ended early, as `HostsEarly` states
     pub unhosted : (f : HostFault) → EndsWithoutLog (length t.begun) t.lab sink desks (windows_of desks ++ windows_of others) f
         → HostsEarly t sink to_desk to_come f
     unhosted fault.Memory without = tt

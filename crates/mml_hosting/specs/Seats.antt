@@ -1,5 +1,6 @@
 -- Seats, each of which serves one connection after another through its window. A window is what the sessions of a seat
--- have seen of the list of events, and the places of the events that were granted to them.
+-- have seen of the list of events, and the places of the events that were granted to them. A house is one run of a lab
+-- that threads share.
 use Rattle.std.specs.Prelude.{◌≡◌, ◌<◌, ℕ, ◌+◌, ◌==◌, if◌then◌else◌, Bool, true, false, List, [], ◌∷◌, ◌++◌, map, All, ⊤, Option, None, Some, vec_len, vec_capacity}
 use Rattle.mml_lab.specs.{Labs.LabValue, declared.who.Who.Who}
 use Rattle.mml_board.specs.declared.event.Event.{Event}
@@ -11,9 +12,9 @@ use Rattle.mml_lab.specs.declared.who.Who.TheVariants as who
 use Rattle.mml_session.specs.declared.session.SessionEnd.TheVariants as end
 
 -- The parameters of a house's contracts. The first three are its lab, the events from before it was opened, and what
--- the recorder of the seat with each number had kept then. The others are functions. They return the bytes that a
--- connection's reader has still to return, the bytes that were written to its writer, what a recorder has kept, and the
--- session that a kept value shows
+-- the recorder of the seat with each number had kept then. The others are functions. Two return the bytes that a
+-- connection's reader has still to return, and those that were written to its writer. The last two return what a
+-- recorder has kept, and the session that a kept value shows
 pub record Terms (K C R W : Type 0) : Type 0 where
   pub lab : LabValue
   pub begun : List Event
@@ -84,8 +85,8 @@ IsDismissed {R} {W} ss =
 abbrev pub Led : {K C R W : Type 0} → Terms K C R W → SeatRecord K C → WindowValue → Type 0
 Led t r w = Chain (Leads t r.number) (stand (window t.begun []) (t.given r.number)) (sessions_of t.shows r) (stand w (t.recorded r.recorder))
 
--- the seat's sessions have changed its window and its recorder as `Led` says; at the desk, whose seat has the number 1,
--- it is noted whether the teacher's bye came
+-- the seat's sessions have changed its window and its recorder as `Led` states; at the desk, whose seat has the number
+-- 1, it is noted whether the teacher's bye came
 pub record IsSeat {H K C R W : Type 0} (t : Terms K C R W) (s : Seat H K C) : Type 0 where
   pub desk : s.is_desk ≡ (s.record.number == 1)
   pub led : Led t s.record s.window
