@@ -15,7 +15,7 @@ weaker_ok (Ok x) P Q weaker holds = weaker x holds
 weaker_ok (Err e) P Q weaker holds = tt
 
 module _ (U : ClassError → Type 0) (P : List ℕ → Type 0) (wrote wrote' : Option (List ℕ)) where
-  -- if a text of which P is true was written, `IsWritten` is true; if only a beginning of it was, `IsUnwritten` is
+  -- if a text for which P is true was written, `IsWritten` is true; if only a beginning of it was, `IsUnwritten` is
   pub all_written : (r : Result (Unit {0}) ClassError) (text now : List ℕ) → P text → now ≡ text → OnOk r (Appends wrote wrote' now) → OnOk r (IsWritten P wrote wrote')
   all_written (Ok x) text now holds same all = (text, holds, subst (λ t. Appends wrote wrote' t) same all)
   all_written (Err e) text now holds same all = tt
