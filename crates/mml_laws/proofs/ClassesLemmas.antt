@@ -1,4 +1,5 @@
--- The contract of a host, which serves a class, implies what the laws about houses and about records assume.
+-- The contract of a host, which serves a class, implies what the laws about houses and about records assume. A house is
+-- one run of a lab that threads share.
 use Rattle.std.proofs.lemmas.Bool.Decides.{nat_tests}
 use Rattle.std.proofs.Common.{◌≡◌, ◌<◌, ◌≤◌, ◌+◌, ◌&&◌, ℕ, zero, suc, cond, nat_lt, nat_le, List, [], ◌∷◌, ◌++◌, map, length, All, Option, Some, refl, sym, ap, ◌∙◌, subst, arith, inl, inr}
 use Rattle.std.proofs.lemmas.Bool.{cases_Bool, cases_eq, and_parts, and_from, ltb-true, leb-true, lt-ltb, le-leb, eq-eqb, ne_eqb}

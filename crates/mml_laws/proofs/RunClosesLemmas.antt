@@ -1,4 +1,5 @@
--- The marks of a student don't count more closes than the run has.
+-- The marks of a student don't count more closes than the run has. The place of an event is its number in the list of
+-- events, from 1.
 use Rattle.std.proofs.Common.{◌≡◌, ℕ, ◌+◌, ◌<◌, ◌≤◌, Bool, true, false, cond, eqb, List, [], ◌∷◌, length, refl, ap, arith}
 use Rattle.std.specs.{Prelude.count_by, List.filter}
 use Rattle.std.proofs.lemmas.{List.Sums.sum_by-cons, Bool.cases_eq, Bool.eq-eqb, Bool.ne_eqb, Bool.Decides.nat_tests}
@@ -9,7 +10,7 @@ use Rattle.mml_tally.specs.{declared.granted_move.Move.Move, Moves.fate_of, Move
 use Rattle.mml_tally.proofs.ClosesLemmas.{next_close, IsNext, fate_next, closes_counted}
 use Rattle.mml_board.specs.declared.event.Event.TheVariants as event
 
--- the count of a list with one more event at the front
+-- one more event at the front of a list adds one to the count if it passes the test
 more : (p : Event → Bool) (e : Event) (es : List Event) → count_by p (e ∷ es) ≡ cond (p e) 1 0 + count_by p es
 more p e es = sum_by-cons (λ x. cond (p x) 1 0) e es
 

@@ -1,4 +1,5 @@
--- Two labs that agree in everything that a journal names.
+-- Two labs that agree in everything that a journal names. A world is the state of a run after some events: its network
+-- and its chosen moves.
 use Rattle.std.proofs.lemmas.Bool.Decides.{nat_tests}
 use Rattle.std.proofs.Common.{◌≡◌, ◌∙◌, ℕ, suc, ◌+◌, ◌<◌, ◌≤◌, cond, not, nat_lt, Bool, false, List, [], ◌∷◌, length, slice_index_or, Option, Some, None, Result, Ok, ok_or, inl, inr, refl, ap, sym}
 use Rattle.std.proofs.Common.{arith, bytes_eq}

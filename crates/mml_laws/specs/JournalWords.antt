@@ -1,4 +1,4 @@
--- The words in the lines of a journal.
+-- The words in the lines of a journal. The place of an event is its number in the list of events, from 1.
 use Rattle.std.specs.Prelude.{ℕ, Bool, true, false, List, [], ◌∷◌, codes, decimal, slice_index, Option, None, Some}
 use Rattle.mml_rules.specs.declared.rule.Rule.{Rule}
 use Rattle.mml_rules.specs.declared.rule.Rule.TheVariants as rule
