@@ -142,8 +142,8 @@ module _ (lab : LabValue) (l : List Event) (legal : is_legal_in lab l ≡ true) 
   turns_all w known known' line r same (inl fits) = let t = asked w known known' (request_in line) r (inl same) fits in (t.0, inl t.1, t.2)
   turns_all w known known' line r same (inr fits) = (w, inr (fits.0, ap (λ (k : Option Who). standing k w) fits.1), stays_after w r same (ap place_in fits.0))
 
-  -- if a window has seen at most the first p events, and the line makes it read on, a reply that fits after p events is
-  -- that of one of its turns
+  -- a reply that fits after p events is that of a turn of each window that has seen at most these, if the line makes
+  -- the window read on
   pub turns_asked : (w : WindowValue) (known known' : Option Who) (line : List ℕ) (r : Reply) → IsPrefix w.seen (take p l)
       → asks_window lab.roster known (request_in line) ≡ true → FitsAsked lab l (take p l) known (request_in line) r known'
       → (new : WindowValue) × Turn lab (standing known w) line r (standing known' new) × IsAfter w r new
