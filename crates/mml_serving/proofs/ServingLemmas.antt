@@ -33,7 +33,7 @@ module _ {H R W : Type 0} (f : H → Connection R W) (hs hs' : List H) (h : H) (
   came_so known a b c it so_far next = grind (arith, map-append, append_assoc)
 
 module _ {R W : Type 0} (lab : LabValue) (remaining : R → Option (List ℕ)) (contents : W → Option (List ℕ)) (to_come : Option (List (R × W))) (count : ℕ) where
-  -- if each of the connections that came was served in its thread, all connections were served as `ServesAll` says
+  -- if each of the connections that came was served in its thread, all connections were served as `ServesAll` states
   pub all_came : {X E : Type 0} (sessions : X → List (EndedSession R W)) (windows : X → List WindowValue) (left : Option (List (R × W)))
       (cs : List (Connection R W)) (r : Result X E)
       → Takes to_come left (map ends_of cs) → length cs ≡ count → Numbered 1 cs → IfOk r (λ p. Each (IsServed lab remaining contents) cs (sessions p) (windows p))
