@@ -125,7 +125,7 @@ module _ {number : ℕ} {lab : LabValue} {old : WindowValue} {st : Standing} {be
       let es = left_at after.window in
       records_trans number x y o (entries_of so.talk) (line_entries t ++ es) so.recorded (records_trans number y z o (line_entries t) es more fin)
 
-  -- if the buffered bytes were written, the session ended as `end` says
+  -- if the buffered bytes were written, the session ended as `end` states
   told_so : (end : SessionEnd) (e : Option (List ℕ)) (o : Option Kept) → ServesNext (next.Ended end) number lab st after a unread left held held' c d y z
       → Appends d e held' → Records number z o (left_at after.window) → EndedRecorded end st.known number lab old after.window input left wrote e x o
   told_so ends.End e o serves out fin = ((unread, all_so serves.0 serves.1 serves.4 serves.6 out, serves.2, serves.3), knew, all_given o serves.7 fin)

@@ -1,5 +1,6 @@
 -- The turns of a session: how it answers one line, and many lines one after another. The place of an event is its
--- number in the list of events, from 1.
+-- number in the list of events, from 1. A window is what the session has seen of this list, and the places of the
+-- events that were granted to it. The known participant is the one whose hello was granted in the session.
 use Rattle.std.specs.Prelude.{◌≡◌, ◌⊎◌, ℕ, Bool, true, false, List, [], ◌∷◌, ◌++◌, Option, None, Some, Result, Ok, Err}
 use mathlib.Core.List.{IsPrefix}
 use Rattle.mml_lab.specs.{declared.who.Who.Who, Labs.LabValue}
