@@ -40,14 +40,14 @@ unless_full b h e d = grind (arith, nat_tests)
 unreported : (limit : ℕ) (h : Bool) (w : World) (p : Result Leave Denial) → IfOk p NoReport → is_report (ruled limit h w p) ≡ false
 unreported limit h w p n = grind (arith, nat_tests, unless_full)
 
--- no command of a student is ruled to be a report
+-- no command of a student has the ruling that shows a report
 student_unreported : (ids : List ℕ) (r : RosterValue) (limit : ℕ) (h : Bool) (w : World) (s : ℕ) (k : Command)
     → is_report (ruling ids r limit h w (who.Student s) k) ≡ false
 student_unreported ids r limit h w s k = unreported limit h w (clauses ids r w (who.Student s) k) (no_report ids r w s k)
 
 -- ---- any other reply depends only on the ruling and on the numbers of the configuration and of the events
 
--- a ruling other than a report has the same reply in two worlds with the same number and the same place
+-- a ruling other than a report has the same reply in two worlds with the same numbers of configurations and of events
 same_reply_of : (w v : World) (g : Ruling) → is_report g ≡ false → w.number ≡ v.number → w.place ≡ v.place → reply_of w g ≡ reply_of v g
 same_reply_of w v g h number place = grind (arith, nat_tests, false≢true)
 
