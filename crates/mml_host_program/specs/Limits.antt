@@ -12,12 +12,12 @@ abbrev pub network_limits : List ℕ
 network_limits = limit_line (codes "nodes") 256 (codes "count") ++ (limit_line (codes "identifier") 65535 (codes "number")
     ++ (limit_line (codes "students") MAX_STUDENTS (codes "count") ++ limit_line (codes "owners") MAX_OWNERS (codes "count")))
 
--- how large a lab's class may be, and how long its names and keys
+-- how many sessions and events a class may have, and how long its names and keys may be
 abbrev pub class_limits : List ℕ
 class_limits = limit_line (codes "sessions") MAX_SESSIONS (codes "count") ++ (limit_line (codes "events") MAX_EVENTS (codes "count")
     ++ (limit_line (codes "name") MAX_NAME (codes "characters") ++ limit_line (codes "key") MAX_KEY (codes "characters")))
 
--- how long a request's line may be, and the files of a lab and of a journal
+-- how long a request's line, a lab's file and a journal's file may be
 abbrev pub text_limits : List ℕ
 text_limits = limit_line (codes "line") MAX_REQUEST (codes "bytes") ++ (limit_line (codes "lab") 1048576 (codes "bytes")
     ++ limit_line (codes "journal") 16777216 (codes "bytes"))
