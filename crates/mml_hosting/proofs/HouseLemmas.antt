@@ -27,7 +27,8 @@ pub desk_is_one : (desk : Bool) (first k total number : ℕ) → MatchBool desk 
 desk_is_one true first k total number at next below = let one : number ≡ 1 = omega (arith, at.0, at.1) in rw one refl
 desk_is_one false first k total number at next below = let more : 1 < number = omega arith in grind (arith, nat_tests)
 
--- if the windows of the seats have seen `begun`, and all windows have seen beginnings of `l`, `begun` is a beginning of `l`
+-- if the windows of the seats have seen `begun`, and all windows have seen beginnings of `l`, `begun` is a beginning of
+-- `l`
 begins_with : {H K C : Type 0} (begun l : List Event) (ss : List (Seat H K C)) (rest : List WindowValue) → length ss ≡ 1
     → All (λ w. IsPrefix begun w.seen) (windows_of ss) → All (λ w. IsPrefix w.seen l) (windows_of ss ++ rest) → IsPrefix begun l
 begins_with begun l [] rest one least most = absurd (omega (arith, one))
@@ -35,7 +36,8 @@ begins_with begun l (s ∷ ss) rest one least most =
     prefix_trans begun s.window.seen l (All-head (λ w. IsPrefix begun w.seen) s.window (windows_of ss) least)
     (All-head (λ w. IsPrefix w.seen l) s.window (windows_of ss ++ rest) most)
 
--- if the desk's seat has the number 1, and the others have the n numbers from 2 on, all have the numbers from 1 to n + 1
+-- if the desk's seat has the number 1, and the others have the n numbers from 2 on, all have the numbers from 1 to n +
+-- 1
 all_numbers : (n total : ℕ) (desk_old old desk others : List ℕ) → n + 1 ≡ total → desk_old ≡ 1 ∷ [] → old ≡ range_with_len 2 n
     → HaveSame desk_old desk → HaveSame old others → HaveSame (range_with_len 1 total) (desk ++ others)
 all_numbers n total desk_old old desk others count one rest at_desk elsewhere = λ g.

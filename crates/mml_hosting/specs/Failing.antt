@@ -36,15 +36,15 @@ pub record EndsUnlogged {K C R W : Type 0} (t : Terms K C R W) (to_desk to_come 
   pub serves : ServesBoth t to_desk to_come at_desk others desk_windows windows
   pub holds : Holds at_desk (desk_windows ++ windows)
 
--- no session at the desk was ended by the teacher's bye; the house ended with a book, as `LeavesBook` states, which
--- begins with the events that came before
+-- No session at the desk was ended by the teacher's bye. The house ended with a book (`LeavesBook`), which begins with
+-- the events that came before
 abbrev pub EndsUndismissed : {S K C R W : Type 0} → Terms K C R W → (S → Option (List ℕ)) → Option (List (R × W)) → Option (List (R × W)) → Type 0
 EndsUndismissed {S} t sink to_desk to_come =
     EndsUnlogged t to_desk to_come (λ at_desk windows. All (λ r. AreGoingOn (sessions_of t.shows r)) at_desk
     × (left : BookValue S) × LeavesBook t.lab sink windows left × IsPrefix t.begun left.events)
 
--- the teacher's bye ended the last session at the desk, and the house ended with a book, which begins with the events
--- that came before; but the places of the windows went astray, as `WentAstrayFrom` states
+-- The teacher's bye ended the last session at the desk, and the house ended with a book, which begins with the events
+-- that came before. But the places of the windows went astray (`WentAstrayFrom`)
 abbrev pub EndsAstray : {S K C R W : Type 0} → Terms K C R W → (S → Option (List ℕ)) → Option (List (R × W)) → Option (List (R × W)) → Type 0
 EndsAstray {S} t sink to_desk to_come =
     EndsUnlogged t to_desk to_come (λ at_desk windows. All (λ r. IsDismissed (sessions_of t.shows r)) at_desk

@@ -54,11 +54,11 @@ abbrev pub AreGiven : {C : Type 0} → (ℕ → Option Kept) → (C → Option K
 AreGiven given kept n [] = ⊤
 AreGiven given kept n (c ∷ cs) = (kept c ≡ given n) × AreGiven given kept (n + 1) cs
 
--- the sessions that were served in a seat, in order, by what is kept of each
+-- the sessions that were served in a seat, in order, computed from what is kept of each
 abbrev pub sessions_of : {K C R W : Type 0} → (K → ServedSession R W) → SeatRecord K C → List (ServedSession R W)
 sessions_of shows r = map shows r.sessions.items
 
--- the connections that came to a seat, in order, by what is kept of its sessions
+-- the connections that came to a seat, in order, computed from what is kept of its sessions
 abbrev pub came_to : {K C R W : Type 0} → (K → ServedSession R W) → SeatRecord K C → List (R × W)
 came_to shows r = map (λ s. s.came.value) (sessions_of shows r)
 
