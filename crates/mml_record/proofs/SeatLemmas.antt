@@ -1,6 +1,6 @@
--- If a record is given, sessions can have made it. A view is a command that only asks to be shown something: a see, a
--- look or a report. A window is what a seat's sessions have seen of the list of events, and which of these events were
--- granted to them. The known participant is the one whose hello was granted in the session.
+-- For each whole record there are sessions that can have made it. A view is a command that only asks to be shown
+-- something: a see, a look or a report. A window is what a seat's sessions have seen of the list of events, and which
+-- of these events were granted to them. The known participant is the one whose hello was granted in the session.
 use Rattle.std.proofs.Common.{◌≡◌, ◌⊎◌, ℕ, ◌≤◌, Bool, true, false, ◌&&◌, not, List, [], ◌∷◌, ◌++◌, length, take, drop, refl, sym, ap, ◌∙◌, subst, inl, inr, Option, None, Some, Result, Ok, Err, arith}
 use Rattle.std.proofs.Common.{append-nil, append_assoc, if◌then◌else◌}
 use Rattle.std.proofs.lemmas.{List.take-append-drop, List.length-take-le, Bool.and_parts, Bool.or_cases, Bool.false≢true, Bool.Decides.nat_tests, Slice.Eq.bytes_eq-Decides}
