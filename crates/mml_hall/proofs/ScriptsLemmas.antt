@@ -1,5 +1,6 @@
 -- The lines that are answered so far, and the ways in which the script may end after them. An output line is the line
--- that answers a script line.
+-- that answers a script line. A hall answers requests in one thread. A transcript has the script lines so far, with
+-- their replies.
 use Rattle.std.proofs.lemmas.Bool.Decides.{nat_tests}
 use Rattle.std.proofs.Common.{◌≡◌, ℕ, ◌+◌, List, [], ◌∷◌, ◌++◌, length, map, flat_map, refl, sym, ◌∙◌, ap, Option, subst, inl, inr, Result, IsErrAnd, ◌<◌, length-append, arith}
 use Rattle.std.{specs.Prelude.⊤, specs.Io.KnownBytes.Consumes, specs.Io.KnownBytes.prepend_known, proofs.lemmas.List.map-append, proofs.KnownBytes.Consumes-trans}
@@ -24,7 +25,7 @@ written_longer {lab} t s =
     by_steps (TurnOf lab) (λ st ls rs end. output_lines lab (ls ++ s.line ∷ []) (rs ++ s.reply ∷ []) ≡ output_lines lab ls rs ++ line_written s ∷ [])
     (λ st. refl) (λ st next end l r ls rs turn rest. ap (λ t. output_line lab l.connection r ∷ t) rest) (opening lab) t.end t.lines t.replies t.run
 
--- one more line adds its bytes to those that a transcript has read
+-- if a transcript gets one more line, the bytes of this line come after those that were read before
 read_longer : {lab : LabValue} (t : Transcript lab) {after : State} (s : LineTurn lab t.end after) → bytes_read (longer t s tt) ≡ bytes_read t ++ line_read s
 read_longer t s = ap (flat_map ended) (map-append script_line t.lines (s.line ∷ [])) ∙ flat_longer ended (map script_line t.lines) (script_line s.line)
 
@@ -55,7 +56,7 @@ nothing_yet contents failures lab first hall a wrote held unsent same fresh sink
 
 module _ {S : Type 0} {contents : S → Option (List ℕ)} {failures : S → ℕ} {lab : LabValue} {first : S} {hall : HallValue S} {count : ℕ}
     {input a wrote c : Option (List ℕ)} {unsent : List (List ℕ)} (so : AnsweredSoFar contents failures lab first hall count input a unsent wrote c) where
-  -- what was answered so far is also right after more of the unsent lines were written
+  -- if more of the unsent lines are written, `AnsweredSoFar` stays true
   abbrev pub sent_on : {d : Option (List ℕ)} {unsent' : List (List ℕ)} → Sends c d unsent unsent'
       → AnsweredSoFar contents failures lab first hall count input a unsent' wrote d
   sent_on {d} {unsent'} more = record {
@@ -84,7 +85,7 @@ module _ {S : Type 0} {contents : S → Option (List ℕ)} {failures : S → ℕ
     cut = breaks_on f wrote c d (lines_written so.transcript) unsent so.sent breaks;
   }
 
-  -- the sink after the last line that was answered
+  -- the hall's sink contains the journal of the state after the last line that was answered
   left_so : (sink : S) × Journals contents failures lab first sink so.transcript.end
   left_so = (hall.sink, subst (Journals contents failures lab first hall.sink) (sym so.stands) so.journals)
 
@@ -179,7 +180,7 @@ unflushed_so {wrote = wrote} {c = c} {unsent = unsent} left d held f so few brea
   inl few,
 )
 
--- if a failed write is turned into the error of the script, the script ends as `Stopped` says for this error
+-- if the script's result is the error `Write`, and `Stopped` is true for it, `EndsScript` is true
 pub write_told : {S : Type 0} (contents : S → Option (List ℕ)) (failures : S → ℕ) (r : Result ⊤ ScriptFault) (opened hall : HallValue S)
     (input left wrote wrote' : Option (List ℕ)) (n : ℕ)
     → IsErrAnd r (λ e. e ≡ fault.Write n) → Stopped (Journals contents failures opened.lab opened.sink) (fault.Write n) opened.lab input left wrote wrote'

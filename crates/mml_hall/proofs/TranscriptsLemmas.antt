@@ -7,7 +7,8 @@ use Rattle.mml_lines.proofs.LinesOfLemmas.{all_lines, lines_first}
 use Rattle.mml_hall.specs.{ScriptLines.script_line, Transcripts.Transcript, Transcripts.bytes_read}
 use Rattle.mml_hall.proofs.ScriptLinesLemmas.{scripts_unbroken}
 
--- these lines are the script lines of the transcript; if more bytes follow, the lines in those bytes come after them
+-- if any bytes follow those that a transcript has read, the lines in all of them are the transcript's script lines, and
+-- then the lines in the bytes that follow
 pub first_lines : (lab : LabValue) (t : Transcript lab) (rest : List ℕ) → lab.sessions ≤ MAX_SESSIONS
     → lines_of (bytes_read t ++ rest) ≡ map script_line t.lines ++ lines_of rest
 first_lines lab t rest few = lines_first (map script_line t.lines) rest (scripts_unbroken lab.sessions t.lines few t.each)

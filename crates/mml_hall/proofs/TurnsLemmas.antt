@@ -1,6 +1,7 @@
 -- What a turn doesn't change, and when the refusal `memory` may replace a reply. A turn computes the reply to one line
 -- and the state after it. It is plain if memory doesn't run out and no write fails. The place of an event is its number
--- in the list of events, from 1.
+-- in the list of events, from 1. A participant is known on a connection from a granted hello to a bye. A world is the
+-- state of a run after some events: its network and its chosen moves.
 use Rattle.std.proofs.lemmas.{Bool.Decides.nat_tests, Bool.or_right, List.get_or-set_other, List.set-get_or}
 use Rattle.std.proofs.Common.{◌≡◌, ◌≢◌, ◌⊎◌, ◌<◌, ◌-◌, ℕ, Bool, true, false, true≢false, not, cond, List, Option, Some, None, Result, Ok, Err, refl, sym, ap, ◌∙◌, arith, subst, inl, inr}
 use Rattle.mml_lab.specs.{declared.who.Who.Who, Labs.LabValue}
@@ -22,8 +23,8 @@ either_of P b one other p q = grind (arith, nat_tests)
 
 module _ (lab : LabValue) (st : State) (k : ℕ) (line : List ℕ) (P : Outcome → Type 0) (plain : P (plain_turn lab st k line)) (memory : P (without_memory st))
     (journal : P (halting st)) where
-  -- what holds of the plain outcome, of the refusal `memory` and of the refusal `journal` holds of each turn, whatever
-  -- goes wrong
+  -- if `P` is true of the plain outcome and of those with the refusals `memory` and `journal`, it is true of the
+  -- outcome of each turn, whatever goes wrong
   pub whatever_befell : (mishap : Mishap) → P (turn mishap lab st k line)
   whatever_befell mishap = grind (arith, nat_tests, either_of)
 
@@ -130,12 +131,12 @@ long_turn lab st k line long = grind (arith, nat_tests, plain_does, short_done)
 long_takes_memory : (r : Reply) → is_short r ≡ false → takes_memory r ≡ true
 long_takes_memory r h = or_right (is_grant r) (not (is_short r)) (ap not h)
 
--- if the plain reply isn't short, the refusal `memory` may come instead, with the same state
+-- if the plain reply isn't short, the turn may have the refusal `memory` as its reply, and the state of the plain turn
 wanting : (lab : LabValue) (st : State) (k : ℕ) (line : List ℕ) (told : Reply) → told ≡ (without_memory st).reply
     → is_short (plain_turn lab st k line).reply ≡ false → Turn lab st k line (record { reply = told; state = (plain_turn lab st k line).state })
 wanting lab st k line told want long = grind (arith, nat_tests, long_turn, long_takes_memory)
 
--- if the refusal `memory` is sent in place of a reply that isn't short, this is a possible result of the turn too
+-- if the refusal `memory` is sent in place of a reply that isn't short, this is also a possible outcome of the turn
 pub told_turn : (lab : LabValue) (st : State) (k : ℕ) (line : List ℕ) (out : Outcome) (told : Reply) → Turn lab st k line out → TellsFor out.reply told
     → Turn lab st k line (record { reply = told; state = out.state })
 told_turn lab st k line out told t (inl same) = subst (λ (r : Reply). Turn lab st k line (record { reply = r; state = out.state })) (sym same) t

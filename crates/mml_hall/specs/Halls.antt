@@ -1,4 +1,6 @@
--- The state of a hall, as contracts describe it. A hall answers requests in one thread.
+-- The state of a hall, as contracts describe it. A hall answers requests in one thread. A participant is known on a
+-- connection from a granted hello to a bye. A world is the state of a run after some events: its network and its chosen
+-- moves.
 use Rattle.std.specs.Prelude.{◌≡◌, ◌≤◌, true, length, All, IfSome}
 use Rattle.mml_lab.specs.{Labs.LabValue, Labs.IsLab, Rosters.IsPrincipal}
 use Rattle.mml_board.specs.{World.IsWorld, World.size, World.opening_of, Runs.is_legal_list, Runs.world_of}

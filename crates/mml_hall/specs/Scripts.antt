@@ -1,5 +1,6 @@
 -- The result of `run_script`: the input that was read, the rest of it, and the output that was written. An output line
--- answers a script line.
+-- answers a script line. A hall answers requests in one thread. A transcript has the script lines so far, with their
+-- replies.
 use Rattle.std.specs.Prelude.{◌≡◌, ◌⊎◌, ℕ, ◌+◌, ◌<◌, List, [], length, Option}
 use Rattle.std.specs.Io.KnownBytes.{Appends, Consumes, IsAtEnd, prepend_known}
 use Rattle.mml_lab.specs.Labs.{LabValue}
@@ -21,21 +22,21 @@ line_read t = ended (script_line t.line)
 abbrev pub line_written : {lab : LabValue} {st after : State} → LineTurn lab st after → List ℕ
 line_written {lab} t = output_line lab t.line.connection t.reply
 
--- the first lines of the input were answered, as the transcript says, and their replies are written
+-- the first lines of the input were answered, as in the transcript, and their replies are written
 pub record AllAnswered (lab : LabValue) (input left wrote wrote' : Option (List ℕ)) : Type 0 where
   pub transcript : Transcript lab
   pub consumed : Consumes input left (bytes_read transcript)
   pub appended : Appends wrote wrote' (bytes_written transcript)
 
--- the first lines of the input were answered, as the transcript says. Only the first bytes of their replies are
--- written: `written` counts the bytes of the first reply that isn't written whole
+-- the first lines of the input were answered, as in the transcript. Only the first bytes of their replies are written:
+-- `written` counts the bytes of the first reply that isn't written whole
 pub record CutShort (written : ℕ) (lab : LabValue) (input left wrote wrote' : Option (List ℕ)) : Type 0 where
   pub transcript : Transcript lab
   pub consumed : Consumes input left (bytes_read transcript)
   pub cut : BreaksOff (record { written = written }) wrote wrote' (lines_written transcript)
 
--- All lines of the input were answered, and the hall is in the state after them. `Leaves` says what its sink contains.
--- `held` are the bytes after the last line: they have no newline, and aren't too many for a script line
+-- All lines of the input were answered, and the hall is in the state after them. `Leaves` states what its sink
+-- contains. `held` are the bytes after the last line: they have no newline, and aren't too many for a script line
 abbrev pub Finished : {S : Type 0} → (S → State → Type 0) → HallValue S → LabValue → Option (List ℕ) → Option (List ℕ) → Option (List ℕ)
     → Option (List ℕ) → Type 0
 Finished Leaves hall lab input left wrote wrote' =
@@ -43,9 +44,9 @@ Finished Leaves hall lab input left wrote wrote' =
     × Leaves hall.sink a.transcript.end × IsWithinLimit MAX_SCRIPT_LINE held × IsAtEnd left
 
 -- What was answered when an error came. The hall was dropped with its sink, so this only states that there was a sink
--- of which `Leaves` holds. `held` are the bytes that were read and not answered. After a failed read, they have no
+-- for which `Leaves` is true. `held` are the bytes that were read and not answered. After a failed read, they have no
 -- newline, and aren't too many for a script line. After a failed write, they are fewer than one read may bring, or
--- `IsBad` holds of them. For a bad line, `IsBad` holds. If memory ran out, nothing was read or written
+-- `IsBad` is true for them. After a bad line, `IsBad` is true for them. If memory ran out, nothing was read or written
 abbrev pub Stopped : {S : Type 0} → (S → State → Type 0) → ScriptFault → LabValue → Option (List ℕ) → Option (List ℕ) → Option (List ℕ)
     → Option (List ℕ) → Type 0
 Stopped {S} Leaves fault.Read lab input left wrote wrote' =

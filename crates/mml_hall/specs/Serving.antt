@@ -1,4 +1,5 @@
--- The result of the next line of a script. An output line that isn't written yet is held.
+-- The result of the next line of a script. An output line has a reply, and before it the number of its connection. An
+-- output line that isn't written yet is held.
 use Rattle.std.specs.Prelude.{Bool, true, false, ◌≡◌, ◌≢◌, ℕ, ◌<◌, List, [], ◌∷◌, ◌++◌, length, Option, Result, Ok, Err, OnOk, IfErr, ⊤}
 use Rattle.std.specs.Io.KnownBytes.{Consumes, IsAtEnd, prepend_known}
 use Rattle.mml_lab.specs.Labs.{LabValue}
@@ -44,7 +45,7 @@ ServesText (next.WriteFault fault) lab st after line unsent unsent' wrote wrote'
     (s : RequestLine) × (line ≡ script_line s) × ServesLine (Err fault) lab st after s unsent unsent' wrote wrote'
 
 -- The result of the next line. `input` is the input before it. The input after it is `held`, the bytes that were read
--- already, and then `left`. `unsent` and `unsent'` are the output lines that weren't written before and after it
+-- already, and then `left`. `unsent` and `unsent'` are the output lines that were held before and after it
 abbrev pub ServesNext : ScriptStep → LabValue → State → State → Option (List ℕ) → List ℕ → Option (List ℕ) → List (List ℕ) → List (List ℕ) → Option (List ℕ)
     → Option (List ℕ) → Type 0
 ServesNext next.Answered lab st after input held left unsent unsent' wrote wrote' =

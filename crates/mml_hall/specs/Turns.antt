@@ -1,5 +1,6 @@
 -- The turns of a hall: how it answers one line, and many lines one after another. The place of an event is its number
--- in the list of events, from 1.
+-- in the list of events, from 1. A participant is known on a connection from a granted hello to a bye. A world is the
+-- state of a run after some events: its network and its chosen moves.
 use Rattle.std.specs.Prelude.{◌≡◌, ◌⊎◌, ℕ, ◌+◌, ◌-◌, ◌<◌, List, [], ◌∷◌, ◌++◌, replicate, Bool, true, false, not, ◌||◌, Option, None, Some, is_some, Result, Ok, Err, slice_index_or, slice_set}
 use Rattle.std.specs.Prelude.{if◌then◌else◌}
 use Rattle.mml_lab.specs.{declared.who.Who.Who, Labs.LabValue}

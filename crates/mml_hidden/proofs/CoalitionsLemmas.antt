@@ -1,5 +1,7 @@
 -- Turns and scripts in two labs that look the same to a coalition. A coalition is a group of students, given by a test
--- of its members.
+-- of its members. A world is the state of a run after some events: its network and its chosen moves. Two worlds are
+-- alike for a student if everything that the student may see is the same in both. A participant is known on a
+-- connection from a granted hello to a bye.
 use Rattle.std.proofs.Common.{◌≡◌, ℕ, Bool, true, false, List, [], ◌∷◌, ◌++◌, Option, refl, ap, arith}
 use Rattle.std.{proofs.lemmas.Bool.false≢true, proofs.lemmas.Bool.Decides.nat_tests, specs.Prelude.decimal}
 use Rattle.mml_lab.specs.{declared.who.Who.Who, Labs.LabValue}
@@ -28,8 +30,8 @@ module _ (lab other : LabValue) (twins : AreTwins lab other) (members : ℕ → 
   single : (s : ℕ) → members s ≡ true → StatesAlike lab s st su
   single s h = record { first = a.first; second = a.second; worlds = a.worlds s h; greeted = a.greeted; halted = a.halted }
 
-  -- a line of somebody else keeps the states alike if it keeps the worlds alike, and leaves both journals halted or
-  -- neither
+  -- a line of somebody else keeps the states alike if it keeps the worlds alike, and if afterwards both journals are
+  -- halted, or neither is
   after_others : AlikeFor lab.roster members (turn m lab st k line).state.world (turn m other su k line).state.world
       → (turn m lab st k line).state.halted ≡ (turn m other su k line).state.halted
       → StatesAlikeFor lab members (turn m lab st k line).state (turn m other su k line).state

@@ -1,5 +1,6 @@
 -- Two runs of one script with the same mishaps. A mishap is what goes wrong in a turn: memory runs out, or a write
--- fails.
+-- fails. A world is the state of a run after some events: its network and its chosen moves. Two worlds are alike for a
+-- student if everything that the student may see is the same in both.
 use Rattle.std.proofs.Common.{◌≡◌, ℕ, Bool, true, false, List, [], ◌∷◌, ◌++◌, refl, sym, ap, ◌∙◌, arith}
 use Rattle.mml_lab.specs.Labs.{LabValue}
 use Rattle.mml_policy.specs.Alike.{Alike}

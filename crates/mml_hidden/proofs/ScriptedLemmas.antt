@@ -1,4 +1,6 @@
--- Scripts that are run in two labs that look the same to a student.
+-- Scripts that are run in two labs that look the same to a student. A world is the state of a run after some events:
+-- its network and its chosen moves. Two worlds are alike for a student if everything that the student may see is the
+-- same in both. A participant is known on a connection from a granted hello to a bye.
 use Rattle.std.proofs.Common.{◌≡◌, ◌≢◌, ℕ, ◌-◌, ◌==◌, Bool, true, false, cond, List, [], ◌∷◌, ◌++◌, Option, None, Result, Ok, All, refl, sym, ap, ◌∙◌, arith}
 use Rattle.std.specs.{List.concat, Prelude.slice_index_or, Prelude.decimal}
 use Rattle.std.proofs.lemmas.{Bool.cases_lt, Bool.Decides.nat_tests, List.Elements.All-set, List.Elements.All-replicate, List.get_or_past}
@@ -16,7 +18,7 @@ use Rattle.mml_hidden.proofs.TwinsLemmas.{twin_turn, twin_line, twin_next, twin_
 use Rattle.mml_codec.specs.declared.request.Request.TheVariants as requests
 use Rattle.mml_codec.specs.declared.reply.Refused.TheVariants as refused
 
--- if two outputs are equal whenever a test holds, they are equal if they are written only when it holds
+-- if two outputs are equal when a test is true, they are also equal if each is empty when the test is false
 pub if_same : (b : Bool) (x y : List (List ℕ)) → (b ≡ true → x ≡ y) → cond b x [] ≡ cond b y []
 if_same b x y h = grind (arith, nat_tests)
 

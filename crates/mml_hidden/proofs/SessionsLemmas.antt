@@ -1,4 +1,5 @@
--- Two sessions of one student, in which the same lines have the same replies.
+-- Two sessions of one student, in which the same lines have the same replies. A participant is known on a connection
+-- from a granted hello to a bye.
 use Rattle.std.proofs.Common.{◌≡◌, ℕ, ◌-◌, true, false, List, [], ◌∷◌, ◌++◌, length, take, map, Option, None, Some, Result, Ok, Err, refl, sym, ap, ◌∙◌, subst, arith, length-append, inl, inr}
 use Rattle.std.proofs.{Math.Seq.take-length, Math.Seq.take-append_seam, lemmas.Bool.false≢true, lemmas.Bool.eqb-true, lemmas.Bool.Decides.nat_tests}
 use Rattle.mml_lab.specs.{declared.who.Who.Who, Labs.LabValue, Labs.IsLab, Rosters.RosterValue}

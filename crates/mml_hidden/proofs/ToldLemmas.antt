@@ -1,4 +1,6 @@
--- In worlds that are alike for a student, each command of the student has the same reply.
+-- In worlds that are alike for a student, each command of the student has the same reply. A world is the state of a run
+-- after some events: its network and its chosen moves. Two worlds are alike for a student if everything that the
+-- student may see is the same in both.
 use Rattle.std.proofs.Common.{◌≡◌, ℕ, Bool, true, false, cond, List, Option, None, Some, Result, refl, ap, subst, arith}
 use Rattle.std.{proofs.lemmas.Bool.false≢true, proofs.lemmas.Bool.Decides.nat_tests, specs.Result.IfOk, specs.Option.option_map_or}
 use Rattle.mml_ids.proofs.GivesLemmas.{bind-if, need-if}
@@ -38,14 +40,14 @@ unless_full b h e d = grind (arith, nat_tests)
 unreported : (limit : ℕ) (h : Bool) (w : World) (p : Result Leave Denial) → IfOk p NoReport → is_report (ruled limit h w p) ≡ false
 unreported limit h w p n = grind (arith, nat_tests, unless_full)
 
--- no command of a student is ruled to be a report
+-- no command of a student has the ruling that shows a report
 student_unreported : (ids : List ℕ) (r : RosterValue) (limit : ℕ) (h : Bool) (w : World) (s : ℕ) (k : Command)
     → is_report (ruling ids r limit h w (who.Student s) k) ≡ false
 student_unreported ids r limit h w s k = unreported limit h w (clauses ids r w (who.Student s) k) (no_report ids r w s k)
 
 -- ---- any other reply depends only on the ruling and on the numbers of the configuration and of the events
 
--- a ruling other than a report has the same reply in two worlds with the same number and the same place
+-- a ruling other than a report has the same reply in two worlds with the same numbers of configurations and of events
 same_reply_of : (w v : World) (g : Ruling) → is_report g ≡ false → w.number ≡ v.number → w.place ≡ v.place → reply_of w g ≡ reply_of v g
 same_reply_of w v g h number place = grind (arith, nat_tests, false≢true)
 
@@ -55,7 +57,7 @@ pub same_reply_to : (ids : List ℕ) (r : RosterValue) (limit : ℕ) (h : Bool) 
     → reply_to ids r limit h w (who.Student s) k ≡ reply_to ids r limit h v (who.Student s) k
 same_reply_to ids r limit h w v s k in_w in_v a = grind (arith, nat_tests, alike_afterwards, same_reply_of, student_unreported, same_ruling)
 
--- each command of the student has the same reply line too
+-- in worlds that are alike for a student, each command of the student has the same reply line
 pub same_line_to : (ids : List ℕ) (r : RosterValue) (limit : ℕ) (h : Bool) (w v : World) (s : ℕ) (k : Command) → IsWorldOf ids w
     → IsWorldOf ids v → Alike r s w v
     → line_to ids r limit h w (who.Student s) k ≡ line_to ids r limit h v (who.Student s) k

@@ -1,4 +1,7 @@
--- The turn of a line in two states that are alike for a student.
+-- The turn of a line in two states that are alike for a student. A world is the state of a run after some events: its
+-- network and its chosen moves. Two worlds are alike for a student if everything that the student may see is the same
+-- in both. A participant is known on a connection from a granted hello to a bye. A mishap is what goes wrong in a turn:
+-- memory runs out, or a write fails.
 use Rattle.std.proofs.Common.{◌≡◌, ◌⊎◌, ℕ, Bool, true, false, cond, List, Option, Result, refl, sym, ap, ◌∙◌, subst, inl, inr, arith}
 use Rattle.std.{proofs.lemmas.Bool.false≢true, proofs.lemmas.Bool.eqb-true, proofs.lemmas.Bool.Decides.nat_tests, specs.Option.option_map_or}
 use Rattle.mml_lab.specs.{declared.who.Who.Who, Labs.LabValue}
@@ -44,7 +47,7 @@ module _ (lab : LabValue) (st : State) (k : ℕ) (line : List ℕ) where
 -- ---- two states that differ only in their worlds and events
 
 -- Two turns have the same reply. Afterwards the worlds are alike for student t, the same participants are known, and
--- both journals are halted or neither.
+-- both journals are halted, or neither is.
 pub record TurnsAlike (lab : LabValue) (t : ℕ) (one two : Outcome) : Type 0 where
   pub reply : one.reply ≡ two.reply
   pub worlds : Alike lab.roster t one.state.world two.state.world
@@ -70,7 +73,8 @@ module _ (lab : LabValue) (s t : ℕ) (st : State) (v : World) (es : List Event)
   told_alike : (c : Command) → TurnsAlike lab t (told_st (who.Student s) c) (told_su (who.Student s) c)
   told_alike c = grind (arith, nat_tests, entered_is, same_reply_to, others_afterwards lab.ids lab.roster lab.events st.halted st.world v first second s t c a b)
 
-  -- a request that is answered without a ruling: a hello, a bye, or a command before the hello
+  -- a request that is answered without a ruling has the same reply in both states: a hello, a bye, or a command before
+  -- the hello
   answered_alike : (k : ℕ) (r : Reply) (x : Option Who) → TurnsAlike lab t (settled lab st k (Answered r x)) (settled lab su k (Answered r x))
   answered_alike k r x = record { reply = refl; worlds = b; greeted = refl; halted = refl }
 
@@ -89,8 +93,8 @@ module _ (lab : LabValue) (s t : ℕ) (st : State) (v : World) (es : List Event)
   unfolding plain_turn
   plain_alike k line h = answer_alike k (request_in line) h
 
-  -- if two states look the same to a student, the turns of a line look the same to her, also with a mishap, if it is
-  -- the same in both
+  -- on a connection of student s, the turns of a line in both states are alike for student t, if the same mishap occurs
+  -- in both turns
   turn_alike : (mishap : Mishap) (k : ℕ) (line : List ℕ) → is_hers s (known_on st k) ≡ true
       → TurnsAlike lab t (turn mishap lab st k line) (turn mishap lab su k line)
   turn_alike mishap k line h = grind (arith, nat_tests, plain_alike, either_both)
@@ -141,8 +145,8 @@ module _ (lab other : LabValue) (twins : AreTwins lab other) (s : ℕ) (st su : 
       → TurnsAlike lab t (turn m lab st k line) (turn m other su k line)
   alike_here t b h = subst (TurnsAlike lab t (turn m lab st k line)) same_turn (turn_alike lab s t st su.world su.events a.first a.second a.worlds b m k line h)
 
-  -- a line of somebody else keeps the states alike if it keeps the worlds alike, and leaves both journals halted or
-  -- neither
+  -- a line of somebody else keeps the states alike if it keeps the worlds alike, and if afterwards both journals are
+  -- halted, or neither is
   pub twin_others : Alike lab.roster s (turn m lab st k line).state.world (turn m other su k line).state.world
       → (turn m lab st k line).state.halted ≡ (turn m other su k line).state.halted
       → StatesAlike lab s (turn m lab st k line).state (turn m other su k line).state
@@ -162,13 +166,14 @@ module _ (lab other : LabValue) (twins : AreTwins lab other) (s : ℕ) (st su : 
       → reply_line lab.ids lab.roster (turn m lab st k line).reply ≡ reply_line other.ids other.roster (turn m other su k line).reply
   twin_line h = λ z. reply_line (twins.ids z) (twins.roster z) ((twin_turn h).0 z)
 
-  -- the states stay alike after each line of the student, and after a line of somebody else if the worlds stay alike
+  -- The states stay alike after each line of the student. After a line of somebody else they stay alike if the worlds
+  -- do, and if both journals are halted, or neither is
   pub twin_next : (is_hers s (known_on st k) ≡ false → Alike lab.roster s (turn m lab st k line).state.world (turn m other su k line).state.world
       × ((turn m lab st k line).state.halted ≡ (turn m other su k line).state.halted))
       → StatesAlike lab s (turn m lab st k line).state (turn m other su k line).state
   twin_next stay = grind (arith, nat_tests, twin_turn, twin_others)
 
--- after plain turns of the same line, both journals are halted or neither
+-- after plain turns of the same line, both journals are halted, or neither is
 pub twin_halted : (lab other : LabValue) (s : ℕ) (st su : State) (a : StatesAlike lab s st su) (k : ℕ) (line : List ℕ)
     → (plain_turn lab st k line).state.halted ≡ (plain_turn other su k line).state.halted
 twin_halted lab other s st su a k line = plain_halted lab st k line ∙ a.halted ∙ sym (plain_halted other su k line)

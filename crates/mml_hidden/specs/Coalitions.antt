@@ -1,4 +1,6 @@
--- Students who combine what they are shown. Such a group is a coalition, given by a test of its members.
+-- Students who combine what they are shown. Such a group is a coalition, given by a test of its members. A world is the
+-- state of a run after some events: its network and its chosen moves. Two worlds are alike for a student if everything
+-- that the student may see is the same in both. A participant is known on a connection from a granted hello to a bye.
 use Rattle.std.specs.Prelude.{◌≡◌, ℕ, Bool, true, false, Option, None, Some, List, [], ◌∷◌}
 use Rattle.mml_lab.specs.{declared.who.Who.Who, Labs.LabValue, Labs.IsLab, Rosters.RosterValue}
 use Rattle.mml_board.specs.World.{World, opening_of}
@@ -18,7 +20,7 @@ is_theirs members (Some who.Teacher) = false
 is_theirs members (Some (who.Student s)) = members s
 
 -- the worlds have the lab's nodes and are alike for each member; the same participants are known on the connections,
--- and both journals are halted or neither
+-- and both journals are halted, or neither is
 pub record StatesAlikeFor (lab : LabValue) (members : ℕ → Bool) (st su : State) : Type 0 where
   pub first : IsWorldOf lab.ids st.world
   pub second : IsWorldOf lab.ids su.world
@@ -26,8 +28,8 @@ pub record StatesAlikeFor (lab : LabValue) (members : ℕ → Bool) (st su : Sta
   pub greeted : st.greeted ≡ su.greeted
   pub halted : st.halted ≡ su.halted
 
--- after each line of somebody else, the worlds of the two runs are alike for each member, and both journals are halted
--- or neither
+-- after each line of somebody else, the worlds of the two runs are alike for each member, and both journals are halted,
+-- or neither is
 abbrev pub StayAlikeFor : LabValue → LabValue → (ℕ → Bool) → State → State → List BefallenLine → Type 0
 StayAlikeFor lab other members st su [] = Unit {0}
 StayAlikeFor lab other members st su (b ∷ bs) =
@@ -36,7 +38,7 @@ StayAlikeFor lab other members st su (b ∷ bs) =
     × ((turn_with lab st b).state.halted ≡ (turn_with other su b).state.halted))
     × StayAlikeFor lab other members (turn_with lab st b).state (turn_with other su b).state bs
 
--- whenever a line comes on one of the connections `some`, a member or nobody is known there
+-- when a line comes on a connection for which `some` is true, a member or nobody is known there
 abbrev pub AreTheirsThroughout : LabValue → (ℕ → Bool) → (ℕ → Bool) → State → List BefallenLine → Type 0
 AreTheirsThroughout lab members some st [] = Unit {0}
 AreTheirsThroughout lab members some st (b ∷ bs) =
@@ -51,9 +53,9 @@ pub record BeginAlikeFor (lab other : LabValue) (members : ℕ → Bool) : Type 
   pub second : IsLab other
   pub worlds : AlikeFor lab.roster members (opening_of lab.network) (opening_of other.network)
 
--- Two runs of one script in labs that begin alike for each member, with the same mishaps in the same lines. Each line
--- of somebody else keeps the worlds alike, and leaves both journals halted or neither. On the connections `some`,
--- nobody but members is known when a line comes
+-- Two runs of one script in labs that begin alike for each member, with the same mishaps in the same lines. After each
+-- line of somebody else, the worlds are alike, and both journals are halted, or neither is. When a line comes on a
+-- connection for which `some` is true, a member or nobody is known there
 pub record RunAlikeFor (lab other : LabValue) (members some : ℕ → Bool) (t : Transcript lab) (u : Transcript other) (bs : List BefallenLine) : Type 0 where
   pub labs : BeginAlikeFor lab other members
   pub first : Befell lab t bs

@@ -1,5 +1,8 @@
 -- The turns of a script's lines with mishaps, and their output on the connections of one student. A mishap is what goes
--- wrong in a turn: memory runs out, or a write to the journal fails.
+-- wrong in a turn: memory runs out, or a write to the journal fails. A world is the state of a run after some events:
+-- its network and its chosen moves. Two worlds are alike for a student if everything that the student may see is the
+-- same in both. A participant is known on a connection from a granted hello to a bye. A transcript has the script lines
+-- so far, with their replies.
 use Rattle.std.specs.Prelude.{◌≡◌, ℕ, Bool, true, false, List, [], ◌∷◌, map}
 use Rattle.mml_lab.specs.Labs.{LabValue}
 use Rattle.mml_policy.specs.Alike.{Alike}
@@ -28,8 +31,8 @@ replies_with lab st bs = replies_by (turn_with lab) st bs
 abbrev pub end_with : LabValue → State → List BefallenLine → State
 end_with lab st bs = end_by (turn_with lab) st bs
 
--- after each line of somebody else, the worlds of the two runs are alike for student s, and both journals are halted or
--- neither
+-- after each line of somebody else, the worlds of the two runs are alike for student s, and both journals are halted,
+-- or neither is
 abbrev pub StayAlikeWith : LabValue → LabValue → ℕ → State → State → List BefallenLine → Type 0
 StayAlikeWith lab other s st su [] = Unit {0}
 StayAlikeWith lab other s st su (b ∷ bs) =
@@ -38,7 +41,7 @@ StayAlikeWith lab other s st su (b ∷ bs) =
     × ((turn_with lab st b).state.halted ≡ (turn_with other su b).state.halted))
     × StayAlikeWith lab other s (turn_with lab st b).state (turn_with other su b).state bs
 
--- whenever a line comes on one of the connections `some`, student s or nobody is known there
+-- when a line comes on a connection for which `some` is true, student s or nobody is known there
 abbrev pub AreHersThroughout : LabValue → ℕ → (ℕ → Bool) → State → List BefallenLine → Type 0
 AreHersThroughout lab s some st [] = Unit {0}
 AreHersThroughout lab s some st (b ∷ bs) =
@@ -56,9 +59,9 @@ pub record Befell (lab : LabValue) (t : Transcript lab) (bs : List BefallenLine)
   pub lines_are : lines_in bs ≡ t.lines
   pub replies_are : t.replies ≡ replies_with lab (opening lab) bs
 
--- Two runs of one script in labs that begin alike for student s, with the same mishaps in the same lines. Each line of
--- somebody else keeps the worlds alike, and leaves both journals halted or neither. On the connections `some`, nobody
--- but student s is known when a line comes
+-- Two runs of one script in labs that begin alike for student s, with the same mishaps in the same lines. After each
+-- line of somebody else, the worlds are alike, and both journals are halted, or neither is. When a line comes on a
+-- connection for which `some` is true, student s or nobody is known there
 pub record RunAlikeWith (lab other : LabValue) (s : ℕ) (some : ℕ → Bool) (t : Transcript lab) (u : Transcript other) (bs : List BefallenLine) : Type 0 where
   pub labs : BeginAlike lab other s
   pub first : Befell lab t bs

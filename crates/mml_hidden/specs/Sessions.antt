@@ -1,4 +1,7 @@
--- Two sessions that look the same to a student. Each has a window, which is its view of the events of a house.
+-- Two sessions that look the same to a student. Each has a window, which is what it has seen of the events of a house.
+-- A world is the state of a run after some events: its network and its chosen moves. Two worlds are alike for a student
+-- if everything that the student may see is the same in both. A participant is known on a connection from a granted
+-- hello to a bye.
 use Rattle.std.specs.Prelude.{◌≢◌, ℕ, ◌-◌, true, ◌≡◌, List, [], ◌∷◌, length, take, Option}
 use Rattle.mml_lab.specs.{declared.who.Who.Who, Labs.LabValue}
 use Rattle.mml_board.specs.{declared.event.Event.Event, Lists.world_in}
@@ -26,7 +29,7 @@ pub record IsToldAlike (lab other : LabValue) (s : ℕ) (known : Option Who) (r 
   pub first : IsUnhindered r
   pub second : IsUnhindered q
 
--- whenever a line comes, student s or nobody is known, and the line is answered alike in both sessions
+-- when a line comes, student s or nobody is known, and `IsToldAlike` is true for its two replies
 abbrev pub AreToldAlike : (lab other : LabValue) → ℕ → (st su : Standing) (lines : List (List ℕ)) (rs qs : List Reply) (end fin : Standing)
     → Run lab st lines rs end → Run other su lines qs fin → Type 0
 AreToldAlike lab other s st su [] rs qs end fin t u = Unit {0}

@@ -13,7 +13,7 @@ use Rattle.mml_host_program.specs.Telling.{EndsWell, ports_line, TellsResumed}
 module _ {S K C R W : Type 0} (lab : LabValue) (given : ℕ → Option Kept) (sink : S → Option (List ℕ)) (remaining : R → Option (List ℕ))
     (contents : W → Option (List ℕ)) (recorded : C → Option Kept) (shows : K → ServedSession R W) (to_desk to_come : Option (List (R × W)))
     (wrote wrote' : Option (List ℕ)) (house : Hosted S K C) (log : Log S) (same : log ≡ house.log) (unhalted : house.log.halted ≡ false) where
-  -- a host that has written its last line
+  -- if a host has written its last line, its class ended well (`EndsWell`)
   pub ends_well : (begun : List Event) → HostsFrom begun given lab sink remaining contents recorded shows to_desk to_come house
       → Appends wrote wrote' (done_line (length house.log.events) (world_in lab house.log.events).number)
       → EndsWell (length begun) lab sink wrote wrote' log
@@ -21,7 +21,7 @@ module _ {S K C R W : Type 0} (lab : LabValue) (given : ℕ → Option Kept) (si
       subst (λ (l : Log S). EndsWell (length begun) lab sink wrote wrote' l) (sym same)
       (record { windows = hosts.desk_windows ++ hosts.windows; kept = hosts.kept; unhalted = unhalted; last = last })
 
--- a host that resumed a class, and first wrote the ports
+-- a host resumed a class, and wrote the line with the ports first
 module _ {S K C R W : Type 0} (lab : LabValue) (old first : List ℕ) (given : ℕ → Option Kept) (sink : S → Option (List ℕ)) (remaining : R → Option (List ℕ))
     (contents : W → Option (List ℕ)) (recorded : C → Option Kept) (shows : K → ServedSession R W) (to_desk to_come : Option (List (R × W)))
     (wrote wrote' : Option (List ℕ)) (house : Hosted S K C) (log : Log S) (port desk : ℕ) where

@@ -12,12 +12,12 @@ abbrev pub network_limits : List ℕ
 network_limits = limit_line (codes "nodes") 256 (codes "count") ++ (limit_line (codes "identifier") 65535 (codes "number")
     ++ (limit_line (codes "students") MAX_STUDENTS (codes "count") ++ limit_line (codes "owners") MAX_OWNERS (codes "count")))
 
--- how large a lab's class may be, and how long its names and keys
+-- how many sessions and events a class may have, and how long its names and keys may be
 abbrev pub class_limits : List ℕ
 class_limits = limit_line (codes "sessions") MAX_SESSIONS (codes "count") ++ (limit_line (codes "events") MAX_EVENTS (codes "count")
     ++ (limit_line (codes "name") MAX_NAME (codes "characters") ++ limit_line (codes "key") MAX_KEY (codes "characters")))
 
--- how long a request's line may be, and the files of a lab and of a journal
+-- how long a request's line, a lab's file and a journal's file may be
 abbrev pub text_limits : List ℕ
 text_limits = limit_line (codes "line") MAX_REQUEST (codes "bytes") ++ (limit_line (codes "lab") 1048576 (codes "bytes")
     ++ limit_line (codes "journal") 16777216 (codes "bytes"))
@@ -28,7 +28,8 @@ abbrev pub record_limits : List ℕ
 record_limits = limit_line (codes "entry") 8388608 (codes "bytes") ++ (limit_line (codes "seat-written") 1072693248 (codes "bytes")
     ++ limit_line (codes "seat-read") 1073741824 (codes "bytes"))
 
--- the deadlines of a connection: of its greeting at the students' port and at the desk, of its next line, and of a write to it
+-- the deadlines of a connection: of its greeting at the students' port and at the desk, of its next line, and of a
+-- write to it
 abbrev pub deadlines : List ℕ
 deadlines = limit_line (codes "greeting") 10 (codes "seconds") ++ (limit_line (codes "desk-greeting") 5 (codes "seconds")
     ++ (limit_line (codes "next-line") 600 (codes "seconds") ++ limit_line (codes "write") 10 (codes "seconds")))

@@ -1,4 +1,6 @@
--- The first and the last lines that a host writes. The place of an event is its number in the list of events, from 1.
+-- The first and the last lines that a host writes. A house is one run of a lab that threads share. A window is what the
+-- sessions of a seat have seen of the list of events, and the places of the events that were granted to them. The place
+-- of an event is its number in this list, from 1. The log of a house is its result at the end.
 use Rattle.std.specs.Prelude.{◌≡◌, ℕ, false, List, [], ◌∷◌, ◌++◌, length, codes, decimal, Option}
 use Rattle.std.specs.{List.concat, Io.KnownBytes.Appends}
 use mathlib.Core.List.{IsPrefix}

@@ -1,4 +1,7 @@
--- The seats of a house before anybody was served, their records, and how the house ends.
+-- The seats of a house before anybody was served, their records, and how the house ends. A house is one run of a lab
+-- that threads share. Its book has the granted events, the board after them and their journal; its log is its result. A
+-- window is what the sessions of a seat have seen of the list of events, and the places of the events that were granted
+-- to them. The desk is dismissed by the teacher's bye.
 use Rattle.std.proofs.Common.{rules, ◌≡◌, ◌∙◌, ap, sym, subst, ℕ, zero, suc, ◌+◌, ◌<◌, ◌≤◌, ◌==◌, Bool, true, false, List, [], ◌∷◌, ◌++◌, flat_map, length, length-append, refl, All, Option, Result, Ok, Err, IfOk, MatchBool, arith}
 use Rattle.std.{specs.List.AllZip, specs.List.list_all, specs.List.range_with_len, specs.List.sum_by, proofs.KnownBytes.Appends-nil}
 use Rattle.std.proofs.lemmas.{Bool.Decides.nat_tests, List.length-map, List.map-append, List.Sums.AllPass-from_list_all, List.Sums.sum_by-append, List.Sums.sum_by-cons, List.Sums.sum_by_push, List.Concat.flat_map-cons}
@@ -24,7 +27,8 @@ pub desk_is_one : (desk : Bool) (first k total number : ℕ) → MatchBool desk 
 desk_is_one true first k total number at next below = let one : number ≡ 1 = omega (arith, at.0, at.1) in rw one refl
 desk_is_one false first k total number at next below = let more : 1 < number = omega arith in grind (arith, nat_tests)
 
--- if the windows of the seats have seen `begun`, and all windows have seen beginnings of `l`, `begun` is a beginning of `l`
+-- if the windows of the seats have seen `begun`, and all windows have seen beginnings of `l`, `begun` is a beginning of
+-- `l`
 begins_with : {H K C : Type 0} (begun l : List Event) (ss : List (Seat H K C)) (rest : List WindowValue) → length ss ≡ 1
     → All (λ w. IsPrefix begun w.seen) (windows_of ss) → All (λ w. IsPrefix w.seen l) (windows_of ss ++ rest) → IsPrefix begun l
 begins_with begun l [] rest one least most = absurd (omega (arith, one))
@@ -32,7 +36,8 @@ begins_with begun l (s ∷ ss) rest one least most =
     prefix_trans begun s.window.seen l (All-head (λ w. IsPrefix begun w.seen) s.window (windows_of ss) least)
     (All-head (λ w. IsPrefix w.seen l) s.window (windows_of ss ++ rest) most)
 
--- if the desk's seat has the number 1, and the others have the n numbers from 2 on, all have the numbers from 1 to n + 1
+-- if the desk's seat has the number 1, and the others have the n numbers from 2 on, all have the numbers from 1 to n +
+-- 1
 all_numbers : (n total : ℕ) (desk_old old desk others : List ℕ) → n + 1 ≡ total → desk_old ≡ 1 ∷ [] → old ≡ range_with_len 2 n
     → HaveSame desk_old desk → HaveSame old others → HaveSame (range_with_len 1 total) (desk ++ others)
 all_numbers n total desk_old old desk others count one rest at_desk elsewhere = λ g.
@@ -41,7 +46,7 @@ all_numbers n total desk_old old desk others count one rest at_desk elsewhere = 
     let first : sum_by g desk_old ≡ 0 + g 1 = ap (sum_by g) one ∙ sum_by_push g [] 1 in
     omega (arith, all, first, ap (sum_by g) rest, sum_by-append g desk others, at_desk g, elsewhere g)
 
--- the numbers of seats that are numbered in order, with one more seat
+-- the n + 1 numbers from `a` on are the n numbers from `a` on, and then a + n
 range_more : (a n : ℕ) → range_with_len a (suc n) ≡ range_with_len a n ++ (a + n) ∷ []
 range_more a zero = let same : a ≡ a + 0 = omega arith in ap (λ (k : ℕ). k ∷ []) same
 range_more a (suc n) =
@@ -53,7 +58,7 @@ pub numbers_more : {H K C : Type 0} (first n m : ℕ) (ss ss' : List (Seat H K C
 numbers_more first n m ss ss' s one more before here =
     rw (one, map-append (λ q. q.record) ss (s ∷ []), map-append (λ r. r.number) (records_of ss) (s.record ∷ []), more, range_more first n, before, here) refl
 
--- if `given` says what each observer has kept, the observers have kept what `given` says for their numbers
+-- if `given` has, for each number from n on, what the observer of this number has kept, `AreGiven` is true
 pub are_given : {C : Type 0} (given : ℕ → Option Kept) (kept : C → Option Kept) (n : ℕ) (cs : List C)
     → ((m : ℕ) → n ≤ m → given m ≡ kept_from kept n cs m) → AreGiven given kept n cs
 are_given given kept n [] same = tt
@@ -127,7 +132,7 @@ module _ {H K C R W : Type 0} (t : Terms K C R W) where
       came = rw (none_came old fresh) at at_port.attends;
     }
 
-    -- a list of which each window has seen a beginning begins with the events from before the house
+    -- if each window has seen a beginning of a list, this list begins with the events from before the house
     begun_with : (l : List Event) → All (λ w. IsPrefix w.seen l) (windows_of desks ++ windows_of others) → IsPrefix t.begun l
     begun_with l seen = begins_with t.begun l desks (windows_of others) (at_desk.count ∙ one) (all_seen desks at_desk.seats) seen
 
@@ -152,7 +157,7 @@ module _ {H K C R W : Type 0} (t : Terms K C R W) where
     }
     hosted (Err e) kept dismissed desk_is others_is = tt
 
-    -- if there is no log, the house ended early, as `HostsEarly` says
+    -- if there is no log, the house ended early, as `HostsEarly` states
     pub unhosted : (f : HostFault) → EndsWithoutLog (length t.begun) t.lab sink desks (windows_of desks ++ windows_of others) f
         → HostsEarly t sink to_desk to_come f
     unhosted fault.Memory without = tt
@@ -205,7 +210,7 @@ module _ {S H K C : Type 0} (first : ℕ) (lab : LabValue) (sink : S → Option 
         (subst (λ (m : ℕ). ¬ (IsEachOnceFrom first m (told_of windows))) found (is (omega (arith, enough, found))).places),
   )
 
--- How much of its lines a failed house has written.
+-- What a failed house has written.
 module _ {S K C R W : Type 0} (t : Terms K C R W) (sink : S → Option (List ℕ)) (to_desk to_come : Option (List (R × W))) where
   -- if there is no log, nothing was written
   pub badly_early : (wrote : Option (List ℕ)) (f : HostFault) → HostsEarly t sink to_desk to_come f → HostsBadly t sink to_desk to_come wrote wrote f
@@ -214,7 +219,7 @@ module _ {S K C R W : Type 0} (t : Terms K C R W) (sink : S → Option (List ℕ
   badly_early wrote fault.Astray early = (early, Appends-nil wrote)
   badly_early wrote _ early = absurd early
 
-  -- if there is a log, the error says why its last line wasn't written whole
+  -- if there is a log, the error is the reason why its last line wasn't written whole
   pub badly_logged : (house : Hosted S K C)
       → HostsFrom t.begun t.given t.lab sink t.remaining t.contents t.recorded t.shows to_desk to_come house
       → (wrote wrote' : Option (List ℕ)) (f : ServeFault)

@@ -8,9 +8,9 @@ use Rattle.mml_hosting.specs.Counting.{count_all, count_busy, count_free, count_
 use Rattle.mml_hosting.specs.declared.{seat.ServedSession.ServedSession, seat.Seat.Seat, port_serving.Busy.Busy}
 use Rattle.mml_serving.proofs.ArrivingLemmas.{Takes-nil, Takes-trans}
 
--- The connections that came so far are in the seats, or were turned away. Together with those that the seats `first`
--- had already, they are those that the free seats have served, those that the busy seats have served or serve, and
--- those in `turned`
+-- The connections that came so far are in the seats, or were turned away. The seats `first` had served some connections
+-- before. These and those that came are, together, the connections that the free and the busy seats have served or
+-- serve, and those in `turned`
 pub record History {H K C R W U : Type 0} (shows : K → ServedSession R W) (IsAway : R × W → Type 0) (known now : Option (List (R × W))) (first free : List (Seat H K C))
     (busy : List (Busy H K C R W U)) : Type 0 where
   pub connections : List (R × W)
@@ -66,8 +66,8 @@ sum_numbers shows g (s ∷ ss) = omega (
   sum_none (came_to shows s.record),
 )
 
--- if no seat is busy any longer, each connection that came was served once or turned away, and each seat's number is
--- there once
+-- if no seat is busy any longer, each connection that came was served once or turned away, and the seats have the same
+-- numbers as at first
 module _ {H K C R W U : Type 0} (t : Terms K C R W) (IsAway : R × W → Type 0) (known now : Option (List (R × W))) (first free last : List (Seat H K C))
     (busy gone : List (Busy H K C R W U)) (so_far : History t.shows IsAway known now first free busy) (over : gone ≡ [])
     (joined : KeepCounts t.shows free busy last gone) where

@@ -1,4 +1,5 @@
--- Seats in which sessions are served one after another.
+-- Seats in which sessions are served one after another. A window is what the sessions of a seat have seen of the list
+-- of events, and the places of the events that were granted to them.
 use Rattle.std.proofs.Common.{◌≡◌, ◌∙◌, ap, ℕ, ◌+◌, Bool, true, false, ◌&&◌, List, [], ◌∷◌, ◌++◌, map, All, arith}
 use Rattle.std.{specs.List.sum_by, proofs.lemmas.Bool.Decides.nat_tests, proofs.lemmas.List.map-append, proofs.lemmas.List.Elements.All-push, proofs.lemmas.List.Sums.sum_by_push}
 use Rattle.mml_lines.specs.Runs.{Chain}
@@ -10,7 +11,7 @@ use Rattle.mml_session.proofs.SeenLemmas.{Sees, ended_seen}
 use Rattle.mml_hosting.specs.declared.seat.{ServedSession.ServedSession, SeatRecord.SeatRecord}
 use Rattle.mml_hosting.specs.Seats.{AreGoingOn, IsDismissed, Leads, Led, Terms, is_teachers_bye, sessions_of}
 
--- if P holds of all elements of a list and of one more, it holds of all elements of the longer list
+-- if P is true for all elements of a list and for one more, it is true for all elements of the longer list
 pub all_more : {X : Type 0} (P : X → Type 0) (xs xs' : List X) (x : X) → xs' ≡ xs ++ x ∷ [] → All P xs → P x → All P xs'
 all_more P xs xs' x one all it = rw one (All-push P xs x all it)
 

@@ -2,7 +2,7 @@
 use Rattle.std.specs.{Prelude.ℕ, Prelude.List, Prelude.Option, Prelude.Result, Prelude.OnOk, Prelude.IfErr, Prelude.take, Prelude.codes, Io.KnownBytes.Appends}
 use Rattle.mml_lines.specs.declared.write_fault.WriteFault.{WriteFault}
 
--- the line that says that no seat is free
+-- the line of the refusal `busy`: no seat is free
 unfoldable pub busy_line : List ℕ
 busy_line = codes "{\"refuse\":\"busy\"}\n"
 

@@ -33,7 +33,7 @@ abbrev pub KeepCounts : {H K C R W U : Type 0} → (K → ServedSession R W) →
 KeepCounts {H} {K} {C} {R} {W} shows free busy free' busy' = (g : ℕ → ℕ) (h : R × W → ℕ) → count_all shows g h free' busy' ≡ count_all shows g h free busy
 
 -- either the connection was added to those that were or are being served, and nothing else changed; or it was turned
--- away, as `IsAway` says
+-- away, as `IsAway` states
 abbrev pub TakesIn : {H K C R W U : Type 0} → (K → ServedSession R W) → (R × W → Type 0) → R × W → List (Seat H K C) → List (Busy H K C R W U)
     → List (Seat H K C) → List (Busy H K C R W U) → Type 0
 TakesIn {H} {K} {C} {R} {W} shows IsAway ends free busy free' busy' =

@@ -1,6 +1,7 @@
 -- What holds of houses with two ports that fail. The book of a house has its granted events, the board after them and
 -- their journal. The places of a window are the numbers of the events that it was granted. They went astray if those of
--- all windows aren't those of the book's events, each once.
+-- all windows aren't those of the book's events, each once. A house is one run of a lab that threads share. The log of
+-- a house is its result at the end.
 use Rattle.std.specs.{Prelude.◌≡◌, Prelude.◌≤◌, Prelude.ℕ, Prelude.true, Prelude.false, Prelude.List, Prelude.[], Prelude.◌++◌, Prelude.flat_map, Prelude.length, Prelude.All, Prelude.Option, List.AllZip, List.list_all, List.range_with_len, Io.KnownBytes.Appends}
 use mathlib.Core.List.{IsPrefix}
 use Rattle.mml_lab.specs.Labs.{LabValue}
@@ -35,15 +36,15 @@ pub record EndsUnlogged {K C R W : Type 0} (t : Terms K C R W) (to_desk to_come 
   pub serves : ServesBoth t to_desk to_come at_desk others desk_windows windows
   pub holds : Holds at_desk (desk_windows ++ windows)
 
--- no session at the desk was ended by the teacher's bye; the house ended with a book, as `LeavesBook` says, which
--- begins with the events that came before
+-- No session at the desk was ended by the teacher's bye. The house ended with a book (`LeavesBook`), which begins with
+-- the events that came before
 abbrev pub EndsUndismissed : {S K C R W : Type 0} → Terms K C R W → (S → Option (List ℕ)) → Option (List (R × W)) → Option (List (R × W)) → Type 0
 EndsUndismissed {S} t sink to_desk to_come =
     EndsUnlogged t to_desk to_come (λ at_desk windows. All (λ r. AreGoingOn (sessions_of t.shows r)) at_desk
     × (left : BookValue S) × LeavesBook t.lab sink windows left × IsPrefix t.begun left.events)
 
--- the teacher's bye ended the last session at the desk, and the house ended with a book, which begins with the events
--- that came before; but the places of the windows went astray, as `WentAstrayFrom` says
+-- The teacher's bye ended the last session at the desk, and the house ended with a book, which begins with the events
+-- that came before. But the places of the windows went astray (`WentAstrayFrom`)
 abbrev pub EndsAstray : {S K C R W : Type 0} → Terms K C R W → (S → Option (List ℕ)) → Option (List (R × W)) → Option (List (R × W)) → Type 0
 EndsAstray {S} t sink to_desk to_come =
     EndsUnlogged t to_desk to_come (λ at_desk windows. All (λ r. IsDismissed (sessions_of t.shows r)) at_desk
@@ -67,7 +68,7 @@ HostsEarly t sink to_desk to_come fault.Undismissed = EndsUndismissed t sink to_
 HostsEarly t sink to_desk to_come fault.Astray = EndsAstray t sink to_desk to_come
 HostsEarly t sink to_desk to_come _ = ⊥
 
--- the house ended as `HostsFrom` says, and `Holds` is true of its log
+-- the house ended as `HostsFrom` states, and `Holds` is true of its log
 pub record HostsLogged {S K C R W : Type 0} (t : Terms K C R W) (sink : S → Option (List ℕ)) (to_desk to_come : Option (List (R × W)))
     (Holds : Log S → Type 0) : Type 0 where
   pub house : Hosted S K C
@@ -75,7 +76,7 @@ pub record HostsLogged {S K C R W : Type 0} (t : Terms K C R W) (sink : S → Op
   pub holds : Holds house.log
 
 -- What a failed house has written, and what holds of it. Nothing is written, except for a beginning of the last line if
--- the writer failed. If the journal is halted, or the writer failed, the house ended as `HostsFrom` says
+-- the writer failed. If the journal is halted, or the writer failed, the house ended as `HostsFrom` states
 abbrev pub HostsBadly : {S K C R W : Type 0} → Terms K C R W → (S → Option (List ℕ)) → Option (List (R × W)) → Option (List (R × W)) → Option (List ℕ)
     → Option (List ℕ) → HostFault → Type 0
 HostsBadly t sink to_desk to_come wrote wrote' fault.Memory = Appends wrote wrote' []

@@ -1,5 +1,7 @@
--- A house through whose windows one connection after another was served. The place of an event is its number in the
--- list of events, from 1.
+-- A house through whose windows one connection after another was served. A house is one run of a lab that threads
+-- share. A window is what the sessions of a seat have seen of the list of events, and the places of the events that
+-- were granted to them. The place of an event is its number in this list, from 1. The log of a house is its result at
+-- the end.
 use Rattle.std.specs.{Prelude.◌≡◌, Prelude.◌==◌, Prelude.ℕ, Prelude.false, Prelude.List, Prelude.[], Prelude.◌++◌, Prelude.flat_map, Prelude.length, Prelude.All, Prelude.Option, List.AllZip, List.range_with_len}
 use Rattle.mml_lab.specs.Labs.{LabValue}
 use Rattle.mml_window.specs.{Windows.WindowValue, Windows.window, Logs.IsLogFrom}
@@ -39,7 +41,7 @@ pub record HostsFrom {S K C R W : Type 0} (begun : List Event) (given : ℕ → 
   pub came_to_desk : Attends to_desk [] (flat_map (came_to shows) house.at_desk.items)
   pub came : Attends to_come [] (flat_map (came_to shows) house.others.items)
 
--- the house was opened before any event, and served its connections as `HostsFrom` says
+-- the house was opened before any event, and served its connections as `HostsFrom` states
 abbrev pub Hosts : {S K C R W : Type 0} → (ℕ → Option Kept) → LabValue → (S → Option (List ℕ)) → (R → Option (List ℕ)) → (W → Option (List ℕ))
     → (C → Option Kept) → (K → ServedSession R W) → Option (List (R × W)) → Option (List (R × W)) → Hosted S K C → Type 0
 Hosts given lab sink remaining contents recorded shows to_desk to_come house = HostsFrom [] given lab sink remaining contents recorded shows to_desk to_come house

@@ -2,7 +2,7 @@
 use Rattle.std.specs.Prelude.{◌≡◌, ℕ, Bool, true, false, List, All, MatchOption, IfSome, slice_get, take}
 use Rattle.mml_hosting.specs.declared.port_serving.Busy.{Busy}
 
--- this was the answer when the mark with this number was asked whether it is set; a missing mark counts as not set
+-- `answer` is what the mark with this number returned when it was read; a missing mark counts as not set
 abbrev pub Says : {M : Type 0} → (M → Bool → Type 0) → List M → ℕ → Bool → Type 0
 Says Answers marks number answer = MatchOption (slice_get marks number) (answer ≡ false) (λ mark. Answers mark answer)
 

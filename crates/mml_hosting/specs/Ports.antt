@@ -4,12 +4,12 @@ use Rattle.mml_window.specs.Windows.{WindowValue}
 use Rattle.mml_serving.specs.Arriving.{Takes}
 use Rattle.mml_hosting.specs.{declared.seat.Seat.Seat, declared.seat.SeatRecord.SeatRecord, Seats.IsSeat, Seats.Terms, Seats.came_to, Away.IsTurnedAway}
 
--- both lists have the same elements, each as often, in whatever order
+-- both lists have the same elements, each the same number of times, in any order
 abbrev pub HaveSame : {A : Type 0} → List A → List A → Type 0
 HaveSame {A} xs ys = (h : A → ℕ) → sum_by h xs ≡ sum_by h ys
 
--- `connections` are the first of the connections to come, and have come. The old connections and these are together the
--- new ones and those that were turned away, each as often
+-- `connections` came: they are the first of those to come. The lists `old` and `connections` together have the same
+-- elements as `new` and `turned` together; `turned` are the connections that were turned away
 pub record Attends {C : Type 0} (to_come : Option (List C)) (old new : List C) : Type 0 where
   pub connections : List C
   pub turned : List C

@@ -1,4 +1,6 @@
--- Seats, each of which serves one connection after another through its window.
+-- Seats, each of which serves one connection after another through its window. A window is what the sessions of a seat
+-- have seen of the list of events, and the places of the events that were granted to them. A house is one run of a lab
+-- that threads share.
 use Rattle.std.specs.Prelude.{◌≡◌, ◌<◌, ℕ, ◌+◌, ◌==◌, if◌then◌else◌, Bool, true, false, List, [], ◌∷◌, ◌++◌, map, All, ⊤, Option, None, Some, vec_len, vec_capacity}
 use Rattle.mml_lab.specs.{Labs.LabValue, declared.who.Who.Who}
 use Rattle.mml_board.specs.declared.event.Event.{Event}
@@ -10,9 +12,9 @@ use Rattle.mml_lab.specs.declared.who.Who.TheVariants as who
 use Rattle.mml_session.specs.declared.session.SessionEnd.TheVariants as end
 
 -- The parameters of a house's contracts. The first three are its lab, the events from before it was opened, and what
--- the observer of the seat with each number had kept then. The others are functions. They return the bytes that a
--- connection's reader has still to return, the bytes that were written to its writer, what an observer has kept, and the
--- session that a kept value shows
+-- the observer of the seat with each number had kept then. The others are functions. Two return the bytes that a
+-- connection's reader has still to return, and those that were written to its writer. The last two return what a
+-- observer has kept, and the session that a kept value shows
 pub record Terms (K C R W : Type 0) : Type 0 where
   pub lab : LabValue
   pub begun : List Event
@@ -47,16 +49,16 @@ abbrev pub kept_from : {C : Type 0} → (C → Option Kept) → ℕ → List C �
 kept_from kept first [] n = None
 kept_from kept first (c ∷ cs) n = if n == first then kept c else kept_from kept (first + 1) cs n
 
--- the observers of seats that are numbered from `n` on have kept what `given` says for each
+-- the observers of seats that are numbered from `n` on have kept what `given` has for each number
 abbrev pub AreGiven : {C : Type 0} → (ℕ → Option Kept) → (C → Option Kept) → ℕ → List C → Type 0
 AreGiven given kept n [] = ⊤
 AreGiven given kept n (c ∷ cs) = (kept c ≡ given n) × AreGiven given kept (n + 1) cs
 
--- the sessions that were served in a seat, in order, by what is kept of each
+-- the sessions that were served in a seat, in order, computed from what is kept of each
 abbrev pub sessions_of : {K C R W : Type 0} → (K → ServedSession R W) → SeatRecord K C → List (ServedSession R W)
 sessions_of shows r = map shows r.sessions.items
 
--- the connections that came to a seat, in order, by what is kept of its sessions
+-- the connections that came to a seat, in order, computed from what is kept of its sessions
 abbrev pub came_to : {K C R W : Type 0} → (K → ServedSession R W) → SeatRecord K C → List (R × W)
 came_to shows r = map (λ s. s.came.value) (sessions_of shows r)
 
@@ -83,8 +85,8 @@ IsDismissed {R} {W} ss =
 abbrev pub Led : {K C R W : Type 0} → Terms K C R W → SeatRecord K C → WindowValue → Type 0
 Led t r w = Chain (Leads t r.number) (stand (window t.begun []) (t.given r.number)) (sessions_of t.shows r) (stand w (t.recorded r.observer))
 
--- the seat's sessions have changed its window and its observer as `Led` says; at the desk, whose seat has the number 1,
--- it is noted whether the teacher's bye came
+-- the seat's sessions have changed its window and its observer as `Led` states; at the desk, whose seat has the number
+-- 1, it is noted whether the teacher's bye came
 pub record IsSeat {H K C R W : Type 0} (t : Terms K C R W) (s : Seat H K C) : Type 0 where
   pub desk : s.is_desk ≡ (s.record.number == 1)
   pub led : Led t s.record s.window

@@ -1,7 +1,8 @@
 //! A port: it accepts connections as they come, and serves each in a seat that is free.
 //!
-//! A seat is a window, through which one connection after another is served in a thread. It is busy during that, and
-//! otherwise free. A cut-off is the means by which another thread ends a connection.
+//! A seat serves one connection after another, each in a thread. It is busy while it serves one, and otherwise free.
+//! Its window is what its sessions have seen of the list of events. A cut-off is the means by which another thread ends
+//! a connection.
 ghost use Rattle.std.specs.Prelude.{◌≡◌, ◌<◌, ◌≤◌, ◌+◌, ◌^◌, ℕ, true, false, All, IfOk, IfErr, IfSome, IfNone, [], vec_len, vec_capacity};
 ghost use Rattle.std.specs.Thread.{IsSync, IsSend};
 ghost use Rattle.mml_hosting.specs.Seats.{IsReady, IsSeat, ServesIn, came_to, terms};

@@ -15,7 +15,7 @@ weaker_ok (Ok x) P Q weaker holds = weaker x holds
 weaker_ok (Err e) P Q weaker holds = tt
 
 module _ (U : ClassError → Type 0) (P : List ℕ → Type 0) (wrote wrote' : Option (List ℕ)) where
-  -- a text of which P holds was written, or only a beginning of it
+  -- if a text for which P is true was written, `IsWritten` is true; if only a beginning of it was, `IsUnwritten` is
   pub all_written : (r : Result (Unit {0}) ClassError) (text now : List ℕ) → P text → now ≡ text → OnOk r (Appends wrote wrote' now) → OnOk r (IsWritten P wrote wrote')
   all_written (Ok x) text now holds same all = (text, holds, subst (λ t. Appends wrote wrote' t) same all)
   all_written (Err e) text now holds same all = tt
@@ -33,7 +33,7 @@ module _ (U : ClassError → Type 0) (P : List ℕ → Type 0) (wrote wrote' : O
         subst (λ (t : List ℕ). Appends wrote wrote' (take part.1.0 t)) same part.1.2,
       )
 
-  -- nothing was written, and U holds of the reason
+  -- if nothing was written, and U is true of the reason, `IsUnwritten` is true
   pub none_written : ¬ (U error.Write) → (e : ClassError) → wrote' ≡ wrote → U e → IsUnwritten U P wrote wrote' e
   none_written never (error.Audit why) same untold = (same, untold)
   none_written never (error.Record why) same untold = (same, untold)

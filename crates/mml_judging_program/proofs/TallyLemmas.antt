@@ -1,4 +1,4 @@
--- The tally of a journal.
+-- The tally of a journal. A world is the state of a run after some events: its network and its chosen moves.
 use Rattle.std.proofs.Common.{◌≡◌, List, ℕ, ◌++◌, ◌∙◌}
 use Rattle.mml_lab.specs.Labs.{LabValue}
 use Rattle.mml_board.specs.{declared.event.Event.Event, World.World, Lists.world_in}

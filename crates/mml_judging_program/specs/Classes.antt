@@ -42,16 +42,16 @@ IsUntold lab bytes start texts (error.Record why) = IsRefused lab bytes start te
 IsUntold lab bytes start texts error.Memory = Unit {0}
 IsUntold lab bytes start texts error.Write = ⊥
 
--- a text of which P holds was written
+-- a text for which P is true was written
 abbrev pub IsWritten : (List ℕ → Type 0) → Option (List ℕ) → Option (List ℕ) → Type 0
 IsWritten P wrote wrote' = (text : List ℕ) × P text × Appends wrote wrote' text
 
--- only a beginning of a text of which P holds was written
+-- only a beginning of a text for which P is true was written
 abbrev pub IsPartWritten : (List ℕ → Type 0) → Option (List ℕ) → Option (List ℕ) → Type 0
 IsPartWritten P wrote wrote' = (text : List ℕ) × (n : ℕ) × P text × (n < length text) × Appends wrote wrote' (take n text)
 
--- Why a text of which P holds wasn't written whole. Either a write failed after a beginning of the text. Or nothing was
--- written, and U holds of the reason, unless the reason is that memory ran out
+-- Why a text for which P is true wasn't written whole. Either a write failed after a beginning of the text. Or nothing
+-- was written, and U is true for the reason, unless the reason is that memory ran out
 abbrev pub IsUnwritten : (ClassError → Type 0) → (List ℕ → Type 0) → Option (List ℕ) → Option (List ℕ) → ClassError → Type 0
 IsUnwritten U P wrote wrote' error.Write = IsPartWritten P wrote wrote'
 IsUnwritten U P wrote wrote' (error.Audit why) = (wrote' ≡ wrote) × U (error.Audit why)

@@ -55,7 +55,7 @@ IsOfPlace amiss _ = ⊥
 
 -- ---- the error
 
--- the error says that the record is refused, and P holds of the refusal
+-- the error is that the record is refused, and P is true for the refusal
 abbrev pub IsRefusal : (RecordRefusal → Type 0) → JudgingFault → Type 0
 IsRefusal P (fault.Record why) = P why
 IsRefusal P _ = ⊥

@@ -17,6 +17,7 @@ verified_line found events =
 abbrev pub begun_line : ℕ → List ℕ
 begun_line begun = concat (codes "begun after " ∷ decimal begun ∷ codes " events\n" ∷ [])
 
--- these two lines, with the line about the accounts whose lines are all recorded between them
+-- the first line, then the line about the accounts whose lines are all recorded, and then the line about the events
+-- before the record
 abbrev pub verified_text : LabValue → Findings → ℕ → ℕ → List ℕ
 verified_text lab found events begun = verified_line found events ++ (recorded_line lab found ++ begun_line begun)

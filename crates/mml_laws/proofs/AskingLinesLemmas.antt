@@ -32,12 +32,12 @@ IsShort q = length (canonical q) ≤ MAX_REQUEST
 digits : (n : ℕ) → n < 2 ^ 64 → length (decimal n) ≤ 20
 digits n small = length-decimal-le 20 n (omega arith) (omega arith) small
 
--- a text with two numbers in it is short enough for a request
+-- a text with two numbers in it is short enough for a request if its other parts are short
 two_numbers : (a b c : List ℕ) (x y : ℕ) → x < 2 ^ 64 → y < 2 ^ 64 → length a + length b + length c ≤ 4056
     → length (a ++ (decimal x ++ (b ++ (decimal y ++ c)))) ≤ MAX_REQUEST
 two_numbers a b c x y small small' pieces = grind (arith, nat_tests, digits, length-append)
 
--- a text with three numbers in it is short enough for a request
+-- a text with three numbers in it is short enough for a request if its other parts are short
 three_numbers : (a b c d : List ℕ) (x y z : ℕ) → x < 2 ^ 64 → y < 2 ^ 64 → z < 2 ^ 64 → length a + length b + length c + length d ≤ 4036
     → length (a ++ (decimal x ++ (b ++ (decimal y ++ (c ++ (decimal z ++ d)))))) ≤ MAX_REQUEST
 three_numbers a b c d x y z small small' small'' pieces = grind (arith, nat_tests, digits, length-append)

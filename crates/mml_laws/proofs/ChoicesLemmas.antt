@@ -44,8 +44,7 @@ module _ (w : World) (is : IsWorld w) where
   fit_keeps : (e : Event) (i : ℕ) (q : Rule) → is_fit w e ≡ true → leaves i e ≡ true → chosen_at w.chosen i ≡ Some q → chosen_at (after w e).chosen i ≡ Some q
   fit_keeps e i q fits keep h = grind (arith, nat_tests, cases_eq, get_or-set_other, and_parts, false≢true, eq-eqb)
 
-  -- a legal event that doesn't change the choice at a node keeps the rule that is chosen there; a grant isn't legal at
-  -- such a node
+  -- if a legal event doesn't change the choice at a node, the rule that is chosen there stays chosen
   kept_on : (r : RosterValue) (e : Event) (i : ℕ) (q : Rule) → is_legal r w e ≡ true → leaves i e ≡ true → chosen_at w.chosen i ≡ Some q
       → chosen_at (after w e).chosen i ≡ Some q
   kept_on r e i q legal keep h = fit_keeps e i q (legal_fit r e legal) keep h

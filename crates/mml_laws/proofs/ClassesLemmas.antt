@@ -1,4 +1,5 @@
--- The contract of a host, which serves a class, implies what the laws about houses and about records assume.
+-- The contract of a host, which serves a class, implies what the laws about houses and about records assume. A house is
+-- one run of a lab that threads share.
 use Rattle.std.proofs.lemmas.Bool.Decides.{nat_tests}
 use Rattle.std.proofs.Common.{◌≡◌, ◌<◌, ◌≤◌, ◌+◌, ◌&&◌, ℕ, zero, suc, cond, nat_lt, nat_le, List, [], ◌∷◌, ◌++◌, map, length, All, Option, Some, refl, sym, ap, ◌∙◌, subst, arith, inl, inr}
 use Rattle.std.proofs.lemmas.Bool.{cases_Bool, cases_eq, and_parts, and_from, ltb-true, leb-true, lt-ltb, le-leb, eq-eqb, ne_eqb}
@@ -65,7 +66,8 @@ module _ {K C R W : Type 0} (t : Terms K C R W) where
   still_kept : (old new : Option Kept) (k : Kept) (bytes : List ℕ) → old ≡ Some k → Adds old new bytes → (k' : Kept) × (new ≡ Some k')
   still_kept old new k bytes e adds = grind (arith, nat_tests)
 
-  -- if the recorder of a seat has kept something, it has kept the sessions that follow as a record has them
+  -- if contracts can name what a seat's recorder has kept before some sessions, they can name it afterwards, and these
+  -- are the sessions of a recorded seat (`Held`)
   held : (n : ℕ) (ss : List (ServedSession R W)) (a b : Stand) (k : Kept) → a.kept ≡ Some k → Chain (Leads t n) a ss b
       → (k' : Kept) × (b.kept ≡ Some k') × Chain (Held t.lab n) (stand a.window (Some k)) (map (λ s. s.ending.end) ss) (stand b.window (Some k'))
   held n [] a b k e led = (k, ap (λ (s : Stand). s.kept) led ∙ e, ap (λ (s : Stand). stand s.window (Some k)) led)

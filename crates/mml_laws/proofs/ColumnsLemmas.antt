@@ -30,7 +30,7 @@ module _ (lab : LabValue) (l : List Event) (texts : ℕ → List ℕ) where
       (are_asks_of lab l None tt es (asks_in lab.roster es) (asked_of_rules lab l None stages.Fresh 0 es h.0 h.3))
       (all_of_students (suc first) ess h.1 h.5)
 
-  -- each denied line of a class is counted under the clause of its denial, since this holds for the lines of each seat
+  -- each denied line of a class is counted under the clause of its denial
   pub class_named : (start : List ℕ) (c : ClassRecord) → IsClassRecord lab l true start texts c → AreNamed c.asks.items
   class_named start c is = subst AreNamed (sym (is.asked refl)) (all_named 1 is.entries is.places is.records)
 

@@ -1,4 +1,5 @@
--- When a run is over, and how many moves follow its last fault, link or cut.
+-- When a run is over, and how many moves follow its last fault, link or cut. A world is the state of a run after some
+-- events: its network and its chosen moves. A house is one run of a lab that threads share.
 use Rattle.std.proofs.Common.{◌≡◌, ◌≢◌, ◌<◌, ◌≤◌, ◌+◌, ◌*◌, ℕ, Bool, true, false, List, ◌++◌, length, None, Some, Ok, refl, sym, ap, ◌∙◌, subst, arith}
 use Rattle.std.{specs.List.list_all, proofs.lemmas.Bool.and_parts, proofs.lemmas.Bool.false_from_ne_true, proofs.lemmas.Bool.Decides.nat_tests}
 use Rattle.mml_rules.specs.Matching.{IsStable}

@@ -1,4 +1,5 @@
--- A run can be finished by a script that asks for the events that are still missing.
+-- A run can be finished by a script that asks for the events that are still missing. A world is the state of a run
+-- after some events: its network and its chosen moves.
 use Rattle.std.proofs.lemmas.Bool.Decides.{nat_tests}
 use Rattle.std.{proofs.lemmas.Bool.and_parts, proofs.lemmas.Bool.and_from, proofs.lemmas.List.get_or-set_same, specs.List.list_all, specs.List.AllByRecursion}
 use Rattle.std.proofs.Common.{◌≡◌, ℕ, ◌<◌, ◌≤◌, ◌+◌, ◌*◌, ◌^◌, true, false, List, [], ◌∷◌, length, Option, None, Some, Ok, refl, sym, ap, ◌∙◌, subst, arith}

@@ -1,4 +1,5 @@
--- The participant who is known on a connection, in a hall and in a session.
+-- The participant who is known on a connection, in a hall and in a session. A participant is known on a connection from
+-- a granted hello to a bye.
 use Rattle.std.proofs.Common.{◌≡◌, ◌⊎◌, ℕ, List, Option, None, Some, Ok, ap, ◌∙◌, arith}
 use Rattle.std.proofs.lemmas.{List.set-get_or, Bool.Decides.nat_tests}
 use Rattle.mml_lab.specs.{declared.who.Who.Who, Labs.LabValue, Rosters.RosterValue, Rosters.IsRoster, RosterMeaning.IsKnownAs}

@@ -1,4 +1,5 @@
--- The places (numbers of events) that the replies of a hall name.
+-- The places (numbers of events) that the replies of a hall name. A world is the state of a run after some events: its
+-- network and its chosen moves.
 use Rattle.std.proofs.Common.{◌≡◌, ◌≤◌, ◌+◌, ℕ, suc, true, List, [], ◌∷◌, ◌++◌, length, flat_map, Some, Result, inl, inr, refl, sym, ap, ◌∙◌, subst, arith, length-append}
 use Rattle.std.{specs.List.range_with_len, proofs.lemmas.Bool.Decides.nat_tests}
 use mathlib.Core.List.{IsPrefix}

@@ -18,7 +18,8 @@ truth_so m = grind (arith, nat_tests)
 rule_so : (ids : List ℕ) (q : Rule) → written.rule_words (named_rule ids q) ≡ rule_words ids q
 rule_so ids q = grind (arith, nat_tests)
 
--- the line of each event, word by word
+-- the line of an event has its place, the number of the configuration before it, and the words of `words_of`, with a
+-- space between any two
 pub line_words : (ids : List ℕ) (r : RosterValue) (place before : ℕ) (e : Event)
     → event_line ids r place before e ≡ spaced (decimal place ∷ decimal before ∷ words_of ids r e)
 unfolding line_text

@@ -36,7 +36,7 @@ module _ (w : World) (i : ℕ) where
   abbrev Before : ℕ × Regs → ℕ × Regs → Type 0
   Before a b = a.0 < b.0
 
-  -- exactly the linked nodes below n are listed, in rising order
+  -- exactly the linked nodes with an index below n are listed, in rising order
   record IsNearBelow (n : ℕ) (ns : List (ℕ × Regs)) : Type 0 where
     only : All (λ x. (x.0 < n) × IsLinkedWith w i x) ns
     all : (j : ℕ) → j < n → (configuration w).linked i j ≡ true → Contains ns (shown w j)

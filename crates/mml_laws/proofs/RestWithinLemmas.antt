@@ -1,5 +1,5 @@
--- There are at most twice as many grants and closes as a potential says. A potential is a number that a close makes
--- smaller, at least by the number of moves that it applies.
+-- The number of grants and closes is at most twice the value of a potential. A potential is a number that each close
+-- reduces, at least by the number of moves that the close applies.
 use Rattle.std.proofs.lemmas.{Bool.Decides.nat_tests, Bool.and_parts, Bool.and_from, Bool.false≢true, Bool.ltb-true, Bool.cases_eq, List.get_or-set_same, List.get_or-set_other}
 use Rattle.std.proofs.Common.{◌≡◌, ◌≢◌, ◌⊎◌, ◌<◌, ◌≤◌, ◌+◌, ◌*◌, min, ℕ, zero, suc, Bool, true, false, cond, List, [], ◌∷◌, ◌++◌, length, Option, None, Some, Ok, is_some, is_none, inl, inr, refl, sym}
 use Rattle.std.proofs.Common.{ap, ◌∙◌, subst, arith}
@@ -23,7 +23,7 @@ use Rattle.mml_board.specs.declared.event.Event.TheVariants as event
 
 -- ---- a grant makes the number of chosen moves greater by one
 
--- if a test holds of one more number than another test, its count is greater by one
+-- if a test is true for one more number than another test, its count is greater by one
 count_one_more : (n i : ℕ) (t u : ℕ → Bool) → i < n → t i ≡ false → u i ≡ true → ((j : ℕ) → j ≢ i → u j ≡ t j) → count_below n u ≡ count_below n t + 1
 count_one_more zero i t u lt off on same = absurd (omega arith)
 count_one_more (suc n) i t u lt off on same = elim (cases_eq i n) [
@@ -57,7 +57,7 @@ grant_chooses r w s i q k legal =
 
 -- ---- the number of events is bounded by a potential
 
--- the bound for any potential
+-- the bound holds for each potential
 module _ (potential : Configuration → ℕ) (falls : Falls potential) where
   events_paid : (r : RosterValue) (w : World) (es : List Event) → IsWorld w → is_legal_list r w es ≡ true → list_all is_grant_or_close es ≡ true
       → length es + chosen_count w ≤ 2 * potential (configuration w)

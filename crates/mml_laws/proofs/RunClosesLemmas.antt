@@ -1,4 +1,5 @@
--- The marks of a student don't count more closes than the run has.
+-- The marks of a student don't count more closes than the run has. The place of an event is its number in the list of
+-- events, from 1.
 use Rattle.std.proofs.Common.{◌≡◌, ℕ, ◌+◌, ◌<◌, ◌≤◌, Bool, true, false, cond, eqb, List, [], ◌∷◌, length, refl, ap, arith}
 use Rattle.std.specs.{Prelude.count_by, List.filter}
 use Rattle.std.proofs.lemmas.{List.Sums.sum_by-cons, Bool.cases_eq, Bool.eq-eqb, Bool.ne_eqb, Bool.Decides.nat_tests}
@@ -9,7 +10,7 @@ use Rattle.mml_tally.specs.{declared.granted_move.Move.Move, Moves.fate_of, Move
 use Rattle.mml_tally.proofs.ClosesLemmas.{next_close, IsNext, fate_next, closes_counted}
 use Rattle.mml_board.specs.declared.event.Event.TheVariants as event
 
--- the count of a list with one more event at the front
+-- one more event at the front of a list adds one to the count if it passes the test
 more : (p : Event → Bool) (e : Event) (es : List Event) → count_by p (e ∷ es) ≡ cond (p e) 1 0 + count_by p es
 more p e es = sum_by-cons (λ x. cond (p x) 1 0) e es
 
@@ -30,7 +31,8 @@ module _ (test : Move → Bool) where
       → count_by is_close (e ∷ es) ≡ count_by is_close es → AreFew last (q + 1) es → AreFew last q (e ∷ es)
   passed last q e es same next closes rest = grind (arith, nat_tests)
 
-  -- the close of a grant is counted unless it was counted last; if it is counted, it is the next close
+  -- the close that applies a grant is counted, unless it was the last one that was counted; if it is counted, it is the
+  -- next close
   granted : (last q k : ℕ) (es : List Event) → IsNext last (q + 1) es k → AreFew k (q + 1) es
       → (cond (eqb k last) 0 1 + counted k (q + 1) es ≤ count_by is_close es)
       × (last ≡ next_close (q + 1) es → next_close (q + 1) es < q + 1 + length es → cond (eqb k last) 0 1 + counted k (q + 1) es + 1 ≤ count_by is_close es)

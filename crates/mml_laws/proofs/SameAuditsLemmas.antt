@@ -1,5 +1,5 @@
 -- If two labs agree in everything that a journal names, and allow the same number of events, each audit has the same
--- result in both.
+-- result in both. A world is the state of a run after some events: its network and its chosen moves.
 use Rattle.std.proofs.lemmas.Bool.Decides.{nat_tests}
 use Rattle.std.proofs.Common.{◌≡◌, ◌∙◌, ℕ, ◌+◌, ◌≤◌, ◌==◌, ◌&&◌, nat_lt, Bool, false, List, [], ◌∷◌, length, Result, Ok, inl, inr, refl, ap, sym, arith}
 use Rattle.std.{proofs.lemmas.Bool.cases_lt, proofs.lemmas.Bool.false_from_ne_true, specs.Result.is_ok}

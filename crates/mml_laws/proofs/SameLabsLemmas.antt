@@ -1,4 +1,5 @@
--- Two labs that agree in everything that a journal names.
+-- Two labs that agree in everything that a journal names. A world is the state of a run after some events: its network
+-- and its chosen moves.
 use Rattle.std.proofs.lemmas.Bool.Decides.{nat_tests}
 use Rattle.std.proofs.Common.{◌≡◌, ◌∙◌, ℕ, suc, ◌+◌, ◌<◌, ◌≤◌, cond, not, nat_lt, Bool, false, List, [], ◌∷◌, length, slice_index_or, Option, Some, None, Result, Ok, ok_or, inl, inr, refl, ap, sym}
 use Rattle.std.proofs.Common.{arith, bytes_eq}
@@ -41,7 +42,8 @@ students_alike a b is name =
     ∙ ap (λ (n : ℕ). cond {A = Option ℕ} (nat_lt (prefix_len (lacks name) b.roster.students) n) (Some (prefix_len (lacks name) b.roster.students)) None) is.names.1
 
 module _ (ids : List ℕ) (r q : RosterValue) (alike : (name : List ℕ) → student_named r name ≡ student_named q name) where
-  -- if each student's name has the same index in two rosters, words name the same event with both
+  -- if each name has the same index among the students of two rosters, the words of a line name the same event with
+  -- both
   named_alike : (w : EventWords) → event_named ids r w ≡ event_named ids q w
   unfolding event_named
   named_alike w = grind (arith, nat_tests)
@@ -72,7 +74,7 @@ line_alike a b place before e is of = roster_line a.ids a b place before e is of
 
 -- ---- worlds
 
--- a number that is no node's is no neighbour of a node
+-- a number that is at least the number of nodes is no neighbour of a node
 no_link_past : (n : Network) (i q : ℕ) → IsNetwork n → length n.registers ≤ q → set.contains (neighbours_at n.neighbours i) q ≡ false
 no_link_past n i q is past = false_from_ne_true _ (λ linked. absurd (omega (arith, past, (is.lawful.in_range i q linked).1)))
 

@@ -1,4 +1,5 @@
--- The places (numbers of events) that the replies of a session name.
+-- The places (numbers of events) that the replies of a session name. A window is what a session has seen of the list of
+-- events.
 use Rattle.std.proofs.Common.{◌≡◌, ◌≤◌, ℕ, true, List, length, inl, inr}
 use mathlib.Core.List.{IsPrefix}
 use Rattle.mml_lab.specs.Labs.{LabValue, IsLab}

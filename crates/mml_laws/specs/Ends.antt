@@ -1,4 +1,5 @@
--- When a house grants no further step.
+-- When a house grants no further step. A world is the state of a run after some events: its network and its chosen
+-- moves.
 use Rattle.std.specs.Prelude.{◌≡◌, ℕ, Bool, None}
 use Rattle.mml_lab.specs.Labs.{LabValue}
 use Rattle.mml_board.specs.World.{World}

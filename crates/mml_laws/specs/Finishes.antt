@@ -1,4 +1,5 @@
--- A script that asks for the events that are missing to finish a run.
+-- A script that asks for the events that are missing to finish a run. A world is the state of a run after some events:
+-- its network and its chosen moves.
 use Rattle.std.specs.{Prelude.◌≡◌, Prelude.ℕ, Prelude.◌≤◌, Prelude.Bool, Prelude.true, Prelude.List, Prelude.[], Prelude.◌∷◌, Prelude.length, List.list_all, List.AllByRecursion}
 use Rattle.mml_rules.specs.Matching.{IsStable}
 use Rattle.mml_lab.specs.{declared.who.Who.Who, Labs.LabValue, Rosters.name_of, Rosters.key_of}

@@ -1,4 +1,4 @@
--- Replies after which nothing has changed.
+-- Replies to lines that change nothing.
 use Rattle.std.specs.Prelude.{◌≡◌, ◌⊎◌}
 use Rattle.mml_board.specs.declared.denial.Denial.{Denial}
 use Rattle.mml_codec.specs.declared.reply.Reply.{Reply}

@@ -1,4 +1,4 @@
--- The words in the lines of a journal.
+-- The words in the lines of a journal. The place of an event is its number in the list of events, from 1.
 use Rattle.std.specs.Prelude.{ℕ, Bool, true, false, List, [], ◌∷◌, codes, decimal, slice_index, Option, None, Some}
 use Rattle.mml_rules.specs.declared.rule.Rule.{Rule}
 use Rattle.mml_rules.specs.declared.rule.Rule.TheVariants as rule
@@ -28,7 +28,7 @@ abbrev pub truth_word : Bool → List ℕ
 truth_word true = codes "true"
 truth_word false = codes "false"
 
--- the words of an event after its place and the number of the configuration before it
+-- the words of an event's line that follow the event's place and the number of the configuration before the event
 abbrev pub words_of : List ℕ → RosterValue → Event → List (List ℕ)
 words_of ids r (event.Grant s i rule) = codes "grant" ∷ name_of r (who.Student s) ∷ node_word ids i ∷ rule_words ids rule
 words_of ids r (event.Release i) = codes "release" ∷ node_word ids i ∷ []

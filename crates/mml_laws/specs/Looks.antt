@@ -1,4 +1,4 @@
--- The contents of a look.
+-- The contents of a look. A world is the state of a run after some events: its network and its chosen moves.
 use Rattle.std.specs.Prelude.{◌≡◌, ◌↔◌, ℕ, ◌<◌, true, Some, Contains}
 use Rattle.mml_rules.specs.{declared.regs.Regs.Regs, declared.rule.Kind.Kind, declared.rule.Rule.Rule, Meaning.MayApply, Network.registers_at, Rules.kind_of}
 use Rattle.mml_board.specs.World.{World, configuration, chosen_at}

@@ -1,4 +1,6 @@
--- The replies of the sessions of a house. The place of an event is its number in the list of events, from 1.
+-- The replies of the sessions of a house. A house is one run of a lab that threads share. A window is what the sessions
+-- of a seat have seen of the list of events, and the places of the events that were granted to them. The place of an
+-- event is its number in this list, from 1.
 use Rattle.std.specs.Prelude.{◌≡◌, ℕ, List, [], ◌∷◌, ◌++◌, flat_map, Option}
 use Rattle.mml_lab.specs.Labs.{LabValue}
 use Rattle.mml_board.specs.declared.event.Event.{Event}

@@ -1,4 +1,5 @@
--- The event that a reply names. The place of an event is its number in the list of events, from 1.
+-- The event that a reply names. The place of an event is its number in the list of events, from 1. A participant is
+-- known on a connection from a granted hello to a bye. A hall answers requests in one thread.
 use Rattle.std.specs.{Prelude.◌≡◌, Prelude.ℕ, Prelude.◌+◌, Prelude.List, Prelude.[], Prelude.◌∷◌, Prelude.◌++◌, Prelude.length, Prelude.Option, Prelude.Some, Prelude.Ok, List.slice_get}
 use Rattle.mml_lines.specs.{LinesOf.lines_of, Runs.AtEach}
 use Rattle.mml_lab.specs.{declared.who.Who.Who, Labs.LabValue}

@@ -1,16 +1,17 @@
--- The lines that the program prints about a lab, and about a journal that passes the audit.
+-- The lines that the program prints about a lab, and about a journal that passes the audit. A world is the state of a
+-- run after some events: its network and its chosen moves.
 use Rattle.std.specs.Prelude.{◌≡◌, ℕ, ◌==◌, Bool, true, false, List, [], ◌∷◌, length, codes, decimal, Option, Ok}
 use Rattle.std.specs.{List.concat, Io.KnownBytes.Appends}
 use Rattle.mml_lab.specs.Labs.{LabValue, link_count}
 use Rattle.mml_board.specs.World.{World, configuration, privileged_count}
 use Rattle.mml_audit.specs.Audit.{audited}
 
--- the line that says how many nodes, links and students there are
+-- the line with the numbers of nodes, links and students
 abbrev pub size_line : ℕ → ℕ → ℕ → List ℕ
 size_line nodes links students =
     concat (codes "ok: " ∷ decimal nodes ∷ codes " nodes, " ∷ decimal links ∷ codes " links, " ∷ decimal students ∷ codes " students\n" ∷ [])
 
--- the line that says how large a lab is
+-- the line with the size of a lab
 abbrev pub lab_line : LabValue → List ℕ
 lab_line lab = size_line (length lab.ids) (link_count lab.network) (length lab.roster.students)
 
@@ -19,7 +20,7 @@ abbrev pub stability_text : Bool → List ℕ
 stability_text true = codes ", stable\n"
 stability_text false = codes ", not stable\n"
 
--- the line that says how many events there were, the number of the configuration, and whether it is stable
+-- the line with the number of events, the number of the configuration, and whether this is stable
 abbrev pub world_line : World → List ℕ
 world_line w =
     concat (codes "ok: " ∷ decimal w.place ∷ codes " events, configuration " ∷ decimal w.number ∷ stability_text (privileged_count (configuration w) == 0) ∷ [])

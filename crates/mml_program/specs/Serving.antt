@@ -1,4 +1,5 @@
--- The first and the last line that a server prints.
+-- The first and the last line that a server prints. A house is one run of a lab that threads share. The log of a house
+-- is its result at the end.
 use Rattle.std.specs.{Prelude.◌≡◌, Prelude.ℕ, Prelude.false, Prelude.List, Prelude.length, Prelude.Option, Prelude.None, Io.KnownBytes.Appends}
 use Rattle.mml_lab.specs.Labs.{LabValue}
 use Rattle.mml_board.specs.Lists.{world_in}

@@ -27,7 +27,7 @@ numbered : (denied : Option ℕ) (name : Option StudentDenial) → denied ≡ op
 numbered denied name same = subst (λ (c : Option ℕ). is_numbered c ≡ true) (sym same) (names_numbered name)
 
 module _ (lab : LabValue) (l first : List Event) where
-  -- ---- whoever is known is a principal of the lab
+  -- ---- the known participant, if there is one, is a principal of the lab
 
   abbrev IsKnownHere : Option Who → Type 0
   IsKnownHere x = IfSome x (IsPrincipal lab.roster)

@@ -1,4 +1,5 @@
--- What is found in the bytes of a record's lines and replies is what the rules say of them.
+-- What is found in the bytes of a record's lines and replies is what the rules say of them. The known participant is
+-- the one whose hello was granted in the session.
 use Rattle.std.proofs.Common.{◌≡◌, ℕ, Bool, true, false, true≢false, cond, List, [], ◌∷◌, ◌++◌, length, take, codes, decimal, inl, inr, refl, sym, ap, ◌∙◌, arith, Option, None, Some, Result}
 use Rattle.std.{specs.Prelude.bytes_eq, specs.Fmt.digits, proofs.lemmas.Bool.Decides.nat_tests, proofs.lemmas.Slice.Eq.bytes_eq-Decides}
 use Rattle.mml_ids.specs.Lines.{ended}

@@ -1,5 +1,6 @@
 -- An accepted entry describes a turn of a session. A view is a command that only asks to be shown something: a see, a
--- look or a report. The place of an event is its number in the list of events, from 1.
+-- look or a report. A window is what a session has seen of the list of events. The place of an event is its number in
+-- this list, from 1.
 use Rattle.std.proofs.Common.{◌≡◌, ◌⊎◌, ℕ, ◌≤◌, suc, Bool, true, false, true≢false, List, [], ◌∷◌, ◌++◌, length, take, drop, refl, sym, ap, ◌∙◌, subst, inl, inr, Option, None, Some, Result, Ok, Err}
 use Rattle.std.proofs.Common.{arith, append-nil, length-append}
 use Rattle.std.proofs.lemmas.{List.take-append-drop, List.length-take-le, Bool.Decides.nat_tests}
@@ -73,7 +74,7 @@ module _ (lab : LabValue) (l : List Event) (legal : is_legal_in lab l ≡ true) 
   enters w (Granted e d) next = one_more e next ∙ ap (λ (o : Option ℕ). take (seen_after p o) l) (sym (place_of_done w.number w.place d))
   enters w _ next = refl
 
-  -- a reply that fits a ruling is one that the window may give
+  -- if a reply fits a ruling after p events, it is a possible reply of a window that has seen no more than these
   tells : (w : WindowValue) (who : Who) (c : Command) (r : Reply) → IsPrefix w.seen (take p l)
       → FitsRuling lab l (take p l) (ruling_at lab (world_in lab (take p l)) who c) r
       → (new : WindowValue) × Told lab w who c r new × IsAfter w r new
@@ -141,8 +142,8 @@ module _ (lab : LabValue) (l : List Event) (legal : is_legal_in lab l ≡ true) 
   turns_all w known known' line r same (inl fits) = let t = asked w known known' (request_in line) r (inl same) fits in (t.0, inl t.1, t.2)
   turns_all w known known' line r same (inr fits) = (w, inr (fits.0, ap (λ (k : Option Who). standing k w) fits.1), stays_after w r same (ap place_in fits.0))
 
-  -- if a window has seen at most the first p events, and the line makes it read on, a reply that fits after p events is
-  -- that of one of its turns
+  -- a reply that fits after p events is that of a turn of each window that has seen at most these, if the line makes
+  -- the window read on
   pub turns_asked : (w : WindowValue) (known known' : Option Who) (line : List ℕ) (r : Reply) → IsPrefix w.seen (take p l)
       → asks_window lab.roster known (request_in line) ≡ true → FitsAsked lab l (take p l) known (request_in line) r known'
       → (new : WindowValue) × Turn lab (standing known w) line r (standing known' new) × IsAfter w r new
@@ -169,8 +170,8 @@ module _ (lab : LabValue) (l : List Event) (legal : is_legal_in lab l ≡ true) 
   shown_none : (r : Reply) → is_shown r ≡ true → place_in r ≡ None
   shown_none r shown = grind (arith, nat_tests)
 
-  -- there is a line whose reply shows something and has no entry; after this turn, the window has seen the first p
-  -- events
+  -- there is a line whose reply shows something, and after its turn the window has seen the first p events; such a turn
+  -- has no entry
   abbrev Quiet : WindowValue → Option Who → Type 0
   Quiet w known =
       (line : List ℕ) × IsWithinLimit MAX_REQUEST line × (v : Reply) × (is_shown v ≡ true) × (new : WindowValue)

@@ -1,5 +1,6 @@
--- Sessions that leave a given record. A view is a command that only asks to be shown something: a see, a look or a
--- report.
+-- For each whole record there are sessions that can have made it. A view is a command that only asks to be shown
+-- something: a see, a look or a report. A window is what a seat's sessions have seen of the list of events, and which
+-- of these events were granted to them. The known participant is the one whose hello was granted in the session.
 use Rattle.std.proofs.Common.{◌≡◌, ◌⊎◌, ℕ, ◌≤◌, Bool, true, false, ◌&&◌, not, List, [], ◌∷◌, ◌++◌, length, take, drop, refl, sym, ap, ◌∙◌, subst, inl, inr, Option, None, Some, Result, Ok, Err, arith}
 use Rattle.std.proofs.Common.{append-nil, append_assoc, if◌then◌else◌}
 use Rattle.std.proofs.lemmas.{List.take-append-drop, List.length-take-le, Bool.and_parts, Bool.or_cases, Bool.false≢true, Bool.Decides.nat_tests, Slice.Eq.bytes_eq-Decides}
@@ -238,8 +239,8 @@ module _ (lab : LabValue) (is : IsLab lab) (l : List Event) (number : ℕ) where
         (prefix_shorter (take least l) (take p l) l (drop least l, take-append-drop least l) (drop p l, take-append-drop p l)
         (omega (arith, le, few, length-take-le p l few, length-take-le least l (omega (arith, le, few)))))
 
-    -- if p events have been seen, or the known participant can ask for a view after which the window has seen p events,
-    -- the rest may follow there
+    -- if sessions make the rest from each window that has seen p events, they also make it from one that has seen
+    -- `least` events. For this, p is `least`, or the known participant can be shown something
     arrives : (known : Option Who) (w : WindowValue) (least p : ℕ) (es : List Entry) (ps : List ℕ) → least ≤ p → p ≤ length l → w.seen ≡ take least l
         → (p ≡ least) ⊎ (sees_some lab.roster known ≡ true)
         → ((v : WindowValue) → v.seen ≡ take p l → Rest (standing known v) es ps) → Rest (standing known w) es ps
@@ -434,7 +435,7 @@ Said lab l begun number es ps =
     (p : RecordedSeat) × (w : WindowValue) × IsResumedSeat lab begun p w × IsPrefix w.seen l × (w.places ≡ ps) × (p.number ≡ number)
     × (p.kept.whole ≡ true) × (p.kept.bytes ≡ kept_texts number es)
 
--- entries that go on after the events `begun` are such that sessions can have made them
+-- if entries go on after the events `begun`, sessions can have made them
 pub goes_on_so : (lab : LabValue) (l begun : List Event) (number : ℕ) (es : List KeptEntry) (ps : List ℕ) → IsLab lab → is_legal_in lab l ≡ true
     → IsPrefix begun l → GoesOn lab l None stages.Open (length begun) es ps → are_whole es ≡ true → are_ended false es ≡ true → Said lab l begun number es ps
 goes_on_so lab l begun number es ps is legal begins h whole ended =
@@ -454,7 +455,7 @@ goes_on_so lab l begun number es ps is legal begins h whole ended =
       sym (same_text number g.0) ∙ ap (kept_texts number) (sym g.1),
     )
 
--- a whole record is such that sessions can have made it
+-- if a record is whole, and each of its sessions has ended, sessions can have made it
 pub can_have_said : (lab : LabValue) (l : List Event) (number : ℕ) (es : List KeptEntry) (ps : List ℕ) → IsLab lab → is_legal_in lab l ≡ true
     → IsRecordOf lab l es ps → are_whole es ≡ true → are_ended false es ≡ true → (begun : List Event) × IsPrefix begun l × Said lab l begun number es ps
 can_have_said lab l number es ps is legal h whole ended =

@@ -1,5 +1,5 @@
 -- A participant who sees a node can be shown something at any time. A reply shows something if it is that to a see, a
--- look or a report.
+-- look or a report. The known participant is the one whose hello was granted in the session.
 use Rattle.std.proofs.Common.{◌≡◌, ◌≢◌, ℕ, ◌<◌, ◌≤◌, ◌^◌, true, false, ◌||◌, List, ◌∷◌, [], ◌++◌, codes, decimal, length, slice_index, refl, sym, ap, subst, Option, None, Some, Ok, ok_or, arith}
 use Rattle.std.proofs.Common.{length-append}
 use Rattle.std.{specs.List.All, proofs.lemmas.Bool.or_right, proofs.lemmas.Bool.false≢true, proofs.lemmas.Fmt.length-decimal-le, proofs.lemmas.List.get_or_default}

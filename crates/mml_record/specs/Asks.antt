@@ -1,5 +1,6 @@
--- What the lines of a record asked, and which clause denied each, or why it was refused. This is found in the lines and
--- in the bytes of their replies.
+-- What the lines of a record asked for, and by which clause each was denied or why it was refused. This is computed
+-- from the bytes of the lines and of their replies. The known participant is the one whose hello was granted in the
+-- session.
 use Rattle.std.specs.Prelude.{◌≡◌, ℕ, ◌-◌, List, [], ◌∷◌, ◌++◌, codes, length, take, bytes_eq, Option, None, Some, Result, Ok, Err, if◌then◌else◌}
 use Rattle.std.specs.List.{slice_get}
 use Rattle.mml_rules.specs.declared.rule.Kind.{Kind}
@@ -47,7 +48,7 @@ line_of_request (requests.Hello name key) = lines.Other
 line_of_request requests.Bye = lines.Other
 line_of_request (requests.Do c) = line_of_command c
 
--- what a line is that was read as this request, or as none
+-- what a line is, by the request that was read from it; a line from which none was read is malformed
 abbrev pub line_of : Result Request LineFault → Line
 line_of (Ok request) = line_of_request request
 line_of (Err fault) = lines.Malformed
@@ -65,7 +66,7 @@ digit_first rest = do
   digit ← slice_get bytes 0
   Some (digit - 48)
 
--- the value of the first of these members as a digit: the number of the clause
+-- the number of the clause in these members of a reply: the digit after the first colon
 abbrev pub clause_of_members : List ℕ → Option ℕ
 clause_of_members members = digit_first (split_at_byte 58 members).1
 
@@ -85,7 +86,7 @@ abbrev pub known_by : Option Who → Greeting → Option Who
 known_by known (Answered r x) = x
 known_by known (LeftToJudge who c) = known
 
--- who is known after a line that was read as this request, or as none
+-- who is known after a line, by the request that was read from it; if none was read, the line changes nothing
 abbrev pub known_asked : RosterValue → Option Who → Result Request LineFault → Option Who
 known_asked roster known (Ok request) = known_by known (greeting roster known request)
 known_asked roster known (Err fault) = known
@@ -145,7 +146,7 @@ abbrev pub clause_in : Reply → Option ℕ
 clause_in (reply.Deny d) = Some (clause_of d)
 clause_in _ = None
 
--- what the tally should count of a line before which `known` was known, and whose reply is `r`
+-- what the tally should count of a line whose reply is `r`, if `known` was known before the line
 abbrev pub asked_with : Option Who → List ℕ → Reply → Ask
 asked_with known line r = record {
   who = student_of known;
@@ -155,8 +156,8 @@ asked_with known line r = record {
   refused = reason_in r;
 }
 
--- `asks` has one item for each line that was answered. It has who was known by the rules, what the line asks, and the
--- clause, the denial or the reason in the reply that the rules give
+-- `asks` has one item for each line that was answered: the student who was known, what the line asks, and the clause,
+-- the denial or the reason in its reply. The rules determine who is known and what the reply is
 abbrev pub AreAskedOf : LabValue → List Event → Option Who → List Entry → List Ask → Type 0
 AreAskedOf lab l known [] asks = asks ≡ []
 AreAskedOf lab l known (entry.Said p line out ∷ es) asks =

@@ -1,5 +1,5 @@
--- The names of denials in the replies of a record, found in the bytes of the replies. Only denials that a known student
--- can get have names.
+-- The names of denials in the replies of a record, found in the bytes of the replies. Only denials that a student can
+-- get after a granted hello have names here.
 use Rattle.std.specs.Prelude.{ℕ, List, codes, Option, None, Some, if◌then◌else◌}
 use Rattle.mml_codec.specs.declared.reply.Reply.{Reply}
 use Rattle.mml_journal.specs.Words.{◌>>=◌, split_at_byte, is_word}
@@ -29,7 +29,7 @@ denial_after members = do
 abbrev pub denial_told : List ℕ → Option StudentDenial
 denial_told text = denial_members text >>= denial_after
 
--- the denial in the reply, if a known student can get it
+-- the denial in the reply, if a student can get it after a granted hello
 abbrev pub denial_in : Reply → Option StudentDenial
 denial_in (reply.Deny d) = student_denial d
 denial_in _ = None

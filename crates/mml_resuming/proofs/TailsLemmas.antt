@@ -1,10 +1,10 @@
--- The bytes after the last line that are left out of an old journal.
+-- The bytes after the last newline of an old journal, which may be left out when its class is resumed.
 use Rattle.std.proofs.Common.{◌≡◌, ◌≢◌, ◌<◌, ◌+◌, ℕ, Bool, true, false, cond, List, length, nat_le, refl, arith}
 use Rattle.std.proofs.lemmas.Bool.{leb-true}
 use Rattle.mml_journal.specs.declared.TheConstants.{MAX_EVENT_TEXT}
 use Rattle.mml_resuming.specs.Resuming.{counted_of, whole_of}
 
--- bytes are left out only if they are at most as many as an event's text may have
+-- if the bytes after the last newline are left out, they are fewer than 102
 tail_at : (bytes : List ℕ) (b : Bool) → nat_le (length bytes) (length (whole_of bytes) + MAX_EVENT_TEXT) ≡ b → cond b (whole_of bytes) bytes ≢ bytes
     → length bytes < length (whole_of bytes) + 102
 tail_at bytes true few other = let most = leb-true _ _ few in omega (arith, most)

@@ -1,6 +1,6 @@
 -- What holds of a house that failed. Its book has the granted events, the board after them and their journal. The
 -- places of a window are the numbers of the events that it was granted. They went astray if those of all windows aren't
--- those of the book's events, each once.
+-- those of the book's events, each once. The log of a house is its result at the end.
 use Rattle.std.proofs.{Common.◌≡◌, Common.ℕ, Common.List, Common.All, Common.length, Common.Option, Common.subst, KnownBytes.Appends-nil}
 use mathlib.Core.List.{IsPrefix}
 use Rattle.mml_lab.specs.Labs.{LabValue}
@@ -36,7 +36,7 @@ module _ {S R W : Type 0} (lab : LabValue) (sink : S → Option (List ℕ)) (rem
   badly_early wrote fault.Write early = absurd early
   badly_early wrote _ early = Appends-nil wrote
 
-  -- if there is a log, the error says why its last line wasn't written whole
+  -- if there is a log, the error is the reason why its last line wasn't written whole
   pub badly_logged : (sessions : List (EndedSession R W)) (log : Log S) → ServesHouse lab sink remaining contents to_come count sessions log
       → (wrote wrote' : Option (List ℕ)) (f : ServeFault)
       → LacksLastLine log.halted wrote wrote' (done_line (length log.events) log.board.number) f

@@ -16,7 +16,7 @@ each_more P [] [] [] x y z so_far one = (one, tt)
 each_more P (a ∷ us) (b ∷ vs) (c ∷ ws) x y z so_far one = (so_far.0, each_more P us vs ws x y z so_far.1 one)
 each_more P _ _ _ x y z so_far one = absurd so_far
 
--- if what `P` says holds of the threads that were joined, it also holds with one more joined thread; `f` returns the
+-- if `P` is true for each thread that was joined, and for one more, it is true for all of them; `f` returns the
 -- connection of a thread's handle
 pub served_more : {H A B C : Type 0} (P : A → B → C → Type 0) (f : H → A) (hs : List H) (h : H) (ys ys' : List B) (y : B) (zs zs' : List C) (z : C)
     → ys' ≡ ys ++ y ∷ [] → zs' ≡ zs ++ z ∷ [] → Each P (map f hs) ys zs → P (f h) y z → Each P (map f (hs ++ h ∷ [])) ys' zs'
@@ -33,7 +33,7 @@ module _ {H R W : Type 0} (f : H → Connection R W) (hs hs' : List H) (h : H) (
   came_so known a b c it so_far next = grind (arith, map-append, append_assoc)
 
 module _ {R W : Type 0} (lab : LabValue) (remaining : R → Option (List ℕ)) (contents : W → Option (List ℕ)) (to_come : Option (List (R × W))) (count : ℕ) where
-  -- if each of the connections that came was served in its thread, all connections were served as `ServesAll` says
+  -- if each of the connections that came was served in its thread, all connections were served as `ServesAll` states
   pub all_came : {X E : Type 0} (sessions : X → List (EndedSession R W)) (windows : X → List WindowValue) (left : Option (List (R × W)))
       (cs : List (Connection R W)) (r : Result X E)
       → Takes to_come left (map ends_of cs) → length cs ≡ count → Numbered 1 cs → IfOk r (λ p. Each (IsServed lab remaining contents) cs (sessions p) (windows p))

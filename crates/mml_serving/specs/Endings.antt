@@ -52,7 +52,7 @@ EndsEarly lab sink remaining contents to_come count fault.Accept = Unit {0}
 EndsEarly lab sink remaining contents to_come count fault.Astray = EndsAstray lab sink remaining contents to_come count
 EndsEarly lab sink remaining contents to_come count _ = ⊥
 
--- the connections were served, and the house has a log of which `Holds` is true
+-- the connections were served, and the house has a log for which `Holds` is true
 pub record EndsLogged {S R W : Type 0} (lab : LabValue) (sink : S → Option (List ℕ)) (remaining : R → Option (List ℕ)) (contents : W → Option (List ℕ))
     (to_come : Option (List (R × W))) (count : ℕ) (Holds : Log S → Type 0) : Type 0 where
   pub sessions : List (EndedSession R W)
@@ -94,7 +94,7 @@ pub record LacksMemory {S : Type 0} (lab : LabValue) (sink : S → Option (List 
   pub last : Appends wrote wrote' (done_line (length log.events) (world_in lab log.events).number)
   pub lacked : list_all had_memory sessions ≡ false
 
--- What holds of the house of a listener that failed: what `EndsBadly` says; or its last line was written, but memory
+-- What holds of the house of a listener that failed: what `EndsBadly` states; or its last line was written, but memory
 -- had run out
 abbrev pub ServesBadly : {S : Type 0} → LabValue → (S → Option (List ℕ)) → ℕ → Option (List ℕ) → Option (List ℕ) → ServeFault → Type 0
 ServesBadly lab sink count wrote wrote' why =

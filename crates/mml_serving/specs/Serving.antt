@@ -1,5 +1,6 @@
--- Connections that were served in the order in which they came. The place of an event is its number in the list of
--- events, from 1.
+-- Connections that were served in the order in which they came. A window is what a session has seen of the list of
+-- events, and the places of the events that were granted to it. The place of an event is its number in this list, from
+-- 1. A house is one run of a lab that threads share. The log of a house is its result at the end.
 use Rattle.std.specs.Prelude.{◌≡◌, ℕ, Bool, true, false, not, ◌&&◌, ◌+◌, List, [], ◌∷◌, ◌++◌, All, length, map, ⊤, Option}
 use Rattle.mml_lab.specs.Labs.{LabValue}
 use Rattle.mml_window.specs.{declared.log.Log.Log, Logs.IsLog, Windows.WindowValue, Windows.window}
@@ -40,7 +41,7 @@ pub record ServesAll {R W : Type 0} (lab : LabValue) (remaining : R → Option (
   pub numbered : Numbered 1 connections
   pub served : Each (IsServed lab remaining contents) connections sessions windows
 
--- the connections were served, as `ServesAll` says, through the first windows of the house. Nobody was served through
+-- the connections were served, as `ServesAll` states, through the first windows of the house. Nobody was served through
 -- the others, and they have seen nothing. Altogether there are as many windows as the lab has sessions
 pub record ServesWindows {R W : Type 0} (lab : LabValue) (remaining : R → Option (List ℕ)) (contents : W → Option (List ℕ))
     (to_come : Option (List (R × W))) (count : ℕ)
@@ -52,7 +53,7 @@ pub record ServesWindows {R W : Type 0} (lab : LabValue) (remaining : R → Opti
   pub idle : All (λ w. w ≡ window [] []) unused
   pub each : ServesAll lab remaining contents to_come count sessions used
 
--- The connections were served, as `ServesWindows` says, and the house has this log. Its events are a legal list, and
+-- The connections were served, as `ServesWindows` states, and the house has this log. Its events are a legal list, and
 -- each window has seen a beginning of it. The places that the windows were given are those of the events, each once
 pub record ServesHouse {S R W : Type 0} (lab : LabValue) (sink : S → Option (List ℕ)) (remaining : R → Option (List ℕ)) (contents : W → Option (List ℕ))
     (to_come : Option (List (R × W))) (count : ℕ) (sessions : List (EndedSession R W)) (log : Log S) : Type 0 where

@@ -1,5 +1,5 @@
 -- The lines that were answered so far, and how the session may end after them. A talk has the answered lines of a
--- session, with their replies.
+-- session, with their replies. The known participant is the one whose hello was granted.
 use Rattle.std.proofs.Common.{◌≡◌, ◌⊎◌, inl, inr, ℕ, ◌<◌, ◌≤◌, List, [], ◌∷◌, ◌++◌, length, take, refl, sym, ◌∙◌, ap, append_assoc, append-nil, arith, Option, subst}
 use Rattle.std.{proofs.KnownBytes.Appends-trans, proofs.KnownBytes.Consumes-trans, specs.Io.KnownBytes.Consumes, specs.Io.KnownBytes.Appends, specs.Io.KnownBytes.prepend_known}
 use Rattle.mml_lab.specs.{declared.who.Who.Who, Labs.LabValue}
@@ -55,16 +55,16 @@ nothing_yet number lab old before input wrote given unread held none out = recor
 module _ {number : ℕ} {lab : LabValue} {old : WindowValue} {st : Standing} {before : Option Who} {input a wrote c : Option (List ℕ)}
     {x y : Option Kept} {held : List ℕ} (after : Standing) (left d : Option (List ℕ)) (z : Option Kept) (unread held' : List ℕ)
     (so : AnsweredSoFar number lab old st before input a held wrote c x y) where
-  -- the result of the next line, for the state at the end of the talk
+  -- the result of the next line in the session's state is also one in the state at the end of the talk
   from_end : (came : Next) → ServesNext came number lab st after a unread left held held' c d y z
       → ServesNext came number lab so.talk.end after a unread left held held' c d y z
   from_end came = subst (λ (t : Standing). ServesNext came number lab t after a unread left held held' c d y z) (sym so.stands)
 
-  -- the participant who is known at the end of the talk
+  -- the participant who is known at the end of the talk is the one in the session's state
   knew : so.talk.end.known ≡ st.known
   knew = ap (λ (t : Standing). t.known) so.stands
 
-  -- with the line of the next reply, the bytes that aren't written are those in the buffer
+  -- after one more reply, the lines that aren't written are those in the buffer, and then the line of this reply
   held_with : (t : LineTurn lab so.talk.end after) → HoldsBack lab wrote c (so.talk.replies ++ t.reply ∷ []) (held ++ line_written t)
   held_with t = back_more lab wrote c so.talk.replies held t.reply so.appended
 
@@ -96,7 +96,8 @@ module _ {number : ℕ} {lab : LabValue} {old : WindowValue} {st : Standing} {be
     appended = back_out lab wrote c e so.talk.replies held so.appended (out_alike c d e held held' alike still out);
   }
 
-  -- one more line was answered; of the lines of all replies, the bytes that `sent` selects are written
+  -- if one more line was answered, and those bytes of all replies' lines are written that `sent` selects,
+  -- `LastAnswered` is true
   abbrev last_so : (sent : List ℕ → List ℕ) {e : Option (List ℕ)} (t : LineTurn lab so.talk.end after) → Consumes a (prepend_known unread left) (line_read t)
       → Appends wrote d (sent (bytes_written so.talk ++ line_written t)) → held' ≡ [] → Appends d e held'
       → LastAnswered sent lab old after.window input (prepend_known unread left) wrote e
@@ -124,7 +125,7 @@ module _ {number : ℕ} {lab : LabValue} {old : WindowValue} {st : Standing} {be
       let es = left_at after.window in
       records_trans number x y o (entries_of so.talk) (line_entries t ++ es) so.recorded (records_trans number y z o (line_entries t) es more fin)
 
-  -- if the buffered bytes were written, the session ended as `end` says
+  -- if the buffered bytes were written, the session ended as `end` states
   told_so : (end : SessionEnd) (e : Option (List ℕ)) (o : Option Kept) → ServesNext (next.Ended end) number lab st after a unread left held held' c d y z
       → Appends d e held' → Records number z o (left_at after.window) → EndedRecorded end st.known number lab old after.window input left wrote e x o
   told_so ends.End e o serves out fin = ((unread, all_so serves.0 serves.1 serves.4 serves.6 out, serves.2, serves.3), knew, all_given o serves.7 fin)
@@ -159,7 +160,8 @@ module _ {number : ℕ} {lab : LabValue} {old : WindowValue} {st : Standing} {be
       let off = back_off lab wrote c d so.talk.replies held one.0.reply so.appended so.few one.4 in
       ((unread, off.0, last_so (take off.0) one.0 one.1 off.2 one.3 out, off.1, one.2, off.3), knew, last_given o one.0 one.5 fin)
 
-  -- if the write of the buffered bytes broke off, the session ended by the last line that was answered
+  -- if the write of the buffered bytes broke off, the session ended by a failed write, after the last line that was
+  -- answered
   broken_at : (e : Option (List ℕ)) (o : Option Kept) (rest : List ℕ) → (bytes_written so.talk ≡ []) ⊎ LastLine lab old st before so.talk → after ≡ st
       → Consumes a (prepend_known rest left) [] → length rest < READ_SIZE → BreaksOff c e held
       → Records number y z [] → Records number z o (left_at after.window)

@@ -11,6 +11,6 @@ abbrev pub IsPlain : Greeting → Type 0
 IsPlain (Answered reply known) = (is_short reply ≡ true) × (places_in reply ≡ [])
 IsPlain (LeftToJudge who c) = Unit {0}
 
--- the rules of greeting give only such replies
+-- each reply that the rules of greeting give is short and names no place
 pub plain_greeting : (r : RosterValue) (known : Option Who) (request : Request) → IsPlain (greeting r known request)
 plain_greeting r known request = by_greeting IsPlain (λ who. (refl, refl)) (refl, refl) r known request (λ d. (refl, refl)) (λ who c by asked. tt)

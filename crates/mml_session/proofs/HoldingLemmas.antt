@@ -11,7 +11,7 @@ use Rattle.mml_session.proofs.ShortestLemmas.{few_lines}
 pub off_some : (a b : Option (List ℕ)) (bytes : List ℕ) → BreaksOff a b bytes → bytes ≢ []
 off_some a b bytes h none = omega (arith, h.1, ap length none)
 
--- if the same bytes are buffered, the same bytes are written
+-- if two buffers have the same bytes, and two outputs too, writing one buffer has the effect of writing the other
 pub out_alike : (b c d : Option (List ℕ)) (held held' : List ℕ) → held' ≡ held → c ≡ b → Appends c d held' → Appends b d held
 out_alike b c d held held' same still h = subst (λ (t : Option (List ℕ)). Appends t d held) still (subst (λ (t : List ℕ). Appends c d t) same h)
 
@@ -98,7 +98,7 @@ module _ (lab : LabValue) where
   back_some a b c rs held h k none =
       omega (arith, k.1, ap length none, ap length (all_lines a b rs held h), length-append (reply_lines lab h.flushed) held)
 
-  -- the flush of the buffered lines and of one more reply broke off
+  -- if the flush of the buffered lines and of one more reply's line broke off, `BreaksLast` is true for this reply
   pub back_off : (a b c : Option (List ℕ)) (rs : List Reply) (held : List ℕ) (r : Reply) → HoldsBack lab a b rs held → length held ≤ HELD_BYTES
       → BreaksOff b c (held ++ reply_line lab.ids lab.roster r) → BreaksLast a c rs r
   back_off a b c rs held r h few k =
@@ -118,7 +118,7 @@ module _ (lab : LabValue) where
         },
       )
 
-  -- the flush of the buffered lines, of which `last` is the last reply, broke off
+  -- if the flush of the buffered lines broke off, and `last` is the last of their replies, `BreaksLast` is true for it
   pub held_off : (a b c : Option (List ℕ)) (rs : List Reply) (held : List ℕ) (before : List Reply) (last : Reply) → HoldsBack lab a b rs held
       → length held ≤ HELD_BYTES → rs ≡ before ++ last ∷ [] → BreaksOff b c held → BreaksLast a c before last
   held_off a b c rs held before last h few is k =
@@ -142,7 +142,8 @@ module _ (lab : LabValue) where
         },
       )
 
-  -- which bytes are written, and which are missing, if contracts can name the writer's bytes
+  -- if contracts can name the writer's bytes, and the last flush broke off, only bytes of this flush are missing
+  -- (`LacksLastFlush`)
   pub lacks_rest : (rs : List Reply) (last : Reply) (wrote wrote' : List ℕ) (n : ℕ) → n < length (reply_lines lab rs ++ reply_line lab.ids lab.roster last)
       → Appends (Some wrote) (Some wrote') (take n (reply_lines lab rs ++ reply_line lab.ids lab.roster last)) → BreaksInLastFlush lab rs n
       → AllByRecursion (λ r. is_bye r ≡ false) rs → LacksLastFlush lab rs last wrote wrote'

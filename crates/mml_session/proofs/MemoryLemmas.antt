@@ -1,5 +1,6 @@
 -- If memory runs out for the line of a reply that isn't short, the refusal `memory` is sent instead. The place of an
--- event is its number in the list of events, from 1.
+-- event is its number in the list of events, from 1. A window is what a session has seen of this list, and the places
+-- of the events that were granted to it.
 use Rattle.std.proofs.Common.{◌≡◌, ◌⊎◌, ℕ, true, false, true≢false, List, [], ◌++◌, Option, refl, sym, ap, ◌∙◌, subst, inl, inr, append-nil, Result}
 use Rattle.mml_lab.specs.{declared.who.Who.Who, Labs.LabValue}
 use Rattle.mml_board.specs.{declared.event.Event.Event, World.World, Lists.world_in}

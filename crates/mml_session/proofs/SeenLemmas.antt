@@ -1,4 +1,5 @@
--- What a window has seen after a session begins with what it had seen before.
+-- After a session, its window has seen all that it had seen before, and perhaps more. What a window has seen is a
+-- beginning of the list of events. A talk has the answered lines of a session, with their replies.
 use Rattle.std.proofs.Common.{◌≡◌, ℕ, List, sym, subst, Option}
 use mathlib.Core.List.{IsPrefix}
 use Rattle.mml_lab.specs.Labs.{LabValue}

@@ -38,7 +38,7 @@ pub unread_before : (limit old new old_reads new_reads taken : ℕ) (unread unse
 unread_before limit old new old_reads new_reads taken unread unsent out needed grow counted few some =
     let still : new_reads < old_reads + 1 = lt_of_not-le (λ read. some (out (needed (omega (arith, read))))) in omega (arith, grow, counted, few, still)
 
--- a reply's line that comes after the buffered bytes is sent together with them
+-- if the buffered bytes and a reply's line after them are sent together, the reply was sent after the buffered bytes
 pub sent_behind : (said : Sent) (r : Reply) (unsent whole bytes unsent' : List ℕ) (wrote wrote' : Option (List ℕ)) → bytes ≡ unsent ++ whole
     → SendsReply said r bytes [] unsent' wrote wrote' → SendsReply said r whole unsent unsent' wrote wrote'
 sent_behind said r unsent whole bytes unsent' wrote wrote' e h = behind said (subst (λ (t : List ℕ). SendsReply said r t [] unsent' wrote wrote') e h)

@@ -13,7 +13,7 @@ use Rattle.mml_codec.specs.Facts as fact
 use Rattle.mml_codec.specs.declared.reply.Refused.TheVariants as refused
 use Rattle.mml_codec.specs.declared.reply.Reply.TheVariants as replies
 
--- the bytes of a value that are counted: those of a word, with its quotes
+-- how many bytes a value has at least: those of a word and its quotes; none are counted for other values
 abbrev least : Fact → ℕ
 least (fact.word w) = 2 + length w
 least _ = 0
@@ -40,7 +40,7 @@ value_least ids (fact.pairs ps) rest = omega (arith, list_least (map (pair_text 
 value_least ids (fact.privileged ns) rest = omega (arith, list_least (map (privileged_text ids) ns) rest)
 value_least ids (fact.open_links ls) rest = omega (arith, list_least (map (open_link_text ids) ls) rest)
 
--- the bytes of fields that are counted: each key with its quotes and the colon, each value, and the closing brace
+-- how many bytes fields have at least: each key with its quotes and the colon, each value, and the closing brace
 abbrev least_of : Fields → ℕ
 least_of [] = 1
 least_of (f ∷ fs) = 3 + length f.0 + least f.1 + least_of fs

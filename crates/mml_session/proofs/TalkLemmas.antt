@@ -1,5 +1,6 @@
 -- The window after a talk, and the lines that the talk has answered. The place of an event is its number in the list of
--- events, from 1.
+-- events, from 1. A window is what a session has seen of this list, and the places of the events that were granted to
+-- it.
 use Rattle.std.proofs.Common.{◌≡◌, ℕ, List, [], ◌∷◌, ◌++◌, flat_map, sym, ◌∙◌, ap, append_assoc, append-nil, subst, inl, inr, All}
 use Rattle.std.{specs.List.AllByRecursion, proofs.lemmas.List.Elements.All-nil, proofs.lemmas.List.Elements.All-cons}
 use mathlib.Core.List.{IsPrefix}
@@ -16,7 +17,8 @@ use Rattle.mml_session.specs.Talks.{Talk, LineTurn, bytes_read}
 use Rattle.mml_session.proofs.EngineLemmas.{seen_told, turn_does}
 use Rattle.mml_engine.proofs.NamingLemmas as naming
 
--- the window's places grew by those that the reply names, and it has seen what it had seen, and perhaps more
+-- the window's places are the old ones, and then those that the reply names; the window has seen all that it had seen
+-- before
 pub record WentOn (old new : WindowValue) (r : Reply) : Type 0 where
   pub places : new.places ≡ old.places ++ places_in r
   pub seen : IsPrefix old.seen new.seen
@@ -70,6 +72,6 @@ all_unbroken limit (l ∷ ls) each = All-cons IsUnbroken l ls each.0.0 (all_unbr
 pub first_lines : (lab : LabValue) (st : Standing) (t : Talk lab st) (rest : List ℕ) → lines_of (bytes_read t ++ rest) ≡ t.lines ++ lines_of rest
 first_lines lab st t rest = lines_first t.lines rest (all_unbroken MAX_REQUEST t.lines t.each)
 
--- if no newline follows, they are the talk's lines alone
+-- if the bytes that follow contain no newline, the lines are those of the talk alone
 pub only_lines : (lab : LabValue) (st : Standing) (t : Talk lab st) (rest : List ℕ) → IsUnbroken rest → lines_of (bytes_read t ++ rest) ≡ t.lines
 only_lines lab st t rest unbroken = all_lines t.lines rest (all_unbroken MAX_REQUEST t.lines t.each) unbroken

@@ -1,5 +1,5 @@
 -- The reply to a command, made from the window's answer. The place of an event is its number in the list of events,
--- from 1.
+-- from 1. A window is what a session has seen of this list, and the places of the events that were granted to it.
 use Rattle.std.proofs.Common.{◌≡◌, ◌⊎◌, ℕ, List, [], ◌++◌, refl, sym, ap, ◌∙◌, subst, inl, inr, append-nil, Option}
 use Rattle.mml_lab.specs.{declared.who.Who.Who, Labs.LabValue}
 use Rattle.mml_board.specs.{declared.event.Event.Event, declared.done.Done.Done, declared.denial.Denial.Denial, World.World, Events.after, Lists.world_in}
@@ -40,7 +40,7 @@ granted_told lab old new who c place number done answers =
 has_seen : (l : List Event) (ps : List ℕ) (new : WindowValue) {why : Option Refusal} → new ≡ window_with l ps why → HasSeen l ps new
 has_seen l ps new is = (ap (λ (w : WindowValue). w.seen) is, ap (λ (w : WindowValue). w.places) is)
 
--- a reply that names no place adds no place to those of the window
+-- if a reply names no place, the window's places stay the same
 seen_so : (l : List Event) (ps : List ℕ) (new : WindowValue) {why : Option Refusal} → new ≡ window_with l ps why → HasSeen l (ps ++ []) new
 seen_so l ps new is = (ap (λ (w : WindowValue). w.seen) is, ap (λ (w : WindowValue). w.places) is ∙ sym (append-nil ps))
 
@@ -57,7 +57,7 @@ denied_told lab old new who c d answers = record {
   ));
 }
 
--- if an act is refused, the refusal is the reply to the ruling, or may replace it
+-- if the window refused the command, the refusal is the reply to the ruling, or may replace it
 refused_says : (lab : LabValue) (l : List Event) (ps : List ℕ) (who : Who) (c : Command) (why : Refusal) (new : WindowValue)
     → Says lab l ps who c (Refused why) new
     → Plainly lab l ps (ruling_at lab (world_in lab l) who c) (replies.Refuse (refusal_for why)) new

@@ -1,5 +1,6 @@
--- The end of a session: what was read of its input, what was written, and its window. A view is a command that only
--- asks to be shown something: a see, a look or a report.
+-- The end of a session: what was read of its input, what was written, and its window. A window is what a session has
+-- seen of the list of events, and which of these events were granted to it. The known participant is the one whose
+-- hello was granted. A view is a command that only asks to be shown something: a see, a look or a report.
 use Rattle.std.specs.Prelude.{◌≡◌, ℕ, ◌<◌, false, List, [], ◌++◌, length, take, Option, None, Some, Ok}
 use Rattle.std.specs.Io.KnownBytes.{Appends, Consumes, IsAtEnd, prepend_known}
 use Rattle.mml_lab.specs.{declared.who.Who.Who, Labs.LabValue}
@@ -30,7 +31,7 @@ pub record AllAnswered (lab : LabValue) (old new : WindowValue) (input left wrot
   pub consumed : Consumes input left (bytes_read talk)
   pub appended : Appends wrote wrote' (bytes_written talk)
 
--- the lines that were taken from the input were answered, the last of which is listed apart. Of the bytes of all their
+-- All lines that were taken from the input were answered; the last of them is listed apart. Of the bytes of all their
 -- replies, those that `sent` selects are written
 pub record LastAnswered (sent : List ℕ → List ℕ) (lab : LabValue) (old new : WindowValue) (input left wrote wrote' : Option (List ℕ)) : Type 0 where
   pub talk : Talk lab (nobody_known old)

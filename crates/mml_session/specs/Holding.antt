@@ -1,4 +1,5 @@
--- The output buffer: which replies are written, and which are held.
+-- The output buffer: which replies are written, and which are held. The known participant is the one whose hello was
+-- granted in the session.
 use Rattle.std.specs.{Prelude.◌≡◌, Prelude.◌⊎◌, Prelude.ℕ, Prelude.◌<◌, Prelude.◌≤◌, Prelude.List, Prelude.[], Prelude.◌++◌, Prelude.length, Prelude.take, Prelude.Option, Io.KnownBytes.Appends}
 use Rattle.mml_lab.specs.{declared.who.Who.Who, Labs.LabValue}
 use Rattle.mml_codec.specs.{declared.reply.Reply.Reply, Replies.reply_line}
@@ -44,7 +45,7 @@ pub record LacksLastFlush (lab : LabValue) (replies : List Reply) (last : Reply)
   pub few : length (reply_lines lab buffered) ≤ HELD_BYTES
   pub few_lines : length buffered ≤ 512
 
--- The buffered replies were written, and the session ended as `ending` says. Or the write broke off and ended the
+-- The buffered replies were written, and the session ended as `ending` states. Or the write broke off and ended the
 -- session, and `before` is who was known before the last line
 abbrev pub LetsOut : Ending → Option Who → Ending → List ℕ → Option (List ℕ) → Option (List ℕ) → Type 0
 LetsOut ending before result held wrote wrote' =

@@ -1,5 +1,5 @@
 -- The result of the next line of a session. A view is a command that only asks to be shown something: a see, a look or
--- a report.
+-- a report. A window is what the session has seen of the list of events; if it is closed, it shows no more views.
 use Rattle.std.specs.Prelude.{◌≡◌, ◌≢◌, ℕ, ◌<◌, Bool, false, true, List, [], ◌++◌, length, take, Option, Result, Ok, Err, ⊤}
 use Rattle.std.specs.Io.KnownBytes.{Appends, Consumes, IsAtEnd, prepend_known}
 use Rattle.mml_lab.specs.Labs.{LabValue}
@@ -52,9 +52,9 @@ next_after (Ok sent.Bye) = next.Ended end.Bye
 next_after (Ok (sent.Unwritten n)) = next.Ended end.WriteFault
 next_after (Err closed) = next.Ended end.Closed
 
--- the outcome of the next line, by what followed it: the session's state, the bytes to come (`held` are those that were
--- read already), the buffered replies before and after, and the bytes that are written. Nothing is read while replies
--- are buffered
+-- The outcome of the next line, by whether the session goes on or how it ended. `input` is the input before the line.
+-- The input after it is `held`, the bytes that were read already, and then `left`. `unsent` and `unsent'` are the
+-- replies that were buffered before and after the line. Nothing is read while replies are buffered
 abbrev pub ServesNext : Next → ℕ → LabValue → Standing → Standing → Option (List ℕ) → List ℕ → Option (List ℕ) → List ℕ → List ℕ → Option (List ℕ)
     → Option (List ℕ) → Option Kept → Option Kept → Type 0
 ServesNext next.Served number lab st after input held left unsent unsent' wrote wrote' given given' =

@@ -1,5 +1,5 @@
 -- A talk: the lines of one connection that were answered, with their replies, and the bytes that were read and written
--- for them.
+-- for them. The known participant is the one whose hello was granted in the session.
 use Rattle.std.specs.Prelude.{◌≡◌, ℕ, false, List, flat_map, None}
 use Rattle.mml_lab.specs.Labs.{LabValue}
 use Rattle.mml_ids.specs.Lines.{ended}

@@ -1,5 +1,6 @@
 -- The turns of a session: how it answers one line, and many lines one after another. The place of an event is its
--- number in the list of events, from 1.
+-- number in the list of events, from 1. A window is what the session has seen of this list, and the places of the
+-- events that were granted to it. The known participant is the one whose hello was granted in the session.
 use Rattle.std.specs.Prelude.{◌≡◌, ◌⊎◌, ℕ, Bool, true, false, List, [], ◌∷◌, ◌++◌, Option, None, Some, Result, Ok, Err}
 use mathlib.Core.List.{IsPrefix}
 use Rattle.mml_lab.specs.{declared.who.Who.Who, Labs.LabValue}
@@ -24,7 +25,7 @@ pub record Standing : Type 0 where
 abbrev pub standing : Option Who → WindowValue → Standing
 standing known window = record { known = known; window = window }
 
--- the list with the ruling's event after it, if there is one
+-- the list with the event after it, if there is one
 abbrev pub entered : List Event → Option Event → List Event
 entered l None = l
 entered l (Some e) = l ++ e ∷ []
@@ -33,8 +34,8 @@ entered l (Some e) = l ++ e ∷ []
 abbrev pub places_in : Reply → List ℕ
 places_in r = as_list (place_in r)
 
--- which refusals may come instead of a ruling: `memory` instead of a look or a report, which have lists; `memory` or
--- `journal` instead of a grant, whichever cause the window keeps; none instead of any other ruling
+-- whether this refusal may replace the reply to the ruling: `memory` in place of a look or a report, which have lists;
+-- `memory` or `journal` in place of a grant, whichever cause the window keeps; no refusal in place of any other ruling
 abbrev pub MayRefuse : Ruling → Refused → Option Refusal → Type 0
 MayRefuse (Looked l) refused.Memory kept = Unit {0}
 MayRefuse Reported refused.Memory kept = Unit {0}
@@ -42,12 +43,12 @@ MayRefuse (Granted e done) refused.Memory kept = kept ≡ Some cause.Memory
 MayRefuse (Granted e done) refused.Journal kept = kept ≡ Some cause.Journal
 MayRefuse _ _ _ = ⊥
 
--- the reply is that to the ruling after the list, and the window has then seen the list and the ruling's event, if
--- there is one
+-- the reply is that to the ruling, judged after the list; afterwards the window has seen the list and the ruling's
+-- event, if there is one
 abbrev pub Plainly : LabValue → List Event → List ℕ → Ruling → Reply → WindowValue → Type 0
 Plainly lab l ps ruled r new = (r ≡ reply_of (after_ruling (world_in lab l) ruled) ruled) × HasSeen (entered l (event_of ruled)) (ps ++ places_in r) new
 
--- the reply is a refusal that replaces the ruling after the list, and the window has then seen the list
+-- the reply is a refusal that may replace the ruling; afterwards the window has seen the list
 abbrev pub Refuses : List Event → List ℕ → Ruling → Reply → WindowValue → Type 0
 Refuses l ps ruled r new = (why : Refused) × (r ≡ reply.Refuse why) × MayRefuse ruled why new.refused × HasSeen l ps new
 
@@ -60,13 +61,13 @@ pub record Told (lab : LabValue) (old : WindowValue) (who : Who) (c : Command) (
   pub says : Plainly lab list old.places (ruling_at lab (world_in lab list) who c) r new
       ⊎ Refuses list old.places (ruling_at lab (world_in lab list) who c) r new
 
--- the effect of a request: if the greeting decides it, that reply, and the window stays as it is; otherwise the
--- window's reply to its command
+-- the effect of a request: if the rules of greeting answer it, their reply, and the window stays as it is; otherwise
+-- the window's reply to its command
 abbrev pub Settles : LabValue → Standing → Greeting → Reply → Standing → Type 0
 Settles lab st (Answered r x) r' next = (r' ≡ r) × (next ≡ standing x st.window)
 Settles lab st (LeftToJudge who c) r' next = (next.known ≡ st.known) × Told lab st.window who c r' next.window
 
--- the effect of what a line asks
+-- the effect of the request that was read from a line, or of a line from which none was read
 abbrev pub Asked : LabValue → Standing → Result Request LineFault → Reply → Standing → Type 0
 Asked lab st (Err fault) r next = (r ≡ reply.Refuse (refusal_of fault)) × (next ≡ st)
 Asked lab st (Ok request) r next = Settles lab st (greeting lab.roster st.known request) r next
@@ -75,7 +76,7 @@ Asked lab st (Ok request) r next = Settles lab st (greeting lab.roster st.known 
 abbrev pub Unread : Standing → Reply → Standing → Type 0
 Unread st r next = (r ≡ reply.Refuse refused.Memory) × (next ≡ st)
 
--- the effect of a line: the one of what it asks, or the refusal `memory` if memory ran out while it was read
+-- the effect of a line: that of its request, or the refusal `memory` if memory ran out while the line was read
 abbrev pub Turn : LabValue → Standing → List ℕ → Reply → Standing → Type 0
 Turn lab st line r next = Asked lab st (request_in line) r next ⊎ Unread st r next
 
