@@ -6,11 +6,12 @@ ghost use Rattle.mml_host_program.specs.Telling.{EndsWell, ports_line, TellsClas
 
 use crate::class::Ready;
 use crate::fault::Fault;
+use crate::socket_class::SocketClass;
 use crate::system::System;
 use mml_hosting::{Hosted, serve_host};
 use mml_ids::Piece;
 use mml_journal::Sink;
-use mml_ports::{HostState, SocketSession, TwoPorts, bell_of, open_ports};
+use mml_ports::{HostState, TwoPorts, bell_of, open_ports};
 use mml_program::{Fault as ProgramFault, write_pieces};
 use mml_session::Observer;
 use mml_window::Log;
@@ -79,7 +80,7 @@ impl<C: Observer + Send + Drop> Ready<C> {
             at_desk,
             elsewhere: at_port,
         } = open_ports(rt, alloc, state, ports);
-        let served = serve_host::<_, _, SocketSession<'_, R>, _, _, _, _, _, _, _, _>(
+        let served = serve_host::<SocketClass<'_, R, S, C>, _>(
             rt, alloc, lab, sink, observers, at_desk, at_port, &bell, writer,
         );
         match served {

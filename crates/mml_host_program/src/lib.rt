@@ -10,6 +10,7 @@ mod limit_table;
 mod limits;
 mod old_file;
 mod resumed;
+mod socket_class;
 mod system;
 mod task;
 mod words;

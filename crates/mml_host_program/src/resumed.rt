@@ -7,9 +7,10 @@ use crate::class::{Past, Ready};
 use crate::fault::Fault;
 use crate::journal_watch::WatchedSink;
 use crate::old_file::OldFile;
+use crate::socket_class::SocketClass;
 use crate::system::System;
 use mml_journal::Sink;
-use mml_ports::{HostState, Ports, SocketSession, TwoPorts, bell_of, open_ports};
+use mml_ports::{HostState, Ports, TwoPorts, bell_of, open_ports};
 use mml_program::Fault as ProgramFault;
 use mml_resuming::{ResumeFault, Store, resume_class};
 use mml_session::Observer;
@@ -88,7 +89,7 @@ impl<C: Observer + Send + Drop> Ready<C> {
             at_desk,
             elsewhere: at_port,
         } = open_ports(rt, alloc, state, ports);
-        let resumed = resume_class::<_, _, _, SocketSession<'_, R>, _, _, _, _, _, _, _, _>(
+        let resumed = resume_class::<SocketClass<'_, R, S, C>, _, _>(
             rt, alloc, lab, old, store, first, observers, at_desk, at_port, &bell, writer,
         );
         let log = match resumed {

@@ -7,6 +7,7 @@
 
 mod accepting;
 mod begun;
+mod class_types;
 mod hosted;
 mod marks;
 mod port_serving;
@@ -15,6 +16,7 @@ mod seat;
 
 pub use accepting::{Accept, Accepted, Bell, CutOff};
 pub use begun::Begun;
+pub use class_types::{ClassTypes, EndsOf, HostedOf, SeatOf};
 pub use hosted::{HostFault, Hosted, Observers, no_observers, resume_host, serve_host};
 pub use port_serving::{BUSY, serve_port};
 pub use replies::{NoReplies, Observed, ReplyObserver};

@@ -4,7 +4,6 @@
 //! Its window is what its sessions have seen of the list of events. A cut-off is the means by which another thread ends
 //! a connection.
 ghost use Rattle.std.specs.Prelude.{◌≡◌, ◌<◌, ◌≤◌, ◌+◌, ◌^◌, ℕ, true, false, All, IfOk, IfErr, IfSome, IfNone, [], vec_len, vec_capacity};
-ghost use Rattle.std.specs.Thread.{IsSync, IsSend};
 ghost use Rattle.mml_hosting.specs.Seats.{IsReady, IsSeat, ServesIn, came_to, terms};
 ghost use Rattle.mml_hosting.specs.Ports.{ServesPort, TurnsOthersAway};
 ghost use Rattle.mml_hosting.specs.Away.{IsTurnedAway, TurnsAway, busy_line};
@@ -13,11 +12,10 @@ ghost use Rattle.mml_hosting.specs.Counting.{count_free, count_busy, count_in, K
 
 use crate::accepting::{Accept, Accepted, Bell, CutOff};
 use crate::begun::Begun;
+use crate::class_types::{ClassTypes, EndsOf, SeatOf};
 use crate::marks::{Mark, is_marked, set_mark};
-use crate::replies::Observed;
 use crate::seat::{Keep, Seat, serve_in};
 use mml_ids::Memory;
-use mml_journal::Sink;
 use mml_lines::{WriteFault, put_all};
 use mml_serving::HangUp;
 use mml_session::{Observer, Setting};
@@ -25,10 +23,9 @@ use mml_window::Desk;
 use std::alloc::Global;
 use std::io::{Read, Write};
 use std::snapshot::Snapshot;
-use std::sync::Wait;
 use std::sync::atomic::AtomicU64;
 use std::thread;
-use std::thread::{Promise, PromisedHandle, Scope, Threads};
+use std::thread::{Promise, PromisedHandle, Scope};
 
 /// The line that is sent to a connection for which no seat is free.
 pub const BUSY: &[u8] = b"{\"refuse\":\"busy\"}\n";
@@ -64,109 +61,130 @@ struct Busy<
     handle: PromisedHandle<Seat<H, K, C>, SeatPledge<H, K, C, R, W>>,
 }
 
-impl<
-    H: Begun,
-    K: Keep<R, W> + Drop,
-    C: Observer + Drop,
-    R: Read + Drop,
-    W: Write + Drop,
-    U: CutOff + Drop,
-> Busy<H, K, C, R, W, U> {
-    // Returns the index of the first busy seat whose thread has ended, as the marks say. Returns `None` if all threads
-    // are still running.
-    fn first_done<M: Mark>(busy: &Vec<Self>, marks: &[M]) -> Option<usize>
-        ensures within { IfSome result (λ index. index < vec_len busy.now) }
-        ensures first { IfSome result (IsFirstMarked M.Answers marks.now busy.now.items) }
-        ensures none { IfNone result (NoneMarked M.Answers marks.now busy.now.items) }
-    {
-        for candidate in 0..busy.len() {
-            if is_marked(marks, busy[candidate].number) {
-                return Some(candidate);
-            }
-        }
-        None
-    }
+// A busy seat of a class of these types.
+type BusyOf<Y, H> = Busy<
+    H,
+    <Y as ClassTypes>::Kept,
+    <Y as ClassTypes>::Observer,
+    <Y as ClassTypes>::Reader,
+    <Y as ClassTypes>::Writer,
+    <Y as ClassTypes>::CutOff,
+>;
 
-    // Removes the busy seat at this index from the list, drops its cut-off, waits until its thread has ended, and
-    // returns the seat, in which another connection can now be served.
-    fn join_one<Rt: Threads>(rt: &Rt, busy: &mut Vec<Self>, index: usize) -> Seat<H, K, C>
-        requires { index < vec_len busy.old }
-        ensures seat { IsSeat (terms H.lab H.begun H.given R.remaining W.contents C.kept K.shows) result }
-        ensures count { (g : ℕ → ℕ) (h : R × W → ℕ) →
-            count_busy K.shows g h busy.new.items + count_in K.shows g h result ≡ count_busy K.shows g h busy.old.items }
-        ensures len { vec_len busy.new + 1 ≡ vec_len busy.old }
-        ensures capacity { vec_capacity busy.new ≡ vec_capacity busy.old }
-    {
-        let Busy {
-            number: _,
-            cut_off,
-            handle,
-        } = busy.swap_remove(index);
-        drop(cut_off);
-        let seat = handle.join(rt);
-        seat
-    }
+// The handle of a thread that serves a connection in a seat of a class of these types.
+type HandleOf<Y, H> = PromisedHandle<
+    SeatOf<Y, H>,
+    SeatPledge<
+        H,
+        <Y as ClassTypes>::Kept,
+        <Y as ClassTypes>::Observer,
+        <Y as ClassTypes>::Reader,
+        <Y as ClassTypes>::Writer,
+    >,
+>;
 
-    // Returns the index of the busy seat to wait for next. With marks, this is the first seat whose thread has ended,
-    // or `None` if all threads are still running. Without marks, it is the first seat of the list, or `None` if the
-    // list is empty.
-    fn next_to_join<M: Mark>(busy: &Vec<Self>, marks: Option<&[M]>) -> Option<usize>
-        ensures some { IfSome result (λ index. index < vec_len busy.now) }
-        ensures none { IfNone result (IfNone marks.entry (busy.now.items ≡ [])) }
-        ensures first { IfSome marks.entry (λ marks. IfSome result (IsFirstMarked M.Answers marks.now busy.now.items)) }
-        ensures unmarked { IfSome marks.entry (λ marks. IfNone result (NoneMarked M.Answers marks.now busy.now.items)) }
-    {
-        match marks {
-            Some(marks) => Self::first_done(busy, marks),
-            None if busy.is_empty() => None,
-            None => Some(0),
+// Returns the index of the first busy seat whose thread has ended, as the marks say. Returns `None` if all threads
+// are still running.
+fn first_done<Y: ClassTypes, H: Begun, M: Mark>(
+    busy: &Vec<BusyOf<Y, H>>,
+    marks: &[M],
+) -> Option<usize>
+    ensures within { IfSome result (λ index. index < vec_len busy.now) }
+    ensures first { IfSome result (IsFirstMarked M.Answers marks.now busy.now.items) }
+    ensures none { IfNone result (NoneMarked M.Answers marks.now busy.now.items) }
+{
+    for candidate in 0..busy.len() {
+        if is_marked(marks, busy[candidate].number) {
+            return Some(candidate);
         }
     }
+    None
+}
 
-    // Moves the seats whose threads have ended from `busy` to `free`. Without marks, all connections must have been cut
-    // off: then waits for all threads, and moves all seats.
-    fn gather<Rt: Threads, M: Mark>(
-        rt: &Rt,
-        free: &mut Vec<Seat<H, K, C>>,
-        busy: &mut Vec<Self>,
-        marks: Option<&[M]>,
-    )
-        requires seats { All (IsSeat (terms H.lab H.begun H.given R.remaining W.contents C.kept K.shows)) free.old.items }
-        requires room { vec_len free.old + vec_len busy.old ≤ vec_capacity free.old }
-        requires cut_off { IfNone marks (All (λ b. U.IsCutOff b.cut_off) busy.old.items) }
-        ensures seats { All (IsSeat (terms H.lab H.begun H.given R.remaining W.contents C.kept K.shows)) free.new.items }
-        ensures count { KeepCounts K.shows free.old.items busy.old.items free.new.items busy.new.items }
-        ensures len { vec_len free.new + vec_len busy.new ≡ vec_len free.old + vec_len busy.old }
-        ensures capacity { vec_capacity free.new ≡ vec_capacity free.old }
-        ensures busy_capacity { vec_capacity busy.new ≡ vec_capacity busy.old }
-        ensures all { IfNone marks.entry (busy.new.items ≡ []) }
-        ensures unmarked { IfSome marks.entry (λ marks. NoneMarked M.Answers marks.now busy.new.items) }
-    {
-        while let Some(index) = Self::next_to_join(busy, marks) {
-            free.push_reserved(Self::join_one(rt, busy, index));
-        }
+// Removes the busy seat at this index from the list, drops its cut-off, waits until its thread has ended, and
+// returns the seat, in which another connection can now be served.
+fn join_one<Y: ClassTypes, H: Begun>(
+    rt: &Y::Runtime,
+    busy: &mut Vec<BusyOf<Y, H>>,
+    index: usize,
+) -> SeatOf<Y, H>
+    requires { index < vec_len busy.old }
+    ensures seat { IsSeat (terms H.lab H.begun H.given Y.Reader.remaining Y.Writer.contents Y.Observer.kept Y.Kept.shows) result }
+    ensures count { (g : ℕ → ℕ) (h : Y.Reader × Y.Writer → ℕ) →
+        count_busy Y.Kept.shows g h busy.new.items + count_in Y.Kept.shows g h result ≡ count_busy Y.Kept.shows g h busy.old.items }
+    ensures len { vec_len busy.new + 1 ≡ vec_len busy.old }
+    ensures capacity { vec_capacity busy.new ≡ vec_capacity busy.old }
+{
+    let Busy {
+        number: _,
+        cut_off,
+        handle,
+    } = busy.swap_remove(index);
+    drop(cut_off);
+    let seat = handle.join(rt);
+    seat
+}
+
+// Returns the index of the busy seat to wait for next. With marks, this is the first seat whose thread has ended, or
+// `None` if all threads are still running. Without marks, it is the first seat of the list, or `None` if the list is
+// empty.
+fn next_to_join<Y: ClassTypes, H: Begun, M: Mark>(
+    busy: &Vec<BusyOf<Y, H>>,
+    marks: Option<&[M]>,
+) -> Option<usize>
+    ensures some { IfSome result (λ index. index < vec_len busy.now) }
+    ensures none { IfNone result (IfNone marks.entry (busy.now.items ≡ [])) }
+    ensures first { IfSome marks.entry (λ marks. IfSome result (IsFirstMarked M.Answers marks.now busy.now.items)) }
+    ensures unmarked { IfSome marks.entry (λ marks. IfNone result (NoneMarked M.Answers marks.now busy.now.items)) }
+{
+    match marks {
+        Some(marks) => first_done::<Y, H, M>(busy, marks),
+        None if busy.is_empty() => None,
+        None => Some(0),
+    }
+}
+
+// Moves the seats whose threads have ended from `busy` to `free`. Without marks, all connections must have been cut
+// off: then waits for all threads, and moves all seats.
+fn gather<Y: ClassTypes, H: Begun, M: Mark>(
+    rt: &Y::Runtime,
+    free: &mut Vec<SeatOf<Y, H>>,
+    busy: &mut Vec<BusyOf<Y, H>>,
+    marks: Option<&[M]>,
+)
+    requires seats { All (IsSeat (terms H.lab H.begun H.given Y.Reader.remaining Y.Writer.contents Y.Observer.kept Y.Kept.shows)) free.old.items }
+    requires room { vec_len free.old + vec_len busy.old ≤ vec_capacity free.old }
+    requires cut_off { IfNone marks (All (λ b. Y.CutOff.IsCutOff b.cut_off) busy.old.items) }
+    ensures seats { All (IsSeat (terms H.lab H.begun H.given Y.Reader.remaining Y.Writer.contents Y.Observer.kept Y.Kept.shows)) free.new.items }
+    ensures count { KeepCounts Y.Kept.shows free.old.items busy.old.items free.new.items busy.new.items }
+    ensures len { vec_len free.new + vec_len busy.new ≡ vec_len free.old + vec_len busy.old }
+    ensures capacity { vec_capacity free.new ≡ vec_capacity free.old }
+    ensures busy_capacity { vec_capacity busy.new ≡ vec_capacity busy.old }
+    ensures all { IfNone marks.entry (busy.new.items ≡ []) }
+    ensures unmarked { IfSome marks.entry (λ marks. NoneMarked M.Answers marks.now busy.new.items) }
+{
+    while let Some(index) = next_to_join::<Y, H, M>(busy, marks) {
+        free.push_reserved(join_one::<Y, H>(rt, busy, index));
     }
 }
 
 // Takes the last of the free seats, with memory for the record of one more session, and returns it. Returns `None` if
 // no seat is free. Also returns `None`, and leaves the seat in the list, if the teacher's bye has ended its service, or
 // memory runs out.
-fn next_free<H: Begun, K: Keep<R, W> + Drop, C: Observer + Drop, R: Read + Drop, W: Write + Drop>(
-    free: &mut Vec<Seat<H, K, C>>,
-) -> Option<Seat<H, K, C>>
-    requires seats { All (IsSeat (terms H.lab H.begun H.given R.remaining W.contents C.kept K.shows)) free.old.items }
-    ensures ready { IfSome result (IsReady (terms H.lab H.begun H.given R.remaining W.contents C.kept K.shows)) }
-    ensures seats { All (IsSeat (terms H.lab H.begun H.given R.remaining W.contents C.kept K.shows)) free.new.items }
+fn next_free<Y: ClassTypes, H: Begun>(free: &mut Vec<SeatOf<Y, H>>) -> Option<SeatOf<Y, H>>
+    requires seats { All (IsSeat (terms H.lab H.begun H.given Y.Reader.remaining Y.Writer.contents Y.Observer.kept Y.Kept.shows)) free.old.items }
+    ensures ready { IfSome result (IsReady (terms H.lab H.begun H.given Y.Reader.remaining Y.Writer.contents Y.Observer.kept Y.Kept.shows)) }
+    ensures seats { All (IsSeat (terms H.lab H.begun H.given Y.Reader.remaining Y.Writer.contents Y.Observer.kept Y.Kept.shows)) free.new.items }
     ensures some { IfSome result (λ seat. (vec_len free.new + 1 ≡ vec_len free.old)
-        × ((g : ℕ → ℕ) (h : R × W → ℕ) → count_free K.shows g h free.new.items + count_in K.shows g h seat
-        ≡ count_free K.shows g h free.old.items)) }
+        × ((g : ℕ → ℕ) (h : Y.Reader × Y.Writer → ℕ) → count_free Y.Kept.shows g h free.new.items + count_in Y.Kept.shows g h seat
+        ≡ count_free Y.Kept.shows g h free.old.items)) }
     ensures none { IfNone result (vec_len free.new ≡ vec_len free.old) }
-    ensures same { IfNone result ((g : ℕ → ℕ) (h : R × W → ℕ) →
-        count_free K.shows g h free.new.items ≡ count_free K.shows g h free.old.items) }
+    ensures same { IfNone result ((g : ℕ → ℕ) (h : Y.Reader × Y.Writer → ℕ) →
+        count_free Y.Kept.shows g h free.new.items ≡ count_free Y.Kept.shows g h free.old.items) }
     ensures capacity { vec_capacity free.new ≡ vec_capacity free.old }
 {
     let mut seat = free.pop()?;
-    if !make_ready(&mut seat) {
+    if !make_ready::<Y, H>(&mut seat) {
         free.push_reserved(seat);
         return None;
     }
@@ -175,14 +193,12 @@ fn next_free<H: Begun, K: Keep<R, W> + Drop, C: Observer + Drop, R: Read + Drop,
 
 // Makes a seat ready for one more session: reserves memory for that session's record. Returns whether the session may
 // be served there. Returns `false` if the teacher's bye has ended the seat's service, or memory runs out.
-fn make_ready<H: Begun, K: Keep<R, W> + Drop, C: Observer + Drop, R: Read + Drop, W: Write + Drop>(
-    seat: &mut Seat<H, K, C>,
-) -> bool
-    requires seat { IsSeat (terms H.lab H.begun H.given R.remaining W.contents C.kept K.shows) seat.old }
-    ensures seat { IsSeat (terms H.lab H.begun H.given R.remaining W.contents C.kept K.shows) seat.new }
-    ensures came { came_to K.shows seat.new.record ≡ came_to K.shows seat.old.record }
+fn make_ready<Y: ClassTypes, H: Begun>(seat: &mut SeatOf<Y, H>) -> bool
+    requires seat { IsSeat (terms H.lab H.begun H.given Y.Reader.remaining Y.Writer.contents Y.Observer.kept Y.Kept.shows) seat.old }
+    ensures seat { IsSeat (terms H.lab H.begun H.given Y.Reader.remaining Y.Writer.contents Y.Observer.kept Y.Kept.shows) seat.new }
+    ensures came { came_to Y.Kept.shows seat.new.record ≡ came_to Y.Kept.shows seat.old.record }
     ensures number { seat.new.record.number ≡ seat.old.record.number }
-    ensures ready { result ≡ true → IsReady (terms H.lab H.begun H.given R.remaining W.contents C.kept K.shows) seat.new }
+    ensures ready { result ≡ true → IsReady (terms H.lab H.begun H.given Y.Reader.remaining Y.Writer.contents Y.Observer.kept Y.Kept.shows) seat.new }
 {
     !seat.is_dismissed && seat.record.sessions.reserve(1).is_ok()
 }
@@ -200,15 +216,8 @@ fn turn_away<R: Drop, W: Write + HangUp + Drop>(ends: (R, W)) -> Result<(), Writ
 }
 
 // Cuts off the connections of all busy seats, so that their sessions end.
-fn cut_off_all<
-    H: Begun,
-    K: Keep<R, W> + Drop,
-    C: Observer + Drop,
-    R: Read + Drop,
-    W: Write + Drop,
-    U: CutOff + Drop,
->(busy: &Vec<Busy<H, K, C, R, W, U>>)
-    ensures { All (λ b. U.IsCutOff b.cut_off) busy.now.items }
+fn cut_off_all<Y: ClassTypes, H: Begun>(busy: &Vec<BusyOf<Y, H>>)
+    ensures { All (λ b. Y.CutOff.IsCutOff b.cut_off) busy.now.items }
 {
     for index in 0..busy.len() {
         busy[index].cut_off.cut_off();
@@ -231,46 +240,33 @@ fn new_marks(alloc: Global) -> Result<Vec<AtomicU64>, Memory>
 
 // What the threads of a port share.
 #[derive(Drop)]
-struct Shared<'s, Rt, S: Sink, H: Begun, B> {
-    rt: &'s Rt,
+struct Shared<'s, Y: ClassTypes, H: Begun> {
+    rt: &'s Y::Runtime,
     alloc: Global,
-    desk: &'s Desk<S, H>,
-    bell: &'s B,
+    desk: &'s Desk<Y::Sink, H>,
+    bell: &'s Y::Bell,
     // One mark for each number of a seat: it is set once the seat's thread has ended.
     marks: &'s [AtomicU64],
 }
 
-impl<
-    's,
-    Rt: Threads + Wait + Sync + 's,
-    S: Sink + Send + Drop + 's,
-    H: Begun + Send + Sync + 's,
-    B: Bell + Sync + 's,
-> Shared<'s, Rt, S, H, B> {
+impl<'s, Y: ClassTypes + 's, H: Begun + Send + Sync + 's> Shared<'s, Y, H> {
     // Starts a thread that serves a connection (`ends`) in a seat, and returns the thread's handle. The thread rings
     // the bell when the session has ended. If no thread can be made, serves the connection in this thread, and returns
     // the seat as an error. In this case a connection that isn't at the desk is cut off before it is served, so that
     // later connections needn't wait for it.
-    fn serve_apart<
-        E,
-        K: Keep<R, W> + Send + Drop + 's,
-        C: Observer + Send + Drop + 's,
-        R: Read + Send + Drop + 's,
-        W: Write + HangUp + Observed + Send + Drop + 's,
-        U: CutOff,
-    >(
+    fn serve_apart<E>(
         &self,
         scope: &Scope<'s, E>,
-        seat: Seat<H, K, C>,
-        ends: (R, W),
-        cut_off: &U,
-    ) -> Result<PromisedHandle<Seat<H, K, C>, SeatPledge<H, K, C, R, W>>, Seat<H, K, C>>
-        requires { IsReady (terms H.lab H.begun H.given R.remaining W.contents C.kept K.shows) seat }
+        seat: SeatOf<Y, H>,
+        ends: EndsOf<Y>,
+        cut_off: &Y::CutOff,
+    ) -> Result<HandleOf<Y, H>, SeatOf<Y, H>>
+        requires { IsReady (terms H.lab H.begun H.given Y.Reader.remaining Y.Writer.contents Y.Observer.kept Y.Kept.shows) seat }
         ensures pledged { IfOk result (λ handle. (handle.promise.0.value ≡ seat)
             × (handle.promise.1.value ≡ ends)) }
-        ensures served { IfErr result (ServesIn (terms H.lab H.begun H.given R.remaining W.contents C.kept K.shows) seat ends) }
-        ensures rung { IfErr result (λ s. B.IsRung self.now.bell.now s.is_dismissed) }
-        ensures cut_off { IfErr result (λ _. seat.is_desk ≡ false → U.IsCutOff cut_off.now) }
+        ensures served { IfErr result (ServesIn (terms H.lab H.begun H.given Y.Reader.remaining Y.Writer.contents Y.Observer.kept Y.Kept.shows) seat ends) }
+        ensures rung { IfErr result (λ s. Y.Bell.IsRung self.now.bell.now s.is_dismissed) }
+        ensures cut_off { IfErr result (λ _. seat.is_desk ≡ false → Y.CutOff.IsCutOff cut_off.now) }
     {
         let rt = self.rt;
         let alloc = self.alloc;
@@ -282,13 +278,13 @@ impl<
         let pledge = SeatPledge(Snapshot::of(&seat), Snapshot::of(&ends));
         match scope.spawn_with(
             pledge,
-            move || -> Seat<H, K, C>
-                requires { IsReady (terms H.lab H.begun H.given R.remaining W.contents C.kept K.shows) seat }
-                ensures served { ServesIn (terms H.lab H.begun H.given R.remaining W.contents C.kept K.shows) seat ends result }
-                ensures rung { B.IsRung bell.entry.now result.is_dismissed }
+            move || -> SeatOf<Y, H>
+                requires { IsReady (terms H.lab H.begun H.given Y.Reader.remaining Y.Writer.contents Y.Observer.kept Y.Kept.shows) seat }
+                ensures served { ServesIn (terms H.lab H.begun H.given Y.Reader.remaining Y.Writer.contents Y.Observer.kept Y.Kept.shows) seat ends result }
+                ensures rung { Y.Bell.IsRung bell.entry.now result.is_dismissed }
             {
                 let setting = Setting { rt, alloc, desk };
-                let seat = serve_in(&setting, seat, ends, marks);
+                let seat = serve_in::<Y, H>(&setting, seat, ends, marks);
                 bell.ring(seat.is_dismissed);
                 seat
             },
@@ -306,33 +302,26 @@ impl<
     // Takes back the seats whose threads have ended. Then serves a connection (`ends`) in the free seat that
     // `next_free` returns, in a thread of its own. Turns the connection away if there is none. `cut_off` is the means
     // to end the connection from the port's thread.
-    fn take_in<
-        E,
-        K: Keep<R, W> + Send + Drop + 's,
-        C: Observer + Send + Drop + 's,
-        R: Read + Send + Drop + 's,
-        W: Write + HangUp + Observed + Send + Drop + 's,
-        U: CutOff + Drop,
-    >(
+    fn take_in<E>(
         &self,
         scope: &Scope<'s, E>,
-        free: &mut Vec<Seat<H, K, C>>,
-        busy: &mut Vec<Busy<H, K, C, R, W, U>>,
-        ends: (R, W),
-        cut_off: U,
+        free: &mut Vec<SeatOf<Y, H>>,
+        busy: &mut Vec<BusyOf<Y, H>>,
+        ends: EndsOf<Y>,
+        cut_off: Y::CutOff,
     )
-        requires seats { All (IsSeat (terms H.lab H.begun H.given R.remaining W.contents C.kept K.shows)) free.old.items }
+        requires seats { All (IsSeat (terms H.lab H.begun H.given Y.Reader.remaining Y.Writer.contents Y.Observer.kept Y.Kept.shows)) free.old.items }
         requires room { vec_len free.old + vec_len busy.old ≤ vec_capacity free.old }
         requires busy_room { vec_len free.old + vec_len busy.old ≤ vec_capacity busy.old }
-        ensures seats { All (IsSeat (terms H.lab H.begun H.given R.remaining W.contents C.kept K.shows)) free.new.items }
-        ensures takes { TakesIn K.shows (IsTurnedAway W.contents W.IsHungUp) ends free.old.items busy.old.items
+        ensures seats { All (IsSeat (terms H.lab H.begun H.given Y.Reader.remaining Y.Writer.contents Y.Observer.kept Y.Kept.shows)) free.new.items }
+        ensures takes { TakesIn Y.Kept.shows (IsTurnedAway Y.Writer.contents Y.Writer.IsHungUp) ends free.old.items busy.old.items
             free.new.items busy.new.items }
         ensures len { vec_len free.new + vec_len busy.new ≡ vec_len free.old + vec_len busy.old }
         ensures capacity { vec_capacity free.new ≡ vec_capacity free.old }
         ensures busy_capacity { vec_capacity busy.new ≡ vec_capacity busy.old }
     {
-        Busy::gather(self.rt, free, busy, Some(self.marks));
-        let Some(seat) = next_free(free) else {
+        gather::<Y, H, AtomicU64>(self.rt, free, busy, Some(self.marks));
+        let Some(seat) = next_free::<Y, H>(free) else {
             // The other side may be gone.
             let _ = turn_away(ends);
             return;
@@ -351,25 +340,17 @@ impl<
     // Accepts and serves connections until no more are to be served. Then cuts off those that are still served, waits
     // for their threads, and returns all seats. Returns `Memory`, and serves nobody, if memory runs out at the
     // beginning.
-    fn serve_until_over<
-        E,
-        K: Keep<R, W> + Send + Drop + 's,
-        C: Observer + Send + Drop + 's,
-        R: Read + Send + Drop + 's,
-        W: Write + HangUp + Observed + Send + Drop + 's,
-        U: CutOff + Drop,
-        A: Accept<R, W, U> + Drop,
-    >(
+    fn serve_until_over<E, A: Accept<Y::Reader, Y::Writer, Y::CutOff> + Drop>(
         &self,
         scope: &Scope<'s, E>,
-        seats: Vec<Seat<H, K, C>>,
+        seats: Vec<SeatOf<Y, H>>,
         arrivals: A,
-    ) -> Result<Vec<Seat<H, K, C>>, Memory>
-        requires seats { All (IsSeat (terms H.lab H.begun H.given R.remaining W.contents C.kept K.shows)) seats.items }
-        ensures serves { IfOk result (λ ps. ServesPort (terms H.lab H.begun H.given R.remaining W.contents C.kept K.shows)
+    ) -> Result<Vec<SeatOf<Y, H>>, Memory>
+        requires seats { All (IsSeat (terms H.lab H.begun H.given Y.Reader.remaining Y.Writer.contents Y.Observer.kept Y.Kept.shows)) seats.items }
+        ensures serves { IfOk result (λ ps. ServesPort (terms H.lab H.begun H.given Y.Reader.remaining Y.Writer.contents Y.Observer.kept Y.Kept.shows)
             (A.to_come arrivals) seats.items ps.items) }
-        ensures away { IfOk result (λ ps. TurnsOthersAway (terms H.lab H.begun H.given R.remaining W.contents C.kept K.shows)
-            W.IsHungUp (A.to_come arrivals) seats.items ps.items) }
+        ensures away { IfOk result (λ ps. TurnsOthersAway (terms H.lab H.begun H.given Y.Reader.remaining Y.Writer.contents Y.Observer.kept Y.Kept.shows)
+            Y.Writer.IsHungUp (A.to_come arrivals) seats.items ps.items) }
     {
         let mut arrivals = arrivals;
         let mut free = seats;
@@ -381,14 +362,19 @@ impl<
                 Accepted::Came(ends, cut_off) => self.take_in(
                     scope, &mut free, &mut busy, ends, cut_off,
                 ),
-                Accepted::Nobody => Busy::gather(self.rt, &mut free, &mut busy, Some(self.marks)),
+                Accepted::Nobody => gather::<Y, H, AtomicU64>(
+                    self.rt,
+                    &mut free,
+                    &mut busy,
+                    Some(self.marks),
+                ),
                 Accepted::Over => break,
             }
         }
         // The connections that still wait at the port are dropped before the threads are waited for.
         drop(arrivals);
-        cut_off_all(&busy);
-        Busy::gather(self.rt, &mut free, &mut busy, None::<&[AtomicU64]>);
+        cut_off_all::<Y, H>(&busy);
+        gather::<Y, H, AtomicU64>(self.rt, &mut free, &mut busy, None);
         Ok(free)
     }
 }
@@ -398,27 +384,20 @@ impl<
 /// their threads, and returns the seats. If no thread can be made for a connection, ends it before anything is read,
 /// but at the desk serves it at once. Returns `Memory`, and serves nobody, if memory runs out at the beginning.
 pub fn serve_port<
-    Rt: Threads + Wait + Sync,
-    S: Sink + Send + Drop,
+    Y: ClassTypes,
     H: Begun + Send + Sync,
-    K: Keep<R, W> + Send + Drop,
-    C: Observer + Send + Drop,
-    R: Read + Send + Drop,
-    W: Write + HangUp + Observed + Send + Drop,
-    U: CutOff + Drop,
-    A: Accept<R, W, U> + Drop,
-    B: Bell + Sync,
+    A: Accept<Y::Reader, Y::Writer, Y::CutOff> + Drop,
 >(
-    setting: &Setting<'_, Rt, S, H>,
-    seats: Vec<Seat<H, K, C>>,
+    setting: &Setting<'_, Y::Runtime, Y::Sink, H>,
+    seats: Vec<SeatOf<Y, H>>,
     arrivals: A,
-    bell: &B,
-) -> Result<Vec<Seat<H, K, C>>, Memory>
-    requires seats { All (IsSeat (terms H.lab H.begun H.given R.remaining W.contents C.kept K.shows)) seats.items }
-    ensures serves { IfOk result (λ ps. ServesPort (terms H.lab H.begun H.given R.remaining W.contents C.kept K.shows)
+    bell: &Y::Bell,
+) -> Result<Vec<SeatOf<Y, H>>, Memory>
+    requires seats { All (IsSeat (terms H.lab H.begun H.given Y.Reader.remaining Y.Writer.contents Y.Observer.kept Y.Kept.shows)) seats.items }
+    ensures serves { IfOk result (λ ps. ServesPort (terms H.lab H.begun H.given Y.Reader.remaining Y.Writer.contents Y.Observer.kept Y.Kept.shows)
         (A.to_come arrivals) seats.items ps.items) }
-    ensures away { IfOk result (λ ps. TurnsOthersAway (terms H.lab H.begun H.given R.remaining W.contents C.kept K.shows)
-        W.IsHungUp (A.to_come arrivals) seats.items ps.items) }
+    ensures away { IfOk result (λ ps. TurnsOthersAway (terms H.lab H.begun H.given Y.Reader.remaining Y.Writer.contents Y.Observer.kept Y.Kept.shows)
+        Y.Writer.IsHungUp (A.to_come arrivals) seats.items ps.items) }
 {
     let rt = setting.rt;
     let alloc = setting.alloc;
@@ -428,16 +407,14 @@ pub fn serve_port<
     thread::scope(
         thread::scope_env(),
         rt,
-        |scope| -> Result<Vec<Seat<H, K, C>>, Memory>
-            requires { IsSync Rt.row × IsSync B.row × IsSend S.row × IsSend H.row
-                × IsSync H.row × IsSend K.row × IsSend C.row × IsSend R.row × IsSend W.row
-                × All (IsSeat (terms H.lab H.begun H.given R.remaining W.contents C.kept K.shows)) seats.items }
-            ensures serves { IfOk result (λ ps. ServesPort (terms H.lab H.begun H.given R.remaining W.contents C.kept K.shows)
+        |scope| -> Result<Vec<SeatOf<Y, H>>, Memory>
+            requires { All (IsSeat (terms H.lab H.begun H.given Y.Reader.remaining Y.Writer.contents Y.Observer.kept Y.Kept.shows)) seats.items }
+            ensures serves { IfOk result (λ ps. ServesPort (terms H.lab H.begun H.given Y.Reader.remaining Y.Writer.contents Y.Observer.kept Y.Kept.shows)
                 (A.to_come arrivals) seats.items ps.items) }
-            ensures away { IfOk result (λ ps. TurnsOthersAway (terms H.lab H.begun H.given R.remaining W.contents C.kept K.shows)
-                W.IsHungUp (A.to_come arrivals) seats.items ps.items) }
+            ensures away { IfOk result (λ ps. TurnsOthersAway (terms H.lab H.begun H.given Y.Reader.remaining Y.Writer.contents Y.Observer.kept Y.Kept.shows)
+                Y.Writer.IsHungUp (A.to_come arrivals) seats.items ps.items) }
         {
-            let shared = Shared {
+            let shared: Shared<'_, Y, H> = Shared {
                 rt,
                 alloc,
                 desk,

@@ -7,16 +7,14 @@ ghost use Rattle.mml_session.specs.Records.{EndedRecorded};
 ghost use Rattle.mml_hosting.specs.Seats.{IsReady, ServesIn, is_teachers_bye, terms};
 
 use crate::begun::Begun;
+use crate::class_types::{ClassTypes, EndsOf, SeatOf};
 use crate::marks::set_mark;
 use crate::replies::{Both, Observed};
-use mml_journal::Sink;
 use mml_lab::Who;
 use mml_serving::HangUp;
-use mml_session::{Ending, Observer, SessionEnd, Setting, serve_observed};
+use mml_session::{Ending, SessionEnd, Setting, serve_observed};
 use mml_window::Window;
-use std::io::{Read, Write};
 use std::snapshot::Snapshot;
-use std::sync::Wait;
 use std::sync::atomic::AtomicU64;
 
 /// A session that has ended: its connection as it came, how it ended, and the connection's two ends.
@@ -89,22 +87,14 @@ pub struct Seat<H: Begun, K: Drop, C: Drop> {
 /// Serves a connection in a seat, and closes its writing end. Then sets the seat's mark, since the thread won't wait
 /// for anything any more. Returns the seat, with what is kept of the session, and with whether the teacher's bye ended
 /// the session at the desk.
-pub fn serve_in<
-    Rt: Wait,
-    S: Sink + Drop,
-    H: Begun,
-    K: Keep<R, W> + Drop,
-    C: Observer + Drop,
-    R: Read + Drop,
-    W: Write + HangUp + Observed + Drop,
->(
-    setting: &Setting<'_, Rt, S, H>,
-    seat: Seat<H, K, C>,
-    ends: (R, W),
+pub fn serve_in<Y: ClassTypes, H: Begun>(
+    setting: &Setting<'_, Y::Runtime, Y::Sink, H>,
+    seat: SeatOf<Y, H>,
+    ends: EndsOf<Y>,
     marks: &[AtomicU64],
-) -> Seat<H, K, C>
-    requires { IsReady (terms H.lab H.begun H.given R.remaining W.contents C.kept K.shows) seat }
-    ensures { ServesIn (terms H.lab H.begun H.given R.remaining W.contents C.kept K.shows) seat ends result }
+) -> SeatOf<Y, H>
+    requires { IsReady (terms H.lab H.begun H.given Y.Reader.remaining Y.Writer.contents Y.Observer.kept Y.Kept.shows) seat }
+    ensures { ServesIn (terms H.lab H.begun H.given Y.Reader.remaining Y.Writer.contents Y.Observer.kept Y.Kept.shows) seat ends result }
 {
     let Seat {
         is_desk,
@@ -117,11 +107,11 @@ pub fn serve_in<
         mut sessions,
         observer,
     } = record;
-    let (session, observer) = serve_session(setting, &mut window, ends, number, observer);
+    let (session, observer) = serve_session::<Y, H>(setting, &mut window, ends, number, observer);
     // From here on this thread waits for nobody, so the thread that joins it doesn't have to wait either.
     set_mark(marks, number, true);
     let is_dismissed = is_dismissed_by(&session.ending, is_desk);
-    sessions.push_reserved(K::keep(session));
+    sessions.push_reserved(Y::Kept::keep(session));
     Seat {
         is_desk,
         window,
@@ -136,24 +126,18 @@ pub fn serve_in<
 
 // Serves a connection through the window of the seat with this number, and closes its writing end. Returns the session
 // that has ended, and the seat's observer.
-fn serve_session<
-    Rt: Wait,
-    S: Sink + Drop,
-    H: Begun,
-    C: Observer + Drop,
-    R: Read + Drop,
-    W: Write + HangUp + Observed + Drop,
->(
-    setting: &Setting<'_, Rt, S, H>,
+fn serve_session<Y: ClassTypes, H: Begun>(
+    setting: &Setting<'_, Y::Runtime, Y::Sink, H>,
     window: &mut Window<H>,
-    ends: (R, W),
+    ends: EndsOf<Y>,
     number: u8,
-    observer: C,
-) -> (ServedSession<R, W>, C)
+    observer: Y::Observer,
+) -> (ServedSession<Y::Reader, Y::Writer>, Y::Observer)
     ensures came { result.0.came.value ≡ ends }
     ensures ended { EndedRecorded result.0.ending.end result.0.ending.who number H.lab window.old
-        window.new (R.remaining ends.0) (R.remaining result.0.reader) (W.contents ends.1)
-        (W.contents result.0.writer) (C.kept observer) (C.kept result.1) }
+        window.new (Y.Reader.remaining ends.0) (Y.Reader.remaining result.0.reader)
+        (Y.Writer.contents ends.1) (Y.Writer.contents result.0.writer) (Y.Observer.kept observer)
+        (Y.Observer.kept result.1) }
 {
     let came = Snapshot::of(&ends);
     let (mut reader, mut writer) = ends;

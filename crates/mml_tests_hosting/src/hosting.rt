@@ -1,6 +1,6 @@
 //! Tests of a house (one run of a lab) that serves one connection after another at two ports: the desk's and the
 //! students'. The teacher's bye at the desk ends the house.
-use crate::texts::{Count, Left, Texts, Timed, cycle_of_six, sent_to};
+use crate::texts::{Count, Left, TextClass, Texts, Timed, cycle_of_six, sent_to};
 use mml_fakes::lines;
 use mml_fakes::scripts::{CLOSED_JOURNAL, NOTHING_CLOSED, ONE_CLOSED, TESS_CLOSES};
 use mml_hosting::{HostFault, no_observers, serve_host};
@@ -106,12 +106,12 @@ fn host<R: Threads + Wait + Sync>(
 /// Serves these connections at the desk and at the port in a house of this lab, with a journal in memory and no record.
 /// `count` counts the sessions that have ended, and `out` gets what the host prints. Returns the result of the house,
 /// or the fault of the host.
-fn host_in_memory<R: Threads + Wait + Sync>(
-    rt: &R,
+fn host_in_memory<'a, R: Threads + Wait + Sync>(
+    rt: &'a R,
     alloc: Global,
     lab: Lab,
-    at_desk: Texts<'_>,
-    at_port: Texts<'_>,
+    at_desk: Texts<'a>,
+    at_port: Texts<'a>,
     count: &Count,
     out: &mut Vec<u8>,
 ) -> Result<Left, HostFault> {
@@ -119,7 +119,7 @@ fn host_in_memory<R: Threads + Wait + Sync>(
         return Err(HostFault::Memory);
     };
     let sink = MemorySink::new(alloc, None);
-    serve_host(
+    serve_host::<TextClass<'a, R>, _>(
         rt, alloc, lab, sink, observers, at_desk, at_port, count, out,
     )
 }

@@ -3,7 +3,7 @@
 //! The host has two ports: the desk, which is the teacher's, and the students' port.
 ghost use Rattle.std.specs.Prelude.{◌≡◌, ◌<◌, ◌-◌, ◌^◌, IfSome};
 
-use crate::texts::{Count, Left, Texts, Timed, cycle_of_six, sent_to};
+use crate::texts::{Count, Left, TextClass, Texts, Timed, cycle_of_six, sent_to};
 use mml_audit::AuditFault;
 use mml_fakes::lines;
 use mml_fakes::scripts::CLOSED_JOURNAL;
@@ -109,20 +109,20 @@ fn resume<R: Threads + Wait + Sync>(
 /// Resumes a class of this lab from the journal `old`, with these connections at the desk and at the port, and no
 /// record. `count` counts the sessions that have ended, and `out` gets what the class prints. Returns the result of the
 /// class, or its fault.
-fn resume_in<R: Threads + Wait + Sync>(
-    rt: &R,
+fn resume_in<'a, R: Threads + Wait + Sync>(
+    rt: &'a R,
     alloc: Global,
     lab: Lab,
     old: &str,
-    at_desk: Texts<'_>,
-    at_port: Texts<'_>,
+    at_desk: Texts<'a>,
+    at_port: Texts<'a>,
     count: &Count,
     out: &mut Vec<u8>,
 ) -> Result<Left, ResumeFault> {
     let Ok(observers) = no_observers(alloc, &lab) else {
         return Err(ResumeFault::Memory);
     };
-    resume_class(
+    resume_class::<TextClass<'a, R>, _, _>(
         rt,
         alloc,
         lab,

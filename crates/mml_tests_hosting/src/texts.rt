@@ -5,7 +5,9 @@ ghost use Rattle.mml_hosting.specs.Bringing.{Brings};
 
 use mml_fakes::cycles::cycle;
 use mml_fakes::meeting::wait_for;
-use mml_hosting::{Accept, Accepted, Bell, CutOff, Hosted, NoReplies, Observed, ServedSession};
+use mml_hosting::{
+    Accept, Accepted, Bell, ClassTypes, CutOff, Hosted, NoReplies, Observed, ServedSession,
+};
 use mml_journal::MemorySink;
 use mml_lab::Lab;
 use mml_lab_file::read_lab;
@@ -15,8 +17,11 @@ use std::alloc::{AllocError, Global};
 use std::collections::VecDeque;
 use std::io;
 use std::io::Write;
+use std::marker::PhantomData;
+use std::sync::Wait;
 use std::sync::atomic::{AtomicU64, Ordering};
 use std::test::Fail;
+use std::thread::Threads;
 use std::vec::IntoIter;
 
 /// A bell that counts how often it was rung. It is rung for each session that has ended, and for a port that can't be
@@ -160,6 +165,31 @@ impl<'a> Accept<VecDeque<u8>, NumberedWriter, Nothing> for Texts<'a> {
 pub fn cycle_of_six(alloc: Global, events: u64) -> Result<Lab, Fail> {
     let text = cycle(alloc, 6, events, 3)?;
     Ok(read_lab(alloc, text.as_bytes())?)
+}
+
+/// The types of a class over connections in memory, with a journal in memory and no record. It has no values.
+pub struct TextClass<'a, R>(PhantomData<&'a R>);
+
+impl<'a, R: Threads + Wait + Sync> ClassTypes for TextClass<'a, R> {
+    type Runtime = R;
+
+    type Sink = MemorySink;
+
+    type Reader = VecDeque<u8>;
+
+    type Writer = NumberedWriter;
+
+    type Kept = ServedSession<VecDeque<u8>, NumberedWriter>;
+
+    type Observer = NoObserver;
+
+    type CutOff = Nothing;
+
+    type Desk = Texts<'a>;
+
+    type Others = Texts<'a>;
+
+    type Bell = Count;
 }
 
 /// The result of a house over connections in memory, with a journal in memory and no record.

@@ -5,21 +5,21 @@ use Rattle.mml_hosting.proofs.hosted.host_in_house.Goals as goal
 
 pub returns-clause-hosts : goal.returns-clause-hosts
 returns-clause-hosts g c =
-    let t = terms g.H.House.lab g.H.Begun.begun g.H.Begun.given g.R.Read.remaining g.W.Write.contents g.C.Observer.kept g.K.Keep.shows in
+    let t = terms g.H.House.lab g.H.Begun.begun g.H.Begun.given g.Y.Reader.Read.remaining g.Y.Writer.Write.contents g.Y.Observer.Observer.kept g.Y.Kept.Keep.shows in
     let seats = c.in-Ok-seats_of_house.ensures in
     let served = c.in-Ok-serve_both.ensures in
     let ended = c.end_house.ensures in
-    hosted t g.S.Sink.contents _ _ (length c.args.observers.others.items) c.in-Ok-seats_of_house.desk_seats.items c.in-Ok-seats_of_house.seats.items
+    hosted t g.Y.Sink.Sink.contents _ _ (length c.args.observers.others.items) c.in-Ok-seats_of_house.desk_seats.items c.in-Ok-seats_of_house.seats.items
     c.in-Ok-serve_both.desks.items c.in-Ok-serve_both.others.items c.requires.as_many seats.one seats.desk seats.others seats.unused.0 seats.unused.1
     served.desk served.others c.end_house.result (rw c.requires.first at ended.kept) ended.dismissed ended.desk ended.others
 
 pub returns-clause-early : goal.returns-clause-early
 returns-clause-early g c =
-    let t = terms g.H.House.lab g.H.Begun.begun g.H.Begun.given g.R.Read.remaining g.W.Write.contents g.C.Observer.kept g.K.Keep.shows in
+    let t = terms g.H.House.lab g.H.Begun.begun g.H.Begun.given g.Y.Reader.Read.remaining g.Y.Writer.Write.contents g.Y.Observer.Observer.kept g.Y.Kept.Keep.shows in
     let seats = c.in-Ok-seats_of_house.ensures in
     let served = c.in-Ok-serve_both.ensures in
     IfErr-weaker c.end_house.result _ _
-    (unhosted t g.S.Sink.contents _ _ (length c.args.observers.others.items) c.in-Ok-seats_of_house.desk_seats.items c.in-Ok-seats_of_house.seats.items
+    (unhosted t g.Y.Sink.Sink.contents _ _ (length c.args.observers.others.items) c.in-Ok-seats_of_house.desk_seats.items c.in-Ok-seats_of_house.seats.items
     c.in-Ok-serve_both.desks.items c.in-Ok-serve_both.others.items c.requires.as_many seats.one seats.desk seats.others seats.unused.0 seats.unused.1
     served.desk served.others)
     (rw c.requires.first at c.end_house.ensures.without)

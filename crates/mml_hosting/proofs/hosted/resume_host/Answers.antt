@@ -17,21 +17,21 @@ returns-in-Ok-write_last-clause-last g c =
 
 pub returns-in-Err-clause-badly : goal.returns-in-Err-clause-badly
 returns-in-Err-clause-badly g c =
-    let given = kept_from g.C.Observer.kept 1 (c.args.observers.at_desk ∷ c.args.observers.others.items) in
-    let t = terms c.args.lab c.args.events.now given g.R.Read.remaining g.W.Write.contents g.C.Observer.kept g.K.Keep.shows in
-    badly_early t g.S.Sink.contents (g.D.Accept.to_come c.args.at_desk) (g.A.Accept.to_come c.args.arrivals) (g.O.Write.contents c.args.writer.now)
+    let given = kept_from g.Y.Observer.Observer.kept 1 (c.args.observers.at_desk ∷ c.args.observers.others.items) in
+    let t = terms c.args.lab c.args.events.now given g.Y.Reader.Read.remaining g.Y.Writer.Write.contents g.Y.Observer.Observer.kept g.Y.Kept.Keep.shows in
+    badly_early t g.Y.Sink.Sink.contents (g.Y.Desk.Accept.to_come c.args.at_desk) (g.Y.Others.Accept.to_come c.args.arrivals) (g.O.Write.contents c.args.writer.now)
     c.in-Err.fault (rw (c.in-Ok.ensures.begun, c.in-Ok.ensures.lab) at c.in-Err.ensures.early)
 
 pub returns-in-Err-write_last-clause-badly : goal.returns-in-Err-write_last-clause-badly
 returns-in-Err-write_last-clause-badly g c =
-    let given = kept_from g.C.Observer.kept 1 (c.args.observers.at_desk ∷ c.args.observers.others.items) in
-    let t = terms c.args.lab c.args.events.now given g.R.Read.remaining g.W.Write.contents g.C.Observer.kept g.K.Keep.shows in
+    let given = kept_from g.Y.Observer.Observer.kept 1 (c.args.observers.at_desk ∷ c.args.observers.others.items) in
+    let t = terms c.args.lab c.args.events.now given g.Y.Reader.Read.remaining g.Y.Writer.Write.contents g.Y.Observer.Observer.kept g.Y.Kept.Keep.shows in
     rw c.closing_fault.ensures
-    (badly_logged t g.S.Sink.contents (g.D.Accept.to_come c.args.at_desk) (g.A.Accept.to_come c.args.arrivals) c.in-Ok-ended.hosted
+    (badly_logged t g.Y.Sink.Sink.contents (g.Y.Desk.Accept.to_come c.args.at_desk) (g.Y.Others.Accept.to_come c.args.arrivals) c.in-Ok-ended.hosted
     (rw (c.in-Ok.ensures.begun, c.in-Ok.ensures.lab) at c.in-Ok-ended.ensures.hosts)
     (g.O.Write.contents c.args.writer.now) (g.O.Write.contents c.write_last.new.writer) c.in-Err-write_last.fault c.in-Err-write_last.ensures.lacking)
 
 pub host_in_house-ended-requires-clause-observers : goal.host_in_house-ended-requires-clause-observers
 host_in_house-ended-requires-clause-observers g c κs within =
     let cs = c.args.observers.at_desk ∷ c.args.observers.others.items in
-    are_given (kept_from g.C.Observer.kept 1 cs) g.C.Observer.kept 1 cs (λ m le. refl)
+    are_given (kept_from g.Y.Observer.Observer.kept 1 cs) g.Y.Observer.Observer.kept 1 cs (λ m le. refl)

@@ -8,4 +8,4 @@ ghosts-host_in_house-H-House g a = record { name = a.house.name; lab = a.house.l
 
 -- the events that came before, and what the observers had kept
 abbrev pub ghosts-host_in_house-H-Begun : goal.ghosts-host_in_house-H-Begun
-ghosts-host_in_house-H-Begun g a = record { begun = a.house.begun; given = kept_from g.C.Observer.kept 1 (a.observers.at_desk ∷ a.observers.others.items) }
+ghosts-host_in_house-H-Begun g a = record { begun = a.house.begun; given = kept_from g.Y.Observer.Observer.kept 1 (a.observers.at_desk ∷ a.observers.others.items) }

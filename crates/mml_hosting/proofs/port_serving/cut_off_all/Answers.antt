@@ -4,7 +4,7 @@ use Rattle.mml_hosting.proofs.port_serving.cut_off_all.Goals as goal
 
 pub loop-index-preserved : goal.loop-index-preserved
 loop-index-preserved g c =
-    let IsCut : Busy g.row.H.Denot g.row.K.Denot g.row.C.Denot g.row.R.Denot g.row.W.Denot g.row.U.Denot → Type 0 = λ b. g.U.CutOff.IsCutOff b.cut_off in
+    let IsCut : Busy g.row.H.Denot g.row.Y-Kept.Denot g.row.Y-Observer.Denot g.row.Y-Reader.Denot g.row.Y-Writer.Denot g.row.Y-CutOff.Denot → Type 0 = λ b. g.Y.CutOff.CutOff.IsCutOff b.cut_off in
     let xs = c.args.busy.now.items in
     let i = c.loop-index.index in
     let b = c.index.result.now in
@@ -14,5 +14,5 @@ loop-index-preserved g c =
 
 pub returns : goal.returns
 returns g c =
-    let IsCut : Busy g.row.H.Denot g.row.K.Denot g.row.C.Denot g.row.R.Denot g.row.W.Denot g.row.U.Denot → Type 0 = λ b. g.U.CutOff.IsCutOff b.cut_off in
+    let IsCut : Busy g.row.H.Denot g.row.Y-Kept.Denot g.row.Y-Observer.Denot g.row.Y-Reader.Denot g.row.Y-Writer.Denot g.row.Y-CutOff.Denot → Type 0 = λ b. g.Y.CutOff.CutOff.IsCutOff b.cut_off in
     subst (All IsCut) (take_all c.loop-index.index c.args.busy.now.items (search rules)) c.loop-index.invariant

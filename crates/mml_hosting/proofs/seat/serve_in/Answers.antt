@@ -5,8 +5,8 @@ use Rattle.mml_hosting.proofs.seat.serve_in.Goals as goal
 
 pub returns : goal.returns
 returns g c =
-    let shows = g.K.Keep.shows in
-    let t = terms g.H.House.lab g.H.Begun.begun g.H.Begun.given g.R.Read.remaining g.W.Write.contents g.C.Observer.kept shows in
+    let shows = g.Y.Kept.Keep.shows in
+    let t = terms g.H.House.lab g.H.Begun.begun g.H.Begun.given g.Y.Reader.Read.remaining g.Y.Writer.Write.contents g.Y.Observer.Observer.kept shows in
     let old = c.args.seat in
     let at = c.requires.seat in
     let served = c.serve_session-session.result in

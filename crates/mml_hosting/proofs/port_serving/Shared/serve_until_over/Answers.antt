@@ -8,7 +8,7 @@ loop-init g c = record {
   next = tt;
   finite = tt;
   seats = rw c.reserve.ensures.items c.requires.seats;
-  history = nothing_yet g.K.Keep.shows _ (g.A.Accept.to_come c.args.arrivals) c.reserve.new.self.items c.in_ok-busy.busy.items c.in_ok-busy.ensures.items;
+  history = nothing_yet g.Y.Kept.Keep.shows _ (g.A.Accept.to_come c.args.arrivals) c.reserve.new.self.items c.in_ok-busy.busy.items c.in_ok-busy.ensures.items;
   len = search rules;
   free_room = search rules;
   busy_room = search rules;
@@ -52,7 +52,7 @@ returns-clause-serves g c =
 
 pub returns-clause-away : goal.returns-clause-away
 returns-clause-away g c =
-    let t = terms g.H.House.lab g.H.Begun.begun g.H.Begun.given g.R.Read.remaining g.W.Write.contents g.C.Observer.kept g.K.Keep.shows in
+    let t = terms g.H.House.lab g.H.Begun.begun g.H.Begun.given g.Y.Reader.Read.remaining g.Y.Writer.Write.contents g.Y.Observer.Observer.kept g.Y.Kept.Keep.shows in
     let joined = c.gather-2.ensures in
     rw (sym c.reserve.ensures.items)
     (port_attended t _ _ _ c.reserve.new.self.items _ c.gather-2.new.free.items _ _ c.loop.invariant.history joined.all joined.count)

@@ -6,7 +6,7 @@ use Rattle.mml_hosting.proofs.port_serving.Shared.take_in.Goals as goal
 
 pub returns-in-Ok-clause-takes : goal.returns-in-Ok-clause-takes
 returns-in-Ok-clause-takes g c =
-    let shows = g.K.Keep.shows in
+    let shows = g.Y.Kept.Keep.shows in
     let pledge = c.in-Ok.ensures.pledged in
     inl (λ of h.
     let more = sum_more (count_at shows of h) c.gather.new.busy.items c.push_reserved.new.self.items _ c.push_reserved.ensures.items in
@@ -17,7 +17,7 @@ returns-in-Ok-clause-takes g c =
 
 pub returns-in-Err-clause-takes : goal.returns-in-Err-clause-takes
 returns-in-Err-clause-takes g c =
-    let shows = g.K.Keep.shows in
+    let shows = g.Y.Kept.Keep.shows in
     let served = c.in-Err.ensures.served in
     inl (λ of h.
     let more = sum_more (count_in shows of h) c.next_free.new.free.items c.push_reserved-in-Err.new.self.items c.in-Err.seat c.push_reserved-in-Err.ensures.items in

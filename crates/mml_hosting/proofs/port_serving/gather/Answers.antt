@@ -1,7 +1,7 @@
 use Rattle.std.proofs.Common.{arith}
 use Rattle.mml_hosting.specs.{Seats.IsSeat, Counting.count_in}
 use Rattle.mml_hosting.proofs.SeatLemmas.{all_more, sum_more}
-use Rattle.mml_hosting.proofs.port_serving.Busy.gather.Goals as goal
+use Rattle.mml_hosting.proofs.port_serving.gather.Goals as goal
 
 pub loop-index-preserved : goal.loop-index-preserved
 loop-index-preserved g c =
@@ -14,7 +14,7 @@ loop-index-preserved g c =
         arith,
         at.count of h,
         one.count of h,
-        sum_more (count_in g.K.Keep.shows of h) c.loop-index.free.items c.push_reserved.new.self.items c.join_one.result put.items,
+        sum_more (count_in g.Y.Kept.Keep.shows of h) c.loop-index.free.items c.push_reserved.new.self.items c.join_one.result put.items,
       );
       len = omega (arith, at.len, put.len, one.len);
       capacity = omega (arith, at.capacity, put.capacity);

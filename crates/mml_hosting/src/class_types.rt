@@ -1,0 +1,52 @@
+//! The types of a class, bundled into one type parameter.
+//!
+//! A seat serves one connection after another. A house is one run of a lab that threads share: its list of granted
+//! events, the board after them, and their journal.
+use crate::accepting::{Accept, Bell, CutOff};
+use crate::hosted::Hosted;
+use crate::replies::Observed;
+use crate::seat::{Keep, Seat};
+use mml_journal::Sink;
+use mml_serving::HangUp;
+use mml_session::Observer;
+use std::io::{Read, Write};
+use std::sync::Wait;
+use std::thread::Threads;
+
+/// The types that serving a class needs, bundled so that a function takes them as one type parameter. A caller has to
+/// name the bundle, since the compiler can't infer it.
+pub trait ClassTypes: Send {
+    /// The runtime, which starts threads.
+    type Runtime: Threads + Wait + Sync;
+    /// The sink to which the journal is written.
+    type Sink: Sink + Send + Drop;
+    /// The reading end of a connection.
+    type Reader: Read + Send + Drop;
+    /// The writing end of a connection.
+    type Writer: Write + HangUp + Observed + Send + Drop;
+    /// What a seat keeps of a session after its end.
+    type Kept: Keep<Self::Reader, Self::Writer> + Send + Drop;
+    /// The observer of a seat's sessions.
+    type Observer: Observer + Send + Drop;
+    /// The means by which another thread ends a connection.
+    type CutOff: CutOff + Send + Drop;
+    /// The desk's port: the source of the teacher's connections.
+    type Desk: Accept<Self::Reader, Self::Writer, Self::CutOff> + Send + Drop;
+    /// The other port.
+    type Others: Accept<Self::Reader, Self::Writer, Self::CutOff> + Send + Drop;
+    /// The signal by which threads wake the house.
+    type Bell: Bell + Sync;
+}
+
+/// A seat of a class of these types.
+pub type SeatOf<Y, H> = Seat<H, <Y as ClassTypes>::Kept, <Y as ClassTypes>::Observer>;
+
+/// The two ends of a connection of a class of these types.
+pub type EndsOf<Y> = (<Y as ClassTypes>::Reader, <Y as ClassTypes>::Writer);
+
+/// The result of a house of a class of these types.
+pub type HostedOf<Y> = Hosted<
+    <Y as ClassTypes>::Sink,
+    <Y as ClassTypes>::Kept,
+    <Y as ClassTypes>::Observer,
+>;
