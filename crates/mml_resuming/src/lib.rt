@@ -6,4 +6,6 @@
 pub mod laws;
 mod resuming;
 
-pub use resuming::{ResumeFault, Store, resume_class};
+pub use resuming::{
+    AuditedJournal, ResumeFault, Store, read_old_journal, resume_audited, resume_class,
+};
