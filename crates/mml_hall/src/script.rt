@@ -226,7 +226,9 @@ fn flush_before_read<W: Write>(
 }
 
 // Reads the next line, and answers it if it is a script line. Returns what happened. If the line needs a read, the
-// caller must have flushed all held replies before.
+// caller must have flushed all held replies before. This function and the next two are inlined, so that the loop over
+// the lines makes fewer calls.
+#[inline(always)]
 fn serve_next<R: Read, W: Write, S: Sink>(
     alloc: Global,
     hall: &mut Hall<S>,
@@ -274,6 +276,7 @@ fn serve_next<R: Read, W: Write, S: Sink>(
 // Answers a line of the input if it is a script line, and holds the reply in `outgoing`. Returns `Answered`, or
 // `WriteFault` if a write failed, or `BadLine` if it is no script line. `out` is the buffer for a reply that `outgoing`
 // can't take directly.
+#[inline(always)]
 fn serve_line<W: Write, S: Sink>(
     alloc: Global,
     hall: &mut Hall<S>,
@@ -304,6 +307,7 @@ fn serve_line<W: Write, S: Sink>(
 // Answers a script line, and appends the reply to the held ones in `outgoing`. A short reply is written straight into
 // that buffer, if it has room. Any other reply is written by `write_by_buffer`, which uses the buffer `out`. Returns
 // `WriteFault` if a write fails.
+#[inline(always)]
 fn serve_script_line<W: Write, S: Sink>(
     alloc: Global,
     hall: &mut Hall<S>,

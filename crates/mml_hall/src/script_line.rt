@@ -20,7 +20,8 @@ pub struct ScriptLine<'a> {
 
 /// Reads a script line, without its newline: a connection in decimal, one space and a request. Returns `None` if the
 /// line has another form, the lab doesn't have the connection (`sessions` is how many it has), or the request is too
-/// long.
+/// long. It is inlined together with `parts_of`, since their results are large to return.
+#[inline(always)]
 pub fn read_script_line(line: &[u8], sessions: u8) -> Option<ScriptLine<'_>>
     requires few { sessions ≤ MAX_SESSIONS }
     requires line { IsWithinLimit MAX_SCRIPT_LINE line.now }
@@ -41,6 +42,7 @@ pub fn read_script_line(line: &[u8], sessions: u8) -> Option<ScriptLine<'_>>
 
 // Returns the connection and the request of a script line. Returns `None` if `line` isn't a script line, the lab
 // doesn't have the connection, or the request is too long.
+#[inline(always)]
 fn parts_of(line: &[u8], sessions: u8) -> Option<(u8, &[u8])>
     requires { IsWithinLimit MAX_SCRIPT_LINE line.now }
     ensures { MatchOption result
