@@ -1,5 +1,6 @@
 //! A class that goes on: from the end of its journal to its last line of output.
 ghost use Rattle.std.specs.Prelude.{◌≡◌, ◌+◌, IfOk, None, length};
+ghost use Rattle.mml_resuming.specs.Resuming.{IsAudited};
 ghost use Rattle.mml_host_program.specs.Telling.{ports_line, TellsResumed};
 
 use crate::beginning::{log_of, told_memory, write_listening};
@@ -11,7 +12,7 @@ use crate::system::System;
 use mml_journal::Sink;
 use mml_ports::{HostState, Ports, SocketSession, TwoPorts, bell_of, open_ports};
 use mml_program::Fault as ProgramFault;
-use mml_resuming::{ResumeFault, Store, resume_class};
+use mml_resuming::{AuditedJournal, ResumeFault, Store, resume_audited};
 use mml_session::Recorder;
 use mml_window::Log;
 use std::alloc::Global;
@@ -35,27 +36,28 @@ impl<C: Recorder + Send + Drop> Ready<C> {
         past: Past<'a>,
         writer: &mut W,
     ) -> Result<Log<WatchedSink<'a>>, Fault>
+        requires audited { IsAudited self.lab past.audited }
         requires as_many { length self.recorders.others.items + 1 ≡ self.lab.sessions }
-        ensures { IfOk result (TellsResumed self.lab (λ _. None) past.entry.bytes.now
+        ensures { IfOk result (TellsResumed self.lab (λ _. None) past.entry.audited.bytes.now
             self.ports.port self.ports.desk (W.contents writer.old) (W.contents writer.new)) }
     {
         let first = first_line(rt.alloc(), &self.ports)?;
         let Past {
             journal,
-            bytes,
+            audited,
             watch,
         } = past;
         let store = OldFile {
             rt,
             state,
             journal,
-            bytes,
+            bytes: audited.bytes,
             watch,
         };
-        self.go_on_after(rt, bytes, store, first.as_slice(), state, writer)
+        self.go_on_after(rt, audited, store, first.as_slice(), state, writer)
     }
 
-    // Serves a class that goes on from a journal with the bytes `old`, which `store` cuts to their whole lines. The
+    // Serves a class that goes on from the audited journal `past`, which `store` cuts to its whole lines. The
     // line `first`, which names the ports, is written together with the next line, about the state that the journal
     // leads to. Returns the log. If a session ran out of memory, returns that error after the last line.
     fn go_on_after<
@@ -66,15 +68,16 @@ impl<C: Recorder + Send + Drop> Ready<C> {
     >(
         self,
         rt: &R,
-        old: &[u8],
+        past: AuditedJournal<'_>,
         store: T,
         first: &[u8],
         state: &HostState,
         writer: &mut W,
     ) -> Result<Log<S>, Fault>
+        requires audited { IsAudited self.lab past }
         requires as_many { length self.recorders.others.items + 1 ≡ self.lab.sessions }
         requires first { first.now ≡ ports_line self.ports.port self.ports.desk }
-        ensures { IfOk result (TellsResumed self.lab S.contents old.now self.ports.port
+        ensures { IfOk result (TellsResumed self.lab S.contents past.entry.bytes.now self.ports.port
             self.ports.desk (W.contents writer.old) (W.contents writer.new)) }
     {
         let alloc = rt.alloc();
@@ -88,8 +91,8 @@ impl<C: Recorder + Send + Drop> Ready<C> {
             at_desk,
             elsewhere: at_port,
         } = open_ports(rt, alloc, state, ports);
-        let resumed = resume_class::<_, _, _, SocketSession<'_, R>, _, _, _, _, _, _, _, _>(
-            rt, alloc, lab, old, store, first, recorders, at_desk, at_port, &bell, writer,
+        let resumed = resume_audited::<_, _, _, SocketSession<'_, R>, _, _, _, _, _, _, _, _>(
+            rt, alloc, lab, past, store, first, recorders, at_desk, at_port, &bell, writer,
         );
         let log = match resumed {
             Ok(house) => log_of(house),
