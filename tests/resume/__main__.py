@@ -17,7 +17,7 @@ from tests.common.hosting import Caller, Host, audit, called, lab_of, let_in
 from tests.common.lines import CLOSE, closed, denial_of, fault_at, greeted, hello, refusal_of, seduction
 from tests.common.preload import Ended, Preloaded, fail
 from tests.common.side_by_side import Test, try_all
-from tests.resume import away, synced
+from tests.resume import away, once, synced
 from tests.resume.players import Players
 
 NO_COPY = b"resume: no copy of the lab beside the journal, the audit alone vouches for it\n"
@@ -442,7 +442,7 @@ def files(room: Path) -> None:
 
 TESTS: list[Test] = [
     kills, power_cuts, torn_tails, other_labs, full_disk, in_mid_line, failed_sync, copies_are_kept, asks_again, held, files,
-    failed_sync_after_a_resume, folders_that_fail, copies_through_links, numbers_of_both, *away.TESTS, *synced.TESTS,
+    failed_sync_after_a_resume, folders_that_fail, copies_through_links, numbers_of_both, *away.TESTS, *once.TESTS, *synced.TESTS,
 ]
 
 

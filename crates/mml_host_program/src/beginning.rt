@@ -5,7 +5,7 @@ ghost use Rattle.mml_journal.specs.Taken.{IsFresh};
 ghost use Rattle.mml_host_program.specs.Telling.{EndsWell, ports_line, TellsClass};
 
 use crate::class::Ready;
-use crate::fault::Fault;
+use crate::fault::ServerFault;
 use crate::socket_class::SocketClass;
 use crate::system::System;
 use mml_hosting::{Hosted, serve_host};
@@ -28,7 +28,7 @@ impl<C: Observer + Send + Drop> Ready<C> {
         R: System + Net<Listener = TcpListener, Stream = TcpStream> + Sync,
         S: Sink + Send + Drop,
         W: Write,
-    >(self, rt: &R, sink: S, writer: &mut W) -> Result<Log<S>, Fault>
+    >(self, rt: &R, sink: S, writer: &mut W) -> Result<Log<S>, ServerFault>
         requires fresh { IsFresh (S.contents sink) }
         requires countable { S.failures sink < 2 ^ 64 - 1 }
         requires as_many { length self.observers.others.items + 1 ≡ self.lab.sessions }
@@ -45,7 +45,7 @@ impl<C: Observer + Send + Drop> Ready<C> {
         R: System + Net<Listener = TcpListener, Stream = TcpStream> + Sync,
         S: Sink + Send + Drop,
         W: Write,
-    >(self, rt: &R, sink: S, writer: &mut W) -> Result<Log<S>, Fault>
+    >(self, rt: &R, sink: S, writer: &mut W) -> Result<Log<S>, ServerFault>
         requires fresh { IsFresh (S.contents sink) }
         requires countable { S.failures sink < 2 ^ 64 - 1 }
         requires as_many { length self.observers.others.items + 1 ≡ self.lab.sessions }
@@ -63,7 +63,7 @@ impl<C: Observer + Send + Drop> Ready<C> {
         R: System + Net<Listener = TcpListener, Stream = TcpStream> + Sync,
         S: Sink + Send + Drop,
         W: Write,
-    >(self, rt: &R, sink: S, state: &HostState, writer: &mut W) -> Result<Log<S>, Fault>
+    >(self, rt: &R, sink: S, state: &HostState, writer: &mut W) -> Result<Log<S>, ServerFault>
         requires fresh { IsFresh (S.contents sink) }
         requires countable { S.failures sink < 2 ^ 64 - 1 }
         requires as_many { length self.observers.others.items + 1 ≡ self.lab.sessions }
@@ -85,15 +85,15 @@ impl<C: Observer + Send + Drop> Ready<C> {
         );
         match served {
             Ok(house) => Ok(log_of(house)),
-            Err(fault) => Err(Fault::from(fault)),
+            Err(fault) => Err(ServerFault::from(fault)),
         }
     }
 }
 
 /// Returns the error `Memory` if the host's state notes that memory ran out, and otherwise `Ok`.
-pub(crate) fn told_memory<R: Wait>(rt: &R, state: &HostState) -> Result<(), Fault> {
+pub(crate) fn told_memory<R: Wait>(rt: &R, state: &HostState) -> Result<(), ServerFault> {
     if state.lacked_memory(rt) {
-        Err(Fault::Common(ProgramFault::Memory))
+        Err(ServerFault::Common(ProgramFault::Memory))
     } else {
         Ok(())
     }

@@ -1,8 +1,9 @@
 //! Serving a class whose ports are open, with its journal and its record.
 ghost use Rattle.std.specs.Prelude.{◌≡◌, ◌+◌, IsOk, OnOk, length};
 ghost use Rattle.std.specs.Thread.{IsSync, IsSend};
+ghost use Rattle.mml_host_program.specs.Classes.{IsAuditedIn};
 
-use crate::fault::{Fault, of_record};
+use crate::fault::{ServerFault, of_record};
 use crate::journal_watch::{JournalWatch, Look, WatchedSink};
 use crate::system::System;
 use mml_ends::Retrying;
@@ -13,6 +14,7 @@ use mml_lab::Lab;
 use mml_ports::{HostState, Ports};
 use mml_program::memory_if_lacked;
 use mml_recording::{RecordFolder, RecordState, Seats, end_syncing, sync_until_done};
+use mml_resuming::AuditedJournal;
 use mml_session::Observer;
 use mml_window::Log;
 use std::fs::File;
@@ -21,11 +23,11 @@ use std::net::{Net, TcpListener, TcpStream};
 use std::rt::Files;
 use std::{io, thread};
 
-/// The journal of an earlier part of the class: its open file, the bytes that were read from it, and its watch.
+/// The journal of an earlier part of the class: its open file, what the audit found in it, and its watch.
 #[derive(Drop)]
 pub(crate) struct Past<'a> {
     pub journal: OldJournal<'a>,
-    pub bytes: &'a [u8],
+    pub audited: AuditedJournal<'a>,
     pub watch: &'a JournalWatch<'a>,
 }
 
@@ -75,7 +77,9 @@ pub(crate) struct Ready<C: Drop> {
 pub(crate) fn serve_class<
     R: System + Files<File = File> + Net<Listener = TcpListener, Stream = TcpStream> + Sync,
     L: Look + Sync,
->(rt: &R, class: Class<'_>, folder: Option<RecordFolder>, eye: &L) -> Result<(), Fault> {
+>(rt: &R, class: Class<'_>, folder: Option<RecordFolder>, eye: &L) -> Result<(), ServerFault>
+    requires audited { IsAuditedIn class.lab class.journal }
+{
     match class.journal.watch() {
         Some(watch) => serve_watched(rt, class, folder, watch, eye),
         None => serve_recorded(rt, class, folder),
@@ -93,12 +97,14 @@ fn serve_watched<
     folder: Option<RecordFolder>,
     watch: &JournalWatch<'_>,
     eye: &L,
-) -> Result<(), Fault> {
+) -> Result<(), ServerFault>
+    requires audited { IsAuditedIn class.lab class.journal }
+{
     thread::scope(
         thread::scope_env(),
         rt,
-        |scope| -> Result<(), Fault>
-            requires { IsSync R.row × IsSync L.row }
+        |scope| -> Result<(), ServerFault>
+            requires { IsSync R.row × IsSync L.row × IsAuditedIn class.lab class.journal }
         {
             let is_watched = scope.spawn(move || watch.look_until_over(rt, eye)).is_ok();
             let served = serve_recorded(rt, class, folder);
@@ -115,7 +121,9 @@ fn serve_watched<
 // Serves a class, and records it if there is a folder.
 fn serve_recorded<
     R: System + Files<File = File> + Net<Listener = TcpListener, Stream = TcpStream> + Sync,
->(rt: &R, class: Class<'_>, folder: Option<RecordFolder>) -> Result<(), Fault> {
+>(rt: &R, class: Class<'_>, folder: Option<RecordFolder>) -> Result<(), ServerFault>
+    requires audited { IsAuditedIn class.lab class.journal }
+{
     match folder {
         Some(folder) => serve_in_folder(rt, class, folder),
         None => serve_unrecorded(rt, class),
@@ -125,7 +133,9 @@ fn serve_recorded<
 // Serves a class without recording it.
 fn serve_unrecorded<
     R: System + Files<File = File> + Net<Listener = TcpListener, Stream = TcpStream> + Sync,
->(rt: &R, class: Class<'_>) -> Result<(), Fault> {
+>(rt: &R, class: Class<'_>) -> Result<(), ServerFault>
+    requires audited { IsAuditedIn class.lab class.journal }
+{
     let observers = no_observers(rt.alloc(), &class.lab)?;
     serve_ports(rt, class, observers)
 }
@@ -134,7 +144,9 @@ fn serve_unrecorded<
 // couldn't be recorded.
 fn serve_in_folder<
     R: System + Files<File = File> + Net<Listener = TcpListener, Stream = TcpStream> + Sync,
->(rt: &R, class: Class<'_>, folder: RecordFolder) -> Result<(), Fault> {
+>(rt: &R, class: Class<'_>, folder: RecordFolder) -> Result<(), ServerFault>
+    requires audited { IsAuditedIn class.lab class.journal }
+{
     let state = RecordState::new(rt.alloc(), &class.lab).map_err(of_record)?;
     serve_seats(rt, class, folder, &state)?;
     told_whole(&state)
@@ -144,7 +156,9 @@ fn serve_in_folder<
 // can't be opened, or the class fails.
 fn serve_seats<
     R: System + Files<File = File> + Net<Listener = TcpListener, Stream = TcpStream> + Sync,
->(rt: &R, class: Class<'_>, folder: RecordFolder, state: &RecordState) -> Result<(), Fault> {
+>(rt: &R, class: Class<'_>, folder: RecordFolder, state: &RecordState) -> Result<(), ServerFault>
+    requires audited { IsAuditedIn class.lab class.journal }
+{
     let seats = folder.open_seats(rt, &class.lab, state);
     let Seats { recorders, files } = seats.map_err(of_record)?;
     serve_synced(rt, class, recorders, files.as_slice(), state)
@@ -161,15 +175,17 @@ fn serve_synced<
     observers: Observers<C>,
     files: &[File],
     state: &RecordState,
-) -> Result<(), Fault>
+) -> Result<(), ServerFault>
+    requires audited { IsAuditedIn class.lab class.journal }
     requires as_many { length observers.others.items + 1 ≡ class.lab.sessions }
 {
     thread::scope(
         thread::scope_env(),
         rt,
-        |scope| -> Result<(), Fault>
+        |scope| -> Result<(), ServerFault>
             requires { IsSync R.row × IsSend C.row
-                × (length observers.others.items + 1 ≡ class.lab.sessions) }
+                × (length observers.others.items + 1 ≡ class.lab.sessions)
+                × IsAuditedIn class.lab class.journal }
         {
             let is_synced = scope
                 .spawn(move || sync_until_done(rt, state, files))
@@ -182,9 +198,9 @@ fn serve_synced<
 }
 
 // Returns the error `Unrecorded` if a write to the record or a sync of its files has failed, and otherwise `Ok`.
-fn told_whole(state: &RecordState) -> Result<(), Fault> {
+fn told_whole(state: &RecordState) -> Result<(), ServerFault> {
     if state.has_failed() {
-        Err(Fault::Unrecorded)
+        Err(ServerFault::Unrecorded)
     } else {
         Ok(())
     }
@@ -195,7 +211,8 @@ fn told_whole(state: &RecordState) -> Result<(), Fault> {
 fn serve_ports<
     R: System + Files<File = File> + Net<Listener = TcpListener, Stream = TcpStream> + Sync,
     C: Observer + Send + Drop,
->(rt: &R, class: Class<'_>, observers: Observers<C>) -> Result<(), Fault>
+>(rt: &R, class: Class<'_>, observers: Observers<C>) -> Result<(), ServerFault>
+    requires audited { IsAuditedIn class.lab class.journal }
     requires as_many { length observers.others.items + 1 ≡ class.lab.sessions }
 {
     let mut writer = Retrying::new(io::writer(rt));
@@ -211,7 +228,8 @@ fn serve_journaled<
     R: System + Files<File = File> + Net<Listener = TcpListener, Stream = TcpStream> + Sync,
     C: Observer + Send + Drop,
     W: Write,
->(rt: &R, class: Class<'_>, observers: Observers<C>, writer: &mut W) -> Result<(), Fault>
+>(rt: &R, class: Class<'_>, observers: Observers<C>, writer: &mut W) -> Result<(), ServerFault>
+    requires audited { IsAuditedIn class.lab class.journal }
     requires as_many { length observers.others.items + 1 ≡ class.lab.sessions }
 {
     let Class {
@@ -238,7 +256,7 @@ fn serve_journaled<
 }
 
 // Drops the log of a class that has ended well. Returns `Ok`, or the error if the class failed.
-fn without_log<S: Drop>(ended: Result<Log<S>, Fault>) -> Result<(), Fault>
+fn without_log<S: Drop>(ended: Result<Log<S>, ServerFault>) -> Result<(), ServerFault>
     ensures { OnOk result (IsOk ended) }
 {
     match ended {

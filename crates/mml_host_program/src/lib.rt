@@ -16,7 +16,7 @@ mod task;
 mod words;
 
 pub use beginning::write_listening;
-pub use fault::Fault;
+pub use fault::ServerFault;
 pub use journal_watch::{JournalEye, JournalLoss, JournalWatch, Look, WatchedSink};
 pub use limit_table::{is_for_limits, print_limits, write_limits};
 pub use old_file::OldFile;

@@ -1,10 +1,11 @@
 //! A class that is resumed: from the end of its journal to its last line of output.
 ghost use Rattle.std.specs.Prelude.{◌≡◌, ◌+◌, IfOk, None, length};
+ghost use Rattle.mml_resuming.specs.Resuming.{IsAudited};
 ghost use Rattle.mml_host_program.specs.Telling.{ports_line, TellsResumed};
 
 use crate::beginning::{log_of, told_memory, write_listening};
 use crate::class::{Past, Ready};
-use crate::fault::Fault;
+use crate::fault::ServerFault;
 use crate::journal_watch::WatchedSink;
 use crate::old_file::OldFile;
 use crate::socket_class::SocketClass;
@@ -12,7 +13,7 @@ use crate::system::System;
 use mml_journal::Sink;
 use mml_ports::{HostState, Ports, TwoPorts, bell_of, open_ports};
 use mml_program::Fault as ProgramFault;
-use mml_resuming::{ResumeFault, Store, resume_class};
+use mml_resuming::{AuditedJournal, ResumeFault, Store, resume_audited};
 use mml_session::Observer;
 use mml_window::Log;
 use std::alloc::Global;
@@ -35,28 +36,29 @@ impl<C: Observer + Send + Drop> Ready<C> {
         state: &'a HostState,
         past: Past<'a>,
         writer: &mut W,
-    ) -> Result<Log<WatchedSink<'a>>, Fault>
+    ) -> Result<Log<WatchedSink<'a>>, ServerFault>
+        requires audited { IsAudited self.lab past.audited }
         requires as_many { length self.observers.others.items + 1 ≡ self.lab.sessions }
-        ensures { IfOk result (TellsResumed self.lab (λ _. None) past.entry.bytes.now
+        ensures { IfOk result (TellsResumed self.lab (λ _. None) past.entry.audited.bytes.now
             self.ports.port self.ports.desk (W.contents writer.old) (W.contents writer.new)) }
     {
         let first = first_line(rt.alloc(), &self.ports)?;
         let Past {
             journal,
-            bytes,
+            audited,
             watch,
         } = past;
         let store = OldFile {
             rt,
             state,
             journal,
-            bytes,
+            bytes: audited.bytes,
             watch,
         };
-        self.go_on_after(rt, bytes, store, first.as_slice(), state, writer)
+        self.go_on_after(rt, audited, store, first.as_slice(), state, writer)
     }
 
-    // Serves a class that is resumed from a journal with the bytes `old`, which `store` cuts to their whole lines. The
+    // Serves a class that is resumed from the audited journal `past`, which `store` cuts to its whole lines. The
     // line `first`, which names the ports, is written together with the next line, about the state that the journal
     // leads to. Returns the log. If a session ran out of memory, returns that error after the last line.
     fn go_on_after<
@@ -67,15 +69,16 @@ impl<C: Observer + Send + Drop> Ready<C> {
     >(
         self,
         rt: &R,
-        old: &[u8],
+        past: AuditedJournal<'_>,
         store: T,
         first: &[u8],
         state: &HostState,
         writer: &mut W,
-    ) -> Result<Log<S>, Fault>
+    ) -> Result<Log<S>, ServerFault>
+        requires audited { IsAudited self.lab past }
         requires as_many { length self.observers.others.items + 1 ≡ self.lab.sessions }
         requires first { first.now ≡ ports_line self.ports.port self.ports.desk }
-        ensures { IfOk result (TellsResumed self.lab S.contents old.now self.ports.port
+        ensures { IfOk result (TellsResumed self.lab S.contents past.entry.bytes.now self.ports.port
             self.ports.desk (W.contents writer.old) (W.contents writer.new)) }
     {
         let alloc = rt.alloc();
@@ -89,8 +92,8 @@ impl<C: Observer + Send + Drop> Ready<C> {
             at_desk,
             elsewhere: at_port,
         } = open_ports(rt, alloc, state, ports);
-        let resumed = resume_class::<SocketClass<'_, R, S, C>, _, _>(
-            rt, alloc, lab, old, store, first, observers, at_desk, at_port, &bell, writer,
+        let resumed = resume_audited::<SocketClass<'_, R, S, C>, _, _>(
+            rt, alloc, lab, past, store, first, observers, at_desk, at_port, &bell, writer,
         );
         let log = match resumed {
             Ok(house) => log_of(house),
@@ -112,9 +115,9 @@ fn first_line(alloc: Global, ports: &Ports) -> Result<Vec<u8>, ProgramFault>
 
 // Returns the host's error for a class that wasn't resumed, or failed. If the journal couldn't be cut and memory had
 // run out (`lacked`), that is `Memory`, and otherwise the error of the fault.
-fn told_as(fault: ResumeFault, lacked: bool) -> Fault {
+fn told_as(fault: ResumeFault, lacked: bool) -> ServerFault {
     match fault {
-        ResumeFault::Store if lacked => Fault::Common(ProgramFault::Memory),
-        _ => Fault::from(fault),
+        ResumeFault::Store if lacked => ServerFault::Common(ProgramFault::Memory),
+        _ => ServerFault::from(fault),
     }
 }
