@@ -83,7 +83,7 @@ QUICK = [
     Part("resume", module("resume"), 0.5, 1.0, 0.5, (*BUILT, "rt")),
     Part("memory-classes", module("memory", "classes"), 0.4, 0.8, 0.5, (*BUILT, "rt")),
     Part("record", module("record"), 0.4, 0.5, 1, BUILT),
-    Part("wrong-tests", cases("wrong.test_wrong", "wrong.test_beside", "wrong.test_saved", "wrong.test_kept", "wrong.test_plants", "wrong.test_drawing"), 0.6, 0.6, 1, ("rt",)),
+    Part("wrong-tests", cases(*(f"wrong.test_{it}" for it in ("wrong", "beside", "saved", "kept", "plants", "drawing"))), 0.6, 0.6, 1, ("rt",)),
     Part("build", cases("build.test_build", "build.test_class"), 0.4, 0.9, 0.5, ("git",)),
     Part("check", cases("check.test_check", "check.test_pieces", "check.test_imports", "check.test_chain", "check.test_model"), 0.2, 0.8, 0.5),
     Part("memory", module("memory", "uses"), 0.2, 0.4, 0.5, (*BUILT, "rt")),
