@@ -1,6 +1,5 @@
 /* Plays a student's nodes: cc -o bot bot.c, then ./bot SLIP, or ./bot PORT NAME KEYFILE NODE,..
-   If SLIP is -, the slip is read from the environment's CENDUWA_SLIP. If KEYFILE is -, the key is read from CENDUWA_KEY.
-   Texts are searched in the replies, without a JSON reader. */
+   If SLIP is -, the slip is in the environment's CENDUWA_SLIP. If KEYFILE is -, the key is in CENDUWA_KEY. */
 #include <arpa/inet.h>
 #include <signal.h>
 #include <stdio.h>
@@ -12,8 +11,7 @@
 #define ASK(...) (fprintf(server, __VA_ARGS__), hear())
 static char reply[1 << 16], text[1 << 12];
 static FILE *server;
-/* The denials and refusals that end the bot, each with its exit status, a space, and a line. After any other one, the bot
-   looks again. */
+/* The denials and refusals that end the bot, each with its exit status and a line. After others, the bot looks again. */
 static const char *STOPS[][2] = {
     {"\"unknown\"", "2 name and key don't match: take both from your slip"},
     {"\"not-owner\"", "3 a node isn't yours: correct the nodes by your slip"},
@@ -29,8 +27,7 @@ static int hear(void) {
     return 1;
 }
 
-/* Looks at a node, and asks for its enabled rule. A marriage is with a neighbour that points at the node. Returns whether
-   all requests were answered. */
+/* Looks at a node, and asks for the rule that is enabled there. Returns whether all requests were answered. */
 static int move(long node) {
     char rule[32], with[64] = "";
     if (!ASK("{\"do\":\"look\",\"node\":%ld}\n", node)) return 0;

@@ -1,11 +1,9 @@
 //! Plays a student's nodes, without crates: rustc -O bot.rs, then ./bot SLIP, or ./bot PORT NAME KEYFILE NODE,..
-//! If SLIP is -, the slip is read from the environment's CENDUWA_SLIP. If KEYFILE is -, the key is read from CENDUWA_KEY.
-//! Keys are searched in the replies, without a JSON reader.
+//! If SLIP is -, the slip is in the environment's CENDUWA_SLIP. If KEYFILE is -, the key is in CENDUWA_KEY.
 use std::io::{BufRead, BufReader, Write};
 use std::net::TcpStream;
 use std::{env, fs, iter, process, thread, time::Duration};
-/// The denials and refusals that end the bot, each with its exit status and a line. After any other one, the bot looks
-/// again.
+/// The denials and refusals that end the bot, each with its exit status and a line. After others, it looks again.
 const STOPS: [(&str, i32, &str); 5] = [
     ("unknown", 2, "name and key don't match: take both from your slip"),
     ("not-owner", 3, "a node isn't yours: correct the nodes by your slip"),
@@ -50,8 +48,7 @@ fn enter(port: u16, name: &str, key: &str, is_lost: bool) -> BufReader<TcpStream
     stop(if is_lost { 7 } else { 5 }, if is_lost { "the connection was lost: start again" } else { "all seats were taken for a minute: come again later" })
 }
 
-/// Looks at a node, and asks for its enabled rule. A marriage is with a neighbour that points at the node. Returns `None`
-/// if the connection is lost.
+/// Looks at a node, and asks for the rule that is enabled there. Returns `None` if the connection is lost.
 fn play(server: &mut BufReader<TcpStream>, node: &str) -> Option<()> {
     let look = ask(server, &format!(r#"{{"do":"look","node":{node}}}"#))?;
     let (number, rule, chosen) = (at(&look, "at").unwrap_or(""), at(&look, "rule").unwrap_or("null"), at(&look, "chosen"));
