@@ -443,13 +443,16 @@ def ten_minutes(room: Path) -> None:
     is no limit."""
     library, lab = Preloaded("outsiders/waits.c", room, "WAITS"), lab_of(room, 4)
     with Host(lab, 0, 0, variables=library.variables({})) as host:
-        student, waits = Caller(host.port), list[float]()
+        student, waits, gone, sent = Caller(host.port), list[float](), list[float](), 0.0
         for piece in (hello("ana"), look("ana"), look("ana"), b" ", b" "):
+            sent = time.monotonic() if piece.endswith(b"\n") else sent
             waits.append(next_wait(library, student, piece))
+            gone.append(time.monotonic() - sent)
             time.sleep(5)
         # If the bytes of one line restarted the time, the last two waits would be longer. If the lines shared the time
-        # since the hello, these waits would be ten seconds shorter.
-        if any(not 595.1 < wait <= 600 for wait in waits[:3]) or not 585 < waits[3] <= 595 or not 580 < waits[4] <= 590:
+        # since the hello, these waits would be ten seconds shorter than what is left since the last line was sent.
+        late = any(not 599 - gone[at] < waits[at] <= most for at, most in ((3, 595), (4, 590)))
+        if late or any(not 595.1 < wait <= 600 for wait in waits[:3]):
             fail(f"outsiders: a student's lines have {waits} seconds")
         teacher = Caller(host.desk)
         if next_wait(library, teacher, hello("tess")) != 0:
