@@ -13,7 +13,7 @@ from pathlib import Path
 from typing import Any
 
 from selenium import webdriver
-from selenium.common.exceptions import SessionNotCreatedException
+from selenium.common.exceptions import SessionNotCreatedException, StaleElementReferenceException
 from selenium.webdriver.chrome.options import Options
 from selenium.webdriver.chrome.service import Service
 from selenium.webdriver.common.action_chains import ActionChains
@@ -71,9 +71,10 @@ def is_ready(driver: Any) -> bool:
 
 
 def until(driver: Any, holds: Any) -> None:
-    """Waits until a function of the driver returns a true value. Fails after a time limit."""
+    """Waits until a function of the driver returns a true value. Fails after a time limit. If the page replaces an
+    element that the function has found and not used yet, the function is called again."""
     wait: Any = WebDriverWait
-    wait(driver, LIMIT, poll_frequency=0.05).until(holds)
+    wait(driver, LIMIT, poll_frequency=0.05, ignored_exceptions=[StaleElementReferenceException]).until(holds)
 
 
 def press(driver: Any, *keys: str) -> None:
@@ -160,7 +161,7 @@ def pale(driver: Any, on_paper: bool = False) -> tuple[int, list[tuple[str, floa
 
 
 class Played(unittest.TestCase):
-    """Opens the pages of runs."""
+    """Tests that open the pages of runs."""
 
     def setUp(self) -> None:
         """Opens the browser."""

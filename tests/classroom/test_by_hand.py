@@ -87,14 +87,28 @@ class Playing(InRoom):
         found: dict[str, Any] = self.driver.execute_script(CARD, str(node))
         return found
 
+    def click_rule(self, node: int, rule: str) -> bool:
+        """Presses the button of a rule at a node. Returns whether the page shows the node."""
+        cards = self.driver.find_elements("css selector", "#nodes section")
+        card = next((card for card in cards if card.find_element("class name", "id").text == str(node)), None)
+        if card and card.find_element("tag name", "details").get_attribute("open") is None:
+            card.find_element("tag name", "summary").click()
+        if card:
+            card.find_element("css selector", f"[data-rule={rule}] button").click()
+        return card is not None
+
+    def click_act(self, node: int) -> bool:
+        """Presses the large button of a node. Returns whether there is one."""
+        buttons = self.driver.find_elements("css selector", ".btn.act")
+        button = next((button for button in buttons if button.text.startswith(f"Node {node}: ")), None)
+        if button:
+            button.click()
+        return button is not None
+
     def press(self, node: int, rule: str) -> str:
         """Presses the button of a rule at a node. Returns the reply that the page shows."""
         self.driver.execute_script("for (const it of document.querySelectorAll('.reply')) it.textContent = ''")
-        for card in self.driver.find_elements("css selector", "#nodes section"):
-            if card.find_element("class name", "id").text == str(node):
-                if card.find_element("tag name", "details").get_attribute("open") is None:
-                    card.find_element("tag name", "summary").click()
-                card.find_element("css selector", f"[data-rule={rule}] button").click()
+        until(self.driver, lambda _: self.click_rule(node, rule))
         until(self.driver, lambda _: self.card(node)["reply"] != "")
         reply: str = self.card(node)["reply"]
         return reply
@@ -102,9 +116,7 @@ class Playing(InRoom):
     def act(self, node: int) -> str:
         """Presses the large button of a node. Returns the reply that the page shows."""
         self.driver.execute_script("for (const it of document.querySelectorAll('.reply')) it.textContent = ''")
-        for button in self.driver.find_elements("css selector", ".btn.act"):
-            if button.text.startswith(f"Node {node}: "):
-                button.click()
+        until(self.driver, lambda _: self.click_act(node))
         until(self.driver, lambda _: self.card(node)["reply"] != "")
         reply: str = self.card(node)["reply"]
         return reply
@@ -381,7 +393,7 @@ class Wire(InRoom):
             token = rows.next()["token"]
             wrong: tuple[tuple[dict[str, object], str], ...] = (
                 ({}, 'missing "node"'), ({"node": 4, "at": 0, "rule": "dance"}, 'rule is "dance", not one of'),
-                ({"node": 4, "at": -1, "rule": "update"}, "at is out of range, not a number"),
+                ({"node": 4, "at": -1, "rule": "update"}, "at is a number out of range, not a whole number"),
                 ({"node": 4, "at": 0, "rule": "marriage"}, 'missing "with"'),
             )
             for more, why in wrong:
@@ -424,7 +436,7 @@ class Wire(InRoom):
 
 
 class Host:
-    """A stand-in for a class's server. It ends a connection when the event `go` is set or a bye comes."""
+    """A stand-in for a class's server. This stand-in ends a connection when the event `go` is set or a bye comes."""
 
     def __init__(self, ends: list[str]) -> None:
         """`ends` has the word of the last line on each connection in turn, or an empty text for none."""

@@ -38,6 +38,8 @@ NODES = """
 return [...document.querySelectorAll('#drawing .node')].map((it) => [Number(it.dataset.node), it.getAttribute('aria-label')]);
 """
 WITNESSES = "return [...document.querySelectorAll('.witnesses text')].map((it) => it.textContent).sort()"
+# The page makes the rows of this list anew at each report, so one script reads all of them.
+WAITS = "return [...document.querySelectorAll('#waits li')].map((it) => it.innerText.split(/\\s/)[0])"
 DRAWN_OPEN = "return [...document.querySelectorAll('g.open path')].map((it) => (it.getAttribute('d').match(/M/g) || []).length)"
 # Shows the state that needs most room in the picture: each node has the longest rule, and it is chosen.
 FULLEST = """
@@ -176,7 +178,7 @@ class Told(InRoom):
         self.assertEqual(self.driver.execute_script(WITNESSES),
                          sorted(f"{witness}: {rule[:1].upper() if short else rule}" for _, _, witness, rule in report.open))
         waited = [str(node) for node, _ in report.privileged if self.teacher.look(node).chosen is None]
-        self.assertEqual([row.text.split()[0] for row in self.driver.find_elements("css selector", "#waits li")], waited)
+        self.assertEqual(self.driver.execute_script(WAITS), waited)
         self.assertEqual(sum(self.driver.execute_script(DRAWN_OPEN)), len(report.open))
 
     def ask_all(self) -> None:
