@@ -65,7 +65,7 @@ module _ {E V : Type 0} (tells : E → V → Who → Command → Reply → E →
       (λ d s. at_once (replies.Deny d) refl refl s.0 s.2 s.3)
       (λ who c by asked s. inr (record { who = who; command = c; by = by; asked = is ∙ ap Ok asked; still = s.0; told = s.1 })) h
 
-  -- each turn is one of these
+  -- in each turn, the line is answered without the engine, or by it
   pub turn_does : Turn tells roster known e v line r known' e' v' → Does
   turn_does (inl h) = asked_does (request_in line) refl h
   turn_does (inr h) = at_once _ refl refl h.0 h.1.1 h.1.2

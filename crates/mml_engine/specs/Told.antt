@@ -1,5 +1,5 @@
--- The reply to a command, and the events that its session has seen then. A ruling is what the policy decides about a
--- command. A world is a network with its registers, its chosen moves, the number of its configuration, and the number
+-- The reply to a command, and the events that the session has seen after it. A ruling is what the policy decides about
+-- a command. A world is a network with its registers, its chosen moves, the number of its configuration, and the number
 -- of events so far. After a write of a line has failed, the journal is halted, and takes no more lines. A list of
 -- events is legal if the rules allow each event after the earlier ones.
 use Rattle.std.specs.Prelude.{◌≡◌, ◌⊎◌, true, false, List, [], ◌∷◌, ◌++◌, Option, None, Some}
@@ -46,6 +46,7 @@ pub record Told (lab : LabValue) (old : List Event) (who : Who) (c : Command) (r
   pub legal : is_legal_in lab list ≡ true
   pub says : Plainly lab list (ruling_at lab (world_in lab list) who c) r new ⊎ Refuses list (ruling_at lab (world_in lab list) who c) r new
 
--- this for an engine and the part of it that belongs to a session; `lab` and `seen` return the lab and the events seen
+-- `Told` for an engine and the part of it that belongs to a session; `lab` returns the lab of an engine, and `seen` the
+-- events that the session has seen
 abbrev pub told_by : {E V : Type 0} → (E → LabValue) → (E → V → List Event) → E → V → Who → Command → Reply → E → V → Type 0
 told_by lab seen e v who c r e' v' = Told (lab e) (seen e v) who c r (seen e' v')

@@ -1,5 +1,5 @@
--- The turn of one line: its reply, and the states before and after it. The first argument describes how an engine
--- answers commands. A participant is known on a connection from a granted hello to the bye.
+-- The turn of one line: its reply, and the states before and after it. The first argument of these definitions
+-- describes how an engine answers commands. A participant is known on a connection from a granted hello to the bye.
 use Rattle.std.specs.Prelude.{◌≡◌, ◌⊎◌, ℕ, List, Option, Result, Ok, Err}
 use Rattle.mml_lab.specs.{declared.who.Who.Who, Rosters.RosterValue}
 use Rattle.mml_policy.specs.declared.command.Command.{Command}

@@ -19,9 +19,9 @@ use std::alloc::Global;
 
 /// Answers a request line of a connection, and puts the reply into `reply`, since a reply is too large to be returned
 /// without a costly copy. `at` is the session's part of the engine. `known` is the participant who has greeted on the
-/// connection, or `None`; afterwards it is who is known then. `scratch` is working memory for reading the line. Returns
-/// `Closed`, and puts no reply, if a known participant asks to be shown something and the engine shows nothing any
-/// more.
+/// connection, or `None`, and is set to who is known afterwards. `scratch` is working memory for reading the line.
+/// Returns `Closed`, and puts no reply, if a known participant asks to be shown something and the engine shows nothing
+/// any more.
 pub fn answer_line<E: Engine>(
     engine: &mut E,
     at: &mut E::View,
@@ -54,10 +54,10 @@ pub fn answer_line<E: Engine>(
     }
 }
 
-// Puts the reply to a request into `reply`, and sets `known` to who is known afterwards. `answer_line` calls it for a
-// hello, a bye, and a command while nobody is known. They are rare and their code is large, so this function isn't
-// inlined. Returns `Closed`, and puts no reply, if the request asks to be shown something and the engine shows nothing
-// any more.
+// Puts the reply to a request into `reply`, and sets `known` to who is known afterwards. `answer_line` calls this
+// function for a hello, a bye, and a command while nobody is known. Such lines are rare and the code for them is large,
+// so the function isn't inlined. Returns `Closed`, and puts no reply, if the request asks to be shown something and the
+// engine shows nothing any more.
 #[inline(never)]
 fn settle<E: Engine>(
     engine: &mut E,

@@ -63,8 +63,8 @@ pub trait Engine {
         ensures about { OnOk result (IsAbout (lab self.old).ids (lab self.old).roster reply.new) }
         ensures closed { IfErr result (λ _. may_close × (self.new ≡ self.old) × (at.new ≡ at.old)) };
 
-    /// Puts the reply to an act into `reply`; an act is a command that asks for an event. If it is granted, the event
-    /// happens. `at` is the part of the engine that belongs to the session.
+    /// Puts the reply to an act into `reply`; an act is a command that asks for an event. If the act is granted, the
+    /// event happens. `at` is the part of the engine that belongs to the session.
     fn act(
         &mut self,
         at: &mut Self::View,

@@ -1,7 +1,7 @@
--- Two sessions that look the same to a student. Each has a window, which is what it has seen of the events of a house.
--- A world is the state of a run after some events: its network and its chosen moves. Two worlds are alike for a student
--- if everything that the student may see is the same in both. A participant is known on a connection from a granted
--- hello to a bye.
+-- Two sessions that look the same to a student. Each session has a window, which is what the session has seen of the
+-- events of a house. A world is the state of a run after some events: its network and its chosen moves. Two worlds are
+-- alike for a student if everything that the student may see is the same in both. A participant is known on a
+-- connection from a granted hello to a bye.
 use Rattle.std.specs.Prelude.{◌≢◌, ℕ, ◌-◌, true, ◌≡◌, List, [], ◌∷◌, length, take, Option}
 use Rattle.mml_lab.specs.{declared.who.Who.Who, Labs.LabValue}
 use Rattle.mml_board.specs.{declared.event.Event.Event, Lists.world_in}

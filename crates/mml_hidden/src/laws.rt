@@ -68,8 +68,8 @@ pub fn hidden_values_change_no_turn()
 {}
 
 /// Take states of two twin labs, which differ at most in the links and registers at the beginning. If the states are
-/// alike for a student, a line on any connection leaves them alike if it leaves their worlds alike. This is about plain
-/// turns, in which no mishap happens.
+/// alike for a student, a line on any connection leaves them alike if it leaves their worlds alike. The law is about
+/// plain turns, in which no mishap happens.
 pub fn lines_of_others_keep_states_alike()
     ensures { (lab other : LabValue) (s : ℕ) (st su : State) (k : ℕ) (line : List ℕ) →
         AreTwins lab other → StatesAlike lab s st su →
@@ -78,8 +78,8 @@ pub fn lines_of_others_keep_states_alike()
         StatesAlike lab s (plain_turn lab st k line).state (plain_turn other su k line).state }
 {}
 
-/// If two worlds are alike for a student, a line keeps them alike if it makes an event in neither of them. It keeps
-/// them alike only if it makes an event in both or in neither.
+/// If two worlds are alike for a student, a line keeps them alike if it makes an event in neither of them. A line keeps
+/// the worlds alike only if it makes an event in both or in neither.
 pub fn turns_that_keep_worlds_alike_grant_alike()
     ensures neither { (lab other : LabValue) (s : ℕ) (st su : State) (k : ℕ) (line : List ℕ)
         (one two : Outcome) → Turn lab st k line one → Turn other su k line two →
@@ -186,8 +186,8 @@ pub fn events_are_told_by_place_and_number()
 {}
 
 /// If one event happens in two worlds that are alike for a student, they stay alike exactly if the event shows her the
-/// same in both. Only a link to a node of hers and a close can show her different things. A close doesn't if the same
-/// moves are chosen for the neighbours of her nodes, and their rules read the same values.
+/// same in both. Only a link to a node of hers and a close can show her different things. A close shows her the same if
+/// the same moves are chosen for the neighbours of her nodes, and their rules read the same values.
 pub fn one_event_keeps_worlds_alike()
     ensures event { (ids : List ℕ) (r : RosterValue) (s : ℕ) (w v : World) (e : Event) →
         IsWorldOf ids w → IsWorldOf ids v → Alike r s w v → is_possible w e ≡ true →
@@ -210,7 +210,8 @@ pub fn events_out_of_sight_keep_worlds_alike()
 {}
 
 /// Two networks are alike for a student at the beginning if they differ only in the registers of one node that isn't
-/// visible to her. They are also alike if they differ only in a link between two nodes, neither of which she owns.
+/// visible to her. Two networks are also alike if they differ only in a link between two nodes, neither of which she
+/// owns.
 pub fn labs_may_differ_out_of_sight()
     ensures registers { (n : Network) (r : RosterValue) (s i : ℕ) (regs : Regs) → IsNetwork n →
         ¬ IsVisible r (configuration_of n) (who.Student s) i →
@@ -288,8 +289,8 @@ pub fn coalitions_learn_nothing_hidden()
 {}
 
 /// Two networks are alike for each member of a coalition at the beginning if they differ only in the registers of one
-/// node that is visible to none of them. They are also alike if they differ only in a link between two nodes that none
-/// of them owns.
+/// node that is visible to none of them. Two networks are also alike if they differ only in a link between two nodes
+/// that none of them owns.
 pub fn labs_may_differ_out_of_a_coalitions_sight()
     ensures registers { (n : Network) (r : RosterValue) (members : ℕ → Bool) (i : ℕ)
         (regs : Regs) → IsNetwork n →

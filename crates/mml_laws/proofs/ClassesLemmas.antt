@@ -19,7 +19,7 @@ use Rattle.mml_record.proofs.RecordLemmas.{is_record_from}
 use Rattle.mml_laws.specs.{Classes.seat_of, Classes.seats_of, Served.replies_in, Served.AreSessions, Served.AreServed, Served.named_by}
 use Rattle.mml_laws.proofs.ServedLemmas.{house_once}
 
-zip_append : {A B : Type 0} (P : A → B → Type 0) (xs us : List A) (ys vs : List B) → AllZip P xs ys → AllZip P us vs → AllZip P (xs ++ us) (ys ++ vs)
+pub zip_append : {A B : Type 0} (P : A → B → Type 0) (xs us : List A) (ys vs : List B) → AllZip P xs ys → AllZip P us vs → AllZip P (xs ++ us) (ys ++ vs)
 zip_append P [] us [] vs p q = q
 zip_append P [] us (y ∷ ys) vs p q = absurd p
 zip_append P (x ∷ xs) us [] vs p q = absurd p

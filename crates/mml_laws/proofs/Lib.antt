@@ -18,7 +18,16 @@ mod AskingLinesLemmas
 mod FinishesLemmas
 mod ClassesLemmas
 mod HaltingLemmas
+mod UnhaltedLemmas
 mod SameAuditsLemmas
 mod SameRulingsLemmas
 mod ListsLemmas
 mod ColumnsLemmas
+mod WeavingLemmas
+mod ByesLemmas
+mod HallStepsLemmas
+mod ConversationsLemmas
+mod WrittenLemmas
+mod OneScriptLemmas
+mod OneScriptServedLemmas
+mod OneScriptClassesLemmas

@@ -57,7 +57,7 @@ grant_chooses r w s i q k legal =
 
 -- ---- the number of events is bounded by a potential
 
--- the bound holds for each potential
+-- the bound holds for each number `potential` that falls in each step by at least the number of moves
 module _ (potential : Configuration → ℕ) (falls : Falls potential) where
   events_paid : (r : RosterValue) (w : World) (es : List Event) → IsWorld w → is_legal_list r w es ≡ true → list_all is_grant_or_close es ≡ true
       → length es + chosen_count w ≤ 2 * potential (configuration w)

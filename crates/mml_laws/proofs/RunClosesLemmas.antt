@@ -31,8 +31,8 @@ module _ (test : Move → Bool) where
       → count_by is_close (e ∷ es) ≡ count_by is_close es → AreFew last (q + 1) es → AreFew last q (e ∷ es)
   passed last q e es same next closes rest = grind (arith, nat_tests)
 
-  -- the close that applies a grant is counted, unless it was the last one that was counted; if it is counted, it is the
-  -- next close
+  -- the close that applies a grant is counted, unless it was the last one that was counted; a close that is counted is
+  -- the next close
   granted : (last q k : ℕ) (es : List Event) → IsNext last (q + 1) es k → AreFew k (q + 1) es
       → (cond (eqb k last) 0 1 + counted k (q + 1) es ≤ count_by is_close es)
       × (last ≡ next_close (q + 1) es → next_close (q + 1) es < q + 1 + length es → cond (eqb k last) 0 1 + counted k (q + 1) es + 1 ≤ count_by is_close es)

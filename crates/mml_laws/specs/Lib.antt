@@ -12,3 +12,6 @@ pub mod Finishes
 pub mod Classes
 pub mod Halting
 pub mod Lists
+pub mod OneScript
+pub mod ClassAnswers
+pub mod ServedAnswers

@@ -1,7 +1,8 @@
 -- The replies of the sessions of a house. A house is one run of a lab that threads share. A window is what the sessions
 -- of a seat have seen of the list of events, and the places of the events that were granted to them. The place of an
 -- event is its number in this list, from 1.
-use Rattle.std.specs.Prelude.{◌≡◌, ℕ, List, [], ◌∷◌, ◌++◌, flat_map, Option}
+use Rattle.std.specs.List.{AllByRecursion}
+use Rattle.std.specs.Prelude.{◌≡◌, ◌≢◌, ℕ, List, [], ◌∷◌, ◌++◌, flat_map, Option}
 use Rattle.mml_lab.specs.Labs.{LabValue}
 use Rattle.mml_board.specs.declared.event.Event.{Event}
 use Rattle.mml_lines.specs.Runs.{Chain}
@@ -9,6 +10,8 @@ use Rattle.mml_codec.specs.declared.reply.Reply.{Reply}
 use Rattle.mml_window.specs.Windows.{WindowValue, window}
 use Rattle.mml_session.specs.{declared.session.SessionEnd.SessionEnd, Turns.places_in, Ends.Ended}
 use Rattle.mml_session.specs.declared.session.SessionEnd.TheVariants as end
+use Rattle.mml_codec.specs.declared.reply.Refused.TheVariants as refused
+use Rattle.mml_codec.specs.declared.reply.Reply.TheVariants as replies
 
 -- the replies of a session, by how it ended: if a write failed, only a beginning of their lines was written
 abbrev pub replies_in : (end : SessionEnd) (lab : LabValue) (old new : WindowValue) (input left wrote wrote' : Option (List ℕ))
@@ -42,6 +45,14 @@ AreServed lab begun [] [] = Unit {0}
 AreServed lab begun [] (w ∷ ws) = ⊥
 AreServed lab begun (sessions ∷ others) [] = ⊥
 AreServed lab begun (sessions ∷ others) (w ∷ ws) = AreSessions lab (window begun []) sessions w × AreServed lab begun others ws
+
+-- the reply isn't the refusal `journal`
+abbrev pub IsUnhalted : Reply → Type 0
+IsUnhalted r = r ≢ replies.Refuse refused.Journal
+
+-- no reply of the sessions of any window is the refusal `journal`
+abbrev pub NoneHaltedIn : List (List (List Reply)) → Type 0
+NoneHaltedIn sessions = AllByRecursion (AllByRecursion (AllByRecursion IsUnhalted)) sessions
 
 -- the places that the replies of one window's sessions name, in order
 abbrev pub named_in : List (List Reply) → List ℕ

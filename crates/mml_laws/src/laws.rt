@@ -12,6 +12,7 @@ pub mod journal_words;
 pub mod journals;
 pub mod looks;
 pub mod marks;
+pub mod one_script;
 pub mod places;
 pub mod rest;
 pub mod rulings;

@@ -55,7 +55,7 @@ nothing_yet number lab old before input wrote given unread held none out = recor
 module _ {number : ℕ} {lab : LabValue} {old : WindowValue} {st : Standing} {before : Option Who} {input a wrote c : Option (List ℕ)}
     {x y : Option Kept} {held : List ℕ} (after : Standing) (left d : Option (List ℕ)) (z : Option Kept) (unread held' : List ℕ)
     (so : AnsweredSoFar number lab old st before input a held wrote c x y) where
-  -- the result of the next line in the session's state is also one in the state at the end of the talk
+  -- what `ServesNext` states for the session's state, it also states for the state at the end of the talk
   from_end : (came : Next) → ServesNext came number lab st after a unread left held held' c d y z
       → ServesNext came number lab so.talk.end after a unread left held held' c d y z
   from_end came = subst (λ (t : Standing). ServesNext came number lab t after a unread left held held' c d y z) (sym so.stands)

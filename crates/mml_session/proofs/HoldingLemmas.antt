@@ -18,7 +18,7 @@ out_alike b c d held held' same still h = subst (λ (t : Option (List ℕ)). App
 pub off_alike : (b c d : Option (List ℕ)) (held held' : List ℕ) → held' ≡ held → c ≡ b → BreaksOff c d held' → BreaksOff b d held
 off_alike b c d held held' same still h = subst (λ (t : Option (List ℕ)). BreaksOff t d held) still (subst (λ (t : List ℕ). BreaksOff c d t) same h)
 
--- the bytes before a flush that broke off, and the bytes that the flush wrote, are the first of all bytes
+-- if a flush broke off, the bytes before it and those that it wrote are the first bytes of the whole output
 breaks_later : (a b c : Option (List ℕ)) (sent flush all : List ℕ) → all ≡ sent ++ flush → Appends a b sent → BreaksOff b c flush
     → (n : ℕ) × (n < length all) × Appends a c (take n all) × (length sent ≤ n)
 breaks_later a b c sent flush all is h k = (
@@ -58,7 +58,7 @@ module _ (lab : LabValue) where
       ap (λ (l : List Reply). reply_lines lab l) h.parts ∙ (flat_map-append (reply_line lab.ids lab.roster) h.flushed h.buffered
       ∙ ap (λ l. reply_lines lab h.flushed ++ l) (sym h.lines))
 
-  -- if the lines of the last replies are buffered, this also holds with one more reply, whose line is buffered too
+  -- if one more reply's line is added to the buffer, the buffer still has the lines of the last replies
   pub back_more : (a b : Option (List ℕ)) (rs : List Reply) (held : List ℕ) (r : Reply) → HoldsBack lab a b rs held
       → HoldsBack lab a b (rs ++ r ∷ []) (held ++ reply_line lab.ids lab.roster r)
   back_more a b rs held r h = record {
@@ -74,8 +74,7 @@ module _ (lab : LabValue) where
   back_out a b c rs held h k =
       subst (λ (t : List ℕ). Appends a c t) (sym (all_lines a b rs held h)) (Appends-trans a b c (reply_lines lab h.flushed) held h.written k)
 
-  -- if the lines of the last replies are buffered, this holds again after the buffered lines are written or stay in the
-  -- buffer
+  -- if the buffered lines are written or stay in the buffer, the buffer still has the lines of the last replies
   pub back_on : (a b c : Option (List ℕ)) (rs : List Reply) (held held' : List ℕ) → HoldsBack lab a b rs held → IsHeldOrOut b c held held'
       → HoldsBack lab a c rs held'
   back_on a b c rs held held' h (inl k) = record {

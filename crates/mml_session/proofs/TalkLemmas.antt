@@ -1,7 +1,8 @@
 -- The window after a talk, and the lines that the talk has answered. The place of an event is its number in the list of
 -- events, from 1. A window is what a session has seen of this list, and the places of the events that were granted to
 -- it.
-use Rattle.std.proofs.Common.{◌≡◌, ℕ, List, [], ◌∷◌, ◌++◌, flat_map, sym, ◌∙◌, ap, append_assoc, append-nil, subst, inl, inr, All}
+use Rattle.std.proofs.lemmas.Bool.Decides.{nat_tests}
+use Rattle.std.proofs.Common.{◌≡◌, ℕ, ◌+◌, arith, Result, Ok, Err, List, [], ◌∷◌, ◌++◌, flat_map, sym, ◌∙◌, ap, append_assoc, append-nil, subst, inl, inr, All}
 use Rattle.std.{specs.List.AllByRecursion, proofs.lemmas.List.Elements.All-nil, proofs.lemmas.List.Elements.All-cons}
 use mathlib.Core.List.{IsPrefix}
 use Rattle.mml_lab.specs.{declared.who.Who.Who, Labs.LabValue}
@@ -9,13 +10,15 @@ use Rattle.mml_ids.specs.Lines.{IsUnbroken}
 use Rattle.mml_lines.specs.LinesOf.{IsWithinLimit, lines_of}
 use Rattle.mml_lines.proofs.{RunsLemmas.by_steps, RunsLemmas.run_keeps, LinesOfLemmas.all_lines, LinesOfLemmas.lines_first}
 use Rattle.mml_policy.specs.declared.command.Command.{Command}
-use Rattle.mml_codec.specs.{declared.TheConstants.MAX_REQUEST, declared.reply.Reply.Reply, Replies.as_list}
+use Rattle.mml_codec.specs.{declared.TheConstants.MAX_REQUEST, declared.reply.Reply.Reply, declared.request.LineFault.LineFault, declared.request.Request.Request, Replies.as_list}
+use Rattle.mml_codec.specs.{declared.greeting.Greeting.Greeting, declared.greeting.Greeting.TheVariants.Answered, declared.greeting.Greeting.TheVariants.LeftToJudge, Greetings.greeting, Greetings.refusal_of, Lines.request_in}
 use Rattle.mml_window.specs.Windows.{WindowValue}
 use Rattle.mml_window.proofs.PrefixLemmas.{prefix_self, prefix_trans}
-use Rattle.mml_session.specs.Turns.{Standing, places_in, Told, Turn}
+use Rattle.mml_session.specs.Turns.{Standing, places_in, halts_in, halts_of, Told, Settles, Asked, Turn}
 use Rattle.mml_session.specs.Talks.{Talk, LineTurn, bytes_read}
-use Rattle.mml_session.proofs.EngineLemmas.{seen_told, turn_does}
+use Rattle.mml_session.proofs.{EngineLemmas.seen_told, EngineLemmas.turn_does, GreetingLemmas.IsPlain, GreetingLemmas.plain_greeting}
 use Rattle.mml_engine.proofs.NamingLemmas as naming
+use Rattle.mml_codec.specs.declared.reply.Reply.TheVariants as replies
 
 -- the window's places are the old ones, and then those that the reply names; the window has seen all that it had seen
 -- before
@@ -45,6 +48,35 @@ module _ (lab : LabValue) where
     | inl q ↦ stays st.window next.window r q.view (ap as_list q.nameless)
     | inr t ↦ told_on st.window next.window t.who t.command r t.told
   ]
+
+  told_fault : (fault : LineFault) → halts_in (replies.Refuse (refusal_of fault)) ≡ 0
+  told_fault fault = grind (arith, nat_tests)
+
+  same_count : (st next : Standing) (r : Reply) → next.window ≡ st.window → halts_in r ≡ 0 → next.window.halts ≡ st.window.halts + halts_in r
+  same_count st next r same none = omega (arith, ap (λ (w : WindowValue). w.halts) same, none)
+
+  settled_count : (st next : Standing) (g : Greeting) (r : Reply) → IsPlain g → Settles lab st g r next → next.window.halts ≡ st.window.halts + halts_in r
+  settled_count st next (Answered q x) r plain h =
+      same_count st next r (ap (λ (s : Standing). s.window) h.1) (ap halts_in h.0 ∙ plain.2)
+  settled_count st next (LeftToJudge who c) r plain h = h.1.counted
+
+  asked_count : (st next : Standing) (asked : Result Request LineFault) (r : Reply) → Asked lab st asked r next
+      → next.window.halts ≡ st.window.halts + halts_in r
+  asked_count st next (Err fault) r h = same_count st next r (ap (λ (s : Standing). s.window) h.1) (ap halts_in h.0 ∙ told_fault fault)
+  asked_count st next (Ok q) r h = settled_count st next (greeting lab.roster st.known q) r (plain_greeting lab.roster st.known q) h
+
+  -- the window has counted the reply of a turn if it is the refusal `journal`
+  turn_count : (st next : Standing) (line : List ℕ) (r : Reply) → Turn lab st line r next → next.window.halts ≡ st.window.halts + halts_in r
+  turn_count st next line r (inl h) = asked_count st next (request_in line) r h
+  turn_count st next line r (inr h) = same_count st next r (ap (λ (s : Standing). s.window) h.1) (ap halts_in h.0)
+
+  pub turn_halts : (st after : Standing) (t : LineTurn lab st after) → after.window.halts ≡ st.window.halts + halts_in t.reply
+  turn_halts st after t = turn_count st after t.line t.reply t.turn
+
+  pub talk_halts : (st : Standing) (t : Talk lab st) → t.end.window.halts ≡ st.window.halts + halts_of t.replies
+  talk_halts st t =
+      by_steps (Turn lab) (λ st ls rs end. end.window.halts ≡ st.window.halts + halts_of rs) (λ st. omega arith)
+      (λ st next end l r ls rs turn rest. omega (arith, rest, turn_count st next l r turn)) st t.end t.lines t.replies t.run
 
   pub turn_places : (st after : Standing) (t : LineTurn lab st after) → after.window.places ≡ st.window.places ++ places_in t.reply
   turn_places st after t = (turn_on st after t.line t.reply t.turn).places

@@ -53,9 +53,9 @@ pub record LastUnanswered (lab : LabValue) (old new : WindowValue) (input left w
   pub appended : Appends wrote wrote' (bytes_written talk)
 
 -- what was answered and written, by how the session ended. `held` are the bytes that were read and not used. After a
--- bye, a failed write or a closed window, they are fewer than one read brings. At the end of the input or after a
--- failed read, they are the beginning of a line. Otherwise they are too many for a line. If a write failed, `n` bytes
--- of the replies' lines are written, and only lines of the last flush are missing
+-- bye, a failed write or a closed window, `held` has fewer bytes than one read brings. At the end of the input or after
+-- a failed read, `held` is the beginning of a line. Otherwise `held` has too many bytes for a line. If a write failed,
+-- `n` bytes of the replies' lines are written, and only lines of the last flush are missing
 abbrev pub Ended : SessionEnd → LabValue → WindowValue → WindowValue → Option (List ℕ) → Option (List ℕ) → Option (List ℕ) → Option (List ℕ) → Type 0
 Ended end.Bye lab old new input left wrote wrote' =
     (held : List ℕ) × (a : LastAnswered (λ line. line) lab old new input (prepend_known held left) wrote wrote')
@@ -73,7 +73,7 @@ Ended end.Closed lab old new input left wrote wrote' =
     (held : List ℕ) × LastUnanswered lab old new input (prepend_known held left) wrote wrote' × (length held < READ_SIZE)
 Ended end.Memory lab old new input left wrote wrote' = (new ≡ old) × Consumes input left [] × Appends wrote wrote' []
 
--- who was known at the end of a session. If it ended by its last line, this is who was known before that line
+-- who was known at the end of a session, or before its last line if this line ended the session
 abbrev pub Knew : (end : SessionEnd) (who : Option Who) (lab : LabValue) (old new : WindowValue) (input left wrote wrote' : Option (List ℕ))
     → Ended end lab old new input left wrote wrote' → Type 0
 Knew end.Bye who lab old new input left wrote wrote' e = e.1.talk.end.known ≡ who

@@ -1,5 +1,5 @@
 -- The result of the next line of a session. A view is a command that only asks to be shown something: a see, a look or
--- a report. A window is what the session has seen of the list of events; if it is closed, it shows no more views.
+-- a report. A window is what the session has seen of the list of events; a closed window shows no more views.
 use Rattle.std.specs.Prelude.{◌≡◌, ◌≢◌, ℕ, ◌<◌, Bool, false, true, List, [], ◌++◌, length, take, Option, Result, Ok, Err, ⊤}
 use Rattle.std.specs.Io.KnownBytes.{Appends, Consumes, IsAtEnd, prepend_known}
 use Rattle.mml_lab.specs.Labs.{LabValue}
@@ -44,8 +44,8 @@ ServesLine (Ok said) number lab st after line unsent unsent' wrote wrote' given 
 ServesLine (Err closed) number lab st after line unsent unsent' wrote wrote' given given' =
     (after ≡ st) × IsView st line × (unsent' ≡ unsent) × (wrote' ≡ wrote) × Records number given given' []
 
--- a session goes on if its reply is written or buffered, and isn't the reply to a bye. Otherwise it has ended: by the
--- bye, by a failed write, or because the window shows nothing any more
+-- a session goes on if its reply is written or buffered, and isn't the reply to a bye. Otherwise the session has ended:
+-- by the bye, by a failed write, or because the window shows nothing any more
 abbrev pub next_after : Result Sent Closed → Next
 next_after (Ok sent.Told) = next.Served
 next_after (Ok sent.Bye) = next.Ended end.Bye

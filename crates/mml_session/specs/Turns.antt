@@ -1,7 +1,7 @@
 -- The turns of a session: how it answers one line, and many lines one after another. The place of an event is its
 -- number in the list of events, from 1. A window is what the session has seen of this list, and the places of the
 -- events that were granted to it. The known participant is the one whose hello was granted in the session.
-use Rattle.std.specs.Prelude.{◌≡◌, ◌⊎◌, ℕ, Bool, true, false, List, [], ◌∷◌, ◌++◌, Option, None, Some, Result, Ok, Err}
+use Rattle.std.specs.Prelude.{◌≡◌, ◌⊎◌, ℕ, ◌+◌, Bool, true, false, List, [], ◌∷◌, ◌++◌, Option, None, Some, Result, Ok, Err}
 use mathlib.Core.List.{IsPrefix}
 use Rattle.mml_lab.specs.{declared.who.Who.Who, Labs.LabValue}
 use Rattle.mml_board.specs.{declared.event.Event.Event, Lists.is_legal_in, Lists.world_in}
@@ -34,6 +34,16 @@ entered l (Some e) = l ++ e ∷ []
 abbrev pub places_in : Reply → List ℕ
 places_in r = as_list (place_in r)
 
+-- how many refusals `journal` a reply is: 1 or 0
+abbrev pub halts_in : Reply → ℕ
+halts_in (reply.Refuse refused.Journal) = 1
+halts_in _ = 0
+
+-- how many of these replies are the refusal `journal`
+abbrev pub halts_of : List Reply → ℕ
+halts_of [] = 0
+halts_of (r ∷ rs) = halts_in r + halts_of rs
+
 -- whether this refusal may replace the reply to the ruling: `memory` in place of a look or a report, which have lists;
 -- `memory` or `journal` in place of a grant, whichever cause the window keeps; no refusal in place of any other ruling
 abbrev pub MayRefuse : Ruling → Refused → Option Refusal → Type 0
@@ -53,13 +63,14 @@ abbrev pub Refuses : List Event → List ℕ → Ruling → Reply → WindowValu
 Refuses l ps ruled r new = (why : Refused) × (r ≡ reply.Refuse why) × MayRefuse ruled why new.refused × HasSeen l ps new
 
 -- the window's reply to a command, which is judged after a legal list that begins with all events that the window had
--- seen
+-- seen. The window counts the refusals `journal`
 pub record Told (lab : LabValue) (old : WindowValue) (who : Who) (c : Command) (r : Reply) (new : WindowValue) : Type 0 where
   pub list : List Event
   pub later : IsPrefix old.seen list
   pub legal : is_legal_in lab list ≡ true
   pub says : Plainly lab list old.places (ruling_at lab (world_in lab list) who c) r new
       ⊎ Refuses list old.places (ruling_at lab (world_in lab list) who c) r new
+  pub counted : new.halts ≡ old.halts + halts_in r
 
 -- the effect of a request: if the rules of greeting answer it, their reply, and the window stays as it is; otherwise
 -- the window's reply to its command

@@ -21,8 +21,8 @@ use std::alloc::Global;
 use std::sync::Wait;
 
 /// Answers one line of a connection. Puts the answer into `reply`, since a reply is too large to be returned without a
-/// costly copy. `known` is the participant who has said hello on this connection, if anybody has; it is updated if the
-/// line changes that. Returns `Closed`, and puts no reply, if a known participant asks for a view of a window that
+/// costly copy. `known` is the participant who has said hello on this connection, if anybody has; `known` is updated if
+/// the line changes that. Returns `Closed`, and puts no reply, if a known participant asks for a view of a window that
 /// shows nothing any more.
 pub(crate) fn answer_into<Rt: Wait, S: Sink + Drop, H: House>(
     setting: &Setting<'_, Rt, S, H>,

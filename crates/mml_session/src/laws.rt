@@ -3,12 +3,12 @@
 //! A session is one connection from its first line to its end. A turn is the reply to one of its lines and the state
 //! after it. A window is one session's view of the published events and board. An account is known on a connection from
 //! its granted hello to its bye. The place of an event is its number in the list of events, from 1.
-ghost use Rattle.std.specs.Prelude.{◌≡◌, ◌++◌, ℕ, List, Option, Some, flat_map, length};
+ghost use Rattle.std.specs.Prelude.{◌≡◌, ◌++◌, ◌+◌, ℕ, List, Option, Some, flat_map, length};
 ghost use mathlib.Core.List.{IsPrefix};
 ghost use Rattle.mml_lab.specs.Labs.{LabValue};
 ghost use Rattle.mml_ids.specs.Lines.{IsUnbroken};
 ghost use Rattle.mml_lines.specs.LinesOf.{lines_of};
-ghost use Rattle.mml_session.specs.Turns.{Standing, places_in};
+ghost use Rattle.mml_session.specs.Turns.{Standing, places_in, halts_in, halts_of};
 ghost use Rattle.mml_session.specs.Talks.{Talk, LineTurn, bytes_read};
 ghost use Rattle.mml_session.specs.Ends.{Ended};
 ghost use Rattle.mml_session.specs.Holding.{LacksLastFlush};
@@ -23,6 +23,14 @@ pub fn places_are_those_told()
         after.window.places ≡ st.window.places ++ places_in t.reply }
     ensures talk { (lab : LabValue) (st : Standing) (t : Talk lab st) →
         t.end.window.places ≡ st.window.places ++ flat_map places_in t.replies }
+{}
+
+/// A window counts the replies that are the refusal `journal`: one for each such reply, and none for another one.
+pub fn refusals_for_the_journal_are_counted()
+    ensures turn { (lab : LabValue) (st after : Standing) (t : LineTurn lab st after) →
+        after.window.halts ≡ st.window.halts + halts_in t.reply }
+    ensures talk { (lab : LabValue) (st : Standing) (t : Talk lab st) →
+        t.end.window.halts ≡ st.window.halts + halts_of t.replies }
 {}
 
 /// What a session's window has seen only grows. The events that it had seen before one or several turns are the first

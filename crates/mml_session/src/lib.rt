@@ -11,10 +11,12 @@ mod held;
 pub mod laws;
 mod observer;
 mod session;
+mod session_types;
 mod setting;
 
 pub use entry::Entry;
 pub use gate::{Gate, NoGate, Point};
 pub use observer::{Gated, NoObserver, Observer};
 pub use session::{Ending, SessionEnd, is_bye, is_hello, serve_observed, serve_one};
+pub use session_types::SessionTypes;
 pub use setting::Setting;

@@ -9,13 +9,13 @@ use crate::gate::{Gate, Point};
 use crate::session::Ending;
 use mml_codec::Reply;
 
-/// An observer of the sessions of a seat, in which one session follows another. It is called when a line has come, when
-/// it was answered, when replies were written, and when a session ended. Its calls return nothing, so they can't end a
-/// session. If an observer that records sessions can't keep the whole of an entry, it keeps nothing from then on, and
-/// reports that. A seat is a window through which one connection after another is served.
+/// An observer of the sessions of a seat, in which one session follows another. An observer is called when a line has
+/// come, when it was answered, when replies were written, and when a session ended. The calls return nothing, so they
+/// can't end a session. If an observer that records sessions can't keep the whole of an entry, it keeps nothing from
+/// then on, and reports that. A seat is a window through which one connection after another is served.
 pub trait Observer {
-    // The bytes that it has kept of these calls, and whether these are all of them; `None` if contracts can't name
-    // them.
+    // The bytes that the observer has kept of these calls, and whether they are complete; `None` if contracts can't
+    // name them.
     ghost kept: { Self → Option Kept };
 
     /// Observes a line that has come in the seat with this number, before the line is answered.
@@ -32,8 +32,8 @@ pub trait Observer {
     fn wrote(&mut self, number: u8, replies: u32)
         ensures { kept self.new ≡ kept self.old };
 
-    /// Observes that a session in the seat with this number has ended, as `ending` says. Its window had seen `seen`
-    /// events.
+    /// Observes that a session in the seat with this number has ended, as `ending` says. The session's window had seen
+    /// `seen` events.
     fn left(&mut self, number: u8, ending: &Ending, seen: u64)
         ensures { Records number (kept self.old) (kept self.new) (left seen) };
 }

@@ -20,6 +20,7 @@ use crate::answering::answer_into;
 use crate::gate::Gate;
 use crate::held::Held;
 use crate::observer::{Gated, NoObserver, Observer};
+use crate::session_types::{SessionOf, SessionTypes};
 use crate::setting::Setting;
 use mml_codec::{LineScratch, MAX_REQUEST, REPLY_ROOM, Reply, append_reply, tell_reply};
 use mml_ids::Memory;
@@ -83,23 +84,30 @@ pub fn serve_one<Rt: Wait, S: Sink + Drop, H: House, R: Read, W: Write, G: Gate>
         gate,
         observer: NoObserver,
     };
-    serve_observed(&setting, window, reader, writer, connection, &mut observer).end
+    serve_observed::<SessionOf<Rt, S, R, W>, _, _>(
+        &setting,
+        window,
+        reader,
+        writer,
+        connection,
+        &mut observer,
+    ).end
 }
 
 /// Answers the lines of a reader one by one, as `serve_one` does. Calls `observer` when a line has come, when it is
 /// answered, when replies are written, and at the session's end. It isn't called if memory runs out before the session
 /// begins. Returns how the session ended, and who was known then.
-pub fn serve_observed<Rt: Wait, S: Sink + Drop, H: House, R: Read, W: Write, O: Observer>(
-    setting: &Setting<'_, Rt, S, H>,
+pub fn serve_observed<Y: SessionTypes, H: House, O: Observer>(
+    setting: &Setting<'_, Y::Runtime, Y::Sink, H>,
     window: &mut Window<H>,
-    reader: &mut R,
-    writer: &mut W,
+    reader: &mut Y::Reader,
+    writer: &mut Y::Writer,
     connection: u8,
     observer: &mut O,
 ) -> Ending
     ensures ended { EndedRecorded result.end result.who connection H.lab window.old window.new
-        (R.remaining reader.old) (R.remaining reader.new)
-        (W.contents writer.old) (W.contents writer.new)
+        (Y.Reader.remaining reader.old) (Y.Reader.remaining reader.new)
+        (Y.Writer.contents writer.old) (Y.Writer.contents writer.new)
         (O.kept observer.old) (O.kept observer.new) }
     ensures untouched { result.end ≡ SessionEnd.Memory →
         (reader.new ≡ reader.old) × (writer.new ≡ writer.old) }
@@ -113,7 +121,7 @@ pub fn serve_observed<Rt: Wait, S: Sink + Drop, H: House, R: Read, W: Write, O: 
     let mut before = None;
     loop {
         let who = session.known;
-        let next = serve_next(setting, &mut session, window, reader, writer, observer);
+        let next = serve_next::<Y, H, O>(setting, &mut session, window, reader, writer, observer);
         match next {
             Next::Served => before = who,
             Next::Ended(end) => {
@@ -128,7 +136,7 @@ pub fn serve_observed<Rt: Wait, S: Sink + Drop, H: House, R: Read, W: Write, O: 
 }
 
 // The state of a session: the number of its connection, who is known on it, its line reader, and the buffered replies.
-// It also has memory for reading a line and for a long reply.
+// The state also has memory for reading a line and for a long reply.
 #[derive(Drop)]
 struct Session {
     connection: u8,
@@ -171,12 +179,12 @@ enum Next {
 
 // Reads the next line and answers it. If the reader has to be read for it, all replies were written before. Returns
 // `Served` if the session goes on, or how it ended.
-fn serve_next<Rt: Wait, S: Sink + Drop, H: House, R: Read, W: Write, O: Observer>(
-    setting: &Setting<'_, Rt, S, H>,
+fn serve_next<Y: SessionTypes, H: House, O: Observer>(
+    setting: &Setting<'_, Y::Runtime, Y::Sink, H>,
     session: &mut Session,
     window: &mut Window<H>,
-    reader: &mut R,
-    writer: &mut W,
+    reader: &mut Y::Reader,
+    writer: &mut Y::Writer,
     observer: &mut O,
 ) -> Next
     requires going { session.old.lines.ending ≡ None }
@@ -202,16 +210,16 @@ fn serve_next<Rt: Wait, S: Sink + Drop, H: House, R: Read, W: Write, O: Observer
         bytes_ahead session.new.lines < bytes_ahead session.old.lines }
     ensures serves { ServesNext result session.old.connection H.lab (standing session.old.known window.old)
         (standing session.new.known window.new)
-        (prepend_known session.old.lines.unread (R.remaining reader.old))
-        session.new.lines.unread (R.remaining reader.new)
+        (prepend_known session.old.lines.unread (Y.Reader.remaining reader.old))
+        session.new.lines.unread (Y.Reader.remaining reader.new)
         session.old.held.bytes.items session.new.held.bytes.items
-        (W.contents writer.old) (W.contents writer.new)
+        (Y.Writer.contents writer.old) (Y.Writer.contents writer.new)
         (O.kept observer.old) (O.kept observer.new) }
 {
     match session.lines.next(reader) {
         Step::Line => {
             observer.came(session.connection, session.lines.bytes());
-            let said = serve_line(setting, session, window, writer, observer);
+            let said = serve_line::<Y, H, O>(setting, session, window, writer, observer);
             go_on(said, &mut session.held, observer, session.connection)
         }
         Step::TooLong => Next::Ended(SessionEnd::TooLong),
@@ -272,7 +280,7 @@ fn pass_told<O: Observer>(held: &mut Held, observer: &mut O, connection: u8)
 }
 
 // Writes the buffered replies at the end of a session, calls the observer with the number of written replies, and
-// returns `ending`. If the write fails, returns instead an end by `WriteFault`, with `before`, who was known before the
+// returns `ending`. If the write fails, returns an end by `WriteFault` instead. `before` is who was known before the
 // line that was answered last.
 fn let_out<W: Write, O: Observer>(
     session: &mut Session,
@@ -300,9 +308,9 @@ fn let_out<W: Write, O: Observer>(
 // What happened to the line of a reply.
 #[derive(Clone, Copy)]
 enum Sent {
-    // It is written, or buffered.
+    // The line is written, or buffered.
     Told,
-    // It is written, and it is the reply to a bye.
+    // The line is written, and is the reply to a bye.
     Bye,
     // A write failed after this many bytes of the buffered replies and of this one.
     Unwritten(usize),
@@ -310,11 +318,11 @@ enum Sent {
 
 // Answers the line that was read last, and writes or buffers its reply. Returns what happened to the reply. Returns
 // `Closed` if the line asks for a view of a window that shows nothing any more, and so has no reply.
-fn serve_line<Rt: Wait, S: Sink + Drop, H: House, W: Write, O: Observer>(
-    setting: &Setting<'_, Rt, S, H>,
+fn serve_line<Y: SessionTypes, H: House, O: Observer>(
+    setting: &Setting<'_, Y::Runtime, Y::Sink, H>,
     session: &mut Session,
     window: &mut Window<H>,
-    writer: &mut W,
+    writer: &mut Y::Writer,
     observer: &mut O,
 ) -> Result<Sent, Closed>
     requires going { session.old.lines.ending ≡ None }
@@ -332,7 +340,7 @@ fn serve_line<Rt: Wait, S: Sink + Drop, H: House, W: Write, O: Observer>(
     ensures serves { ServesLine result session.old.connection H.lab (standing session.old.known window.old)
         (standing session.new.known window.new) session.old.lines.line
         session.old.held.bytes.items session.new.held.bytes.items
-        (W.contents writer.old) (W.contents writer.new)
+        (Y.Writer.contents writer.old) (Y.Writer.contents writer.new)
         (O.kept observer.old) (O.kept observer.new) }
 {
     let mut reply = Reply::Bye;
@@ -366,7 +374,7 @@ fn serve_line<Rt: Wait, S: Sink + Drop, H: House, W: Write, O: Observer>(
 // A line that was answered, and what is needed to record and send its reply.
 #[derive(Clone, Copy)]
 struct Judged<'a> {
-    // The number of the seat in which it came.
+    // The number of the seat in which the line came.
     number: u8,
     // How many events the window had seen afterwards.
     seen: u64,

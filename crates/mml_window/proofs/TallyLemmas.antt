@@ -82,7 +82,7 @@ left_suc (v ∷ ws) [] i w lw lc = absurd (omega arith)
 left_suc (v ∷ ws) (c ∷ cs) zero w lw lc = append-nil (drop c v.places)
 left_suc (v ∷ ws) (c ∷ cs) (suc i) w lw lc = grind (arith, nat_tests, append-nil, drop, append_assoc, left_of, take, get_or, left_suc ws cs i w (omega arith) (omega arith))
 
--- this with `i + 1` in place of `suc i`
+-- `left_suc` with `i + 1` in place of `suc i`
 left_more : (ws : List WindowValue) (cs : List ℕ) (i : ℕ) (w : WindowValue) → i < length ws → i < length cs
     → left_of (take (i + 1) ws) (take (i + 1) cs) ≡ left_of (take i ws) (take i cs) ++ drop (get_or cs i 0) (get_or ws i w).places
 left_more ws cs i w lw lc = ap (λ k. left_of (take k ws) (take k cs)) (add-one i) ∙ left_suc ws cs i w lw lc

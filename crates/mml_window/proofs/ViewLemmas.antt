@@ -24,16 +24,16 @@ pub nodes_entered : {lab : LabValue} {x : Published} {v w : View} → IsLab lab 
 nodes_entered {lab} {x} {v} {w} is saw = nodes_in lab x.events.items is ∙ sym (ap size saw.published.board)
 
 -- if a reader enters, the result shows the ruling on the board that it sees, and the reader leaves, the result answers
--- the view. The window's places and its last refusal stay as they were
+-- the view. The window's places, its last refusal and its count of refusals stay as they were
 pub tells_entered : {A : Type 0} (shown : A → Ruling) (lab lab' : LabValue) (x : Published) (v w u : View) (board : World) (who : Who) (command : Command)
-    (r : Result A SightFault) (old : WindowValue) (ps : List ℕ) (why : Option Refusal)
-    → lab' ≡ lab → Saw lab v x w → u ≡ w → board ≡ x.board → old ≡ window_with v.seen ps why
-    → Shows shown (ruling_at lab' board who command) r → AnswersView shown lab old who command r (window_with u.seen ps why)
-tells_entered shown lab lab' x v w u board who command r old ps why named saw left read was s =
+    (r : Result A SightFault) (old : WindowValue) (ps : List ℕ) (why : Option Refusal) (n : ℕ)
+    → lab' ≡ lab → Saw lab v x w → u ≡ w → board ≡ x.board → old ≡ window_with v.seen ps why n
+    → Shows shown (ruling_at lab' board who command) r → AnswersView shown lab old who command r (window_with u.seen ps why n)
+tells_entered shown lab lab' x v w u board who command r old ps why n named saw left read was s =
     let seen : x.events.items ≡ u.seen = ap (λ (y : View). y.seen) (sym saw.view ∙ sym left) in
     let world : board ≡ world_in lab x.events.items = read ∙ saw.published.board in
-    subst (λ (o : WindowValue). AnswersView shown lab o who command r (window_with u.seen ps why)) (sym was)
-    (subst (λ (l : List Event). AnswersView shown lab (window_with v.seen ps why) who command r (window_with l ps why)) seen
-    (tells shown lab (window_with v.seen ps why) (window_with x.events.items ps why) who command r
-    (record { begins = saw.begins; legal = saw.published.legal; places = refl; refused = refl })
+    subst (λ (o : WindowValue). AnswersView shown lab o who command r (window_with u.seen ps why n)) (sym was)
+    (subst (λ (l : List Event). AnswersView shown lab (window_with v.seen ps why n) who command r (window_with l ps why n)) seen
+    (tells shown lab (window_with v.seen ps why n) (window_with x.events.items ps why n) who command r
+    (record { begins = saw.begins; legal = saw.published.legal; places = refl; refused = refl; halts = refl })
     (subst (λ (k : Ruling). Shows shown k r) (λ t. ruling_at (named t) (world t) who command) s)))

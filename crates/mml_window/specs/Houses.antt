@@ -1,34 +1,33 @@
 -- The name and the lab of a house, as contracts describe them. A house is one run of a lab that threads share: its list
 -- of granted events, the board after them, and their journal.
-use Rattle.std.specs.Prelude.{List, []}
-use denote.RawPtr.{Ptr, block_ptr}
+use Rattle.std.specs.Prelude.{ℕ, List, []}
 use Rattle.mml_lab.specs.{Labs.LabValue, Rosters.no_account}
 use Rattle.mml_board.specs.declared.event.Event.{Event}
 
 -- a house: its name and its lab
 pub record HouseValue : Type 0 where
-  pub name : Ptr
+  pub name : ℕ
   pub lab : LabValue
 
 -- the house of this name and lab
-abbrev pub house_of : Ptr → LabValue → HouseValue
+abbrev pub house_of : ℕ → LabValue → HouseValue
 house_of name lab = record { name = name; lab = lab }
 
 -- a house that continues a run: its name, its lab, and the events that came before it was opened
 pub record ResumedValue : Type 0 where
-  pub name : Ptr
+  pub name : ℕ
   pub lab : LabValue
   pub begun : List Event
 
 -- the house of this name and lab that continues the run of these events
-abbrev pub resumed_of : Ptr → LabValue → List Event → ResumedValue
+abbrev pub resumed_of : ℕ → LabValue → List Event → ResumedValue
 resumed_of name lab begun = record { name = name; lab = lab; begun = begun }
 
 -- a name that no house has
-abbrev pub no_name : Ptr
-no_name = block_ptr 0 0
+abbrev pub no_name : ℕ
+no_name = 0
 
--- the lab for this name: it has no nodes
+-- the lab of the house with this name: it has no nodes
 abbrev pub no_lab : LabValue
 no_lab = record {
   ids = [];

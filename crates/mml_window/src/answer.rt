@@ -8,7 +8,8 @@ use mml_policy::{Denial, Refusal};
 /// The answer to an act.
 #[derive(Clone, Copy, Debug)]
 pub enum Answer {
-    /// The act happened as an event with this place and the effect `done`. After it, the configuration has this number.
+    /// The act happened as an event with this place and the effect `done`. `number` is the number of the configuration
+    /// after the event.
     Granted { place: u64, number: u64, done: Done },
     /// A clause doesn't hold.
     Denied(Denial),

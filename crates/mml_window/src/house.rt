@@ -7,15 +7,17 @@ use left_right::reader::{Reader, Reading};
 use left_right::writer::Writer;
 use mml_board::Event;
 pub use std::marker::Brand;
+use std::marker::PhantomData;
+use std::sync::ledger::{Book, Ledger, Share};
 
 /// The name of one house, used only in contracts: a type that ties a desk, its book and its windows to each other. A
 /// house is one run of a lab that threads share: its list of granted events, the board after them, and their journal.
 pub trait House {
-    ghost use denote.RawPtr.{Ptr};
+    ghost use Rattle.std.specs.Prelude.{ℕ};
     ghost use Rattle.mml_lab.specs.Labs.{LabValue};
 
     // A name that no other house has as long as this house exists.
-    ghost name: { Ptr };
+    ghost name: { ℕ };
 
     // The lab of the house: identifiers, roster, links and registers at the beginning, and limits.
     ghost lab: { LabValue };
@@ -38,3 +40,20 @@ pub(crate) type Entered<H> = Reading<Published, View, Publishing<H>>;
 
 /// The writer by which a house publishes its events.
 pub(crate) type Press<H> = Writer<Published, Event, View, Publishing<H>>;
+
+/// The ledger of a house, for contracts. It counts the acts that the house refused because its journal was halted.
+pub(crate) struct Halts<H: House> {
+    of: PhantomData<H>,
+}
+
+impl<H: House> Ledger for Halts<H> {
+    ghost name = { H.name };
+
+    ghost parts = { H.lab.sessions };
+}
+
+/// The count of a house: how many acts were refused because the journal was halted. It takes no bytes.
+pub(crate) type HaltCount<H> = Book<Halts<H>>;
+
+/// A part of this count: how many acts of one window were refused for this reason. It takes no bytes.
+pub(crate) type HaltShare<H> = Share<Halts<H>>;

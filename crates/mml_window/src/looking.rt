@@ -76,8 +76,8 @@ pub(crate) fn enter<H: House>(reader: &mut Option<Reader<H>>) -> Option<Entered<
     }
 }
 
-/// Ends the reading that `enter` began, and returns the reader. It has then seen all events of the copy that it had
-/// entered.
+/// Ends the reading that `enter` began, and returns the reader. The reader has then seen all events of the copy that it
+/// had entered.
 pub(crate) fn leave<H: House>(reading: Entered<H>) -> Reader<H>
     requires { view reading.place ≡ viewer reading.part.value.events.items }
     ensures { result ≡ view reading.place }

@@ -2,12 +2,12 @@
 //!
 //! A window is one session's view of the published events and board. The place of an event is its number in the list of
 //! events, from 1. A window keeps the places of the events that its session was granted.
-ghost use Rattle.std.specs.Prelude.{◌≡◌, ℕ, ◌+◌, ◌<◌, ◌≤◌, [], ◌∷◌, length, MatchBool};
+ghost use Rattle.std.specs.Prelude.{◌≡◌, ℕ, ◌+◌, ◌<◌, ◌≤◌, [], ◌∷◌, length, All, MatchBool};
 ghost use Rattle.mml_lab.specs.declared.TheConstants.{MAX_SESSIONS};
 ghost use Rattle.mml_window.specs.Tallies.{times, told_of, IsEachOnceFrom};
 ghost use Rattle.mml_window.specs.inside.Cursors.{left_of, IsStuck};
 
-use crate::house::House;
+use crate::house::{HaltCount, House};
 use crate::window::Window;
 use mml_lab::MAX_SESSIONS;
 
@@ -47,8 +47,20 @@ pub(crate) fn is_each_once<H: House>(windows: &[Window<H>], first: u64, most: u6
     are_counted_off(windows, &cursors)
 }
 
+/// Changes nothing. Its contract says of each window that its acts that were refused because the journal was halted are
+/// among those that the house has counted.
+pub(crate) fn audit_halts<H: House>(windows: &mut Vec<Window<H>>, count: &mut HaltCount<H>)
+    ensures windows { windows.new.items ≡ windows.old.items }
+    ensures total { count.new.total ≡ count.old.total }
+    ensures few { All (λ w. w.halts ≤ count.old.total) windows.old.items }
+{
+    'windows: for index in 0..windows.len() {
+        windows[index].audit_halts(count);
+    }
+}
+
 /// Counts off one place (event number): advances the cursor of the first window whose next place is `place`, and
-/// returns true. Returns `false` if it is the next place of no window.
+/// returns true. Returns `false` if `place` is the next place of no window.
 fn count_off<H: House>(windows: &[Window<H>], cursors: &mut Cursors, place: u64) -> bool
     requires few { length windows.now ≤ MAX_SESSIONS }
     ensures { MatchBool result ((p : ℕ) → times p (left_of windows.now cursors.old)

@@ -21,7 +21,7 @@ ghost use Rattle.mml_window.specs.inside.Seats.{IsSeat};
 ghost use Rattle.mml_window.specs.inside.Keeping.{IsNextPlace, Keeps};
 
 use crate::answer::Answer;
-use crate::house::{House, Press};
+use crate::house::{HaltCount, HaltShare, House, Press};
 use crate::looking::{Reader, enter, leave, look_for, take_slot};
 use crate::showing::{look_at, report_at, see_at};
 use crate::sight::{Closed, SightFault};
@@ -43,24 +43,26 @@ pub struct Window<H: House> {
     reader: Option<Reader<H>>,
     lab: Arc<Lab>,
     places: Vec<u64>,
-    // Why its last act was refused, if it was.
+    // Why the session's last act was refused, if it was.
     refused: Option<Refusal>,
+    // How many of its acts were refused because the journal was halted.
+    halts: HaltShare<H>,
     of: PhantomData<H>,
 }
 
 impl<H: House> Model for Window<H> {
-    ghost use Rattle.std.specs.Prelude.{◌≡◌, ◌≤◌, vec_capacity};
+    ghost use Rattle.std.specs.Prelude.{◌≡◌, ◌<◌, ◌≤◌, vec_capacity};
     ghost use Rattle.std.specs.Arc.{arc_value};
     ghost use Rattle.mml_window.specs.Windows.{WindowValue, window_with, IsWindow};
     ghost use Rattle.mml_window.specs.inside.Readers.{view_by};
 
     ghost Value = { WindowValue };
 
-    ghost view = { λ w. window_with (view_by w.reader).seen w.places.items w.refused };
+    ghost view = { λ w. window_with (view_by w.reader).seen w.places.items w.refused w.halts.amount };
 
     ghost invariant = { λ w. IsWindow H.lab
-        (window_with (view_by w.reader).seen w.places.items w.refused)
-        × (arc_value w.lab ≡ H.lab) × (H.lab.events ≤ vec_capacity w.places) };
+        (window_with (view_by w.reader).seen w.places.items w.refused w.halts.amount)
+        × (arc_value w.lab ≡ H.lab) × (H.lab.events ≤ vec_capacity w.places) × (0 < w.halts.parts) };
 }
 
 /// What a window is made of: the lab, and room for the places that its session may be granted. The place of an event is
@@ -73,10 +75,13 @@ pub(crate) struct Seat {
 
 impl<H: House> Window<H> {
     /// Returns a window that is made of a seat (the lab, and room for places), and has seen nothing yet. It takes a
-    /// reader's slot of `press`, the writer of the published data, if one is free.
-    pub(crate) fn over(press: &Press<H>, seat: Seat) -> Window<H>
+    /// reader's slot of `press`, the writer of the published data, if one is free. `halts` is its part of the house's
+    /// count of acts that were refused because the journal was halted.
+    pub(crate) fn over(press: &Press<H>, seat: Seat, halts: HaltShare<H>) -> Window<H>
         requires lawful { IsLab H.lab }
         requires seat { IsSeat H.lab seat }
+        requires part { 0 < halts.parts }
+        requires none { halts.amount ≡ 0 }
         ensures { result ≡ window [] [] }
     {
         let Seat { lab, places } = seat;
@@ -87,6 +92,7 @@ impl<H: House> Window<H> {
             lab,
             places,
             refused: None,
+            halts,
             of: PhantomData,
         }
     }
@@ -101,8 +107,8 @@ impl<H: House> Window<H> {
         }
     }
 
-    /// Returns why the last act of the window's session was refused. Returns `None` if it was granted or denied, or
-    /// there was none.
+    /// Returns why the last act of the window's session was refused. Returns `None` if that act was granted or denied,
+    /// or if there was no act.
     pub fn refused(&self) -> Option<Refusal>
         ensures { result ≡ self.now.refused }
     {
@@ -231,13 +237,31 @@ impl<H: House> Window<H> {
     #[tactic(auto, using(crate::proofs::ClimbingLemmas::climbs_on))]
     pub(crate) fn read_until_all<R: Wait>(&mut self, rt: &R, press: &Press<H>)
         ensures window { self.new ≡ window_with press.now.desk.shown.value.events.items
-            self.old.places self.old.refused }
+            self.old.places self.old.refused self.old.halts }
         ensures begins { IsPrefix self.old.seen press.now.desk.shown.value.events.items }
     {
         let events = press.published().events.as_slice();
         look_for(rt, press, &mut self.reader, |published| {
             published.has_all(events)
         });
+    }
+
+    /// Counts one more act of the window's session that was refused because the journal was halted.
+    pub(crate) fn count_halt(&mut self, count: &mut HaltCount<H>)
+        ensures window { self.new ≡ window_with self.old.seen self.old.places self.old.refused
+            (self.old.halts + 1) }
+        ensures total { count.new.total ≡ count.old.total + 1 }
+    {
+        count.add(&mut self.halts, 1);
+    }
+
+    /// Changes nothing. Its contract says that the window's acts are among those that the house has counted.
+    pub(crate) fn audit_halts(&mut self, count: &mut HaltCount<H>)
+        ensures window { self.new ≡ self.old }
+        ensures total { count.new.total ≡ count.old.total }
+        ensures few { self.old.halts ≤ count.old.total }
+    {
+        count.audit(&mut self.halts);
     }
 
     /// Returns how many places (event numbers) the window's session was granted.

@@ -44,9 +44,10 @@ pub fn a_class_is_a_house<S, K, C, R, W>()
 {}
 
 /// If the recorders of a class were empty at the beginning, the sessions of each seat have changed its recorder from
-/// empty to what it has kept. They have changed the seat's window from the events before the class to its final state.
-/// So what each recorder has kept is the text of a record that fits the class's one list of events, or a beginning of
-/// that text. The last clause says that the assumption holds if each recorder that the class is given is empty.
+/// empty to what it has kept. The sessions have changed the seat's window from the events before the class to its final
+/// state. So what each recorder has kept is the text of a record that fits the class's one list of events, or a
+/// beginning of that text. The last clause says that the assumption holds if each recorder that the class is given is
+/// empty.
 pub fn a_class_has_recorded_seats<S, K, C, R, W>()
     ensures seats { (begun : List Event) (given : ℕ → Option Kept) (lab : LabValue)
         (sink : S → Option (List ℕ)) (remaining : R → Option (List ℕ)) (contents : W → Option (List ℕ))

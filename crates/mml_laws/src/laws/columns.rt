@@ -24,11 +24,11 @@ ghost use Rattle.mml_class.specs.declared.class_record.ClassRecord.{ClassRecord}
 ghost use Rattle.mml_class.specs.Classes.{IsClassRecord};
 
 /// The lines of a tally have these columns, in this order. A student's line has the granted moves by rule, the applied
-/// moves by rule, and the number of closes that applied one. Then it has the places of the first and the last grant,
-/// and the applied moves at shared nodes. The line of a student's denials by clause has those of clauses 1 to 4, and
-/// then the number of lines that were no request. The line of a student's refusals has those for `journal`, `memory`
-/// and `full`. The line that counts each of a student's denials has those of clause 1 first, and then those of clauses
-/// 2, 3 and 4.
+/// moves by rule, and the number of closes that applied one. Then the line has the places of the first and the last
+/// grant, and the applied moves at shared nodes. The line of a student's denials by clause has those of clauses 1 to 4,
+/// and then the number of lines that were no request. The line of a student's refusals has those for `journal`,
+/// `memory` and `full`. The line that counts each of a student's denials has those of clause 1 first, and then those of
+/// clauses 2, 3 and 4.
 pub fn tallies_have_these_columns()
     ensures student { (name : List ℕ) (m : Marks) → student_line name m ≡ codes "student " ++ (name
         ++ ((numbers_text (m.granted.update ∷ m.granted.marriage ∷ m.granted.seduction ∷ m.granted.abandonment ∷ [])

@@ -34,8 +34,8 @@ pub fn a_house_that_is_over_is_stable<S>()
         × IsMaximalMatching (configuration log.board) (report_of log.board).pairs }
 {}
 
-/// If no fault, link or cut comes after some place of a journal, then at most 2L + 3n moves are applied after it, in at
-/// most 2L + 3n closes. L is the number of links at that place, and n the number of nodes.
+/// Let a network have n nodes, and L links at some place of a journal after which no fault, link or cut comes. Then at
+/// most 2L + 3n moves are applied after this place, in at most 2L + 3n closes.
 pub fn few_moves_follow_the_last_fault()
     ensures moves { (lab : LabValue) (es fs : List Event) (bytes : List ℕ) → IsLab lab →
         IsJournalOf lab (es ++ fs) bytes → list_all is_of_step fs ≡ true →

@@ -14,8 +14,8 @@ ghost use Rattle.mml_hall.specs.Halls.{IsHall};
 ghost use Rattle.mml_hall.specs.Turns.{State, opening};
 ghost use Rattle.mml_laws.specs.Finishes.{FinishesByAsking};
 
-/// A run can always be finished by requests if the journal isn't halted and k more events are allowed, for n nodes, L
-/// links, and k = 6n + 4 min(L, n²/4). Then some script with at most k moves and closes is granted all of them, and no
+/// A run with n nodes and L links can always be finished by requests if the journal isn't halted, and the lab allows k
+/// = 6n + 4 min(L, n²/4) more events. Then some script with at most k moves and closes is granted all of them, and no
 /// node is privileged after it. Before each of these moves and closes, the script has a bye and the hello of the
 /// participant who asks. The same holds from the beginning of each lab that allows k events.
 pub fn a_run_can_always_be_finished_by_asking()

@@ -20,8 +20,9 @@ ghost use Rattle.mml_stable.specs.Reports.{report_of};
 ghost use Rattle.mml_laws.specs.Looks.{IsWholeLook};
 
 /// A look shows a node exactly if the identifier in it is that node's, and one of the node's owners or the teacher
-/// asks. It shows all of the node: its registers, the number of the configuration, and the kinds of the chosen move and
-/// of the enabled rule, if there are any. It also shows exactly the linked nodes with their registers, in rising order.
+/// asks. The look shows all of the node: its registers, the number of the configuration, and the kinds of the chosen
+/// move and of the enabled rule, if there are any. The look also shows exactly the linked nodes with their registers,
+/// in rising order.
 pub fn a_look_is_whole()
     ensures answered { (ids : List ℕ) (r : RosterValue) (limit : ℕ) (is_halted : Bool) (w : World)
         (x : Who) (id : ℕ) (l : Look) →

@@ -8,8 +8,8 @@ ghost use Rattle.mml_board.specs.declared.event.Event.{Event};
 ghost use Rattle.mml_tally.specs.Marks.{marks_of};
 ghost use Rattle.mml_tally.specs.Runs.{run_of};
 
-/// A student's marks count the closes that applied a move of the student. They are at most as many as the closes of the
-/// run.
+/// A student's marks count the closes that applied a move of the student. These closes are at most as many as the
+/// closes of the run.
 pub fn no_student_has_more_closes_than_the_run()
     ensures { (r : RosterValue) (es : List Event) (s : ℕ) →
         (marks_of r es s).closes ≤ (run_of es).closes }

@@ -9,10 +9,10 @@ ghost use Rattle.mml_stable.specs.Reports.{is_open};
 ghost use Rattle.mml_stable.specs.Walk.{certificate, LeadsTo};
 ghost use Rattle.mml_laws.specs.Witnesses.{EndsIn, IsIdle};
 
-/// Each open link has a witness: a privileged node with its enabled rule, which shows that the run isn't over. It is
-/// found by following the pointers from the link's lower end to the first privileged node whose rule isn't a seduction.
-/// If this way comes to a seduction first, or to a null pointer, the pointers are followed from the higher end instead.
-/// If neither way finds a node, the witness is the lower end, with a seduction.
+/// Each open link has a witness: a privileged node with its enabled rule, which shows that the run isn't over. The
+/// witness is found by following the pointers from the link's lower end to the first privileged node whose rule isn't a
+/// seduction. If this way comes to a seduction first, or to a null pointer, the pointers are followed from the higher
+/// end instead. If neither way finds a node, the witness is the lower end, with a seduction.
 pub fn witnesses_are_sought_from_the_lower_end()
     ensures lower { (c : Configuration) (a b x : ℕ) (kind : Kind) → IsLawful c →
         is_open c a b ≡ true → LeadsTo c a x → EndsIn c x kind → certificate c a b ≡ (x, kind) }

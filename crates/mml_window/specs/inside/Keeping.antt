@@ -1,10 +1,11 @@
 -- The part of an answer that a window keeps. The place of an event is its number in the list of events, from 1. An act
 -- is a request for an event. A window is one session's view of the published events and board.
-use Rattle.std.specs.Prelude.{◌≡◌, ◌≤◌, ◌+◌, List, [], ◌∷◌, ◌++◌, length, Some}
+use Rattle.std.specs.Prelude.{◌≡◌, ◌≤◌, ◌+◌, Bool, true, List, [], ◌∷◌, ◌++◌, length, None, Some}
 use Rattle.mml_lab.specs.Labs.{LabValue}
 use Rattle.mml_board.specs.declared.event.Event.{Event}
+use Rattle.mml_policy.specs.declared.refusal.Refusal.TheVariants.{Journal}
 use Rattle.mml_window.specs.declared.answer.Answer.{Answer, TheVariants.Granted, TheVariants.Denied, TheVariants.Refused}
-use Rattle.mml_window.specs.Windows.{WindowValue, window, window_with}
+use Rattle.mml_window.specs.Windows.{WindowValue, window_with}
 
 -- the place in a grant's answer is the number of all events, is one more than the number of events seen, and is within
 -- the lab's limit
@@ -14,9 +15,19 @@ IsNextPlace lab seen events (Refused why) = Unit {0}
 IsNextPlace lab seen events (Granted place number done) = (length events ≡ place) × (place ≡ length seen + 1) × (place ≤ lab.events)
 
 -- the window after an answer: it keeps why the act was refused, or, after a grant, the place of the event, which it has
--- then seen as the last one
+-- then seen as the last one. A refusal because the journal is halted isn't counted yet
 abbrev pub Keeps : List Event → WindowValue → Answer → WindowValue → Type 0
-Keeps events old (Denied d) new = new ≡ window old.seen old.places
-Keeps events old (Refused why) new = new ≡ window_with old.seen old.places (Some why)
+Keeps events old (Denied d) new = new ≡ window_with old.seen old.places None old.halts
+Keeps events old (Refused why) new = new ≡ window_with old.seen old.places (Some why) old.halts
 Keeps events old (Granted place number done) new =
-    (front : List Event) × (e : Event) × (events ≡ front ++ e ∷ []) × (new ≡ window (old.seen ++ e ∷ []) (old.places ++ place ∷ []))
+    (front : List Event) × (e : Event) × (events ≡ front ++ e ∷ []) × (new ≡ window_with (old.seen ++ e ∷ []) (old.places ++ place ∷ []) None old.halts)
+
+-- if the answer is the refusal `Journal`, the journal is halted
+abbrev pub HaltsIfSaid : Answer → Bool → Type 0
+HaltsIfSaid (Refused Journal) halted = halted ≡ true
+HaltsIfSaid _ halted = Unit {0}
+
+-- the window after an answer was counted: it has one more refusal because the journal is halted, if this is the answer
+abbrev pub Counts : WindowValue → Answer → WindowValue → Type 0
+Counts old (Refused Journal) new = new ≡ window_with old.seen old.places old.refused (old.halts + 1)
+Counts old _ new = new ≡ old

@@ -4,8 +4,8 @@ use Rattle.mml_session.proofs.session.serve_observed.Goals as goal
 
 pub loop-before-init : goal.loop-before-init
 loop-before-init g c = record {
-  so_far = rw c.in-Ok.ensures.nobody (nothing_yet c.args.connection g.H.House.lab c.args.window.now None (g.R.Read.remaining c.args.reader.now)
-      (g.W.Write.contents c.args.writer.now) (g.O.Observer.kept c.args.observer.now) c.in-Ok.session.lines.unread c.in-Ok.session.held.bytes.items
+  so_far = rw c.in-Ok.ensures.nobody (nothing_yet c.args.connection g.H.House.lab c.args.window.now None (g.Y.Reader.Read.remaining c.args.reader.now)
+      (g.Y.Writer.Write.contents c.args.writer.now) (g.O.Observer.kept c.args.observer.now) c.in-Ok.session.lines.unread c.in-Ok.session.held.bytes.items
       (ap (λ x. x.unread) c.in-Ok.ensures.lines) c.in-Ok.ensures.nothing_held);
   few = rw (ap (λ x. x.unread) c.in-Ok.ensures.lines) (omega arith);
   out = λ _. c.in-Ok.ensures.nothing_held;

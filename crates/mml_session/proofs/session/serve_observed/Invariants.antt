@@ -9,8 +9,8 @@ use Rattle.mml_session.proofs.session.serve_observed.Given as goal
 
 abbrev pub invariant-loop-before : goal.invariant-loop-before
 invariant-loop-before g l = record {
-  so_far : AnsweredSoFar l.fn.connection g.H.House.lab l.fn.window (standing l.session.known l.window) l.before (g.R.Read.remaining l.fn.reader)
-      (prepend_known l.session.lines.unread (g.R.Read.remaining l.reader)) l.session.held.bytes.items (g.W.Write.contents l.fn.writer) (g.W.Write.contents l.writer)
+  so_far : AnsweredSoFar l.fn.connection g.H.House.lab l.fn.window (standing l.session.known l.window) l.before (g.Y.Reader.Read.remaining l.fn.reader)
+      (prepend_known l.session.lines.unread (g.Y.Reader.Read.remaining l.reader)) l.session.held.bytes.items (g.Y.Writer.Write.contents l.fn.writer) (g.Y.Writer.Write.contents l.writer)
       (g.O.Observer.kept l.fn.observer) (g.O.Observer.kept l.observer);
   few : length l.session.lines.unread < READ_SIZE;
   out : IsWithinLimit l.session.lines.limit l.session.lines.unread → l.session.held.bytes.items ≡ [];

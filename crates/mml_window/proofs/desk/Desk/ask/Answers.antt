@@ -1,7 +1,7 @@
-use Rattle.std.proofs.Common.{rules, ◌≡◌, ◌≤◌, List, length, ◌∙◌, subst}
+use Rattle.std.proofs.Common.{rules, ◌≡◌, ◌≤◌, List, length, ◌∙◌, subst, sym}
 use Rattle.mml_board.specs.{declared.event.Event.Event, Lists.world_in}
-use Rattle.mml_window.specs.{Books.BookValue, Answers.Decides, inside.Keeping.IsNextPlace, inside.Keeping.Keeps}
-use Rattle.mml_window.proofs.AnswerLemmas.{next_kept, present}
+use Rattle.mml_window.specs.{Books.BookValue, Answers.Decides, inside.Keeping.IsNextPlace, inside.Keeping.Keeps, inside.Keeping.HaltsIfSaid}
+use Rattle.mml_window.proofs.AnswerLemmas.{next_kept, present, halts_if_said}
 use Rattle.mml_window.proofs.desk.Desk.ask.Goals as goal
 
 pub keep-requires : goal.keep-requires
@@ -15,17 +15,25 @@ keep-requires g c =
     (next_kept lab g.S.Sink.failures c.deref_mut.result.now c.decide-answer.new.self seen c.args.who c.args.command.now c.decide-answer.result
     same c.decide-answer.ensures.decides few)
 
+pub count_halt-requires : goal.count_halt-requires
+count_halt-requires g c =
+    let book : c.deref_mut-2.result.now ≡ c.decide-answer.new.self = search rules in
+    subst (λ (b : BookValue _). HaltsIfSaid c.decide-answer.result b.halted) (sym book)
+    (halts_if_said g.H.House.lab g.S.Sink.failures c.deref_mut.result.now c.decide-answer.new.self c.args.who c.args.command.now c.decide-answer.result
+    c.decide-answer.ensures.decides)
+
 pub returns-clause-present : goal.returns-clause-present
 returns-clause-present g c =
     let lab = g.H.House.lab in
     let same : world_in lab c.read_until_board.new.self.seen ≡ world_in lab c.deref.result.now.events = c.read_until_board.ensures.world ∙ c.press.ensures.board in
     let book : c.deref_mut.result.now ≡ c.deref.result.now = search rules in
     let events : c.press-2.result.now.desk.shown.value.events.items ≡ c.decide-answer.new.self.events = search rules in
-    present lab g.S.Sink.contents g.S.Sink.failures c.deref.result.now c.decide-answer.new.self c.args.window.now c.read_until_board.new.self c.keep.new.self
+    present lab g.S.Sink.contents g.S.Sink.failures c.deref.result.now c.decide-answer.new.self c.args.window.now c.read_until_board.new.self c.keep.new.self c.count_halt.new.window
     c.args.who c.args.command.now c.press.ensures.book c.read_until_board.ensures.on same c.decide-answer.result
     (subst (λ (b : BookValue _). Decides lab g.S.Sink.failures b c.args.who c.args.command.now c.decide-answer.result c.decide-answer.new.self)
     book c.decide-answer.ensures.decides)
     (subst (λ (l : List Event). Keeps l c.read_until_board.new.self c.decide-answer.result c.keep.new.self) events c.keep.ensures)
+    c.count_halt.ensures.window
 
 pub returns-clause-answers : goal.returns-clause-answers
 returns-clause-answers g c = let p = (returns-clause-present g c).answers in (p.0, p.1, p.2, p.4)

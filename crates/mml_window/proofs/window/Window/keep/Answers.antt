@@ -1,7 +1,7 @@
 use Rattle.std.proofs.Common.{rules, ◌≡◌, ◌+◌, ◌++◌, ◌∷◌, [], List, length, ap, ◌∙◌, arith, subst, sym, None, take, ◌-◌}
 use mathlib.Core.List.{IsPrefix}
 use Rattle.mml_board.specs.{declared.event.Event.Event, Lists.is_legal_in}
-use Rattle.mml_window.specs.{Windows.window, Windows.window_with, inside.Keeping.Keeps, inside.Readers.view_by}
+use Rattle.mml_window.specs.{Windows.window_with, inside.Keeping.Keeps, inside.Readers.view_by}
 use Rattle.mml_window.proofs.{ClimbingLemmas.climbs_push, PrefixLemmas.before_last, PrefixLemmas.one_more}
 use Rattle.mml_window.proofs.window.Window.keep.Goals as goal
 
@@ -22,6 +22,7 @@ invariant_of-self-in-Some g c =
       },
       search rules,
       search rules,
+      search rules,
     )
 
 pub returns-in-Some : goal.returns-in-Some
@@ -34,8 +35,9 @@ returns-in-Some g c =
     let next : x.events.items ≡ c.args.self.now.seen ++ e ∷ [] = one_more _ _ ends.0 e begins (search rules) ends.1 in
     let seen : (view_by c.look_for.new.reader).seen ≡ c.args.self.now.seen ++ e ∷ [] = ap (λ v. v.seen) saw.view ∙ next in
     let places : c.push_reserved.new.self.items ≡ c.args.self.now.places ++ c.in-Granted.place ∷ [] = search rules in
+    let halts : c.self.inside.halts.amount ≡ c.args.self.now.halts = ap (λ w. w.halts) c.self.view_is in
     let all : c.deref.result.now ≡ c.args.press.now.desk.shown.value.events.items = search rules in
     let final = before_last c.deref.result.now e c.in-Some.ensures.item.3.0 (search rules) in
     subst (λ a. Keeps c.args.press.now.desk.shown.value.events.items c.args.self.now a
-    (window_with (view_by c.look_for.new.reader).seen c.push_reserved.new.self.items None))
-    (sym c.in-Granted.is) (take (length c.deref.result.now - 1) c.deref.result.now, e, sym all ∙ final, λ t. window (seen t) (places t))
+    (window_with (view_by c.look_for.new.reader).seen c.push_reserved.new.self.items None c.self.inside.halts.amount))
+    (sym c.in-Granted.is) (take (length c.deref.result.now - 1) c.deref.result.now, e, sym all ∙ final, λ t. window_with (seen t) (places t) None (halts t))

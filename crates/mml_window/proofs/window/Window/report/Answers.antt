@@ -7,7 +7,7 @@ use Rattle.mml_window.proofs.window.Window.report.Goals as goal
 pub returns-clause-tells : goal.returns-clause-tells
 returns-clause-tells g c =
     let held : c.deref.result.now ≡ g.H.House.lab = search rules in
-    tells_entered (λ r. rulings.Reported) g.H.House.lab _ _ _ _ _ _ c.args.who command.Report _ c.args.self.now c.self.inside.places.items c.self.inside.refused
+    tells_entered (λ r. rulings.Reported) g.H.House.lab _ _ _ _ _ _ c.args.who command.Report _ c.args.self.now c.self.inside.places.items c.self.inside.refused c.self.inside.halts.amount
     held c.in-Some.ensures.saw c.leave.ensures (ap (λ x. x.board) c.get.ensures) (sym c.self.view_is) c.report_at-report.ensures.ruled
 
 pub returns-clause-nodes : goal.returns-clause-nodes

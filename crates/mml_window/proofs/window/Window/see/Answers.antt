@@ -7,7 +7,7 @@ use Rattle.mml_window.proofs.window.Window.see.Goals as goal
 pub returns-clause-tells : goal.returns-clause-tells
 returns-clause-tells g c =
     let held : c.deref.result.now ≡ g.H.House.lab = search rules in
-    tells_entered rulings.Seen g.H.House.lab _ _ _ _ _ _ c.args.who (command.See c.args.node) _ c.args.self.now c.self.inside.places.items c.self.inside.refused
+    tells_entered rulings.Seen g.H.House.lab _ _ _ _ _ _ c.args.who (command.See c.args.node) _ c.args.self.now c.self.inside.places.items c.self.inside.refused c.self.inside.halts.amount
     held c.in-Some.ensures.saw c.leave.ensures (ap (λ x. x.board) c.get.ensures) (sym c.self.view_is) c.see_at-see.ensures.shows
 
 pub returns-clause-nodes : goal.returns-clause-nodes
