@@ -34,7 +34,7 @@ fields_read : (fs : List (List ℕ × Field)) → have_ascii_words fs ≡ true �
 fields_read [] a h = tt
 fields_read (f ∷ fs) a h = let parts = and_parts (has_ascii_word f.1) (have_ascii_words fs) a in (field_read f.1 parts.0 h.0, fields_read fs parts.1 h.1)
 
--- a flat object is read back, and no arrays or objects are in it
+-- a flat object is read back, and nests at most 1 deep
 pub flat_object_read : (fs : List (List ℕ × Field)) → IsObject fs → AreWritable fs → IsReadable 1 (object_of fs)
 flat_object_read fs is h = object_read 0 (map member_of fs) is.keyed (fields_read fs is.ascii h)
 

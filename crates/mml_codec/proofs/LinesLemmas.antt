@@ -10,8 +10,8 @@ pub value_in-some : (bytes : List ℕ) (d : Data) → IsUtf8 bytes → read byte
 unfolding value_in
 value_in-some bytes d u e = rw (is_utf8-from_IsUtf8 bytes u) e
 
--- the request in a line with a JSON value is the request that this value is read as; if it isn't a request, the line is
--- malformed
+-- the request in a line with a JSON value is the request that this value is read as; if the value is read as no
+-- request, the line is malformed
 pub request_in-some : (bytes : List ℕ) (d : Data) → value_in bytes ≡ Some d → request_in bytes ≡ ok_or (request d) fault.Malformed
 unfolding request_in
 request_in-some bytes d e = rw e
@@ -35,8 +35,8 @@ nothing_asked true None e = refl
 nothing_asked true (Some d) e = no_object d e
 nothing_asked false o e = refl
 
--- the request in a line with a JSON object is the request that this object is read as; if it isn't a request, the line
--- is malformed
+-- the request in a line with a JSON object is the request that this object is read as; if the object is read as no
+-- request, the line is malformed
 pub request_in-object : (line : List ℕ) (ms : Members) → object_in line ≡ Some ms → request_in line ≡ ok_or (request (object ms)) fault.Malformed
 unfolding value_in object_in
 request_in-object line ms e = request_in-some line (object ms) (object_asks (is_utf8 line) (read line) ms e)

@@ -1,5 +1,5 @@
--- Values that are read back: if their text is read, the result is the same value. These are integers, strings, arrays
--- and objects.
+-- Values that are read back: if their text is read, the result is the same value. Such values are integers, strings,
+-- arrays and objects.
 use Rattle.std.proofs.{lemmas.Bool.Decides.nat_tests, lemmas.Bool.and_parts, lemmas.Bool.and_from, lemmas.List.Elements.All-head, lemmas.List.Elements.All-tail, Math.Nat.max-le}
 use Rattle.std.proofs.Common.{◌≡◌, ℕ, suc, ◌<◌, ◌≤◌, ◌^◌, List, [], ◌∷◌, Bool, true, ◌&&◌, Some, All, IsUtf8, map, refl, arith}
 use Rattle.std.specs.List.{AllByRecursion}

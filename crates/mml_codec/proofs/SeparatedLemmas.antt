@@ -33,7 +33,7 @@ pub comma_without : (ids : List ℕ) (s : FinSet nat_cmp) (n i : ℕ) (comma : L
     → comma ≡ comma_after (texts ids s (n + 1))
 comma_without ids s n i comma e h so_far = so_far ∙ sym (ap comma_after (passing_without (set.contains s) (node_text ids) n (ap (set.contains s) (sym e) ∙ h)))
 
--- if the rank n is in the set, a comma, if it isn't the first, and its identifier are appended
+-- if the rank n is in the set, its identifier is appended, with a comma before it unless it is the first
 pub text_with : (ids : List ℕ) (s : FinSet nat_cmp) (n i : ℕ) (start held put comma : List ℕ) → i ≡ n → set.contains s i ≡ true
     → comma ≡ comma_after (texts ids s n) → held ≡ start ++ separated (texts ids s n) → put ≡ held ++ (comma ++ node_text ids i)
     → put ≡ start ++ separated (texts ids s (n + 1))
@@ -48,8 +48,8 @@ text_without ids s n i start held e h so_far = grind (arith, nat_tests, passing_
 pub comma_more : {X : Type 0} (f : X → List ℕ) (xs : List X) (i : ℕ) (d : X) → i < length xs → 44 ∷ [] ≡ comma_after (map f (take (i + 1) xs))
 comma_more f xs i d h = grind (arith, nat_tests, take_more, map-append, comma_after-more)
 
--- appending a comma, unless it is the first, and the text of element i to the texts of the elements before it makes the
--- texts of the first i + 1 elements
+-- if the text of element i is appended, with a comma before it unless it is the first, the result has the texts of the
+-- first i + 1 elements
 pub text_more : {X : Type 0} (f : X → List ℕ) (xs : List X) (i : ℕ) (d : X) (start held put comma : List ℕ) → i < length xs
     → comma ≡ comma_after (map f (take i xs)) → held ≡ start ++ separated (map f (take i xs)) → put ≡ held ++ (comma ++ f (get_or xs i d))
     → put ≡ start ++ separated (map f (take (i + 1) xs))

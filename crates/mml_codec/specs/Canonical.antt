@@ -7,6 +7,6 @@ use Rattle.mml_codec.specs.{declared.request.Request.Request, Fields.object_of, 
 unfoldable pub canonical : Request → List ℕ
 canonical r = compact_text (object_of (fields_of r))
 
--- the request's numbers fit 64 bits, its texts are UTF-8
+-- the request's numbers fit 64 bits, and its texts are UTF-8
 abbrev pub IsWritable : Request → Type 0
 IsWritable r = AreWritable (fields_of r)

@@ -10,8 +10,8 @@ use Rattle.mml_stable.specs.declared.open_link.OpenLink.{OpenLink}
 use Rattle.mml_codec.specs.Objects.{items_with, array_of, object_with}
 use Rattle.std.specs.FinSet as set
 
--- the value of a key in a reply. A clause is a condition under which a request is granted; its number isn't a count,
--- since it is always small. The nodes that moved are a set, and are written in rising order
+-- the value of a key in a reply. A clause is a condition under which a request is granted; its number is always small,
+-- so it isn't stored as a count. The nodes that moved are a set, and are written in rising order
 pub data Fact : Type 0 where
   count : ℕ → Fact
   clause : ℕ → Fact

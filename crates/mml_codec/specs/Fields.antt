@@ -12,7 +12,7 @@ pub data Field : Type 0 where
   truth : Bool → Field
   null : Field
 
--- the JSON value of a key's value
+-- the JSON value of a field
 abbrev pub value_of : Field → value.Data
 value_of (number n) = value.number (value.unsigned n)
 value_of (word w) = value.string w
@@ -32,7 +32,7 @@ members_of fs = members_with (map member_of fs)
 abbrev pub object_of : List (List ℕ × Field) → value.Data
 object_of fs = object_with (map member_of fs)
 
--- a field's number fits 64 bits, a text is UTF-8
+-- a field's number fits 64 bits, and a field's text is UTF-8
 abbrev pub IsWritableField : Field → Type 0
 IsWritableField (number n) = n < 2 ^ 64
 IsWritableField (word w) = Unit {0}

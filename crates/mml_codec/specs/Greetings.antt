@@ -1,5 +1,5 @@
--- The participant that a connection is known as, and the replies that depend only on this. A participant is known on a
--- connection from a granted hello to the bye.
+-- The participant that a connection is known as, and the replies that depend only on this participant and the request.
+-- A participant is known on a connection from a granted hello to the bye.
 use Rattle.std.specs.Prelude.{ℕ, List, Option, None, Some, IfSome}
 use Rattle.mml_lab.specs.{declared.who.Who.Who, Rosters.RosterValue, Rosters.principal, Rosters.IsPrincipal}
 use Rattle.mml_board.specs.declared.denial.Denial.{Denial}
@@ -34,8 +34,8 @@ greeting roster known requests.Bye = Answered replies.Bye None
 greeting roster None (requests.Do c) = denied denial.NotGreeted None
 greeting roster (Some who) (requests.Do c) = LeftToJudge who c
 
--- the result of a request, from a result without its reply and this reply; a command that is left to judge has no reply
--- yet
+-- the result of a request, made of a result without a reply and of its reply; a command that is left to judge has no
+-- reply yet
 abbrev pub greeting_with : Greeted → Reply → Greeting
 greeting_with (greeted.Known known) r = Answered r known
 greeting_with (greeted.LeftToJudge who c) r = LeftToJudge who c

@@ -23,12 +23,12 @@ abbrev mutual
   has_rising_keys (array ds) = items_have_rising_keys ds
   has_rising_keys (object ms) = members_rise ms
 
-  -- whether this holds for each value of an array
+  -- whether the keys rise in each object of an array's values
   pub items_have_rising_keys : Items → Bool
   items_have_rising_keys no_items = true
   items_have_rising_keys (item d ds) = has_rising_keys d && items_have_rising_keys ds
 
-  -- whether this holds for the members of an object
+  -- whether the keys of these members rise, and also those in each object of their values
   pub members_rise : Members → Bool
   members_rise no_members = true
   members_rise (member k d ms) = comes_first k ms && (has_rising_keys d && members_rise ms)

@@ -72,8 +72,8 @@ pub fn a_reply_reads_back()
         has_rising_keys (reply_value ids roster r) ≡ true }
 {}
 
-/// If nobody is known on a connection, a hello is granted exactly to the participant who has its name and key, who is
-/// then known there. After a bye nobody is known, and after a denial the same as before.
+/// If nobody is known on a connection, a hello is granted exactly if some participant has its name and key. This
+/// participant is then known there. After a bye nobody is known. A denial doesn't change who is known.
 pub fn a_greeting_tells_who_is_known()
     ensures hello { (r : RosterValue) (name key : List ℕ) (who : Who) (known : Option Who) →
         IsRoster r →

@@ -21,7 +21,7 @@ pub(crate) fn put_look(ids: &IdTable, look: &Look, out: &mut Vec<u8>) -> Result<
     ensures capacity { vec_capacity out.old ≤ vec_capacity out.new }
     ensures count { look.now.at < 2 ^ 64 }
 {
-    // Read only for the proof of `count`: by its type the number fits 64 bits.
+    // The number `at` is read only for the proof of `count`, which needs that its type has 64 bits.
     let _at = look.at;
     let fields = ListRow {
         before: Row {
@@ -70,7 +70,7 @@ pub(crate) fn put_report(ids: &IdTable, report: &Report, out: &mut Vec<u8>) -> R
     ensures capacity { vec_capacity out.old ≤ vec_capacity out.new }
     ensures count { report.now.at < 2 ^ 64 }
 {
-    // Read only for the proof of `count`: by its type the number fits 64 bits.
+    // The number `at` is read only for the proof of `count`, which needs that its type has 64 bits.
     let _at = report.at;
     let fields = ListRow {
         before: Row {

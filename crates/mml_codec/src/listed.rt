@@ -75,8 +75,8 @@ fn with_room(line: Vec<u8>) -> Result<Vec<u8>, Vec<u8>>
     Ok(line)
 }
 
-// Reallocates the line, to have room for one more item. Returns the unchanged line as `Err` if memory runs out. It is
-// the rare case of `with_room`, and a function of its own, so that `with_room` is short.
+// Reallocates the line, to have room for one more item. Returns the unchanged line as `Err` if memory runs out. This
+// rare case of `with_room` is a function of its own, so that `with_room` is short.
 #[inline(never)]
 fn grown(mut line: Vec<u8>) -> Result<Vec<u8>, Vec<u8>>
     ensures same { MatchResult result (λ l. l.items ≡ line.items) (λ l. l.items ≡ line.items) }
@@ -132,8 +132,8 @@ impl Listed for (Rank, Regs) {
     }
 }
 
-// Returns the line with the text `{"m":`, the truth value `m` and the text `,"node":` appended. They are the beginning
-// of a neighbour's object, and are written as one literal.
+// Returns the line with the beginning of a neighbour's object appended: the text `{"m":`, the truth value `m` and the
+// text `,"node":`, which are written as one literal.
 #[inline(always)]
 fn with_first_m_then_node(line: Vec<u8>, m: bool) -> Vec<u8>
     requires { length line.items + 18 ≤ vec_capacity line }

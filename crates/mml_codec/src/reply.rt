@@ -58,9 +58,9 @@ impl From<Refusal> for Refused {
 /// The reply to a line.
 #[derive(Debug, Drop)]
 pub enum Reply {
-    /// The connection is known as this participant from now on.
+    /// This participant is known on the connection from now on.
     Hello(Who),
-    /// The connection is known as no one from now on.
+    /// Nobody is known on the connection from now on.
     Bye,
     /// The registers of a node, in the reply to a granted see.
     See(See),

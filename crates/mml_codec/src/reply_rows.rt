@@ -82,7 +82,7 @@ pub(crate) fn put_see(ids: &IdTable, see: &See, out: &mut Vec<u8>) -> Result<(),
     ensures puts { Puts (object_text ids.now (see_fields see.now)) TEXT_ROOM out.old out.new result }
     ensures count { see.now.at < 2 ^ 64 }
 {
-    // Read only for the proof of `count`: by its type the number fits 64 bits.
+    // The number `at` is read only for the proof of `count`, which needs that its type has 64 bits.
     let _at = see.at;
     let fields = Row {
         key: "at",

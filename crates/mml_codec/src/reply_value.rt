@@ -11,9 +11,9 @@ use crate::listed::with_comma;
 use mml_ids::{IdTable, NodeSet, Rank, with_number, with_short_number, with_text};
 use mml_rules::Kind;
 
-/// The value of a key in a reply. Its text has a limited length.
+/// The value of a key in a reply, whose text has a limited length.
 pub(crate) trait ReplyValue {
-    // The value, as the definitions have it.
+    // The value as the definitions represent it.
     ghost fact: { Self → Fact };
 
     // The value names only nodes that have identifiers.
@@ -246,7 +246,7 @@ impl ReplyValue for NodeSet {
 }
 
 // Returns the text with the identifiers of the nodes in `moved` appended, in rising order, with commas between them.
-// There are at most 256, each of at most 6 bytes with its comma.
+// The set has at most 256 nodes, and each identifier takes at most 6 bytes with its comma.
 #[inline(always)]
 fn with_members(text: Vec<u8>, ids: &IdTable, moved: NodeSet) -> Vec<u8>
     requires room { length text.items + 1536 ≤ vec_capacity text }

@@ -80,8 +80,8 @@ pub fn append_reply(ids: &IdTable, roster: &Roster, reply: &Reply, out: &mut Vec
     true
 }
 
-// Returns whether the line of a reply fits `REPLY_ROOM` bytes in every lab. The lines of a look and of a report, which
-// list nodes, may not.
+// Returns whether the line of a reply fits `REPLY_ROOM` bytes in every lab. The lines of a look and of a report list
+// nodes, and may be longer.
 fn is_short(reply: &Reply) -> bool
     ensures { result ≡ is_short reply.now }
 {

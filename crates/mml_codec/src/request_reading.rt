@@ -16,7 +16,8 @@ use mml_plain::{Fields, LineScratch, read_fields};
 use mml_policy::{Asked, Command};
 use std::alloc::Global;
 
-/// Reads a line, without its newline, as a request. Returns `Malformed` if it is none, and `Memory` if memory runs out.
+/// Reads a line, without its newline, as a request. Returns `Malformed` if the line is no request, and `Memory` if
+/// memory runs out.
 pub fn read_request(alloc: Global, line: &[u8]) -> Result<Request, LineFault>
     ensures { Gives is_line_memory (λ r. r) result (request_in line.now) }
 {
@@ -24,9 +25,9 @@ pub fn read_request(alloc: Global, line: &[u8]) -> Result<Request, LineFault>
     read_request_with(alloc, line, &mut scratch)
 }
 
-/// Reads a line, without its newline, as a request. Returns `Malformed` if it is none, and `Memory` if memory runs out.
-/// `scratch` is working memory, which is used again for each line. Memory is allocated only for a hello, or if
-/// `scratch` has no room for the line.
+/// Reads a line, without its newline, as a request. Returns `Malformed` if the line is no request, and `Memory` if
+/// memory runs out. `scratch` is working memory, which is used again for each line. Memory is allocated only for a
+/// hello, or if `scratch` has no room for the line.
 pub fn read_request_with(
     alloc: Global,
     line: &[u8],
@@ -126,6 +127,8 @@ fn release_of(fields: &Fields<'_>) -> Option<Request>
 
 // Returns the request for the move in the fields. Returns `None` if the node or the number of a configuration is
 // missing, if the rule isn't one of the four, or if a marriage has no partner.
+// It is inlined into `request`, since a move is frequent.
+#[inline(always)]
 #[tactic(auto, unfolding(crate::specs::Requests::move_of, crate::specs::Requests::asked_at))]
 fn move_of(fields: &Fields<'_>) -> Option<Request>
     ensures { (d : Data) → Holds fields.now d → result ≡ move_of d }

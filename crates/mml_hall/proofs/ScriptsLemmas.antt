@@ -93,7 +93,7 @@ module _ {S : Type 0} {contents : S → Option (List ℕ)} {failures : S → ℕ
 module _ {S : Type 0} {contents : S → Option (List ℕ)} {failures : S → ℕ} {lab : LabValue} {first : S} {hall : HallValue S} {count : ℕ}
     {input a wrote c : Option (List ℕ)} {unsent : List (List ℕ)} (hall' : HallValue S) (left d : Option (List ℕ)) (held : List ℕ) (unsent' : List (List ℕ))
     (so : AnsweredSoFar contents failures lab first hall count input a unsent wrote c) where
-  -- what the sink contains at the end: the journal
+  -- the sink contains the journal at the end
   abbrev Left : S → State → Type 0
   Left = Journals contents failures lab first
 

@@ -1,7 +1,7 @@
 -- What a turn doesn't change, and when the refusal `memory` may replace a reply. A turn computes the reply to one line
--- and the state after it. It is plain if memory doesn't run out and no write fails. The place of an event is its number
--- in the list of events, from 1. A participant is known on a connection from a granted hello to a bye. A world is the
--- state of a run after some events: its network and its chosen moves.
+-- and the state after it. A turn is plain if memory doesn't run out and no write fails. The place of an event is its
+-- number in the list of events, from 1. A participant is known on a connection from a granted hello to a bye. A world
+-- is the state of a run after some events: its network and its chosen moves.
 use Rattle.std.proofs.lemmas.{Bool.Decides.nat_tests, Bool.or_right, List.get_or-set_other, List.set-get_or}
 use Rattle.std.proofs.Common.{◌≡◌, ◌≢◌, ◌⊎◌, ◌<◌, ◌-◌, ℕ, Bool, true, false, true≢false, not, cond, List, Option, Some, None, Result, Ok, Err, refl, sym, ap, ◌∙◌, arith, subst, inl, inr}
 use Rattle.mml_lab.specs.{declared.who.Who.Who, Labs.LabValue}
@@ -136,7 +136,7 @@ wanting : (lab : LabValue) (st : State) (k : ℕ) (line : List ℕ) (told : Repl
     → is_short (plain_turn lab st k line).reply ≡ false → Turn lab st k line (record { reply = told; state = (plain_turn lab st k line).state })
 wanting lab st k line told want long = grind (arith, nat_tests, long_turn, long_takes_memory)
 
--- if the refusal `memory` is sent in place of a reply that isn't short, this is also a possible outcome of the turn
+-- if the refusal `memory` is sent in place of a reply that isn't short, the outcome with this refusal is also possible
 pub told_turn : (lab : LabValue) (st : State) (k : ℕ) (line : List ℕ) (out : Outcome) (told : Reply) → Turn lab st k line out → TellsFor out.reply told
     → Turn lab st k line (record { reply = told; state = out.state })
 told_turn lab st k line out told t (inl same) = subst (λ (r : Reply). Turn lab st k line (record { reply = r; state = out.state })) (sym same) t

@@ -16,9 +16,9 @@ abbrev pub told_of : Reply → Bool → Reply
 told_of reply true = reply
 told_of reply false = replies.Refuse refused.Memory
 
--- An output line comes after the lines that were held. It has the reply, or the refusal `memory` in place of a reply
--- that isn't short. Of all these lines the first were written and the others are held, or a write failed after some of
--- their bytes
+-- An output line comes after the lines that were held. The output line has the reply, or the refusal `memory` in place
+-- of a reply that isn't short. Of all these lines the first were written and the others are held, or a write failed
+-- after some of their bytes
 abbrev pub Tells : Result ⊤ WriteFault → LabValue → Reply → List ℕ → List (List ℕ) → List (List ℕ) → Option (List ℕ) → Option (List ℕ) → Type 0
 Tells r lab reply front unsent unsent' wrote wrote' = (told : Reply) × TellsFor reply told
     × OnOk r (Sends wrote wrote' (unsent ++ (front ++ reply_line lab.ids lab.roster told) ∷ []) unsent')

@@ -65,7 +65,7 @@ abbrev pub settled : LabValue → State → ℕ → Greeting → Outcome
 settled lab st k (Answered r x) = record { reply = r; state = with_known st k x }
 settled lab st k (LeftToJudge x c) = outcome_of st (ruling lab.ids lab.roster lab.events st.halted st.world x c)
 
--- the outcome of a line, by what it asks
+-- the outcome of a line, given the request that was read from it, or the error if it has none
 abbrev pub answer_to : LabValue → State → ℕ → Result Request LineFault → Outcome
 answer_to lab st k (Err fault) = replied st (reply.Refuse (refusal_of fault))
 answer_to lab st k (Ok request) = settled lab st k (greeting lab.roster (known_on st k) request)
@@ -116,8 +116,8 @@ turn while_read lab st k line = without_memory st
 turn later lab st k line = unless_refused st (plain_turn lab st k line)
 turn sink_failed lab st k line = unless_failed st (plain_turn lab st k line)
 
--- the reason why the plain outcome is prevented, and the state `after`: memory that the outcome needs ran out, or it
--- grants an event whose line couldn't be written
+-- the refusal `why` names what prevents the plain outcome, and `after` is the state then: memory that the outcome needs
+-- ran out, or the outcome grants an event whose line couldn't be written
 abbrev pub Prevents : Refusal → State → Outcome → State → Type 0
 Prevents refusal.Full st plain after = ⊥
 Prevents refusal.Journal st plain after = (is_grant plain.reply ≡ true) × (after ≡ (halting st).state)

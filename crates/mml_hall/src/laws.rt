@@ -46,8 +46,8 @@ pub fn refusals_change_nothing()
         → Turn lab st connection line out → IsRefusal out.reply → IsKept st out.state }
 {}
 
-/// Answering a line makes at most one event, and only if the reply is that to a grant, which names the event's place.
-/// With any other reply, the world and the events stay as they were.
+/// Answering a line makes at most one event. The reply then grants the event, and names its place. With any other
+/// reply, the world and the events stay as they were.
 pub fn events_grow_by_grants()
     ensures { (lab : LabValue) (st : State) (connection : ℕ) (line : List ℕ) (out : Outcome)
         → Turn lab st connection line out → GrowsByGrant st out }

@@ -1,5 +1,5 @@
-//! The server of one thread. It answers the requests of many connections one after another, and runs scripts of such
-//! requests.
+//! The server of one thread. This server answers the requests of many connections one after another, and runs scripts
+//! of such requests.
 //!
 //! A hall is the state of a script: its lab, its world, its events, its journal, and who is known on each connection.
 #![tactic(auto)]

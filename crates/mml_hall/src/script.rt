@@ -96,7 +96,7 @@ pub fn run_script<R: Read, W: Write, S: Sink + Drop>(
     }
 }
 
-// The buffers of a script: for its lines, for one reply, and for the replies that are written together. They are
+// The buffers of a script: for its lines, for one reply, and for the replies that are written together. All buffers are
 // reserved before anything is read.
 #[derive(Drop)]
 struct Buffers {
@@ -362,8 +362,8 @@ impl LineRest for ReplyRest<'_> {
 }
 
 // Writes the line of a reply into the buffer `out`, and from there appends it, after `front`, to the held lines in
-// `outgoing`. This is for a reply that isn't short, or for which the held lines must be written first. Returns
-// `WriteFault` if a write fails.
+// `outgoing`. The function is called for a reply that isn't short, or for which the held lines must be written first.
+// Returns `WriteFault` if a write fails.
 #[inline(never)]
 fn write_by_buffer<W: Write>(
     alloc: Global,
@@ -384,7 +384,7 @@ fn write_by_buffer<W: Write>(
 }
 
 // Replaces the bytes of `out` by the line of a reply, or by the line of the refusal `memory` if memory runs out.
-// Returns whether it is the line of the reply.
+// Returns true if the bytes are now the line of the reply.
 fn put_reply(alloc: Global, lab: &Lab, reply: &Reply, out: &mut Vec<u8>) -> bool
     requires room { REPLY_ROOM ≤ vec_capacity out.old }
     requires about { IsAbout lab.now.ids lab.now.roster reply.now }

@@ -20,7 +20,7 @@ pub struct ScriptLine<'a> {
 
 /// Reads a script line, without its newline: a connection in decimal, one space and a request. Returns `None` if the
 /// line has another form, the lab doesn't have the connection (`sessions` is how many it has), or the request is too
-/// long. It is inlined together with `parts_of`, since their results are large to return.
+/// long. The function is inlined together with `parts_of`, since the results of both are large to return.
 #[inline(always)]
 pub fn read_script_line(line: &[u8], sessions: u8) -> Option<ScriptLine<'_>>
     requires few { sessions ≤ MAX_SESSIONS }

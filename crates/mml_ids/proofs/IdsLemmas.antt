@@ -1,4 +1,4 @@
--- The order of identifiers that are all different.
+-- Lists of identifiers in rising order.
 use Rattle.std.proofs.Common.{◌≡◌, ◌≢◌, ℕ, zero, suc, ◌+◌, ◌<◌, ◌≤◌, Bool, false, not, cond, ◌||◌, eqb, List, [], ◌∷◌, length, get_or, take, Some, None, refl, sym, ap, ◌∙◌, arith, inl, inr}
 use Rattle.std.specs.{Prelude.position, Prelude.IsPermutation, Prelude.IsSorted, Prelude.sum_by, List.list_any, Ordering.nat_cmp}
 use Rattle.std.proofs.lemmas.Bool.{cases_lt, cases_eq, cases_order, eq-eqb, ne_eqb, eqb-true, eqb-false, lt-ltb, ltb-true, ltb-false, leb-true, or_parts, and_parts, false≢true, not-false}
@@ -59,10 +59,8 @@ all_from x (y ∷ ys) h = (h 0 (omega arith), all_from x ys (λ j l. h (suc j) (
 
 climbs_from : (xs : List ℕ) → ((i j : ℕ) → i ≤ j → j < length xs → get_or xs i 0 ≤ get_or xs j 0) → Climbs xs
 climbs_from [] h = tt
-climbs_from (x ∷ xs) h = (
-  all_from x xs (λ j l. h 0 (suc j) (omega arith) (omega arith)),
-  climbs_from xs (λ i j le l. h (suc i) (suc j) (omega arith) (omega arith)),
-)
+climbs_from (x ∷ xs) h =
+    (all_from x xs (λ j l. h 0 (suc j) (omega arith) (omega arith)), climbs_from xs (λ i j le l. h (suc i) (suc j) (omega arith) (omega arith)))
 
 once : (n q : ℕ) → n ≡ q → cond {A = ℕ} (eqb n q) 1 0 ≡ 1
 once n q e = ap (λ b. cond b 1 0) (eq-eqb n q e)
@@ -147,7 +145,7 @@ passes p (x ∷ xs) (suc i) h l = passes p xs i (or_parts (p x) (list_any p xs) 
 id_parts : (n : ℕ) → not (is_id n) ≡ false → (0 < n) × (n ≤ MAX_ID)
 id_parts n h = grind (arith, and_parts, not-false, ltb-true, leb-true)
 
--- a sorted list of the same identifiers, if no identifier occurs twice
+-- what holds if `sorted` has the numbers of ns in rising order, and no number of ns occurs twice
 module _ (ns sorted : List ℕ) (moved : IsPermutation ns sorted) (climbs : IsSorted nat_cmp sorted)
     (differ : first_below (is_again_at ns) (length ns) ≡ None) where
   different : Differ ns

@@ -1,4 +1,4 @@
--- A list of identifiers without an error, put in order, is a table.
+-- If a list of identifiers has no error, `in_order` makes a table of it.
 use Rattle.std.proofs.Common.{◌≡◌, ℕ, suc, ◌+◌, ◌≤◌, false, List, get_or, None, ap, ◌∙◌, add-one, arith}
 use Rattle.std.{specs.Prelude.IsSorted, specs.Ordering.nat_cmp, specs.Ordering.is_lt, proofs.lemmas.Bool.le-ltb, proofs.lemmas.List.get_or_default}
 use Rattle.mml_ids.specs.Ids.{id_fault, in_order, IsTable}

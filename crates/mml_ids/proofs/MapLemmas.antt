@@ -1,14 +1,14 @@
--- Searching a list, and searching the list of the values of a function at its elements.
+-- Searching a list, and searching the mapped list, which has f x for each element x of the list.
 use Rattle.std.proofs.Common.{◌≡◌, ℕ, List, [], ◌∷◌, Bool, true, false, cond, ◌||◌, length, map, Some, None, suc, refl, ap, arith}
 use Rattle.std.proofs.lemmas.Bool.{cases_lt, lt-ltb, le-ltb}
 use Rattle.std.specs.{Prelude.option_map, Prelude.nat_lt, List.list_any, List.find, List.position, List.position_or_len}
 
--- some element passes the test after f exactly if some element of the mapped list passes the test
+-- f x passes the test for some element x exactly if some element of the mapped list passes the test
 pub list_any-map : {X Y : Type 0} (p : Y → Bool) (f : X → Y) (xs : List X) → list_any (λ x. p (f x)) xs ≡ list_any p (map f xs)
 list_any-map p f [] = refl
 list_any-map p f (x ∷ xs) = ap (λ b. p (f x) || b) (list_any-map p f xs)
 
--- f of the first element that passes the test after f is the first element of the mapped list that passes the test
+-- let x be the first element for which f x passes the test; then f x is the first of the mapped list that passes
 pub find-map : {X Y : Type 0} (p : Y → Bool) (f : X → Y) (xs : List X) → option_map f (find (λ x. p (f x)) xs) ≡ find p (map f xs)
 find-map p f [] = refl
 find-map p f (x ∷ xs) = grind (arith, find-map p f xs)
@@ -21,8 +21,7 @@ length-mapped : {X Y : Type 0} (f : X → Y) (xs : List X) → length xs ≡ len
 length-mapped f [] = refl
 length-mapped f (x ∷ xs) = rw (length-mapped f xs) refl
 
--- the first element that passes the test after f has the same index as the first one in the mapped list that passes the
--- test
+-- the first element x for which f x passes the test has the same index as the first one of the mapped list that passes
 pub position-map : {X Y : Type 0} (p : Y → Bool) (f : X → Y) (xs : List X) → position (λ x. p (f x)) xs ≡ position p (map f xs)
 position-map p f xs = rw (index-map p f xs, length-mapped f xs) refl
 
@@ -38,7 +37,7 @@ position-first p x xs here = rw (here, lt-ltb 0 (suc (length xs)) (omega arith))
 shift : (n m : ℕ) → cond (nat_lt (suc n) (suc m)) (Some (suc n)) None ≡ option_map suc (cond (nat_lt n m) (Some n) None)
 shift n m = grind (arith, cases_lt, lt-ltb, le-ltb)
 
--- if the first element doesn't pass, the result is one more than the result for the rest of the list
+-- if the first element doesn't pass, `position_or_len` returns one more than for the rest of the list
 index-later : {X : Type 0} (p : X → Bool) (x : X) (xs : List X) → p x ≡ false → position_or_len p (x ∷ xs) ≡ suc (position_or_len p xs)
 index-later p x xs not_here = rw not_here (omega arith)
 

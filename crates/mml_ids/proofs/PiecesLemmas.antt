@@ -35,7 +35,7 @@ joined-more was now kept next ps rest n m before same is after = grind (arith, t
 pub room_of-more : (ps rest : List Piece) (n m : ℕ) → rest ≡ drop n ps → room_of (take (n + m) ps) ≡ room_of (take n ps) + room_of (take m rest)
 room_of-more ps rest n m is = grind (arith, take-add, room_of-append)
 
--- a list of one piece needs the room of this piece
+-- the list that has only piece n needs the room of this piece
 pub room_of-one : (ps : List Piece) (n : ℕ) (p : Piece) → p ≡ slice_index_or ps n p → n < length ps → room_of (take 1 (drop n ps)) ≡ piece_room p
 room_of-one ps n p is inside = omega (arith, room_of-next ps n p is inside, room_of-more ps (drop n ps) n 1 refl)
 

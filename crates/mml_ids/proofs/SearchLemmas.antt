@@ -58,7 +58,7 @@ first_here bad k n h e = next_step bad k (n - k) (n - (k + 1)) (omega arith) ∙
 pub first_next : (bad : ℕ → Bool) (k n : ℕ) → k < n → bad k ≡ false → first_from bad (k + 1) (n - (k + 1)) ≡ first_from bad k (n - k)
 first_next bad k n h e = sym (next_step bad k (n - k) (n - (k + 1)) (omega arith) ∙ rw e)
 
--- a search below n from n on, or from a greater number on, finds none
+-- a search for numbers below n finds none if it starts at n or at a greater number
 pub first_end : (bad : ℕ → Bool) (k n : ℕ) → n ≤ k → first_from bad k (n - k) ≡ None
 first_end bad k n h = let e : n - k ≡ 0 = omega arith in rw e
 
@@ -82,7 +82,7 @@ pub position-only : {X : Type 0} (p : X → Bool) (xs : List X) (i : ℕ) (d : X
     → ((k : ℕ) → k < length xs → p (get_or xs k d) ≡ true → k ≡ i) → position p xs ≡ Some i
 position-only p xs i d lt here only = grind (arith, position-at, cases_Bool)
 
--- if each of two truth values is true if the other is, they are equal
+-- two truth values are equal if each of them implies the other
 pub same_bool : (a b : Bool) → (a ≡ true → b ≡ true) → (b ≡ true → a ≡ true) → a ≡ b
 same_bool a b h k = grind arith
 
@@ -115,10 +115,6 @@ greatest_below-some (suc n) j t h = grind (arith, greatest_below-some n j t)
 pub greatest_below-none : (n k : ℕ) (t : ℕ → Bool) → greatest_below n t ≡ None → k < n → t k ≡ false
 greatest_below-none zero k t h l = absurd (omega arith)
 greatest_below-none (suc n) k t h l = grind (arith, cases_order, greatest_below-none n k t)
-
-pub greatest_below_same : (n : ℕ) (t u : ℕ → Bool) → ((k : ℕ) → k < n → t k ≡ u k) → greatest_below n t ≡ greatest_below n u
-greatest_below_same zero t u h = refl
-greatest_below_same (suc n) t u h = grind (arith, greatest_below_same n t u)
 
 -- if j is below n and passes, and no number above j and below n passes, `greatest_below` finds j
 pub greatest_is : (n j : ℕ) (t : ℕ → Bool) → j < n → t j ≡ true → ((k : ℕ) → j < k → k < n → t k ≡ false) → greatest_below n t ≡ Some j

@@ -14,8 +14,8 @@ same_from : (t u : ℕ → Bool) (k n : ℕ) → ((q : ℕ) → k ≤ q → t q 
 same_from t u k zero h = refl
 same_from t u k (suc n) h = grind (arith, same_from t u (k + 1) n)
 
--- if a is the first number that passes t, and fails u, and t and u agree on all other numbers, the numbers that pass t
--- are a, followed by those that pass u
+-- let a be the first number that passes t, and let u pass the same numbers except a; the numbers that pass t are then
+-- a, followed by those that pass u
 first_passes : (t u : ℕ → Bool) (k n a : ℕ) → k ≤ a → a < k + n → t a ≡ true → u a ≡ false → ((q : ℕ) → q ≢ a → t q ≡ u q) → ((q : ℕ) → q < a → t q ≡ false)
     → filter t (range_with_len k n) ≡ a ∷ filter u (range_with_len k n)
 first_passes t u k zero a from below here gone others before = absurd (omega arith)
@@ -41,8 +41,8 @@ no_ranks n s e = same_from (sets.contains s) (λ q. false) 0 n (λ q l. ap (λ r
 
 -- ---- a loop that takes out the least rank and appends a value for it
 
--- if the loop takes out the least rank and appends its value, the whole stays the same: the list so far, followed by
--- the values of the ranks left
+-- if the loop takes out the least rank and appends its value, the list so far, followed by the values of the remaining
+-- ranks, stays the same
 pub one_put : {X : Type 0} (f : ℕ → X) (n : ℕ) (left rest : FinSet nat_cmp) (a : ℕ) (held pushed whole : List X) → sets.contains left a ≡ true
     → ((q : ℕ) → sets.contains left q ≡ true → a ≤ q) → a < n → rest ≡ sets.remove left a
     → pushed ≡ held ++ f a ∷ [] → held ++ map f (ranks_in n left) ≡ whole → pushed ++ map f (ranks_in n rest) ≡ whole
@@ -53,7 +53,7 @@ pub all_put : {X : Type 0} (f : ℕ → X) (n : ℕ) (left : FinSet nat_cmp) (he
     → held ++ map f (ranks_in n left) ≡ whole → held ≡ whole
 all_put f n left held whole none so_far = sym (append-nil held) ∙ sym (ap (λ xs. held ++ map f xs) (no_ranks n left none)) ∙ so_far
 
--- ---- one more number below n
+-- ---- from n to n + 1
 
 map-same : (xs : List ℕ) → map (λ x. x) xs ≡ xs
 map-same [] = refl

@@ -22,7 +22,7 @@ line_says None limit start len held line front =
           (get_or-take (length (drop start held) - READ_SIZE) (drop start held) len 0 before ∙ line.2)),
     )
 
--- if no more was read than was needed to find a line, this still holds after the line was returned
+-- if no more was read than was needed to find a line, `IsReadNoFurther` still holds after the line was returned
 pub no_further_after : (limit start len : ℕ) (held : List ℕ) → HasLine len limit (drop start held) → IsReadNoFurther limit (drop start held)
     → IsReadNoFurther limit (drop (start + len + 1) held)
 no_further_after limit start len held line front =

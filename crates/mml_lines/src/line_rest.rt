@@ -4,8 +4,8 @@ ghost use Rattle.std.specs.Prelude.{◌≡◌, ◌+◌, ◌≤◌, ◌++◌, Boo
 /// The greatest length, in bytes, of a rest of a line that counts as short.
 pub const REST_ROOM: usize = 2048;
 
-/// The part of an output line after its front. It writes itself into the output buffer, so that it needn't be copied
-/// there.
+/// The part of an output line after its front. The part writes itself into the output buffer, so that it needn't be
+/// copied there.
 pub trait LineRest {
     // What must hold of a rest that is appended to a buffer.
     ghost may_tell: { Self → Type 0 };

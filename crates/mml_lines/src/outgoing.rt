@@ -18,8 +18,8 @@ pub const OUTGOING_BYTES: usize = 8192;
 /// The most lines that an `Outgoing` holds.
 pub const OUTGOING_LINES: usize = 512;
 
-/// A buffer of output lines, so that many lines are written with one call. It allocates only when it is made. Contracts
-/// see the lines that it holds.
+/// A buffer of output lines, so that many lines are written with one call. Only making the buffer allocates memory.
+/// Contracts see the lines that the buffer holds.
 #[derive(Drop)]
 pub struct Outgoing {
     bytes: Vec<u8>,
@@ -115,6 +115,8 @@ impl Outgoing {
 
     /// Appends a line, `front` and then `rest`, to the buffer if the rest is short and there is room for the line.
     /// Returns whether it was appended. Writes nothing.
+    // It is inlined, as `Lines::next` is.
+    #[inline(always)]
     pub fn append<L: LineRest>(&mut self, front: &[u8], rest: &L) -> bool
         requires { L.may_tell rest.now }
         ensures lines { self.new ≡ (if result

@@ -1,6 +1,6 @@
-//! Reads JSON objects in the layout that requests usually have. Their strings have no escapes, and spaces come only
-//! after the opening brace, commas and colons. A frequent key is recognized by its first four bytes, which are compared
-//! as one number.
+//! Reads JSON objects in the layout that requests usually have: strings have no escapes, and spaces come only after the
+//! opening brace, commas and colons. A frequent key is recognized by its first four bytes, which are compared as one
+//! number.
 ghost use Rattle.std.specs.Prelude.{◌≡◌, ◌<◌, ◌^◌, ◌++◌, ◌∷◌, ◌+◌, ℕ, List, [], Some, IfSome, None, true, length, decimal, slice_index, IsUtf8};
 ghost use Rattle.std.specs.Int.{w32, to_be_bytes};
 ghost use Rattle.json.specs.Lex.{tokens};
@@ -13,8 +13,8 @@ ghost use Rattle.mml_plain.specs.declared.member_value.MemberValue.TheVariants.{
 use crate::fields::Fields;
 use crate::member_value::MemberValue;
 
-// The first four bytes of each frequent key, after its quotation mark. They include the quotation mark and the colon
-// that come after a shorter key.
+// The first four bytes of each frequent key, after its quotation mark. For a shorter key, the four bytes include the
+// quotation mark and the colon after the key.
 const DO: u32 = 0x646f_223a;
 
 const NODE: u32 = 0x6e6f_6465;
@@ -30,9 +30,9 @@ const KEY: u32 = 0x6b65_7922;
 const NAME: u32 = 0x6e61_6d65;
 
 /// Reads a line into `fields`, which must be empty, if the line is an object in the usual layout. In this layout,
-/// strings have no escapes, and spaces come only after the opening brace, commas and colons. Returns true if it is;
-/// then `fields` has the values of its keys. After false, `fields` may hold anything, and the line may be an object in
-/// another layout.
+/// strings have no escapes, and spaces come only after the opening brace, commas and colons. Returns true if the line
+/// has this layout; then `fields` has the values of its keys. After false, `fields` may hold anything, and the line may
+/// be an object in another layout.
 #[inline(always)]
 pub(crate) fn read_compact<'a>(line: &'a [u8], fields: &mut Fields<'a>) -> bool
     requires { Holds fields.old (object no_members) }

@@ -11,7 +11,7 @@ use std::marker::Model;
 /// longest line for which it has room.
 #[derive(Drop)]
 pub struct LineScratch {
-    // On the heap: it holds 16 KB.
+    // A box, since the scratch holds 16 KB.
     inner: Box<Scratch>,
 }
 

@@ -68,9 +68,9 @@ impl<'a> MemberValue<'a> {
         }
     }
 
-    /// Returns what the register p is to be set to by this value. This is `Some(Some(number))` for a number, which is
-    /// the identifier of a node, and `Some(None)` for null. Returns `None` if the value is neither a number of 64 bits
-    /// nor null.
+    /// Returns what the register p is to be set to by this value. The result is `Some(Some(number))` for a number,
+    /// which is the identifier of a node, and `Some(None)` for null. Returns `None` if the value is neither a number of
+    /// 64 bits nor null.
     #[inline(always)]
     pub(crate) fn register(&self) -> Option<Option<u64>>
         ensures { result ≡ register_in self.now }
@@ -83,9 +83,9 @@ impl<'a> MemberValue<'a> {
     }
 }
 
-/// Reads the text of a JSON number. Returns `Some(Some(number))` if it fits 64 bits and is written without a sign, a
-/// point and an exponent. Returns `Some(None)` for any other number, which no request has, and `None` for one that is
-/// too great to be read.
+/// Reads the text of a JSON number. Returns `Some(Some(number))` if the number fits 64 bits and is written without a
+/// sign, a point and an exponent. Returns `Some(None)` for any other number, which no request has, and `None` for one
+/// that is too great to be read.
 #[inline(always)]
 pub(crate) fn read_number(text: &str) -> Option<Option<u64>>
     ensures { result ≡ option_map as_u64 (number_of text.now) }
@@ -98,8 +98,8 @@ pub(crate) fn read_number(text: &str) -> Option<Option<u64>>
     }
 }
 
-// Returns what `read_number` returns for a number without a minus. This is `Some(None)` if the number needs more than
-// 64 bits or has a point or an exponent, and `None` if it is too great to be read.
+// Returns what `read_number` returns for a number without a minus. The result is `Some(None)` if the number needs more
+// than 64 bits or has a point or an exponent, and `None` if the number is too great to be read.
 #[inline(always)]
 fn unsigned(numeral: &Numeral<'_>) -> Option<Option<u64>>
     ensures { result ≡ option_map as_u64 (number_from false numeral.now) }
@@ -110,9 +110,9 @@ fn unsigned(numeral: &Numeral<'_>) -> Option<Option<u64>>
     }
 }
 
-// Returns what `read_number` returns for a number with a minus; `numeral` is the part after the minus. This is
-// `Some(None)`, since no request has such a number, not even -0, or `None` if the number is too great to be read. To
-// save time, an integer that fits 64 bits isn't read as a float.
+// Returns what `read_number` returns for a number with a minus; `numeral` is the part after the minus. The result is
+// `None` if the number is too great to be read. Otherwise it is `Some(None)`, since no request has such a number, not
+// even -0. To save time, an integer that fits 64 bits isn't read as a float.
 #[inline(never)]
 fn below_zero(numeral: &Numeral<'_>) -> Option<Option<u64>>
     ensures { result ≡ option_map as_u64 (number_from true numeral.now) }
@@ -126,7 +126,7 @@ fn below_zero(numeral: &Numeral<'_>) -> Option<Option<u64>>
 }
 
 /// Returns what `read_number` returns for a number that is read as a float, with a minus before `numeral` if `negative`
-/// is set. This is `Some(None)`, since no request has a float, or `None` if the number is too great for one.
+/// is set. The result is `Some(None)`, since no request has a float, or `None` if the number is too great for one.
 #[inline(never)]
 fn float(negative: bool, numeral: &Numeral<'_>) -> Option<Option<u64>>
     ensures { result ≡ option_map as_u64 (float_of negative numeral.now) }

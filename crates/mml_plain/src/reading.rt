@@ -38,9 +38,9 @@ pub fn read_fields<'a>(
     read_tokens(line, scratch, fields)
 }
 
-/// Reads a line into `fields`, whatever they hold before, token by token. It returns the same as `read_fields`, which
-/// calls it for lines that `read_compact` doesn't read: true if the line is an object, and false if it isn't. Returns
-/// `AllocError` if `scratch` has no room for the line and memory runs out.
+/// Reads a line into `fields`, whatever they hold before, token by token. Returns the same as `read_fields`, which
+/// calls this function for lines that `read_compact` doesn't read: true if the line is an object, and false if it
+/// isn't. Returns `AllocError` if `scratch` has no room for the line and memory runs out.
 #[inline(never)]
 fn read_tokens<'a>(
     line: &'a [u8],
@@ -60,8 +60,8 @@ fn read_tokens<'a>(
     Ok(read_object(&mut reader, fields))
 }
 
-/// Reads the remaining tokens as one object into `fields`, which must be empty. Returns true if they are an object with
-/// nothing after it; then `fields` has the values of its keys.
+/// Reads the remaining tokens as one object into `fields`, which must be empty. Returns true if the tokens are an
+/// object with nothing after it; then `fields` has the values of its keys.
 #[inline(always)]
 fn read_object<'a>(reader: &mut Reader<'a>, fields: &mut Fields<'a>) -> bool
     requires { Holds fields.old (object no_members) }
