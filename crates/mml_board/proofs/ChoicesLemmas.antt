@@ -25,13 +25,13 @@ are_chosen-none n s e i = ap (λ t. sets.contains t i) e ∙ has_empty i ∙ sym
 none_of : (xs : List (Option Rule)) (s : FinSet nat_cmp) → AreChosen xs s → s ≡ sets.empty → (i : ℕ) → is_some (chosen_at xs i) ≡ false
 none_of xs s are e i = sym (are i) ∙ ap (λ t. sets.contains t i) e ∙ has_empty i
 
--- if the set is empty, every choice is none
+-- if the set of the nodes with a chosen move is empty, the list of choices has no move
 pub all_dropped : (xs : List (Option Rule)) (s : FinSet nat_cmp) → AreChosen xs s → s ≡ sets.empty → xs ≡ replicate (length xs) None
 all_dropped xs s are e =
     same_lists None xs (replicate (length xs) None) (sym (length-none (length xs) None))
     (λ i l. not_some (chosen_at xs i) (none_of xs s are e i) ∙ sym (none_at (length xs) i))
 
--- if the set is empty, no move is chosen
+-- if the set of the nodes with a chosen move is empty, no move is chosen
 pub none_chosen : (xs : List (Option Rule)) (s : FinSet nat_cmp) → AreChosen xs s → s ≡ sets.empty → list_any is_some xs ≡ false
 none_chosen xs s are e = go xs (none_of xs s are e)
   where
@@ -45,7 +45,7 @@ some_chosen [] i h = absurd (false≢true h)
 some_chosen (x ∷ xs) zero h = ap (λ b. b || list_any is_some xs) h
 some_chosen (x ∷ xs) (suc i) h = or_right (is_some x) (list_any is_some xs) (some_chosen xs i h)
 
--- the set is empty exactly if no move is chosen
+-- the set of the nodes with a chosen move is empty exactly if no move is chosen
 pub any_chosen : (xs : List (Option Rule)) (s : FinSet nat_cmp) (b : Bool) → AreChosen xs s
     → (b ≡ true → s ≡ sets.empty) × (s ≡ sets.empty → b ≡ true) → not b ≡ list_any is_some xs
 any_chosen xs s true are h = sym (none_chosen xs s are (h.0 refl))

@@ -1,12 +1,12 @@
 -- What follows if all clauses of an act hold, and that the clauses of the resulting event's own act then hold, too.
 -- Other crates use these lemmas instead of the clauses.
-use Rattle.std.proofs.Common.{◌≡◌, ℕ, ◌<◌, ◌-◌, ◌^◌, ◌==◌, nat_lt, Bool, true, cond, not, ◌&&◌, Option, None, Some, is_none, option_map, Result, Ok, Err, refl, ap, sym, ◌∙◌, arith}
+use Rattle.std.proofs.Common.{◌≡◌, ℕ, ◌<◌, ◌-◌, ◌==◌, Bool, true, cond, not, ◌&&◌, Option, None, Some, is_none, option_map, Result, Ok, refl, ap, ◌∙◌, arith}
 use Rattle.std.specs.{Option.ok_or, Option.IfSome, Result.IfOk, Result.is_ok}
 use Rattle.mml_ids.proofs.GivesLemmas.{bind-if, need-if}
 use Rattle.mml_board.specs.declared.{act.Act.Act, denial.Denial.Denial, denial.Denial.TheVariants.NotOwner, denial.Denial.TheVariants.BadRegister, event.Event.Event}
-use Rattle.mml_board.specs.{ActNodes.AreAllThere, World.World, World.size, World.configuration, World.chosen_at, Events.is_possible, Events.is_legal, Events.can_absorb}
+use Rattle.mml_board.specs.{ActNodes.AreAllThere, World.World, World.size, World.configuration, World.chosen_at, Events.is_possible, Events.is_legal}
 use Rattle.mml_board.specs.Clauses.{check, student, asker, act_of, anybodys, is_node, may_point, is_chosen, is_any_chosen, pointer, node_in}
-use Rattle.std.proofs.lemmas.Bool.{Decides.nat_tests, and_from, and_parts, ltb-true, lt-ltb, eq-eqb, false≢true}
+use Rattle.std.proofs.lemmas.Bool.{Decides.nat_tests, and_from, lt-ltb, eq-eqb, false≢true}
 use Rattle.mml_ids.specs.Gives.{◌>>=◌, ◌>>◌, need}
 use Rattle.mml_rules.specs.{declared.rule.Rule.Rule, Rules.guard}
 use Rattle.mml_lab.specs.{declared.who.Who.Who, Rosters.RosterValue, Rosters.owns}
@@ -29,10 +29,7 @@ ok-from s f a e h = ap (λ t. is_ok (t >>= f)) e ∙ h
 pub node_in-ok : (w : World) (i j : ℕ) (d : Denial) → ok_or (node_in w i) d ≡ Ok j → (i ≡ j) × (is_node w i ≡ true)
 node_in-ok w i j d h = grind arith
 
-pub pointer-ok : (w : World) (p q : Option ℕ) (d : Denial) → pointer (option_map (node_in w) p) d ≡ Ok q → p ≡ q
-pointer-ok w p q d h = grind arith
-
--- tests that each possible event passes; they are weaker than its clauses
+-- a test that each possible event passes, and that is weaker than the event's clauses
 abbrev pub is_fit : World → Event → Bool
 is_fit w (event.Grant s i q) = is_node w i && (is_none (chosen_at w.chosen i) && guard (configuration w) i q)
 is_fit w (event.Release i) = is_chosen w i
@@ -41,13 +38,12 @@ is_fit w (event.Fault i registers) = is_node w i && may_point (configuration w) 
 is_fit w (event.Link a b) = (is_node w a && is_node w b) && (not (a == b) && not ((configuration w).linked a b))
 is_fit w (event.Cut a b) = (configuration w).linked a b
 
--- if s succeeds, and P holds in case that s succeeds, P holds
+-- if s succeeds, and P follows from its success, P holds
 if_ok : {A E : Type 0} (P : Type 0) (s : Result A E) → is_ok s ≡ true → IfOk s (λ a. P) → P
-if_ok P (Ok a) h p = p
-if_ok P (Err e) h p = absurd (false≢true h)
+if_ok P s h p = grind (arith, nat_tests, false≢true)
 
 fits : (w : World) (e : Event) → IfOk (check anybodys w (asker e) (act_of w e)) (λ f. is_fit w e ≡ true)
-fits w e = grind (arith, nat_tests, bind-if, need-if, node_in-ok, pointer-ok, and_from)
+fits w e = grind (arith, nat_tests, bind-if, need-if, node_in-ok, and_from)
 
 pub fit : (w : World) (e : Event) → is_possible w e ≡ true → is_fit w e ≡ true
 unfolding is_possible
@@ -56,32 +52,14 @@ fit w e h = if_ok (is_fit w e ≡ true) (check anybodys w (asker e) (act_of w e)
 -- a legal event is possible
 pub legal_possible : (r : RosterValue) (w : World) (e : Event) → is_legal r w e ≡ true → is_possible w e ≡ true
 unfolding is_possible is_legal
-legal_possible r w (event.Grant s i q) h =
-    let one = ok-bind (ok_or (node_in w i) NotOwner) _ h in
-    let two = ok-need (owns r (who.Student s) one.0) _ _ one.2 in
-    ok-from (ok_or (node_in w i) NotOwner) _ one.0 one.1 two.1
-legal_possible r w _ h = h
+legal_possible r w e h = grind (arith, nat_tests, ok-bind, ok-need, ok-from)
 
 -- the student of a legal move owns its node
 pub legal_owned : (r : RosterValue) (w : World) (s i : ℕ) (q : Rule) → is_legal r w (event.Grant s i q) ≡ true → owns r (who.Student s) i ≡ true
 unfolding is_legal
-legal_owned r w s i q h =
-    let one = ok-bind (ok_or (node_in w i) NotOwner) _ h in
-    let two = ok-need (owns r (who.Student s) one.0) _ _ one.2 in
-    grind (arith, node_in-ok)
+legal_owned r w s i q h = grind (arith, nat_tests, ok-bind, ok-need, node_in-ok)
 
--- if a move can be absorbed, its node is in the world, and its guard holds there
-pub absorbed_grant : (w : World) (s i : ℕ) (q : Rule) → can_absorb w (event.Grant s i q) ≡ true → (i < size w) × (guard (configuration w) i q ≡ true)
-absorbed_grant w s i q h =
-    let x = and_parts (is_possible w (event.Grant s i q)) (nat_lt w.place (2 ^ 64 - 1)) h in
-    let y = and_parts (is_node w i) (is_none (chosen_at w.chosen i) && guard (configuration w) i q) (fit w (event.Grant s i q) x.0) in
-    let z = and_parts (is_none (chosen_at w.chosen i)) (guard (configuration w) i q) y.1 in
-    (ltb-true i (size w) y.0, z.1)
-
--- ---- the act of the event to which an act leads
-
-there-ok : (o : Option ℕ) (i n : ℕ) (d : Denial) → ok_or o d ≡ Ok i → IfSome o (λ j. j < n) → i < n
-there-ok o i n d e h = grind arith
+-- ---- the act that asks for the event of a granted act
 
 -- looking up a node of the world finds it
 pub node_back : (w : World) (i : ℕ) (d : Denial) → i < size w → ok_or (node_in w i) d ≡ Ok i
@@ -104,12 +82,11 @@ module _ (owned : Who → ℕ → Bool) (w : World) (x : Who) where
   pointed_there p q e h = grind arith
 
   pointer_back : (q : Option ℕ) → IfSome q (λ j. j < size w) → pointer (option_map (node_in w) q) BadRegister ≡ Ok q
-  pointer_back None h = refl
-  pointer_back (Some j) h = ap (λ s. s >>= (λ j. Ok (Some j))) (node_back w j BadRegister h)
+  pointer_back q h = grind (arith, nat_tests, node_back)
 
   -- if all clauses of an act hold, and lead to an event, those of the act that asks for this event hold, too
   pub again : (a : Act) → AreAllThere (size w) a → IfOk (check owned w x a) IsAgain
-  again a there = grind (arith, nat_tests, bind-if, need-if, there-ok, node_back, pointed_there, pointer_back, asked_by, eq-eqb)
+  again a there = grind (arith, nat_tests, bind-if, need-if, node_back, pointed_there, pointer_back, asked_by, eq-eqb)
 
 -- the student of a move owns its node; for other events nothing is required
 abbrev pub has_right_owner : RosterValue → Event → Bool
@@ -117,8 +94,7 @@ has_right_owner r (event.Grant s i q) = owns r (who.Student s) i
 has_right_owner r _ = true
 
 pub right_owner : (r : RosterValue) (w : World) (e : Event) → is_legal r w e ≡ true → has_right_owner r e ≡ true
-right_owner r w (event.Grant s i q) h = legal_owned r w s i q h
-right_owner r w _ h = refl
+right_owner r w e h = grind (arith, nat_tests, legal_owned)
 
 -- ---- possible events
 
@@ -126,10 +102,7 @@ right_owner r w _ h = refl
 pub grant_possible : (w : World) (s i : ℕ) (q : Rule) → i < size w → chosen_at w.chosen i ≡ None → guard (configuration w) i q ≡ true
     → is_possible w (event.Grant s i q) ≡ true
 unfolding is_possible
-grant_possible w s i q l free g =
-    ok-from (ok_or (node_in w i) NotOwner) _ i (node_back w i NotOwner l)
-    (need-well (w.number == w.number) _ _ (eq-eqb w.number w.number refl)
-    (need-well (is_none (chosen_at w.chosen i)) _ _ (ap is_none free) (need-well (guard (configuration w) i q) _ _ g refl)))
+grant_possible w s i q l free g = grind (arith, nat_tests, ok-from, node_back, need-well, eq-eqb)
 
 -- a close is possible if some node has a chosen move
 pub close_possible : (w : World) → is_any_chosen w ≡ true → is_possible w event.Close ≡ true
@@ -139,23 +112,17 @@ close_possible w any = need-well (is_any_chosen w) _ _ any refl
 -- a possible event is legal if it isn't a move, or if the student of the move owns its node
 pub owned_legal : (r : RosterValue) (w : World) (e : Event) → has_right_owner r e ≡ true → is_possible w e ≡ true → is_legal r w e ≡ true
 unfolding is_possible is_legal
-owned_legal r w (event.Grant s i q) owner h =
-    let one = ok-bind (ok_or (node_in w i) NotOwner) _ h in
-    let same = (node_in-ok w i one.0 NotOwner one.1).0 in
-    ok-from (ok_or (node_in w i) NotOwner) _ one.0 one.1
-    (need-well (owns r (who.Student s) one.0) _ _ (ap (λ j. owns r (who.Student s) j) (sym same) ∙ owner) one.2)
-owned_legal r w _ owner h = h
+owned_legal r w e owner h = grind (arith, nat_tests, ok-bind, node_in-ok, ok-from, need-well)
 
 -- ---- the act that asks for an event
 
 -- if the clauses of the act that asks for event e hold, they lead to e
 module _ (owned : Who → ℕ → Bool) (w : World) where
   pub own_event : (e : Event) → IfOk (check owned w (asker e) (act_of w e)) (λ f. f ≡ e)
-  own_event e = grind (arith, nat_tests, bind-if, need-if, node_in-ok, pointer-ok)
+  own_event e = grind (arith, nat_tests, bind-if, need-if, node_in-ok)
 
 ok_same : {A E : Type 0} (s : Result A E) (a : A) → is_ok s ≡ true → IfOk s (λ b. b ≡ a) → s ≡ Ok a
-ok_same (Ok b) a h same = ap Ok same
-ok_same (Err e) a h same = absurd (false≢true h)
+ok_same s a h same = grind (arith, nat_tests, false≢true)
 
 -- the clauses of the act that asks for a legal event hold, and lead to this event
 pub legal_ok : (r : RosterValue) (w : World) (e : Event) → is_legal r w e ≡ true → check (owns r) w (asker e) (act_of w e) ≡ Ok e

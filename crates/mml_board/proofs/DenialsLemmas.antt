@@ -1,6 +1,6 @@
 -- To whom an act may be granted, and which denials it may have.
 use Rattle.std.{proofs.lemmas.Bool.Decides.nat_tests, proofs.lemmas.Bool.eq-eqb, specs.Prelude.◌||◌, specs.Option.ok_or, specs.Result.IfOk, specs.Result.IfErr}
-use Rattle.std.proofs.Common.{◌≡◌, ◌⊎◌, ℕ, Bool, true, ◌==◌, Option, Err, refl, subst, arith}
+use Rattle.std.proofs.Common.{◌≡◌, ◌⊎◌, ℕ, Bool, true, ◌==◌, Option, Err, refl, arith}
 use Rattle.mml_ids.proofs.GivesLemmas.{bind-if, need-if, bind-deny, need-deny}
 use Rattle.mml_rules.specs.declared.rule.Rule.{Rule}
 use Rattle.mml_lab.specs.declared.who.Who.{Who}
@@ -15,10 +15,7 @@ is_of_act w d = clause_of d == 1 || (clause_of d == 2 || (clause_of d == 3 || cl
 module _ (P : Denial → Type 0) where
   -- if a look-up finds nothing, its error is the denial that it was called with
   pub of_err : {A : Type 0} (o : Option A) (d : Denial) → P d → (e : Denial) → ok_or o d ≡ Err e → P e
-  of_err o d meets e h = subst P (same o h) meets
-    where
-      same : {A : Type 0} (o : Option A) → ok_or o d ≡ Err e → d ≡ e
-      same o h = grind (arith, nat_tests)
+  of_err o d meets e h = grind (arith, nat_tests)
 
   student_err : (x : Who) (d : Denial) → P d → (e : Denial) → student x d ≡ Err e → P e
   student_err x d meets e h = grind (arith, nat_tests)

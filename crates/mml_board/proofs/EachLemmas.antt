@@ -12,7 +12,7 @@ IsDone before f nodes left now = record {
   values : (i : ℕ) → now i ≡ cond (sets.contains left i) (before i) (cond (sets.contains nodes i) (f i) (before i));
 }
 
--- if the value of f is set at a rank of `left`, and this rank is removed from `left`, this still holds
+-- if the value of f is set at a rank of `left`, and this rank is removed from `left`, `IsDone` still holds
 pub one_done : {X : Type 0} (before f now next : ℕ → X) (nodes left left' : FinSet nat_cmp) (a : ℕ) (x : X) → x ≡ f a → sets.contains left a ≡ true
     → left' ≡ sets.remove left a → ((i : ℕ) → next i ≡ cond (eqb i a) x (now i)) → IsDone before f nodes left now → IsDone before f nodes left' next
 one_done before f now next nodes left left' a x is here k e done = record {

@@ -4,7 +4,7 @@ use Rattle.std.specs.{Prelude.IfSome, Prelude.IfNone, FinSet.FinSet, Ordering.na
 use Rattle.std.proofs.lemmas.Bool.{eq-eqb, ne_eqb, lt-ltb, both_ways, or_left, or_right, false_from_ne_true}
 use Rattle.mml_ids.specs.inside.WordsLemmas.{has_empty, has_insert, has_remove, same_ranks, has-those_below}
 use Rattle.mml_rules.specs.{declared.regs.Regs.Regs, Configuration.Configuration, Configuration.IsLawful, Rules.enabled_kind, Rules.is_privileged}
-use Rattle.mml_rules.specs.Network.{Network, neighbours_at, registers_at, configuration_of, IsNetwork, unpointed, with_registers, with_link, without_link, with_neighbour, without_neighbour}
+use Rattle.mml_rules.specs.Network.{Network, neighbours_at, configuration_of, IsNetwork, with_registers, with_link, without_link, with_neighbour, without_neighbour}
 use Rattle.mml_rules.proofs.AroundLemmas.{same_kind}
 use Rattle.mml_rules.proofs.NetworkLemmas.{registers_at-set, length-unpointed, linked-with_link, linked-without_link, with_registers-lawful, with_link-lawful, without_link-lawful}
 use Rattle.mml_board.specs.World.{World, configuration, IsWorld, privileged_count}
@@ -63,8 +63,8 @@ none_greatest s None b told none member = (λ t. none, λ e. told)
 none_greatest s (Some r) b told none member =
     (λ t. absurd (both_ways b told t), λ e. absurd (both_ways (sets.contains s r) (ap (λ u. sets.contains u r) e ∙ has_empty r) member))
 
--- if a set is right except near the nodes in `left`, then after node a and its neighbours are tested again, a can be
--- removed from `left`
+-- let a set be right at each node that is neither in `left` nor next to a node in `left`; after node a and its
+-- neighbours are tested again, a can be removed from `left`
 pub around_refreshed : (c : Configuration) (now next row left left' : FinSet nat_cmp) (a : ℕ) → IsLawful c → ((k : ℕ) → sets.contains row k ≡ c.linked a k)
     → left' ≡ sets.remove left a
     → ((j : ℕ) → sets.contains next j ≡ cond (sets.contains (sets.insert row a) j) (is_privileged_node c j) (sets.contains now j))
@@ -92,21 +92,9 @@ still_right s privileged c d lc ld differ e j u = grind (arith, has-privileged, 
 unlike : (s : FinSet nat_cmp) (i a : ℕ) → sets.contains s a ≡ true → sets.contains s i ≡ false → eqb i a ≡ false
 unlike s i a h k = ne_eqb i a (λ e. both_ways (sets.contains s i) k (ap (sets.contains s) e ∙ h))
 
-pub fault_differs : (s : FinSet nat_cmp) (n : Network) (a : ℕ) (r : Regs) → a < length n.registers → sets.contains s a ≡ true
-    → DifferAt s (configuration_of n) (configuration_of (with_registers n a r))
-fault_differs s n a r l h = grind (arith, length-set, registers_at-set, unlike)
-
-pub link_differs : (s : FinSet nat_cmp) (n : Network) (a b : ℕ) → IsNetwork n → a < length n.registers → b < length n.registers → sets.contains s a ≡ true
-    → sets.contains s b ≡ true → DifferAt s (configuration_of n) (configuration_of (with_link n a b))
-link_differs s n a b w la lb ha hb = grind (arith, linked-with_link, unlike)
-
-unpoint_same : (s : FinSet nat_cmp) (registers : List Regs) (a b i : ℕ) → a < length registers → sets.contains s a ≡ true → sets.contains s i ≡ false
-    → registers_at (unpointed registers a b) i ≡ registers_at registers i
-unpoint_same s registers a b i l h k = grind (arith, unpointed-at, nulled, unlike)
-
 pub cut_differs : (s : FinSet nat_cmp) (n : Network) (a b : ℕ) → IsNetwork n → a < length n.registers → b < length n.registers → sets.contains s a ≡ true
     → sets.contains s b ≡ true → DifferAt s (configuration_of n) (configuration_of (without_link n a b))
-cut_differs s n a b w la lb ha hb = grind (arith, length-without_link, linked-without_link, unlike, unpoint_same, length-unpointed)
+cut_differs s n a b w la lb ha hb = grind (arith, length-without_link, linked-without_link, unlike, unpointed-at, nulled, length-unpointed)
 
 -- a close changes the configuration only at the nodes with a chosen move
 pub close_differs : (s : FinSet nat_cmp) (w : World) → IsWorld w → AreChosen w.chosen s → DifferAt s (configuration w) (configuration_of (closed w))
@@ -121,7 +109,7 @@ right_after s privileged n m n' k l e differ right j u =
     (still_right s privileged (configuration_of n) (configuration_of m) k.lawful l.lawful differ right j
     (subst (λ (x : Network). IsUntouched (configuration_of x) s j) e u))
 
--- ---- small sets
+-- ---- a set to which a rank is added
 
 pub in_one : (s : FinSet nat_cmp) (a : ℕ) → sets.contains (sets.insert s a) a ≡ true
 in_one s a = has_insert s a a ∙ or_left (eqb a a) _ (eq-eqb a a refl)
@@ -145,14 +133,14 @@ module _ (s privileged : FinSet nat_cmp) (n n' : Network) (k : IsNetwork n) (rig
       → (j : ℕ) → IsUntouched (configuration_of n') s j → sets.contains privileged j ≡ is_privileged_node (configuration_of n') j
   right_after_fault a r l linked e f =
       right_after s privileged n (with_registers n a r) n' k (with_registers-lawful n a r k l linked) e
-      (fault_differs s n a r l (ap (λ t. sets.contains t a) f ∙ in_one sets.empty a)) right
+      (grind (arith, length-set, registers_at-set, unlike, ap (λ t. sets.contains t a) f ∙ in_one sets.empty a)) right
 
   pub right_after_link : (a b : ℕ) → a < length n.registers → b < length n.registers → (a ≡ b → ⊥) → n' ≡ with_link n a b
       → s ≡ sets.insert (sets.insert sets.empty a) b
       → (j : ℕ) → IsUntouched (configuration_of n') s j → sets.contains privileged j ≡ is_privileged_node (configuration_of n') j
   right_after_link a b la lb apart e f =
       right_after s privileged n (with_link n a b) n' k (with_link-lawful n a b k la lb apart) e
-      (link_differs s n a b k la lb (has_first s a b f) (has_second s a b f)) right
+      (grind (arith, linked-with_link, unlike, has_first s a b f, has_second s a b f)) right
 
   pub right_after_cut : (a b : ℕ) → a < length n.registers → b < length n.registers → n' ≡ without_link n a b → s ≡ sets.insert (sets.insert sets.empty a) b
       → (j : ℕ) → IsUntouched (configuration_of n') s j → sets.contains privileged j ≡ is_privileged_node (configuration_of n') j

@@ -34,7 +34,7 @@ pub has-without_suitor : (rows : List (FinSet nat_cmp)) (p : Option ℕ) (k i j 
     → sets.contains (neighbours_at (without_suitor rows p k) i) j ≡ (not (holds p i && eqb j k) && sets.contains (neighbours_at rows i) j)
 has-without_suitor rows p k i j l = grind (arith, has-without_neighbour, turned)
 
--- if `is_some` is false exactly if b is true, b is `is_none`
+-- if b is the opposite of `is_some o`, it is `is_none o`
 pub none_told : (o : Option ℕ) (b : Bool) → is_some o ≡ not b → b ≡ is_none o
 none_told o b h = grind arith
 

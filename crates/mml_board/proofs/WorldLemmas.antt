@@ -17,7 +17,7 @@ pub length-moved_registers : (w : World) → length (moved_registers w) ≡ leng
 unfolding moved_registers
 length-moved_registers w = length-map-range_with_len (λ i. moved (configuration w) i (chosen_at w.chosen i)) 0 (size w)
 
--- the registers of each rank after the chosen moves are applied, even of ranks past the last node
+-- after the chosen moves are applied, each rank has the registers that `moved` returns, even a rank past the last node
 pub moved_at : (w : World) → length w.chosen ≡ length w.network.registers → (i : ℕ)
     → registers_at (moved_registers w) i ≡ moved (configuration w) i (chosen_at w.chosen i)
 unfolding moved_registers
@@ -140,17 +140,12 @@ pub same_worlds : (v w : World) → IsWorld v → IsWorld w → v.number ≡ w.n
     → ((i : ℕ) → i < size v → (registers_at v.network.registers i ≡ registers_at w.network.registers i) × (chosen_at v.chosen i ≡ chosen_at w.chosen i)
     × (neighbours_at v.network.neighbours i ≡ neighbours_at w.network.neighbours i))
     → v ≡ w
-same_worlds v w k l number place size h = λ z. record {
-  network = record {
-    neighbours =
-        same_lists sets.empty v.network.neighbours w.network.neighbours (k.network.rows ∙ size ∙ sym l.network.rows)
-        (λ i q. (h i (omega (arith, k.network.rows))).2) z;
-    registers = same_lists no_regs v.network.registers w.network.registers size (λ i q. (h i q).0) z;
-  };
-  chosen = same_lists None v.chosen w.chosen (k.choices ∙ size ∙ sym l.choices) (λ i q. (h i (omega (arith, k.choices))).1) z;
-  number = number z;
-  place = place z;
-}
+same_worlds v w k l number place size h =
+    let rows = k.network.rows ∙ size ∙ sym l.network.rows in
+    let neighbours = same_lists sets.empty v.network.neighbours w.network.neighbours rows (λ i q. (h i (omega (arith, k.network.rows))).2) in
+    let registers = same_lists no_regs v.network.registers w.network.registers size (λ i q. (h i q).0) in
+    let chosen = same_lists None v.chosen w.chosen (k.choices ∙ size ∙ sym l.choices) (λ i q. (h i (omega (arith, k.choices))).1) in
+    λ z. record { network = record { neighbours = neighbours z; registers = registers z }; chosen = chosen z; number = number z; place = place z }
 
 -- an event keeps the number of nodes
 pub size-after : (w : World) (e : Event) → size (after w e) ≡ size w

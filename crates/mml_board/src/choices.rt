@@ -83,12 +83,12 @@ impl Choices {
         !is_empty(self.nodes)
     }
 
-    /// Makes `rule` the chosen move of a node. If it is `None`, the node has no chosen move afterwards.
+    /// Makes `rule` the chosen move of a node. If `rule` is `None`, the node has no chosen move afterwards.
     pub fn choose(&mut self, node: Rank, rule: Option<Rule>)
         requires { node < length self.old }
         ensures { self.new ≡ slice_set self.old node rule }
     {
-        // This is a reference, since the toolchain doesn't copy a value that contains a rank, even if its type is
+        // A reference is used because the toolchain doesn't copy a value that contains a rank, even if its type is
         // `Copy`.
         let rule = &rule;
         self.rules[node.index() as usize] = *rule;

@@ -5,8 +5,8 @@
 use mml_ids::{NodeSet, Rank};
 use mml_rules::Kind;
 
-/// The effect of an event. The number of the configuration after the event and the event's place, which the reply also
-/// has, aren't part of it.
+/// The effect of an event. The reply to the event also has the event's place and the number of the configuration after
+/// it, which aren't here.
 #[derive(Clone, Copy, Debug)]
 pub enum Done {
     /// A move of that kind is chosen for the node.

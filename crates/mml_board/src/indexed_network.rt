@@ -78,7 +78,7 @@ impl IndexedNetwork {
         let mut believing = NodeSet::empty();
         for index in 0..network.size() {
             let node = Rank::at(index);
-            // This is a reference, since the toolchain doesn't copy a value that contains a rank, even if its type is
+            // A reference is used because the toolchain doesn't copy a value that contains a rank, even if its type is
             // `Copy`.
             let registers = &network.registers(node);
             put_suitor(&mut suitors, registers.p, node, true);
@@ -130,7 +130,7 @@ impl IndexedNetwork {
     {
         // Called only for its contract, which the proof needs: the network is lawful.
         let _size = self.network.size();
-        // This is a reference, since the toolchain doesn't copy a value that contains a rank, even if its type is
+        // A reference is used because the toolchain doesn't copy a value that contains a rank, even if its type is
         // `Copy`.
         let registers = &registers;
         let from = self.network.registers(node).p;

@@ -67,23 +67,12 @@ module _ (lab : LabValue) (l : List Event) (texts : ℕ → List ℕ) where
       → IsRecordOf lab l es own → texts (first + length ess) ≡ record_text (first + length ess) es
       → AreRecordsOf lab l texts first (ess ++ es ∷ []) (places ++ own)
   records_more first [] es places own none is text =
-      let here : first + 0 ≡ first = omega arith in (
-        own,
-        [],
-        ap (λ (ps : List ℕ). ps ++ own) none ∙ sym (append-nil own),
-        is,
-        subst (λ (n : ℕ). texts n ≡ record_text n es) here text,
-        refl,
-      )
+      let here : first + 0 ≡ first = omega arith in
+      (own, [], ap (λ (ps : List ℕ). ps ++ own) none ∙ sym (append-nil own), is, subst (λ (n : ℕ). texts n ≡ record_text n es) here text, refl)
   records_more first (e ∷ ess) es places own h is text =
-      let there : first + suc (length ess) ≡ suc first + length ess = omega arith in (
-        h.0,
-        h.1 ++ own,
-        ap (λ (ps : List ℕ). ps ++ own) h.2 ∙ append_assoc h.0 h.1 own,
-        h.3,
-        h.4,
-        records_more (suc first) ess es h.1 own h.5 is (subst (λ (n : ℕ). texts n ≡ record_text n es) there text),
-      )
+      let there : first + suc (length ess) ≡ suc first + length ess = omega arith in
+      let rest = records_more (suc first) ess es h.1 own h.5 is (subst (λ (n : ℕ). texts n ≡ record_text n es) there text) in
+      (h.0, h.1 ++ own, ap (λ (ps : List ℕ). ps ++ own) h.2 ∙ append_assoc h.0 h.1 own, h.3, h.4, rest)
 
   -- the findings of the first seats, and those of the next seat, are together the findings of all these seats
   come_more : (ess : List (List Entry)) (es : List Entry) (f g h : Findings) → ComeTo lab.roster f ess → ComesTo lab.roster g es → IsTogether f g h
@@ -98,13 +87,9 @@ module _ (lab : LabValue) (l : List Event) (texts : ℕ → List ℕ) where
 
   pub first_seat : (with_asks : Bool) (f : Findings) (places : List ℕ) (asks : List Ask) → f ≡ no_findings → places ≡ [] → asks ≡ []
       → AreReadSoFar lab l with_asks texts 0 f places asks
-  first_seat with_asks f places asks nothing none no_asks = record {
-    entries = [];
-    seats = refl;
-    records = none;
-    comes = subst (λ (g : Findings). ComeTo lab.roster g []) (sym nothing) (refl, refl, refl, refl, none_lacked);
-    asked = λ wanted. no_asks;
-  }
+  first_seat with_asks f places asks nothing none no_asks =
+      let comes = subst (λ (g : Findings). ComeTo lab.roster g []) (sym nothing) (refl, refl, refl, refl, none_lacked) in
+      record { entries = []; seats = refl; records = none; comes = comes; asked = λ wanted. no_asks }
 
   pub next_seat : (with_asks : Bool) (n number : ℕ) (f f' : Findings) (places places' : List ℕ) (asks asks' : List Ask) → number ≡ n + 1
       → AreReadSoFar lab l with_asks texts n f places asks → AddsSeat lab l number with_asks (texts number) places places' asks asks' f f'
@@ -155,12 +140,6 @@ module _ (lab : LabValue) (l : List Event) (texts : ℕ → List ℕ) where
       → n ≡ lab.sessions → begun_in start ≡ Some begun → AreReadSoFar lab l with_asks texts n f places asks → seen ≡ places → r ≡ Some amiss
       → IsFound begun (length l) f.whole seen r → IsClassRefused lab l start texts (fault.Places amiss)
   misgranted with_asks start n begun f places seen asks r amiss all begins so same some finds =
-      let found = found_so begun (length l) f.whole seen places r (Some amiss) same some finds in record {
-        begun = begun;
-        entries = so.entries;
-        places = places;
-        starts = begins;
-        seats = so.seats ∙ all;
-        records = so.records;
-        found = subst (λ (b : Bool). IsFound begun (length l) b places (Some amiss)) so.comes.2 found;
-      }
+      let found = found_so begun (length l) f.whole seen places r (Some amiss) same some finds in
+      let whole = subst (λ (b : Bool). IsFound begun (length l) b places (Some amiss)) so.comes.2 found in
+      record { begun = begun; entries = so.entries; places = places; starts = begins; seats = so.seats ∙ all; records = so.records; found = whole }

@@ -42,13 +42,10 @@ marked_once marks p = one (has_mark marks p)
     one false = omega arith
 
 first_at : (i : ℕ) (ps : List ℕ) (q begun count : ℕ) → i < length ps → q ≡ get_or ps i 0 → AreGranted begun count (take i ps) → ComesAfter begun count ps (take i ps) q
-first_at i ps q begun count in' is fine = record {
-  after = drop (i + 1) ps;
-  split = split_at i ps in' ∙ ap (λ x. take i ps ++ x ∷ drop (i + 1) ps) (sym is);
-  granted = fine;
-}
+first_at i ps q begun count in' is fine =
+    record { after = drop (i + 1) ps; split = split_at i ps in' ∙ ap (λ x. take i ps ++ x ∷ drop (i + 1) ps) (sym is); granted = fine }
 
--- if the places before index i were marked, and the one at i can't be marked, this is the first fault
+-- if the places before index i were marked, and the one at i can't be marked, the place at i is the first fault
 pub found_first : (begun count i : ℕ) (whole : Bool) (ps : List ℕ) (old new : List Bool) (r : Misgranted) → i < length ps
     → length old ≡ count + 1 → ((q : ℕ) → marked old q ≡ times q (take i ps)) → ((q : ℕ) → marked old q ≤ once_from begun count q)
     → IsMarked begun (get_or ps i 0) old new (Some r) → IsFound begun count whole ps (Some r)
@@ -75,8 +72,8 @@ fine_more begun count p old new many fine m q = one (q == p) refl
         omega (arith, marked_once new q, once_there begun count q (omega (arith, e, m.0)) (omega (arith, e, m.1, many)))
     one false is = let e : times q (p ∷ []) ≡ 0 = ap (λ (b : Bool). cond {A = ℕ} b 1 0) is in omega (arith, m.3 q, fine q, e)
 
--- if q has a mark, or isn't from begun + 1 to `count`, the list has q exactly once in the first case, and else not at
--- all
+-- let q have a mark if it is from begun + 1 to `count`; then the list has q once if it is in this range, and otherwise
+-- not at all
 each_counted : (begun count : ℕ) (ps : List ℕ) (marks : List Bool) (q : ℕ) → marked marks q ≡ times q ps → marked marks q ≤ once_from begun count q
     → (begun < q → q ≤ count → has_mark marks q ≡ true) → times q ps ≡ once_from begun count q
 each_counted begun count ps marks q counted fine has = one (nat_lt begun q) (nat_le q count) refl refl
@@ -95,8 +92,6 @@ each_counted begun count ps marks q counted fine has = one (nat_lt begun q) (nat
 found_unmarked : (begun count : ℕ) (ps : List ℕ) (marks : List Bool) (r : Option Misgranted) → length marks ≡ count + 1
     → ((q : ℕ) → marked marks q ≡ times q ps) → ((q : ℕ) → marked marks q ≤ once_from begun count q) → IsUnmarked begun marks r → IsFound begun count true ps r
 found_unmarked begun count ps marks None many counted fine all = (λ q. omega (arith, counted q, fine q), λ t q. each_counted begun count ps marks q (counted q) (fine q) (λ above below. all q above (omega (arith, many, below))))
-found_unmarked begun count ps marks (Some (Early q)) many counted fine h = absurd h
-found_unmarked begun count ps marks (Some (Twice q)) many counted fine h = absurd h
 found_unmarked begun count ps marks (Some (Nowhere p)) many counted fine h = (
   refl,
   λ q. omega (arith, counted q, fine q),
@@ -104,8 +99,9 @@ found_unmarked begun count ps marks (Some (Nowhere p)) many counted fine h = (
   sym (counted p) ∙ ap (λ (b : Bool). cond {A = ℕ} b 1 0) h.2,
   λ q less. each_counted begun count ps marks q (counted q) (fine q) (λ above below. h.3 q above less),
 )
+found_unmarked begun count ps marks _ many counted fine h = absurd h
 
--- the same, if the first n places of the list are all its places
+-- `found_unmarked` for a list whose first n places are all its places
 pub found_at_end : (begun count n : ℕ) (whole : Bool) (ps : List ℕ) (marks seen : List Bool) (r : Option Misgranted) → whole ≡ true → length ps ≤ n → seen ≡ marks
     → length marks ≡ count + 1 → ((q : ℕ) → marked marks q ≡ times q (take n ps)) → ((q : ℕ) → marked marks q ≤ once_from begun count q)
     → IsUnmarked begun seen r → IsFound begun count whole ps r

@@ -45,7 +45,7 @@ pub struct ClassRecord {
 pub enum ClassFault {
     /// The text of this seat isn't a record, because of this entry, which is its first bad one.
     Entry { seat: u8, bad: BadEntry },
-    /// The texts don't grant each event of the record exactly once. This is the first fault.
+    /// The texts don't grant each event of the record exactly once. The value is the first fault.
     Places(Misgranted),
     /// A text couldn't be read.
     Unread(SeatFault),

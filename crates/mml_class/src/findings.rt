@@ -1,6 +1,6 @@
 //! The summary of several records together.
 //!
-//! The record of a seat has the lines of its sessions with their replies. It is whole if nothing is left out.
+//! The record of a seat has the lines of its sessions with their replies. A record is whole if nothing is left out.
 ghost use Rattle.std.specs.Prelude.{◌≡◌, ◌+◌, ◌&&◌, ◌||◌, ℕ};
 ghost use Rattle.std.specs.FinSet as set;
 ghost use Rattle.mml_lab.specs.declared.who.Who.{Who};

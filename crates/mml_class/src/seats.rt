@@ -10,7 +10,8 @@ use std::io::Read;
 /// Why a text of a class's record couldn't be read.
 #[derive(Clone, Copy, Debug, PartialEq, Eq)]
 pub enum SeatFault {
-    /// It can't be opened, a read failed, it is too long, or it doesn't state how many events came before.
+    /// The text can't be opened, a read failed, the text is too long, or it doesn't state how many events came before
+    /// the record.
     Read,
     /// Memory ran out.
     Memory,

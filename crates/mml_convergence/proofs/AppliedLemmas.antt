@@ -15,19 +15,20 @@ use Rattle.mml_board.specs.declared.event.Event.TheVariants as event
 abbrev pub Falls : (Configuration → ℕ) → Type 0
 Falls P = (c : Configuration) (chosen : ℕ → Option Rule) → IsLawful c → AllHold c chosen → P (step c chosen) + count_below c.size (moves chosen) ≤ P c
 
--- if P falls in this way, a close lowers P by at least the number of its moves
+-- if `Falls P` holds, a close lowers P by at least the number of its moves
 pub close_paid : (P : Configuration → ℕ) → Falls P → (w : World) → IsWorld w → chosen_count w + P (configuration (after w event.Close)) ≤ P (configuration w)
 unfolding chosen_count
 close_paid P falls w k = grind (arith, nat_tests, closed-step)
 
-event_pays : (P : Configuration → ℕ) → Falls P → (w : World) (e : Event) → IsWorld w → is_of_step e ≡ true
+-- each applied move of an event lowers P by 1 or more
+pub event_pays : (P : Configuration → ℕ) → Falls P → (w : World) (e : Event) → IsWorld w → is_of_step e ≡ true
     → applied_by w e + P (configuration (after w e)) ≤ P (configuration w)
 event_pays P falls w (event.Grant s i rule) k of_step = omega arith
 event_pays P falls w (event.Release i) k of_step = omega arith
 event_pays P falls w event.Close k of_step = close_paid P falls w k
 event_pays P falls w _ k of_step = absurd (false≢true of_step)
 
--- if P falls in this way, grants, releases and closes apply at most as many moves as P has at their beginning
+-- if `Falls P` holds, grants, releases and closes apply at most as many moves as the value of P before them
 pub moves_paid : (P : Configuration → ℕ) → Falls P → (r : RosterValue) (w : World) (es : List Event) → IsWorld w → is_legal_list r w es ≡ true
     → list_all is_of_step es ≡ true → applied_over w es ≤ P (configuration w)
 moves_paid P falls r w [] k legal steps = omega arith

@@ -21,7 +21,7 @@ record Seated (n r : ℕ) (c : Configuration) : Type 0 where
   couples : Couples n r c
   free : (i : ℕ) → r ≤ i → i + r < n → Holds c i None false
 
--- all pointers of the nodes between r and b are null
+-- pointers of the nodes between r and b: all are null
 abbrev nowhere : ℕ → Option ℕ
 nowhere i = None
 
@@ -37,7 +37,7 @@ module _ (n r b : ℕ) (sum : r + b + 1 ≡ n) (room : 2 * r + 2 ≤ n) where
     bride : Holds c b h mh
     between : (i : ℕ) → r < i → i < b → Holds c i (at i) false
 
-  -- among the nodes between r and b, only the one before b points, and it points at b
+  -- pointers of the nodes between r and b: only the node before b points, and it points at b
   abbrev last : ℕ → Option ℕ
   last i = cond (i + 1 == b) (Some b) None
 
@@ -177,7 +177,7 @@ module _ (n r b : ℕ) (sum : r + b + 1 ≡ n) (room : 2 * r + 2 ≤ n) where
         (at_groom None false None false nowhere (configuration w) (configuration u) Rule.Seduction k (Some b) false e
         (courted None (configuration w) (configuration u) k r below at k.groom e)))
 
-    -- a phase in which r and b are the only nodes that aren't married
+    -- if r and b are the only nodes that aren't married, the phase takes four moves
     short : (a : ℕ) (w : World) → 2 * r + 2 ≡ n → IsWorld w → IsQuiet w → Seated n r (configuration w)
         → ((u : World) → IsWorld u → IsQuiet u → Seated n (suc r) (configuration u) → Goes a o u) → Goes (suc (suc (suc (suc a)))) o w
     short a w two world quiet seated next = search (rules, court, wed, end)

@@ -4,7 +4,7 @@ use Rattle.std.proofs.lemmas.Bool.Decides.{nat_tests}
 use Rattle.mml_ids.specs.Search.{count_below}
 
 module _ (a z : ℕ) (t : ℕ → Bool) (le : a ≤ z) (on : (i : ℕ) → a ≤ i → i < z → t i ≡ true) (only : (i : ℕ) → t i ≡ true → (a ≤ i) × (i < z)) where
-  -- of the n numbers below n, those pass that are at least a and below z, and all others don't pass
+  -- the numbers below n that pass, and those that are less than a or at least z, are n numbers together
   within : (n : ℕ) → count_below n t + cond (nat_lt n a) n (cond (nat_lt n z) a (n - (z - a))) ≡ n
   within zero = grind (arith, nat_tests)
   within (suc n) = grind (arith, nat_tests, within n, on n, only n)

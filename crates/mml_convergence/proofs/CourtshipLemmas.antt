@@ -1,6 +1,6 @@
 -- How the part of each node, which `node_part` defines, changes in a step. If no node is newly married, the part of
--- each node that moves falls by at least 1. In any other step this holds if 1 is added for a newly married node, and 2
--- for a node that isn't married.
+-- each node that moves falls by at least 1. In any other step, 1 is first added for each newly married node, and 2 for
+-- each node that isn't married. Compared with this sum, the part of each node that moves falls by at least 1.
 use Rattle.std.proofs.Common.{◌≡◌, ℕ, ◌+◌, ◌<◌, ◌≤◌, true, false, cond, inl, inr, Option, None, Some, is_some, refl, ap, ◌∙◌, arith}
 use Rattle.std.proofs.lemmas.Bool.{and_parts, both_ways, ltb-true, cases_Bool, false_from_ne_true, not-true, Decides.nat_tests}
 use Rattle.mml_rules.specs.{declared.rule.Rule.Rule, Configuration.Configuration, Configuration.IsLawful, Configuration.holds, Rules.is_married, Rules.moved, Rules.step, Rules.AllHold}
@@ -159,7 +159,7 @@ module _ (c : Configuration) (chosen : ℕ → Option Rule) (l : IsLawful c) (h 
     pub calm_pays : (i : ℕ) → node_part next i + cond (is_some (chosen i)) 1 0 ≤ node_part c i
     calm_pays i = elim (cases_Bool (is_married c i)) [ inl on ↦ wed_pays i (chosen i) refl on | inr off ↦ calm_free i (chosen i) refl off ]
 
-  -- ---- any step: the same with 1 added for a newly married node, and 2 for a node that isn't married
+  -- ---- any step, if 1 is first added for a newly married node, and 2 for a node that isn't married
 
   pub lent_pays : (i : ℕ) → node_part next i + cond (is_some (chosen i)) 1 0 ≤ node_part c i + cond (is_married next i) (cond (is_married c i) 0 1) 2
   lent_pays i = grind (arith, nat_tests, wed_pays, newly_pays, free_pays)

@@ -41,10 +41,10 @@ tells linked registers chosen (event.Close ∷ es) n =
 tells linked registers chosen (_ ∷ es) n = false
 
 none_is : (o : Option Rule) → is_none o ≡ true → o ≡ None
-none_is None h = refl
-none_is (Some rule) h = absurd (false≢true h)
+none_is o h = grind (arith, nat_tests, false≢true)
 
--- if the test is true, the events are legal and apply n moves in each world with these links, registers and choices
+-- if the test above is true of a list, the list is legal in each world with these links, registers and choices, and
+-- applies n moves
 sound : (r : RosterValue) (w : World) (es : List Event) (n : ℕ) → ((i : ℕ) → i < size w → owns r (who.Student 0) i ≡ true)
     → tells (configuration w).linked w.network.registers w.chosen es n ≡ true
     → (is_legal_list r w es ≡ true) × (applied_over w es ≡ n)
@@ -84,11 +84,8 @@ none_linked : (i j : ℕ) → (configuration_of unlinked).linked i j ≡ false
 none_linked i j = ap (λ s. sets.contains s j) (empty_row i) ∙ sets.contains-empty nat_cmp j
   where
     empty_row : (i : ℕ) → neighbours_at unlinked.neighbours i ≡ sets.empty
-    empty_row zero = refl
-    empty_row (suc zero) = refl
-    empty_row (suc (suc zero)) = refl
-    empty_row (suc (suc (suc zero))) = refl
     empty_row (suc (suc (suc (suc i)))) = refl
+    empty_row _ = refl
 
 abbrev first : Network
 first = with_link unlinked 0 1
@@ -118,11 +115,8 @@ unlinked_network = record {
 }
   where
     nowhere : (i j : ℕ) → (registers_at unlinked.registers i).p ≡ Some j → ⊥
-    nowhere zero j e = cc
-    nowhere (suc zero) j e = cc
-    nowhere (suc (suc zero)) j e = cc
-    nowhere (suc (suc (suc zero))) j e = cc
     nowhere (suc (suc (suc (suc i)))) j e = cc
+    nowhere _ j e = cc
 
 triangle_network : IsNetwork triangle
 triangle_network =
@@ -151,7 +145,7 @@ world = record {
   hold = hold-none 4 (configuration triangle_world);
 }
 
--- the sum of its potentials is 20
+-- the sum of the potentials of the triangle with a tail is 20
 pub triangle_potential : whole_potential (configuration triangle_world) ≡ 20
 unfolding potential whole_potential is_married
 triangle_potential = ap (λ linked. whole_potential (shape linked triangle_world.network.registers)) same_links
@@ -177,7 +171,7 @@ run = sound sole_owner triangle_world twenty_moves 20 owns_all
 pub legal : is_legal_list sole_owner triangle_world twenty_moves ≡ true
 legal = run.0
 
--- the closes of this list apply 20 moves
+-- the closes of `twenty_moves` apply 20 moves
 pub applied : applied_over triangle_world twenty_moves ≡ 20
 applied = run.1
 

@@ -22,8 +22,7 @@ record IsReady (r : RosterValue) (w : World) : Type 0 where
   owned : EachHasOwner r (size w)
 
 ready_after : (r : RosterValue) (w : World) (e : Event) → IsReady r w → is_legal r w e ≡ true → IsReady r (after w e)
-ready_after r w e k legal =
-    record { world = after-world w e k.world (legal_possible r w e legal); owned = λ i lt. k.owned i (omega (arith, lt, size-after w e)) }
+ready_after r w e k legal = grind (arith, nat_tests, after-world, legal_possible, size-after)
 
 -- a close is legal if some move is chosen
 may_close : (r : RosterValue) (w : World) → is_any_chosen w ≡ true → is_legal r w event.Close ≡ true

@@ -22,15 +22,15 @@ pub record GoesOn (A : World → ℕ → Type 0) (r : RosterValue) (w : World) (
   pub rounds : Rounds k w events
   pub ends : A (world_of w events) (applied_over w events)
 
--- the empty list
+-- the empty list is a run with no moves and no rounds, if A holds of the world before it and of 0 moves
 pub stop : (A : World → ℕ → Type 0) (r : RosterValue) (w : World) → A w 0 → GoesOn A r w 0
 stop A r w ends = record { events = []; legal = refl; forward = refl; alone = refl; rounds = tt; ends = ends }
 
--- if A implies B, a run for A (as `GoesOn` defines it) is also a run for B, with at least 0 rounds
+-- if A implies B, a run after which A holds is one after which B holds; at least 0 of its rounds are counted
 pub unrounded : (A B : World → ℕ → Type 0) (r : RosterValue) (w : World) (k : ℕ) → ((u : World) (x : ℕ) → A u x → B u x) → GoesOn A r w k → GoesOn B r w 0
 unrounded A B r w k so g = grind (arith, nat_tests)
 
--- such a run with exactly a moves
+-- a run as `GoesOn` defines it, with exactly a moves
 abbrev pub Goes : ℕ → RosterValue → World → Type 0
 Goes a r w = GoesOn (λ u x. x ≡ a) r w 0
 
@@ -60,7 +60,7 @@ Holds c i p m = (c.p i ≡ p) × (c.m i ≡ m)
 abbrev pub is : ℕ → ℕ → Bool
 is i j = j == i
 
--- a step of node x only
+-- a step in which only node x moves: all other nodes keep their registers
 module _ (n x : ℕ) (c d : Configuration) (rule : Rule) (sized : c.size ≡ n) (e : IsMoved c d (is x) rule) where
   pub stays : (i : ℕ) (p : Option ℕ) (m : Bool) → i < n → (i ≡ x → ⊥) → Holds c i p m → Holds d i p m
   stays i p m lt other at = let y = kept c d (is x) rule e i (omega (arith, lt, sized)) (ne_eqb i x other) in (y.0 ∙ at.0, y.1 ∙ at.1)
@@ -130,8 +130,8 @@ move r s w x rule world quiet lt owner holds = record { legal = legal; chosen = 
       m = λ i lt. ap (λ (g : Regs). g.m) (registers i);
     }
 
--- if the rule's guard holds at x, and `Goes a` holds of each world after this move, `Goes` with one move more holds of
--- the world before it
+-- if the rule may be applied at x, and a run of a moves leads on from each world after this move, a run of a + 1 moves
+-- leads on from the world before it
 pub single : (n : ℕ) (r : RosterValue) (s : ℕ) → ((i : ℕ) → i < n → owns r (who.Student s) i ≡ true) → (x a : ℕ) (rule : Rule) (w : World) → IsWorld w →
     IsQuiet w
     → size w ≡ n → x < n → guard (configuration w) x rule ≡ true

@@ -51,7 +51,7 @@ module _ (r : RosterValue) (s n : ℕ) (owned : (i : ℕ) → i < n → owns r (
       unrounded (λ u x. x ≡ moves_of q odd) _ r u 0 (λ v x e. omega (arith, e, counts n p b sum room, whole, sum))
       (phases q odd (suc p) (n - (p + 2)) (omega (arith, whole)) (omega (arith, whole)) (omega (arith, whole)) u ku qu seated)))
 
--- all phases have n moves and two for each of the greatest number of courtships, minus one if n is odd
+-- the moves of all phases are n plus twice the greatest number of courtships, minus one if n is odd
 moves_sum : (q : ℕ) (odd : Bool) → moves_of q odd + cond odd 1 0 ≡ 2 * q + 2 + cond odd 1 0 + 2 * most_courtships (2 * q + 2 + cond odd 1 0)
 moves_sum zero false = refl
 moves_sum zero true = refl

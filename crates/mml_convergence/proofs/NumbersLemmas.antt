@@ -9,7 +9,7 @@ pub sum_lent : (n : ℕ) (f t g b : ℕ → ℕ) → ((j : ℕ) → f j + t j �
 sum_lent zero f t g b le = omega arith
 sum_lent (suc n) f t g b le = omega (arith, sum_lent n f t g b le, le n)
 
--- each number passes the test or doesn't
+-- the numbers below n that pass a test, and those that don't, are n numbers together
 pub count_both : (n : ℕ) (t : ℕ → Bool) → count_below n t + count_below n (λ i. not (t i)) ≡ n
 count_both zero t = refl
 count_both (suc n) t = grind (arith, count_both n t)
@@ -53,20 +53,18 @@ marriages_pay n u le =
     let e : n + 2 + (u - (n + 2)) ≡ u = omega (arith, le) in
     subst (λ z. 2 * most_courtships n + (n + z) ≤ 2 * most_courtships z) e (couples_pay n (u - (n + 2)))
 
--- ---- in numbers
+-- ---- the greatest number of courtships for an even and for an odd number of nodes
 
 pub courtships_even : (k : ℕ) → most_courtships (2 * k) ≡ k * k
 courtships_even zero = refl
 courtships_even (suc k) =
     let rest = courtships_even k in
     let e : suc (suc (2 * k)) ≡ 2 * suc k = omega arith in
-    let grown : most_courtships (suc (suc (2 * k))) ≡ suc k * suc k = omega (arith, rest) in
-    subst (λ z. most_courtships z ≡ suc k * suc k) e grown
+    grind (arith, nat_tests)
 
 pub courtships_odd : (k : ℕ) → most_courtships (2 * k + 1) ≡ k * k + k
 courtships_odd zero = refl
 courtships_odd (suc k) =
     let rest = courtships_odd k in
     let e : suc (suc (2 * k + 1)) ≡ 2 * suc k + 1 = omega arith in
-    let grown : most_courtships (suc (suc (2 * k + 1))) ≡ suc k * suc k + suc k = omega (arith, rest) in
-    subst (λ z. most_courtships z ≡ suc k * suc k + suc k) e grown
+    grind (arith, nat_tests)

@@ -5,7 +5,7 @@ use Rattle.std.proofs.lemmas.Bool.{both_ways, false_from_ne_true, and_from, or_c
 use Rattle.mml_rules.specs.{declared.rule.Rule.Rule, Configuration.Configuration, Configuration.IsLawful, Configuration.holds, Rules.guard, Rules.is_privileged, Meaning.IsCandidate}
 use Rattle.mml_rules.proofs.RulesLemmas.{married-from}
 use Rattle.mml_convergence.proofs.MoveLemmas.{IsMoved, kept, turned}
-use Rattle.mml_convergence.proofs.IdleLemmas.{settled, waiting, lonely, may_update, may_marry, may_abandon, may_seduce, seduces_greatest}
+use Rattle.mml_convergence.proofs.IdleLemmas.{settled, waiting, lonely, may_update, may_abandon, seduces_greatest}
 
 -- a network of n nodes: in each phase r, each free low node is linked to the highest free node; only low nodes are
 -- linked to higher ones
@@ -16,7 +16,7 @@ pub record Shape (n : ℕ) (low : ℕ → Bool) (c : Configuration) : Type 0 whe
   pub upward : (i j : ℕ) → c.linked i j ≡ true → i < j → low i ≡ true
   pub lowest : (r : ℕ) → 2 * r + 2 ≤ n → low r ≡ true
 
--- the first r nodes and the last r are married, i to n - 1 - i, with m true
+-- the first r nodes and the last r are married, node i to node n - 1 - i, and m is true at each
 abbrev pub Couples : (n r : ℕ) → Configuration → Type 0
 Couples n r c = (i j : ℕ) → i < r → i + j + 1 ≡ n → (c.p i ≡ Some j) × (c.p j ≡ Some i) × (c.m i ≡ true) × (c.m j ≡ true)
 
@@ -165,13 +165,6 @@ module _ (n : ℕ) (low : ℕ → Bool) (r b : ℕ) (sum : r + b + 1 ≡ n) (roo
   pub greatest : (c : Configuration) → Seated n low r c → (i : ℕ) → (j : ℕ) → IsCandidate c i j → j ≤ b
   greatest c k i j x = grind (arith, nat_tests, cases_lt, above_b)
 
-  pub courts_hold : (c : Configuration) → Seated n low r c → (i : ℕ) → i < c.size → courts i ≡ true → guard c i Rule.Seduction ≡ true
-  courts_hold c k i lt on =
-      let x = courts-means i on in
-      let near : i + r < n = omega (arith, x.1, sum) in
-      let y = k.free i x.0 near in
-      may_seduce c k.shape.lawful i b y.0 y.1 (λ j. seated_free c k i j x.0 near) (candidate c k i x.0 x.1 x.2)
-
   pub seated_others : (c : Configuration) → Seated n low r c → (i : ℕ) → i < c.size → courts i ≡ false → is_privileged c i ≡ false
   seated_others c k i lt off = elim (class n r i (omega (arith, lt, k.shape.size))) [
     | inl x ↦ couple_idle n r low c k.shape k.couples i x.0 x.1 x.2
@@ -229,9 +222,6 @@ module _ (n : ℕ) (low : ℕ → Bool) (r b : ℕ) (sum : r + b + 1 ≡ n) (roo
   ]
 
   -- ---- the step from Courted
-
-  pub marriage_holds : (c : Configuration) → Courted c → (i : ℕ) → i < c.size → marries_now i ≡ true → guard c i (Rule.Marriage r) ≡ true
-  marriage_holds c k i lt on = grind (arith, nat_tests, eqb-true, low_r, may_marry)
 
   pub courted_others : (c : Configuration) → Courted c → (i : ℕ) → i < c.size → marries_now i ≡ false → is_privileged c i ≡ false
   courted_others c k i lt off =

@@ -58,7 +58,7 @@ any_stays c chosen l h p = tt
 pub modest_brings : (i : ℕ) → Brings Any (Modest i) i
 modest_brings i = grind (arith, nat_tests, modest_stays, modest_idle, modest_moves)
 
--- if m is false at each node that isn't married, this is also so after each step
+-- if m is false at each node that isn't married, the same holds after each step
 pub modest_each : Stays (Each Modest)
 modest_each c chosen l h p i lt = modest_stays c chosen l h i (p i lt)
 
@@ -162,12 +162,12 @@ pub record IsDawning (a b : ℕ) (c : Configuration) : Type 0 where
   pub lone : IsLone c
   pub either : IsRising c ⊎ IsFacing a b c
 
--- a dawning configuration stays so as long as the number of married nodes doesn't grow
+-- `IsDawning` stays true as long as the number of married nodes doesn't grow
 pub dawning_calm : (a b : ℕ) → CalmStays (IsDawning a b)
 dawning_calm a b c chosen l h calm p = grind (arith, nat_tests, modest_each, lone_stays, rising_stays, facing_stays)
 
--- in a dawning configuration, some node points at a higher node after the turn of a, as long as the number of married
--- nodes doesn't grow
+-- if `IsDawning` holds, some node points at a higher node after the turn of a, as long as the number of married nodes
+-- doesn't grow
 pub dawning_brings : (a b : ℕ) → CalmBrings (IsDawning a b) IsRising a
 dawning_brings a b = record {
   stays = λ c chosen l h calm p q. rising_stays c chosen l h calm p.modest p.lone q;

@@ -35,9 +35,7 @@ any_chosen (None ∷ xs) (suc i) e = any_chosen xs i e
 -- at a privileged node without a chosen move, some rule may be granted to each owner of the node
 pub may_move : (r : RosterValue) (w : World) (i : ℕ) → IsWorld w → i < size w → is_privileged (configuration w) i ≡ true → chosen_at w.chosen i ≡ None
     → (rule : Rule) × ((s : ℕ) → owns r (who.Student s) i ≡ true → is_legal r w (event.Grant s i rule) ≡ true)
-may_move r w i k lt privileged none =
-    let enabled = (privileged-means (configuration w) i k.network.lawful).0 privileged in
-    (enabled.0, λ s owner. owned_legal r w (event.Grant s i enabled.0) owner (grant_possible w s i enabled.0 lt none enabled.1))
+may_move r w i k lt privileged none = grind (arith, nat_tests, privileged-means, owned_legal, grant_possible)
 
 -- ---- if no node is privileged
 

@@ -7,7 +7,7 @@ use Rattle.std.proofs.lemmas.{List.append-nil, Bool.or_right, Bool.both_ways, Bo
 use Rattle.mml_ids.specs.Search.{some_below}
 use Rattle.mml_ids.proofs.SearchLemmas.{some_below-find, some_below-none}
 use Rattle.mml_rules.specs.{declared.rule.Rule.Rule, Rules.is_married, Rules.is_privileged, Rules.guard, Matching.IsStable, Matching.IsMaximal}
-use Rattle.mml_rules.specs.Configuration.{Configuration, IsLawful, holds}
+use Rattle.mml_rules.specs.Configuration.{Configuration, IsLawful}
 use Rattle.mml_rules.proofs.{RulesLemmas.married-null, RulesLemmas.married-at, MeaningLemmas.privileged-means}
 use Rattle.mml_lab.specs.Rosters.{RosterValue}
 use Rattle.mml_board.specs.{declared.event.Event.Event, World.World, World.size, World.configuration, World.IsWorld, Events.after, Runs.is_legal_list, Runs.world_of}
@@ -26,10 +26,7 @@ use Rattle.mml_convergence.proofs.ServedLemmas.{IsRun, run_parts, run_end, stabl
 open_link : (c : Configuration) (i j : ℕ) → IsLawful c → c.linked i j ≡ true → is_married c i ≡ false → is_married c j ≡ false → (a : ℕ) × (b : ℕ) × IsOpen a b c
 open_link c i j l linked ei ej = elim (cases_order i j) [
   | inl same ↦ absurd (apart c i j l linked same)
-  | inr o ↦ elim o [
-    | inl up ↦ (i, j, record { linked = linked; up = up; low = ei; high = ej })
-    | inr down ↦ (j, i, record { linked = l.symmetric i j linked; up = down; low = ej; high = ei })
-  ]
+  | inr o ↦ grind (arith, nat_tests)
 ]
 
 stable_or_open : (c : Configuration) → IsLawful c → IsHopeful c → IsStable c ⊎ ((a : ℕ) × (b : ℕ) × IsOpen a b c)
@@ -40,9 +37,7 @@ stable_or_open c l k = go (some_below c.size (is_privileged c)) refl
 
     by_rule : (i : ℕ) → i < c.size → (r : Rule) → guard c i r ≡ true → (a : ℕ) × (b : ℕ) × IsOpen a b c
     by_rule i lt Rule.Update g = absurd (self (is_married c i) (sym (right i lt) ∙ updates c i g))
-    by_rule i lt (Rule.Marriage j) g =
-        let m = marries c i j g in
-        open_link c i j l m.linked (married-null c i m.null) (married-at c j i l m.suitor ∙ ap (λ o. holds o j) m.null)
+    by_rule i lt (Rule.Marriage j) g = grind (arith, nat_tests, marries, open_link, married-null, married-at)
     by_rule i lt Rule.Seduction g = let s = seduced c i g in grind (arith, nat_tests, seduces c i s.0 g s.1, open_link, married-null)
     by_rule i lt Rule.Abandonment g = grind (arith, nat_tests, abandoned c i g, abandons, married-at, open_link)
 
@@ -140,11 +135,7 @@ module _ (r : RosterValue) (n m b : ℕ) (enough : Enough r n (m + 2) b) where
       let u = turn r w es k some run rounds in
       ends r w es k u (elim (calm_round m IsAware (λ i c. i < c.size → Hopeful i c) aware_calm hopeful_brings r w u.first u.here u.round (inr (le, aware))) [
         | inl more ↦ grown w es k u aware.settled here (λ fits. let fit = room fits in omega (arith, fit)) more
-        | inr q ↦
-            let at = q.1.0 in
-            from_hopeful (world_of w u.first) u.rest u.left u.on (same_size w u.first ∙ here) q.0
-            (record { settled = at.settled; aware = at.aware; hopeful = λ i lt. q.1.1 i lt lt })
-            (λ fits. let fit = room fits in let is = u.is in omega (arith, fit, is)) u.rounds
+        | inr q ↦ grind (arith, nat_tests, from_hopeful, same_size)
       ])
 
   from_settled : (w : World) (es : List Event) (k : ℕ) → IsRun r w es → size w ≡ n → m ≤ married_count (configuration w) → IsSettled (configuration w)
@@ -153,11 +144,7 @@ module _ (r : RosterValue) (n m b : ℕ) (enough : Enough r n (m + 2) b) where
       let u = turn r w es k (omega arith) run rounds in
       ends r w es k u (elim (calm_round m IsSettled (λ i c. i < c.size → Aware i c) settled_calm aware_brings r w u.first u.here u.round (inr (le, settled))) [
         | inl more ↦ grown w es k u settled here (λ fits. let fit = room fits in omega (arith, fit)) more
-        | inr q ↦
-            let is = u.is in
-            from_aware (world_of w u.first) u.rest u.left u.on (same_size w u.first ∙ here) q.0
-            (record { settled = q.1.0; aware = λ i lt. q.1.1 i lt lt }) (omega (arith, some, is))
-            (λ fits. let fit = room fits in omega (arith, fit, is)) u.rounds
+        | inr q ↦ grind (arith, nat_tests, from_aware, same_size)
       ])
 
   -- if all nodes are married, one round is enough
@@ -168,13 +155,7 @@ module _ (r : RosterValue) (n m b : ℕ) (enough : Enough r n (m + 2) b) where
       let same = same_size w u.first in
       ends r w es k u (elim (calm_round m IsSettled (λ i c. i < c.size → Aware i c) settled_calm aware_brings r w u.first u.here u.round (inr (le, settled))) [
         | inl more ↦ grown w es k u settled here (λ fits. absurd (omega (arith, fits, full))) more
-        | inr q ↦
-            let still = q.0 in
-            from_hopeful (world_of w u.first) u.rest u.left u.on (same ∙ here) still (record {
-              settled = q.1.0;
-              aware = λ i lt. q.1.1 i lt lt;
-              hopeful = λ i lt free. let one = single_counts (configuration (world_of w u.first)) i lt free in absurd (omega (arith, one, still, same, here, full));
-            }) (λ fits. absurd (omega (arith, fits, full))) u.rounds
+        | inr q ↦ grind (arith, nat_tests, from_hopeful, single_counts)
       ])
 
 -- if at most d nodes aren't married, `rounds_for d + 1` rounds are enough

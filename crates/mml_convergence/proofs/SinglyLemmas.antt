@@ -30,10 +30,6 @@ abbrev pub Stands : (c : Configuration) (t : ℕ → Bool) (rule : Rule) → Typ
 Stands c t rule = (d : Configuration) (n : ℕ) → n < c.size → t n ≡ true → IsMoved c d (above t (suc n)) rule
     → (guard d n rule ≡ true) × ((effect d n rule).p ≡ (effect c n rule).p) × ((effect d n rule).m ≡ (effect c n rule).m)
 
--- node i has the registers that the rule writes if i passes the test, and otherwise its old registers
-abbrev Turned : (c u : Configuration) (t : ℕ → Bool) (rule : Rule) → ℕ → Type 0
-Turned c u t rule i = (u.p i ≡ (moved c i (cond (t i) (Some rule) None)).p) × (u.m i ≡ (moved c i (cond (t i) (Some rule) None)).m)
-
 -- a node that isn't privileged at the beginning has its turn
 pub idle_served : (i : ℕ) (w : World) (es : List Event) → is_privileged (configuration w) i ≡ false → is_served i w es ≡ true
 idle_served i w [] e = ap not e
@@ -77,13 +73,7 @@ module _ (A : World → ℕ → Type 0) (r : RosterValue) (s k n : ℕ) (c : Con
         moves = omega (arith, o.one, rest.moves, counted);
         rounds = rest.rounds;
         ends = rest.ends;
-        turns = λ i i_in is. elim (cases_eq i m) [
-          | inl same ↦ subst (λ z. is_served z v (event.Grant s m rule ∷ event.Close ∷ rest.front) ≡ true) (sym same)
-              (served_later m v (event.Grant s m rule) (event.Close ∷ rest.front)
-              (served_now m (after v (event.Grant s m rule)) event.Close rest.front refl o.chosen))
-          | inr other ↦ served_later i v (event.Grant s m rule) (event.Close ∷ rest.front)
-              (served_later i (after v (event.Grant s m rule)) event.Close rest.front (rest.turns i (omega (arith, i_in, other)) is))
-        ];
+        turns = grind (arith, nat_tests, is, cases_eq, served_later, served_now);
       }
 
   part : (m : ℕ) (v : World) → m ≤ n → IsWorld v → IsQuiet v → IsMoved c (configuration v) (above t m) rule → Part m v

@@ -211,10 +211,7 @@ module _ (c : Configuration) (chosen : ℕ → Option Rule) (l : IsLawful c) (h 
     aware_moves i r e on = right_after i r e ∙ calm i on
 
     pub hopeful_stays : (i : ℕ) → Hopeful i c → Hopeful i next
-    hopeful_stays i hopeful free j to = elim (cases_Bool (holds (c.p i) j)) [
-      | inl on ↦ free_after j (hopeful (free_before i free) j (holds-true (c.p i) j on))
-      | inr off ↦ free_after j (grind (arith, nat_tests, makes, married-at, married-null))
-    ]
+    hopeful_stays i hopeful free j to = grind (arith, nat_tests, cases_Bool, free_after, free_before, holds-true, makes, married-at, married-null)
 
     pub hopeful_moves : (i : ℕ) (r : Rule) → Modest i c → chosen i ≡ Some r → Hopeful i next
     hopeful_moves i r modest e free j to = free_after j (grind (arith, nat_tests, makes, married-at, married-null, pointer_new i j r modest e free to))
@@ -299,10 +296,7 @@ module _ (c : Configuration) (chosen : ℕ → Option Rule) (l : IsLawful c) (h 
         kept null None f = inr (record { linked = k.linked; up = k.up; null = null; either = inl f })
         kept null (Some z) f = elim (cases_Bool (holds (c.p b) z)) [
           | inr off ↦ inl (record { who = b; whom = z; points = f; up = made_up b z (free_after b (lone b)) off f })
-          | inl on ↦ elim k.either [
-            | inl nowhere ↦ absurd (both_ways (holds (c.p b) z) (ap (λ o. holds o z) nowhere) on)
-            | inr to ↦ inr (record { linked = k.linked; up = k.up; null = null; either = inr (f ∙ sym (holds-true (c.p b) z on) ∙ to) })
-          ]
+          | inl on ↦ grind (arith, nat_tests, both_ways, holds-true)
         ]
 
         go : (o : Option Rule) → chosen a ≡ o → IsRising next ⊎ IsFacing a b next

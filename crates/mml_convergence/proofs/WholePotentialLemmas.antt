@@ -1,5 +1,5 @@
--- The sum of all potentials falls in a step by at least the number of moves. It is at most 2 for each link and 3 for
--- each node.
+-- The sum of all potentials falls in a step by at least the number of moves. The sum is at most 2 for each link and 3
+-- for each node.
 use Rattle.std.proofs.Common.{◌≡◌, ◌==◌, ℕ, zero, suc, ◌+◌, ◌*◌, ◌<◌, ◌≤◌, Bool, true, false, cond, not, ◌&&◌, Option, None, Some, is_some, inl, inr, refl, sym, ap, arith, nat_lt}
 use Rattle.std.specs.Option.{option_map_or}
 use Rattle.std.proofs.lemmas.Bool.{and_parts, and_from, and_right, ltb-true, lt-ltb, le-ltb, eqb-true, eq-eqb, false_from_ne_true, cases_Bool, Decides.nat_tests}
@@ -58,14 +58,7 @@ whole_fell c chosen l h = grind (arith, nat_tests, sum_charged, potential_fell, 
 one_pointer : (c : Configuration) (i n : ℕ) (o : Option ℕ) → count_below n (λ j. is_above c i j && holds o j) + cond (option_map_or (λ j. nat_lt j i) o false) 1 0 ≤ 1
 one_pointer c i n None = let none = count_none n (λ j. is_above c i j && false) (λ j lt. and_right (is_above c i j) false refl) in omega (arith, none)
 one_pointer c i n (Some k) = elim (cases_Bool (nat_lt k i)) [
-  | inl down ↦
-      let none = count_none n (λ j. is_above c i j && holds (Some k) j) (λ j lt. false_from_ne_true (is_above c i j && holds (Some k) j) (λ e.
-      let both = and_parts (is_above c i j) (holds (Some k) j) e in
-      let up = ltb-true i j (and_parts (c.linked i j) (nat_lt i j) both.0).1 in
-      let low = ltb-true k i down in
-      let same = eqb-true k j both.1 in omega arith)) in
-      let one : cond {A = ℕ} (nat_lt k i) 1 0 ≡ 1 = ap (λ b. cond b 1 0) down in
-      omega (arith, none, one)
+  | inl down ↦ grind (arith, nat_tests, count_none, false_from_ne_true, and_parts, ltb-true, eqb-true)
   | inr up ↦
       let once =
       count_one_at_most n k (λ j. is_above c i j && holds (Some k) j) (λ j e. sym (eqb-true k j (and_parts (is_above c i j) (holds (Some k) j) e).1)) in

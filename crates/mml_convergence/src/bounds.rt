@@ -35,7 +35,7 @@ ghost use Rattle.mml_convergence.specs.Crowd.{crowd_world};
 ghost use Rattle.mml_convergence.specs.Comb.{comb_world};
 
 /// On n nodes with L links, a legal list of grants, releases and closes applies at most 3n + 2 min(L, n²/4) moves, with
-/// n²/4 rounded down. This holds from any world, and however the moves are chosen.
+/// n²/4 rounded down. The bound holds from any world, and however the moves are chosen.
 pub fn moves_are_few()
     ensures { (r : RosterValue) (w : World) (es : List Event) → IsWorld w →
         is_legal_list r w es ≡ true → list_all is_of_step es ≡ true →
@@ -81,8 +81,8 @@ pub fn rounds_are_reached()
 {}
 
 /// The bound on moves is 3n + 2k for n nodes, if k is n²/4, rounded down. For each even n from 4 to 256, a run reaches
-/// it. For each odd n from 5 to 255, a run applies one move less. The run is a legal list of grants and closes in the
-/// dense network (`crowd_world`), in which one student owns all nodes.
+/// this bound. For each odd n from 5 to 255, a run applies one move less. The run is a legal list of grants and closes
+/// in the dense network (`crowd_world`), in which one student owns all nodes.
 pub fn moves_are_reached()
     ensures world { (n : ℕ) → 4 ≤ n → n ≤ MAX_NODES →
         IsWorld (crowd_world n) × (size (crowd_world n) ≡ n) }
@@ -98,10 +98,10 @@ pub fn moves_are_reached()
         (applied_over (crowd_world (2 * k + 1)) es ≡ 3 * (2 * k + 1) + 2 * most_courtships (2 * k + 1) - 1) }
 {}
 
-/// The comb (`comb_world`) of 4 nodes or more is a tree. It has one link less than nodes, and each node but the last is
-/// linked to a higher one. No legal list of grants, releases and closes applies more than 3 moves for each node and 2
-/// for each link. If one student owns all nodes, some legal list of grants and closes applies one move less than that,
-/// or two less if the number of nodes is odd. The law doesn't say whether other trees allow more moves.
+/// The comb (`comb_world`) of 4 nodes or more is a tree with one link less than nodes. Each node of the comb but the
+/// last is linked to a higher one. No legal list of grants, releases and closes applies more than 3 moves for each node
+/// and 2 for each link. If one student owns all nodes, some legal list of grants and closes applies one move less than
+/// that, or two less if the number of nodes is odd. The law doesn't say whether other trees allow more moves.
 pub fn a_comb_takes_nearly_the_most_moves()
     ensures world { (n : ℕ) → 4 ≤ n → n ≤ MAX_NODES →
         IsWorld (comb_world n) × (size (comb_world n) ≡ n) }

@@ -55,8 +55,8 @@ pub fn step_lowers_potential()
 {}
 
 /// The closes of a legal list of grants, releases and closes, from any world, apply at most 2 moves for each link and 3
-/// for each node. A close applies the moves that were granted and not released since; the bound holds whichever they
-/// are.
+/// for each node. A close applies the moves that were granted and not released since; the bound holds whichever moves
+/// were granted.
 pub fn moves_are_bounded()
     ensures { (r : RosterValue) (w : World) (es : List Event) → IsWorld w →
         is_legal_list r w es ≡ true → list_all is_of_step es ≡ true →
@@ -71,9 +71,9 @@ pub fn closes_are_bounded()
         count_closes es ≤ 2 * link_count w.network + 3 * size w }
 {}
 
-/// The bound on all moves is 2 for each link and 3 for each node. It is reached on a triangle with a tail, a network
-/// with 4 links and 4 nodes. If one student owns all nodes, some legal list of grants and closes applies 20 moves
-/// there.
+/// The bound on all moves is 2 for each link and 3 for each node. This bound is reached on a triangle with a tail, a
+/// network with 4 links and 4 nodes. If one student owns all nodes, some legal list of grants and closes applies 20
+/// moves there.
 pub fn bound_is_reached()
     ensures roster { IsRoster sole_owner }
     ensures world { IsWorld triangle_world }
@@ -93,9 +93,9 @@ pub fn privileged_nodes_may_move()
         is_legal r w (Event.Grant s i rule) ≡ true) }
 {}
 
-/// Let a legal list of grants, releases and closes, from any world, have 2n rounds for n nodes. Then it ends with no
-/// node privileged, and the pairs are a maximal matching, however the moves are chosen. A list that ends with a
-/// privileged node has fewer than `rounds_for n` rounds, which are four for each two nodes and one for a node left
+/// Let a legal list of grants, releases and closes, from any world, have 2n rounds for n nodes. Then no node is
+/// privileged after the list, and the pairs are a maximal matching, however the moves are chosen. A list that ends with
+/// a privileged node has fewer than `rounds_for n` rounds, which are four for each two nodes and one for a node left
 /// over.
 pub fn rounds_are_bounded()
     ensures stable { (r : RosterValue) (w : World) (es : List Event) → IsWorld w →
@@ -136,7 +136,7 @@ pub fn stable_is_final()
 
 /// Two facts hold if each node has an owner. If no grant and no close is legal after a legal list, no node is
 /// privileged, and the pairs are a maximal matching. From every world, some legal list of grants and closes ends with
-/// no node privileged. It has at most 4 events for each link and 6 for each node.
+/// no node privileged. Such a list has at most 4 events for each link and 6 for each node.
 pub fn runs_end_stable()
     ensures ended { (r : RosterValue) (w : World) (es : List Event) → IsWorld w →
         EachHasOwner r (size w) → is_legal_list r w es ≡ true → IsOver r (world_of w es) →

@@ -1,4 +1,4 @@
--- A command for an event is never answered by showing something, and no other command is granted an event.
+-- A command that asks for an event is never shown anything, and no other command is granted an event.
 use Rattle.std.{proofs.Common.◌≡◌, proofs.Common.◌≢◌, proofs.Common.ℕ, proofs.Common.true, proofs.Common.false, proofs.Common.List, proofs.Common.Result, proofs.Common.arith, specs.Result.IfOk}
 use Rattle.mml_lab.specs.{declared.who.Who.Who, Rosters.RosterValue}
 use Rattle.mml_board.specs.{declared.event.Event.Event, declared.denial.Denial.Denial, World.World}

@@ -105,7 +105,8 @@ module _ (ids : List ℕ) (r : RosterValue) (limit : ℕ) (is_halted : Bool) (s 
   choosing_alike : (i : ℕ) (q : Option Rule) → i < length ids → Alike r s (choosing w i q) (choosing v i q)
   choosing_alike i q l = grind (arith, nat_tests, chosen_alike)
 
-  -- the ruling is the same in both worlds, and the worlds after it look the same to the student
+  -- the permission l leads to the same ruling in both worlds, and the worlds after this ruling look the same to the
+  -- student
   abbrev Keeps : Leave → Type 0
   Keeps l =
       (ruling_on_leave limit is_halted w l ≡ ruling_on_leave limit is_halted v l) × Alike r s (after_ruling w (ruling_on_leave limit is_halted w l)) (after_ruling v (ruling_on_leave limit is_halted v l))
@@ -151,7 +152,7 @@ pub same_ruling : (ids : List ℕ) (r : RosterValue) (limit : ℕ) (is_halted : 
     → Alike r s w v → ruling ids r limit is_halted w (who.Student s) k ≡ ruling ids r limit is_halted v (who.Student s) k
 same_ruling ids r limit is_halted w v s k in_w in_v a = (both ids r limit is_halted s w v in_w in_v a k).0
 
--- the worlds after this ruling look the same to the student, too
+-- if two worlds look the same to a student, they still do so after the ruling on a command of the student
 pub alike_afterwards : (ids : List ℕ) (r : RosterValue) (limit : ℕ) (is_halted : Bool) (w v : World) (s : ℕ) (k : Command) → IsWorldOf ids w → IsWorldOf ids v
     → Alike r s w v
     → Alike r s (after_ruling w (ruling ids r limit is_halted w (who.Student s) k)) (after_ruling v (ruling ids r limit is_halted v (who.Student s) k))

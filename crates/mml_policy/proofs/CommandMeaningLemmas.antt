@@ -47,11 +47,11 @@ named-is ids p q h = grind (arith, bind-ok, node-ok)
 pub named-from : (ids : List ℕ) (p q : Option ℕ) → IsNamed ids p q → pointer_step ids p BadRegister ≡ Ok q
 named-from ids p q h = grind (arith, bind-from)
 
--- if a pointer passes the test, it is null or leads to a neighbour
+-- if `may_point` is true for a pointer, the pointer is null or leads to a neighbour
 pub register-is : (w : World) (i : ℕ) (q : Option ℕ) → may_point (configuration w) i q ≡ true → IsRegister w i q
 register-is w i q h = grind arith
 
--- if a pointer is null or leads to a neighbour, it passes the test
+-- if a pointer is null or leads to a neighbour, `may_point` is true for it
 pub register-from : (w : World) (i : ℕ) (q : Option ℕ) → IsRegister w i q → may_point (configuration w) i q ≡ true
 register-from w i q h = grind arith
 

@@ -83,7 +83,7 @@ module _ (ids : List ℕ) (r : RosterValue) (w : World) (x : Who) where
         → ¬ IsRegister w i q
     unfit i q found fails other named fits = grind (arith, same_pointer, named-from, both_ways, register-from)
 
-    -- the clause of the pointer, and the event
+    -- the last clause of a fault, which tests the pointer, and the event of the fault
     abbrev with_register : ℕ → Option ℕ → Result Event Denial
     with_register i q = need (may_point (configuration w) i q) BadRegister >> Ok ((event.Fault i (record { p = q; m = m })))
 
@@ -104,8 +104,8 @@ module _ (ids : List ℕ) (r : RosterValue) (w : World) (x : Who) where
   -- ---- a link and a cut
 
   module _ (first second : ℕ) where
-    -- if `why` holds of each denial that the clauses about the teacher, about the two nodes and after them can have, it
-    -- holds of the denial of the command
+    -- let `why` hold of `NotTeacher` if the asker isn't the teacher, of `NoNode` if a node doesn't exist, and otherwise
+    -- of each denial of the remaining clauses; then `why` holds of each denial of the command
     both_deny : (why : Denial → Type 0) (rest : ℕ → ℕ → Result Event Denial) → (x ≢ who.Teacher → why NotTeacher) → (LacksAnEnd ids x first second → why NoNode)
         → ((a b : ℕ) → IsAskedOfBoth ids x first second a b → IfErr (rest a b) why) → IfErr (asked_of_both ids x first second rest) why
     both_deny why rest alone lacks found = grind (arith, need-deny, no_teacher, bind-deny, node-err, teacher_is, node-ok)

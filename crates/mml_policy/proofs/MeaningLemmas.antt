@@ -90,11 +90,8 @@ module _ (ids : List ℕ) (r : RosterValue) (w : World) (x : Who) (id : ℕ) (a 
       bind-deny why (student x NotOwner) _ no_student (λ s is.
       bind-deny why (node ids id NotOwner) _ no_node (λ i there.
       need-deny why (owns r x i) _ _ (no_owner i (node-ok ids id NotOwner i there)) (λ owner.
-      let own : IsOwner ids r x id s i = record {
-        student = student-ok x NotOwner s is;
-        node = node-ok ids id NotOwner i there;
-        owner = owner_is r x s i (student-ok x NotOwner s is) owner;
-      } in
+      let said = student-ok x NotOwner s is in
+      let own : IsOwner ids r x id s i = record { student = said; node = node-ok ids id NotOwner i there; owner = owner_is r x s i said owner } in
       need-deny why (at == w.number) _ _ (λ late. record { s = s; i = i; own = own; late = eqb-false at w.number late; told = refl }) (λ now.
       let current : at ≡ w.number = eqb-true at w.number now in
       need-deny why (is_none (chosen_at w.chosen i)) _ _ (λ taken. record { s = s; i = i; own = own; current = current; chosen = some-is _ taken }) (λ free.

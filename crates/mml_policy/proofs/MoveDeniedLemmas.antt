@@ -23,7 +23,7 @@ module _ (ids : List ℕ) (r : RosterValue) (w : World) (x : Who) (id : ℕ) (a 
   abbrev with_rule : ℕ → ℕ → Rule → Result Event Denial
   with_rule s i q = need (guard (configuration w) i q) Guard >> Ok ((event.Grant s i q))
 
-  -- the clauses after that of the owner
+  -- the clauses of a move that come after the clause about the owner
   abbrev owned : ℕ → ℕ → Result Event Denial
   owned s i = need (at == w.number) (Stale w.number) >> (need (is_none (chosen_at w.chosen i)) Chosen >> (rule_step ids a Guard >>= with_rule s i))
 

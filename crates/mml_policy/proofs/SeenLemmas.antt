@@ -1,4 +1,4 @@
--- When a see is answered, with what, and why it is denied.
+-- When a `see` is answered, what the answer shows, and why a `see` is denied.
 use Rattle.std.proofs.Common.{◌≡◌, ◌↔◌, ℕ, Bool, cond, nat_le, List, Option, Some, Result, Ok, Err, refl, ap, arith}
 use Rattle.std.proofs.lemmas.Bool.{cases_Bool}
 use Rattle.mml_ids.specs.Ids.{rank_in}

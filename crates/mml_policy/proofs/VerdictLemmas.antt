@@ -21,10 +21,6 @@ use Rattle.mml_board.specs.declared.act.Act.TheVariants as acts
 pub settled-grant : (s : Result Leave Denial) (e : Event) → settled s ≡ verdicts.Grant e → s ≡ Ok (Grant e)
 settled-grant s e h = grind arith
 
--- if the verdict is a denial, the clauses end in this denial
-pub settled-deny : (s : Result Leave Denial) (d : Denial) → settled s ≡ verdicts.Deny d → s ≡ Err d
-settled-deny s d h = grind arith
-
 -- if the verdict on an act grants e, the clauses of the act lead to e
 pub act-grant : (s : Result Event Denial) (e : Event) → settled (granted s) ≡ verdicts.Grant e → s ≡ Ok e
 act-grant s e h = grind arith
@@ -113,7 +109,7 @@ module _ (ids : List ℕ) (r : RosterValue) (w : World) (x : Who) where
   good (command.Release id) = of_act (acts.Release (rank_in ids id)) (λ same. found id same)
   good command.Report = need-if view (is_teacher x) _ _ (λ _. (refl, λ same. tt))
 
-  -- only acts may get the permission for an event
+  -- if the clauses of a command permit something, it is an event exactly if the command is an act
   pub of_kind : (c : Command) (b : Bool) → is_act c ≡ b → IfOk (clauses ids r w x c) (IsEvent b)
   of_kind c b h = grind (arith, both_of, good)
 

@@ -55,17 +55,17 @@ has_around r c x i near around owned both linked is_around mine is_both j =
     ap (λ s. sets.contains s j) is_both ∙ sets.contains-intersection nat_cmp_total around owned j
     ∙ (λ t. sets.contains (is_around t) j && mine j t) ∙ ap (λ b. b && owns r x j) (has_insert near i j ∙ ap (λ b. eqb j i || b) (linked j))
 
--- if x owns i itself or a node linked to i, the test of i and its neighbours is true
+-- if x owns i or a node linked to i, `owns` or `owns_neighbour` is true for i
 around_found : (r : RosterValue) (c : Configuration) (x : Who) (i j : ℕ) → IsLawful c → owned_around r c x i j ≡ true
     → true ≡ (owns r x i || owns_neighbour r c x i)
 around_found r c x i j lawful is = grind (arith, and_parts, or_cases, or_left, eqb-true, or_right, owner_found, and_from)
 
--- if x owns neither i nor a node linked to i, the test of i and its neighbours is false
+-- if x owns neither i nor a node linked to i, both `owns` and `owns_neighbour` are false for i
 none_around : (r : RosterValue) (c : Configuration) (x : Who) (i : ℕ) → ((j : ℕ) → owned_around r c x i j ≡ false)
     → false ≡ (owns r x i || owns_neighbour r c x i)
 none_around r c x i none = grind (arith, no_owner, or_right, or_left, eq-eqb, false≢true)
 
--- a search of the set of x's nodes among i and its neighbours finds one exactly if x owns i or a neighbour of i
+-- a search for a node of x among i and its neighbours finds one exactly if x owns i or a neighbour of i
 pub around_is_some : (r : RosterValue) (c : Configuration) (x : Who) (i : ℕ) (both : FinSet nat_cmp) (found : Option ℕ) → IsLawful c
     → ((j : ℕ) → sets.contains both j ≡ owned_around r c x i j) → IfSome found (λ j. sets.contains both j ≡ true) → IfNone found (both ≡ sets.empty)
     → is_some found ≡ (owns r x i || owns_neighbour r c x i)

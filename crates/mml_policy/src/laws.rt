@@ -1,12 +1,12 @@
 //! Laws of the policy. Each is the contract of a function that does nothing.
 //!
-//! A command asks to be shown something (a see, a look or a report), or for an event. It is granted if all its clauses,
-//! the conditions for it, hold; otherwise it is denied by the first that doesn't. This decision is the verdict. The
-//! ruling is the verdict, or a refusal in place of a grant. Such a refusal means that the lab allows no more events, or
-//! that the journal is halted. A grant chooses a move for a node, a release drops it, and a close applies all chosen
-//! moves at once. A fault sets a node's registers, a link joins two nodes, and a cut removes a link. The registers of a
-//! node are its pointer p and m, which is true or false. An event is legal if all clauses of its request hold. A node
-//! is privileged if some rule is enabled there.
+//! A command asks to be shown something (a see, a look or a report), or for an event. A command is granted if all its
+//! clauses, the conditions for it, hold; otherwise it is denied by the first that doesn't. This decision is the
+//! verdict. The ruling is the verdict, or a refusal in place of a grant. Such a refusal means that the lab allows no
+//! more events, or that the journal is halted. A grant chooses a move for a node, a release drops it, and a close
+//! applies all chosen moves at once. A fault sets a node's registers, a link joins two nodes, and a cut removes a link.
+//! The registers of a node are its pointer p and m, which is true or false. An event is legal if all clauses of its
+//! request hold. A node is privileged if some rule is enabled there.
 ghost use Rattle.std.specs.Prelude.{◌≡◌, ◌≢◌, ◌<◌, ◌↔◌, ◌⊎◌, ℕ, Bool, List, Option, None, Some, true, false, length, slice_index};
 ghost use Rattle.mml_rules.specs.declared.rule.Rule.{Rule};
 ghost use Rattle.mml_rules.specs.Configuration.{Configuration, IsLawful};
@@ -51,8 +51,8 @@ pub fn visible_means_facts()
 {}
 
 /// A move is granted exactly if four facts hold. The asker owns the node, the number in the request is that of the
-/// current configuration, no move is chosen for the node, and the rule may be applied there. Otherwise it is denied by
-/// the first of these that doesn't hold.
+/// current configuration, no move is chosen for the node, and the rule may be applied there. Otherwise the move is
+/// denied by the first of these facts that doesn't hold.
 pub fn a_move_takes_four_facts()
     ensures granted { (ids : List ℕ) (r : RosterValue) (w : World) (x : Who) (id : ℕ)
         (asked : Asked) (at : ℕ) (e : Event) → IsLawful (configuration w) →
@@ -100,37 +100,37 @@ pub fn a_look_shows_what_is_visible()
         (x ≡ who.Teacher) ⊎ (owns r x i ≡ true) → ShowsWhatIsVisible r w x (look_of w i) }
 {}
 
-/// A close is granted exactly if the teacher asks and some move is chosen. Otherwise it is denied by the first of the
-/// two that doesn't hold.
+/// A close is granted exactly if the teacher asks and some move is chosen. Otherwise the close is denied by the first
+/// of the two facts that doesn't hold.
 pub fn a_close_takes_a_chosen_node()
     ensures { (ids : List ℕ) (r : RosterValue) (w : World) (x : Who) →
         IsDecided ids r w x command.Close (MayClose w) (DeniesClose w x) }
 {}
 
 /// A fault is granted exactly if three facts hold. The teacher asks, some node has the identifier that the fault names,
-/// and the node's new pointer is null or a neighbour. Otherwise it is denied by the first of the three that doesn't
-/// hold.
+/// and the node's new pointer is null or a neighbour. Otherwise the fault is denied by the first of the three facts
+/// that doesn't hold.
 pub fn a_fault_takes_a_neighbour()
     ensures { (ids : List ℕ) (r : RosterValue) (w : World) (x : Who) (id : ℕ) (p : Option ℕ) (m : Bool) →
         IsDecided ids r w x (command.Fault id p m) (MayFault ids w id p m) (DeniesFault ids w x id p) }
 {}
 
 /// A link is granted exactly if the teacher asks, both identifiers are those of nodes, and these nodes are different
-/// and aren't linked. Otherwise it is denied by the first of these facts that doesn't hold.
+/// and aren't linked. Otherwise the link is denied by the first of these facts that doesn't hold.
 pub fn a_link_takes_two_unlinked_nodes()
     ensures { (ids : List ℕ) (r : RosterValue) (w : World) (x : Who) (first second : ℕ) →
         IsDecided ids r w x (command.Link first second) (MayLink ids w first second) (DeniesLink ids w x first second) }
 {}
 
-/// A cut is granted exactly if the teacher asks, both identifiers are those of nodes, and these are linked. Otherwise
-/// it is denied by the first of the three that doesn't hold.
+/// A cut is granted exactly if the teacher asks, both identifiers are those of nodes, and these nodes are linked.
+/// Otherwise the cut is denied by the first of the three facts that doesn't hold.
 pub fn a_cut_takes_two_linked_nodes()
     ensures { (ids : List ℕ) (r : RosterValue) (w : World) (x : Who) (first second : ℕ) →
         IsDecided ids r w x (command.Cut first second) (MayCut ids w first second) (DeniesCut ids w x first second) }
 {}
 
-/// A release is granted exactly if the teacher asks, some node has the identifier that it names, and the node has a
-/// chosen move. Otherwise it is denied by the first of the three that doesn't hold.
+/// A release is granted exactly if the teacher asks, some node has the identifier that the release names, and the node
+/// has a chosen move. Otherwise the release is denied by the first of the three facts that doesn't hold.
 pub fn a_release_takes_a_chosen_node()
     ensures { (ids : List ℕ) (r : RosterValue) (w : World) (x : Who) (id : ℕ) →
         IsDecided ids r w x (command.Release id) (MayRelease ids w id) (DeniesRelease ids w x id) }

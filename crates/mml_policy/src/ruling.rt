@@ -23,9 +23,9 @@ use std::alloc::Global;
 pub enum Ruling {
     /// A clause doesn't hold.
     Denied(Denial),
-    /// All clauses of a see hold. These are the registers that it shows.
+    /// All clauses of a see hold. The see shows these registers.
     Seen(See),
-    /// All clauses of a look hold. This is the node that it shows, with its neighbours.
+    /// All clauses of a look hold. The look shows this node, with its neighbours.
     Looked(Look),
     /// All clauses of a report hold. The caller makes the report.
     Reported,
@@ -59,7 +59,7 @@ impl Ruling {
 /// `Reported`; the caller makes the report. The ruling on an act is then `Full` if there are `limit` events already,
 /// and otherwise `Journal` if `is_halted` is set. In any other case it is the granted event with its effect. Only a
 /// look allocates. Returns `Memory` if memory runs out.
-// It isn't inlined: when it was, a hidden node took other steps than one that doesn't exist.
+// `rule_on` isn't inlined. When it was, a hidden node took other steps than a node that doesn't exist.
 #[inline(never)]
 pub fn rule_on(
     alloc: Global,

@@ -1,27 +1,24 @@
 -- Each student who is known in a record is a student of the lab, and is denied something only by clauses 1 to 4.
-use Rattle.std.proofs.Common.{◌≡◌, ℕ, Bool, true, List, [], ◌∷◌, length, take, refl, sym, subst, Option, None, Some, Result, arith}
-use Rattle.std.specs.Prelude.{IfSome, position, option_map, if◌then◌else◌}
+use Rattle.std.proofs.Common.{◌≡◌, ℕ, Bool, true, List, [], ◌∷◌, length, take, sym, subst, Option, None, Some, arith}
+use Rattle.std.specs.Prelude.{IfSome, option_map, if◌then◌else◌}
 use Rattle.std.proofs.lemmas.{List.Quantifiers.position-Some, Bool.Decides.nat_tests}
 use Rattle.mml_lab.specs.{declared.who.Who.Who, Labs.LabValue, Rosters.IsPrincipal, Rosters.principal, Rosters.has_name_and_key}
 use Rattle.mml_board.specs.declared.event.Event.{Event}
-use Rattle.mml_codec.specs.declared.{request.LineFault.LineFault, request.Request.Request, reply.Reply.Reply}
-use Rattle.mml_codec.specs.Greetings.{greeting, admitted}
+use Rattle.mml_codec.specs.declared.{request.Request.Request, reply.Reply.Reply}
+use Rattle.mml_codec.specs.Greetings.{greeting}
 use Rattle.mml_tally.specs.{declared.ask.Ask.Ask, declared.student_denials.StudentDenial.StudentDenial, StudentDenials.clause_named, AskMeaning.is_numbered, AskMeaning.IsKnownOf, AskMeaning.AreAsksOf}
-use Rattle.mml_record.specs.{declared.kept_entry.Entry.Entry, Certified.FitsGreeting, Certified.FitsAsked, Certified.Fits, Asks.student_of, Asks.clause_in, Asks.AreAskedOf, DenialNames.denial_in}
+use Rattle.mml_record.specs.{declared.kept_entry.Entry.Entry, Certified.FitsGreeting, Certified.Fits, Asks.student_of, Asks.clause_in, Asks.AreAskedOf}
 use Rattle.mml_record.proofs.NamedAskersLemmas.{named_of}
 use Rattle.mml_lab.specs.declared.who.Who.TheVariants as who
 use Rattle.mml_record.specs.declared.kept_entry.Entry.TheVariants as entry
-use Rattle.mml_tally.specs.declared.student_denials.StudentDenial.TheVariants as named
 
 -- ---- a denial that the tally names has a clause from 1 to 4
 
 one_numbered : (d : StudentDenial) → is_numbered (Some (clause_named d)) ≡ true
-one_numbered named.Greeted = refl
-one_numbered _ = refl
+one_numbered d = grind (arith, nat_tests)
 
 names_numbered : (name : Option StudentDenial) → is_numbered (option_map clause_named name) ≡ true
-names_numbered None = refl
-names_numbered (Some d) = one_numbered d
+names_numbered name = grind (arith, nat_tests, one_numbered)
 
 numbered : (denied : Option ℕ) (name : Option StudentDenial) → denied ≡ option_map clause_named name → is_numbered denied ≡ true
 numbered denied name same = subst (λ (c : Option ℕ). is_numbered c ≡ true) (sym same) (names_numbered name)
@@ -32,36 +29,23 @@ module _ (lab : LabValue) (l first : List Event) where
   abbrev IsKnownHere : Option Who → Type 0
   IsKnownHere x = IfSome x (IsPrincipal lab.roster)
 
-  student_there : (name key : List ℕ) (o : Option ℕ) → position (has_name_and_key name key) lab.roster.students ≡ o → IsKnownHere (option_map who.Student o)
-  student_there name key o same = grind (arith, nat_tests, position-Some)
-
   found_there : (b : Bool) (o : Option Who) → IsKnownHere o → IsKnownHere (if b then Some who.Teacher else o)
   found_there b o h = grind (arith, nat_tests)
 
   principal_there : (name key : List ℕ) → IsKnownHere (principal lab.roster name key)
-  principal_there name key = found_there (has_name_and_key name key lab.roster.teacher) _ (student_there name key _ refl)
-
-  admitted_there : (found : Option Who) → IsKnownHere found → (r : Reply) (known' : Option Who) → FitsGreeting lab l first None (admitted found) r known'
-      → IsKnownHere known'
-  admitted_there found h r known' f = grind (arith, nat_tests)
+  principal_there name key = found_there (has_name_and_key name key lab.roster.teacher) _ (grind (arith, nat_tests, position-Some))
 
   greeted_there : (known : Option Who) → IsKnownHere known → (q : Request) (r : Reply) (known' : Option Who)
       → FitsGreeting lab l first known (greeting lab.roster known q) r known' → IsKnownHere known'
-  greeted_there known k q r known' f = grind (arith, nat_tests, admitted_there, principal_there)
-
-  asked_there : (known : Option Who) → IsKnownHere known → (asked : Result Request LineFault) (r : Reply) (known' : Option Who)
-      → FitsAsked lab l first known asked r known' → IsKnownHere known'
-  asked_there known k asked r known' f = grind (arith, nat_tests, greeted_there)
+  greeted_there known k q r known' f = grind (arith, nat_tests, principal_there)
 
   one_there : (known : Option Who) → IsKnownHere known → (line : List ℕ) (r : Reply) (known' : Option Who) → Fits lab l first known line r known'
       → IsKnownHere known'
-  one_there known k line r known' fact = grind (arith, nat_tests, asked_there)
+  one_there known k line r known' fact = grind (arith, nat_tests, greeted_there)
 
   known_of : (known : Option Who) → IsKnownHere known → (line : List ℕ) (r : Reply) (known' : Option Who) → Fits lab l first known line r known'
       → IsKnownOf (length lab.roster.students) (student_of known) (clause_in r)
-  known_of None k line r known' f = tt
-  known_of (Some who.Teacher) k line r known' f = tt
-  known_of (Some (who.Student s)) k line r known' f = (k, numbered (clause_in r) (denial_in r) (named_of lab l first (Some (who.Student s)) line r known' f))
+  known_of known k line r known' f = grind (arith, nat_tests, numbered, named_of)
 
 -- ---- all entries
 

@@ -1,5 +1,6 @@
 -- The members of a reply's JSON text from `clause` on. A denial has them, and no other reply.
-use Rattle.std.proofs.Common.{◌≡◌, ℕ, List, ◌∷◌, ◌++◌, decimal, refl, ◌∙◌, Option, None}
+use Rattle.std.proofs.lemmas.Bool.Decides.{nat_tests}
+use Rattle.std.proofs.Common.{◌≡◌, ℕ, List, ◌∷◌, ◌++◌, decimal, refl, ◌∙◌, Option, None, arith}
 use Rattle.mml_lab.specs.Rosters.{RosterValue}
 use Rattle.mml_codec.specs.{declared.reply.Reply.Reply, Facts.object_text, Replies.text}
 use Rattle.mml_journal.proofs.CuttingLemmas.{cut_here}
@@ -31,12 +32,4 @@ IsOther _ = Unit {0}
 
 pub none_in : (ids : List ℕ) (roster : RosterValue) (r : Reply) → IsOther r → denial_members (text ids roster r) ≡ None
 unfolding object_text from_clause if_clause
-none_in ids roster (replies.See s) other = behind_number s.at _ None refl
-none_in ids roster (replies.Look l) other = behind_number l.at _ None refl
-none_in ids roster (replies.Move at place node kind) other = behind_number at _ None refl
-none_in ids roster (replies.Close at place moved) other = behind_number at _ None refl
-none_in ids roster (replies.Fault at place node dropped) other = behind_number at _ None refl
-none_in ids roster (replies.Release at place node) other = behind_number at _ None refl
-none_in ids roster (replies.Report r) other = behind_number r.at _ None refl
-none_in ids roster (replies.Deny d) other = absurd other
-none_in ids roster _ other = first_member _ None refl
+none_in ids roster r other = grind (arith, nat_tests, behind_number, first_member)

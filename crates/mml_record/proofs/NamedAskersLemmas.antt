@@ -1,28 +1,25 @@
 -- If a known student is denied something in a record, the tally has a name for the denial, and the clause is the one
 -- that belongs to this name.
-use Rattle.std.proofs.Common.{◌≡◌, ℕ, Bool, true, List, [], ◌∷◌, take, refl, sym, subst, Option, None, Some, Result, Err, arith}
+use Rattle.std.proofs.Common.{◌≡◌, ℕ, Bool, true, List, [], ◌∷◌, refl, sym, subst, Option, None, Some, Result, Err, arith}
 use Rattle.std.{specs.Prelude.IfErr, specs.Prelude.is_some, specs.Prelude.option_map, specs.Prelude.if◌then◌else◌, specs.Option.ok_or, proofs.lemmas.Bool.Decides.nat_tests}
 use Rattle.mml_ids.specs.Ids.{rank_in}
 use Rattle.mml_ids.proofs.GivesLemmas.{bind-deny, need-deny}
 use Rattle.mml_rules.specs.declared.rule.Rule.{Rule}
 use Rattle.mml_lab.specs.{declared.who.Who.Who, Labs.LabValue, Rosters.RosterValue, Rosters.owns}
-use Rattle.mml_board.specs.{declared.denial.Denial.Denial, declared.done.Done.Done, declared.event.Event.Event, Clauses.check, Events.done_by, Lists.world_in, World.World, World.configuration}
+use Rattle.mml_board.specs.{declared.denial.Denial.Denial, declared.event.Event.Event, Clauses.check, Events.done_by, Lists.world_in, World.World}
 use Rattle.mml_board.proofs.DenialsLemmas.{of_err}
-use Rattle.mml_policy.specs.{declared.command.Command.Command, declared.verdict.Leave.Leave, Clauses.node, Clauses.rule_of, Rulings.ruled, Rulings.after_ruling, Verdicts.clauses, Visible.is_visible}
-use Rattle.mml_policy.specs.declared.ruling.Ruling.{Ruling, TheVariants.Full, TheVariants.Journal, TheVariants.Granted}
+use Rattle.mml_policy.specs.{declared.command.Command.Command, declared.verdict.Leave.Leave, Clauses.rule_of, Rulings.ruled, Verdicts.clauses}
+use Rattle.mml_policy.specs.declared.ruling.Ruling.{TheVariants.Full, TheVariants.Journal, TheVariants.Granted}
 use Rattle.mml_policy.proofs.VerdictLemmas.{granted-deny}
-use Rattle.mml_codec.specs.{declared.request.LineFault.LineFault, declared.request.Request.Request, declared.reply.Reply.Reply, Greetings.greeting, Rulings.reply_of, Rulings.reply_of_done}
+use Rattle.mml_codec.specs.{declared.request.Request.Request, declared.reply.Reply.Reply, Greetings.greeting, Rulings.reply_of}
 use Rattle.mml_window.specs.Rulings.{ruling_at}
 use Rattle.mml_tally.specs.{declared.ask.Ask.Ask, StudentDenials.student_denial, StudentDenials.clause_named, StudentDenials.IsNamed, StudentDenials.AreNamed}
 use Rattle.mml_record.specs.{declared.kept_entry.Entry.Entry, Asks.student_of, Asks.clause_in, Asks.asks_in, Asks.AreAskedOf, DenialNames.denial_in}
-use Rattle.mml_record.specs.Certified.{FitsRuling, FitsGreeting, FitsAsked, Fits, IsRecordOf}
+use Rattle.mml_record.specs.Certified.{FitsRuling, FitsGreeting, Fits, IsRecordOf}
 use Rattle.mml_record.proofs.AsksLemmas.{asked_of_rules}
 use Rattle.mml_lab.specs.declared.who.Who.TheVariants as who
 use Rattle.mml_board.specs.declared.act.Act.TheVariants as acts
-use Rattle.mml_board.specs.declared.denial.Denial.TheVariants as denial
 use Rattle.mml_policy.specs.declared.command.Command.TheVariants as command
-use Rattle.mml_codec.specs.declared.request.Request.TheVariants as requests
-use Rattle.mml_codec.specs.declared.reply.Reply.TheVariants as replies
 use Rattle.mml_record.specs.declared.kept_entry.Entry.TheVariants as entry
 use Rattle.mml_record.specs.declared.stage.Stage.TheVariants as stages
 
@@ -42,72 +39,44 @@ module _ (ids : List ℕ) (r : RosterValue) (w : World) (s : ℕ) where
   move_denied found rule at = grind (arith, nat_tests, bind-deny, need-deny, node_err, rule_err)
 
   student_denied : (c : Command) → IfErr (clauses ids r w (who.Student s) c) IsOfStudent
-  student_denied (command.See id) =
-      bind-deny IsOfStudent (node ids id denial.Hidden) _ (of_err IsOfStudent (rank_in ids id) denial.Hidden refl) (λ i there.
-      need-deny IsOfStudent (is_visible r (configuration w) (who.Student s) i) _ _ (λ no. refl) (λ visible. tt))
-  student_denied (command.Look id) =
-      bind-deny IsOfStudent (node ids id denial.NotOwner) _ (of_err IsOfStudent (rank_in ids id) denial.NotOwner refl) (λ i there.
-      need-deny IsOfStudent (owns r (who.Student s) i) _ _ (λ no. refl) (λ may. tt))
+  student_denied (command.See id) = grind (arith, nat_tests, bind-deny, of_err, need-deny)
+  student_denied (command.Look id) = grind (arith, nat_tests, bind-deny, of_err, need-deny)
   student_denied (command.Move id a at) = granted-deny IsOfStudent _ (move_denied (rank_in ids id) (rule_of ids a) at)
-  student_denied command.Close = refl
-  student_denied (command.Fault id p m) = refl
-  student_denied (command.Link first second) = refl
-  student_denied (command.Cut first second) = refl
-  student_denied (command.Release id) = refl
-  student_denied command.Report = refl
+  student_denied _ = refl
 
 -- ---- the reply to a known student names its denial
 
--- the clause in the reply is that of the denial that it names; if it names none, it has no clause
+-- the clause in the reply is that of the denial that the reply names; a reply that names no denial has no clause
 abbrev IsNamedIn : Reply → Type 0
 IsNamedIn r = clause_in r ≡ option_map clause_named (denial_in r)
 
-denial_named : (d : Denial) → IsOfStudent d → IsNamedIn (replies.Deny d)
-denial_named d h = grind (arith, nat_tests)
-
-done_named : (at place : ℕ) (d : Done) → IsNamedIn (reply_of_done at place d)
-done_named at place d = grind (arith, nat_tests)
-
 told_named : (v w : World) (e : Event) (full halted : Bool)
     → IsNamedIn (reply_of v (if full then Full else (if halted then Journal else Granted e (done_by w e))))
-told_named v w e full halted = grind (arith, nat_tests, done_named)
+told_named v w e full halted = grind (arith, nat_tests)
 
 ruled_named : (limit : ℕ) (halted : Bool) (v w : World) (s : Result Leave Denial) → IfErr s IsOfStudent → IsNamedIn (reply_of v (ruled limit halted w s))
-ruled_named limit halted v w s h = grind (arith, nat_tests, told_named, denial_named)
+ruled_named limit halted v w s h = grind (arith, nat_tests, told_named)
 
 module _ (lab : LabValue) (l first : List Event) where
-  fits_named : (ruling : Ruling) (r : Reply) → IsNamedIn (reply_of (after_ruling (world_in lab first) ruling) ruling) → FitsRuling lab l first ruling r
-      → IsNamedIn r
-  fits_named ruling r told fact = grind (arith, nat_tests)
-
   command_named : (s : ℕ) (c : Command) (r : Reply) → FitsRuling lab l first (ruling_at lab (world_in lab first) (who.Student s) c) r → IsNamedIn r
-  command_named s c r f = grind (arith, nat_tests, fits_named, ruled_named, student_denied)
+  command_named s c r f = grind (arith, nat_tests, ruled_named, student_denied)
 
   greeted_named : (s : ℕ) (q : Request) (r : Reply) (known' : Option Who)
       → FitsGreeting lab l first (Some (who.Student s)) (greeting lab.roster (Some (who.Student s)) q) r known' → IsNamedIn r
-  greeted_named s (requests.Hello name key) r known' f = subst IsNamedIn (sym f.0) refl
-  greeted_named s requests.Bye r known' f = subst IsNamedIn (sym f.0) refl
-  greeted_named s (requests.Do c) r known' f = command_named s c r f.1
-
-  asked_named : (s : ℕ) (asked : Result Request LineFault) (r : Reply) (known' : Option Who) → FitsAsked lab l first (Some (who.Student s)) asked r known'
-      → IsNamedIn r
-  asked_named s asked r known' f = grind (arith, nat_tests, greeted_named)
+  greeted_named s q r known' f = grind (arith, nat_tests, command_named)
 
   one_named : (s : ℕ) (line : List ℕ) (r : Reply) (known' : Option Who) → Fits lab l first (Some (who.Student s)) line r known' → IsNamedIn r
-  one_named s line r known' fact = grind (arith, nat_tests, asked_named)
+  one_named s line r known' fact = grind (arith, nat_tests, greeted_named)
 
   pub named_of : (known : Option Who) (line : List ℕ) (r : Reply) (known' : Option Who) → Fits lab l first known line r known'
       → IsNamed (student_of known) (clause_in r) (denial_in r)
-  named_of None line r known' f = tt
-  named_of (Some who.Teacher) line r known' f = tt
-  named_of (Some (who.Student s)) line r known' f = one_named s line r known' f
+  named_of known line r known' f = grind (arith, nat_tests, one_named)
 
 -- ---- all entries
 
 pub are_named : (lab : LabValue) (l : List Event) (known : Option Who) (es : List Entry) (asks : List Ask) → AreAskedOf lab l known es asks → AreNamed asks
 are_named lab l known [] asks h = subst AreNamed (sym h) tt
-are_named lab l known (entry.Said p line out ∷ es) asks h =
-    subst AreNamed (sym h.5) (named_of lab l (take p l) known line h.0 h.1 h.4, are_named lab l h.1 es h.2 h.6)
+are_named lab l known (entry.Said p line out ∷ es) asks h = grind (arith, nat_tests, named_of, are_named lab l h.1 es h.2 h.6)
 are_named lab l known (entry.Left p ∷ es) asks h = are_named lab l None es asks h
 are_named lab l known (entry.Unrecorded p ∷ es) asks h = are_named lab l None es asks h
 are_named lab l known (entry.Paused p ∷ es) asks h = are_named lab l known es asks h

@@ -1,26 +1,25 @@
 -- An accepted entry describes a turn of a session. A view is a command that only asks to be shown something: a see, a
 -- look or a report. A window is what a session has seen of the list of events. The place of an event is its number in
 -- this list, from 1.
-use Rattle.std.proofs.Common.{◌≡◌, ◌⊎◌, ℕ, ◌≤◌, suc, Bool, true, false, true≢false, List, [], ◌∷◌, ◌++◌, length, take, drop, refl, sym, ap, ◌∙◌, subst, inl, inr, Option, None, Some, Result, Ok, Err}
+use Rattle.std.proofs.Common.{◌≡◌, ◌⊎◌, ℕ, ◌+◌, ◌≤◌, suc, Bool, true, false, List, [], ◌∷◌, ◌++◌, length, take, refl, sym, ap, ◌∙◌, subst, inl, inr, Option, None, Some, Result, Ok, Err}
 use Rattle.std.proofs.Common.{arith, append-nil, length-append}
-use Rattle.std.proofs.lemmas.{List.take-append-drop, List.length-take-le, Bool.Decides.nat_tests}
+use Rattle.std.proofs.lemmas.{List.length-take-le, Bool.Decides.nat_tests}
 use mathlib.Core.List.{IsPrefix}
 use Rattle.mml_lab.specs.{declared.who.Who.Who, Labs.LabValue}
 use Rattle.mml_lines.specs.LinesOf.{IsWithinLimit}
-use Rattle.mml_board.specs.{World.World, World.opening_of, declared.event.Event.Event, declared.done.Done.Done, Lists.is_legal_in, Lists.world_in}
-use Rattle.mml_board.proofs.RunsLemmas.{legal-beginning}
+use Rattle.mml_board.specs.{World.World, declared.event.Event.Event, declared.done.Done.Done, Lists.is_legal_in, Lists.world_in}
 use Rattle.mml_policy.specs.{declared.command.Command.Command, declared.refusal.Refusal.Refusal, Rulings.event_of, Rulings.after_ruling}
-use Rattle.mml_policy.specs.declared.ruling.Ruling.{Ruling, TheVariants.Denied, TheVariants.Seen, TheVariants.Looked, TheVariants.Reported, TheVariants.Full, TheVariants.Journal, TheVariants.Granted}
+use Rattle.mml_policy.specs.declared.ruling.Ruling.{Ruling, TheVariants.Journal}
 use Rattle.mml_codec.specs.declared.{TheConstants.MAX_REQUEST, request.LineFault.LineFault, request.Request.Request, reply.Refused.Refused, reply.Reply.Reply}
 use Rattle.mml_codec.specs.declared.greeting.Greeting.{Greeting, TheVariants.Answered, TheVariants.LeftToJudge}
 use Rattle.mml_codec.specs.{Greetings.greeting, Lines.request_in, Replies.place_in, Replies.as_list, Rulings.reply_of, Rulings.reply_of_done}
 use Rattle.mml_codec.proofs.RulingsLemmas.{place_of_done}
-use Rattle.mml_window.specs.{Rulings.ruling_at, Windows.WindowValue, Windows.window, Windows.window_with}
+use Rattle.mml_window.specs.{Rulings.ruling_at, Windows.WindowValue, Windows.window_with}
 use Rattle.mml_window.proofs.PrefixLemmas.{prefix_length}
-use Rattle.mml_session.specs.{Turns.standing, Turns.entered, Turns.places_in, Turns.MayRefuse, Turns.Told, Turns.Settles, Turns.Asked, Turns.Turn, Records.judged_at, Records.is_shown}
+use Rattle.mml_session.specs.{Turns.standing, Turns.entered, Turns.places_in, Turns.halts_in, Turns.MayRefuse, Turns.Told, Turns.Settles, Turns.Asked, Turns.Turn, Records.judged_at, Records.is_shown}
 use Rattle.mml_session.proofs.GreetingLemmas.{IsPlain, plain_greeting}
 use Rattle.mml_record.specs.Certified.{IsNext, may_refuse, FitsRuling, FitsGreeting, FitsAsked, Fits, seen_after, is_left, asks_window}
-use Rattle.mml_record.proofs.{FitLemmas.first_of, ShownLemmas.CanBeShown}
+use Rattle.mml_record.proofs.{FitLemmas.first_of, PlaceLemmas.legal_first, ShownLemmas.CanBeShown}
 use Rattle.mml_policy.specs.declared.refusal.Refusal.TheVariants as cause
 use Rattle.mml_codec.specs.declared.request.Request.TheVariants as requests
 use Rattle.mml_codec.specs.declared.reply.Refused.TheVariants as refused
@@ -34,45 +33,23 @@ kept_for _ = None
 refuses_so : (ruled : Ruling) (why : Refused) → may_refuse ruled why ≡ true → MayRefuse ruled why (kept_for why)
 refuses_so ruled why may = grind (arith, nat_tests)
 
-take_begins : {A : Type 0} (n : ℕ) (xs : List A) → IsPrefix (take n xs) xs
-take_begins n xs = (drop n xs, take-append-drop n xs)
-
 module _ (lab : LabValue) (l : List Event) (legal : is_legal_in lab l ≡ true) (p : ℕ) (few : p ≤ length l) where
-  legal_first : is_legal_in lab (take p l) ≡ true
-  legal_first =
-      legal-beginning lab.roster (opening_of lab.network) (take p l) (drop p l)
-      (subst (λ (m : List Event). is_legal_in lab m ≡ true) (sym (take-append-drop p l)) legal)
-
   -- what the window has seen, and which places it has, after a reply that was judged after p events
   abbrev IsAfter : WindowValue → Reply → WindowValue → Type 0
   IsAfter w r new = (new.seen ≡ take (seen_after p (place_in r)) l) × (new.places ≡ w.places ++ places_in r) × (seen_after p (place_in r) ≤ length l)
 
   stays_after : (w : WindowValue) (r : Reply) → w.seen ≡ take p l → place_in r ≡ None → IsAfter w r w
-  stays_after w r seen none = (
-    seen ∙ ap (λ (o : Option ℕ). take (seen_after p o) l) (sym none),
-    sym (append-nil w.places) ∙ ap (λ (o : Option ℕ). w.places ++ as_list o) (sym none),
-    subst (λ (o : Option ℕ). seen_after p o ≤ length l) (sym none) few,
-  )
+  stays_after w r seen none = grind (arith, nat_tests, append-nil)
 
   below : (w : World) (ruled : Ruling) → IsNext l (take p l) (event_of ruled) → seen_after p (place_in (reply_of w ruled)) ≤ length l
-  below w (Granted e d) next =
-      let most = prefix_length (take p l ++ e ∷ []) l next in
-      let count : suc p ≤ length l = omega (arith, most, length-append (take p l) (e ∷ []), length-take-le p l few) in
-      subst (λ (o : Option ℕ). seen_after p o ≤ length l) (sym (place_of_done w.number w.place d)) count
-  below w (Denied d) next = few
-  below w (Seen s) next = few
-  below w (Looked s) next = few
-  below w Reported next = few
-  below w Full next = few
-  below w Journal next = few
+  below w ruled next = grind (arith, nat_tests, prefix_length, length-append, length-take-le, place_of_done)
 
   one_more : (e : Event) → IsNext l (take p l) (Some e) → take p l ++ e ∷ [] ≡ take (suc p) l
   one_more e next = sym (first_of (take p l ++ e ∷ []) l (suc p) (omega (arith, length-append (take p l) (e ∷ []), length-take-le p l few)) next)
 
   enters : (w : World) (ruled : Ruling) → IsNext l (take p l) (event_of ruled)
       → entered (take p l) (event_of ruled) ≡ take (seen_after p (place_in (reply_of w ruled))) l
-  enters w (Granted e d) next = one_more e next ∙ ap (λ (o : Option ℕ). take (seen_after p o) l) (sym (place_of_done w.number w.place d))
-  enters w _ next = refl
+  enters w ruled next = grind (arith, nat_tests, one_more, place_of_done)
 
   -- if a reply fits a ruling after p events, it is a possible reply of a window that has seen no more than these
   tells : (w : WindowValue) (who : Who) (c : Command) (r : Reply) → IsPrefix w.seen (take p l)
@@ -80,19 +57,15 @@ module _ (lab : LabValue) (l : List Event) (legal : is_legal_in lab l ≡ true) 
       → (new : WindowValue) × Told lab w who c r new × IsAfter w r new
   tells w who c r later (inl fits) =
       let ruled = ruling_at lab (world_in lab (take p l)) who c in
-      let new = window (entered (take p l) (event_of ruled)) (w.places ++ places_in r) in (
-        new,
-        record { list = take p l; later = later; legal = legal_first; says = inl (fits.0, (refl, refl)) },
-        (
-          enters (after_ruling (world_in lab (take p l)) ruled) ruled fits.1 ∙ ap (λ (q : Reply). take (seen_after p (place_in q)) l) (sym fits.0),
-          refl,
-          subst (λ (q : Reply). seen_after p (place_in q) ≤ length l) (sym fits.0) (below (after_ruling (world_in lab (take p l)) ruled) ruled fits.1),
-        ),
-      )
+      let new = window_with (entered (take p l) (event_of ruled)) (w.places ++ places_in r) None (w.halts + halts_in r) in
+      let u = after_ruling (world_in lab (take p l)) ruled in
+      let seen = enters u ruled fits.1 ∙ ap (λ (q : Reply). take (seen_after p (place_in q)) l) (sym fits.0) in
+      let most = subst (λ (q : Reply). seen_after p (place_in q) ≤ length l) (sym fits.0) (below u ruled fits.1) in
+      (new, record { list = take p l; later = later; legal = legal_first lab l legal p; says = inl (fits.0, (refl, refl)); counted = refl }, (seen, refl, most))
   tells w who c r later (inr fits) =
-      let new = window_with (take p l) w.places (kept_for fits.0) in (
+      let new = window_with (take p l) w.places (kept_for fits.0) (w.halts + halts_in r) in (
         new,
-        record { list = take p l; later = later; legal = legal_first; says = inr (fits.0, fits.1, refuses_so _ fits.0 fits.2, (refl, refl)) },
+        record { list = take p l; later = later; legal = legal_first lab l legal p; says = inr (fits.0, fits.1, refuses_so _ fits.0 fits.2, (refl, refl)); counted = refl },
         (
           ap (λ (q : Reply). take (seen_after p (place_in q)) l) (sym fits.1),
           sym (append-nil w.places) ∙ ap (λ (q : Reply). w.places ++ places_in q) (sym fits.1),
@@ -105,12 +78,10 @@ module _ (lab : LabValue) (l : List Event) (legal : is_legal_in lab l ≡ true) 
   IsBefore w asks = (w.seen ≡ take p l) ⊎ (IsPrefix w.seen (take p l) × (asks ≡ true))
 
   begins : (w : WindowValue) (asks : Bool) → IsBefore w asks → IsPrefix w.seen (take p l)
-  begins w asks (inl same) = ([], append-nil w.seen ∙ same)
-  begins w asks (inr b) = b.0
+  begins w asks h = grind (arith, nat_tests, append-nil)
 
   sees_all : (w : WindowValue) → IsBefore w false → w.seen ≡ take p l
-  sees_all w (inl same) = same
-  sees_all w (inr b) = absurd (cc (b.1))
+  sees_all w h = grind (arith, nat_tests)
 
   unnamed : (r : Reply) → places_in r ≡ [] → place_in r ≡ None
   unnamed r none = grind (arith, nat_tests)
@@ -118,21 +89,15 @@ module _ (lab : LabValue) (l : List Event) (legal : is_legal_in lab l ≡ true) 
   settles : (w : WindowValue) (known known' : Option Who) (g : Greeting) (r : Reply) → IsPlain g → IsBefore w (is_left g)
       → FitsGreeting lab l (take p l) known g r known'
       → (new : WindowValue) × Settles lab (standing known w) g r (standing known' new) × IsAfter w r new
-  settles w known known' (Answered q x) r plain before fits = (
-    w,
-    (fits.0, ap (λ (k : Option Who). standing k w) fits.1),
-    stays_after w r (sees_all w before) (unnamed r (ap places_in fits.0 ∙ plain.1)),
-  )
+  settles w known known' (Answered q x) r plain before fits =
+      (w, (fits.0, ap (λ (k : Option Who). standing k w) fits.1), stays_after w r (sees_all w before) (unnamed r (ap places_in fits.0 ∙ plain.1)))
   settles w known known' (LeftToJudge who c) r plain before fits = let t = tells w who c r (begins w true before) fits.1 in (t.0, (fits.0, t.1), t.2)
 
   asked : (w : WindowValue) (known known' : Option Who) (q : Result Request LineFault) (r : Reply) → IsBefore w (asks_window lab.roster known q)
       → FitsAsked lab l (take p l) known q r known'
       → (new : WindowValue) × Asked lab (standing known w) q r (standing known' new) × IsAfter w r new
-  asked w known known' (Err fault) r before fits = (
-    w,
-    (fits.0, ap (λ (k : Option Who). standing k w) fits.1),
-    stays_after w r (sees_all w before) (ap place_in fits.0),
-  )
+  asked w known known' (Err fault) r before fits =
+      (w, (fits.0, ap (λ (k : Option Who). standing k w) fits.1), stays_after w r (sees_all w before) (ap place_in fits.0))
   asked w known known' (Ok request) r before fits = settles w known known' (greeting lab.roster known request) r (plain_greeting lab.roster known request) before fits
 
   -- if a window has seen the first p events, a reply that fits after them is that of one of its turns
@@ -149,23 +114,15 @@ module _ (lab : LabValue) (l : List Event) (legal : is_legal_in lab l ≡ true) 
       → (new : WindowValue) × Turn lab (standing known w) line r (standing known' new) × IsAfter w r new
   turns_asked w known known' line r later asks fits = let t = asked w known known' (request_in line) r (inr (later, asks)) fits in (t.0, inl t.1, t.2)
 
-  -- the entry of this turn names p events
+  -- if a reply was judged after p events, the entry of its turn names p events
   pub judged_there : (w new : WindowValue) (r : Reply) → IsAfter w r new → judged_at (length new.seen) r ≡ p
-  judged_there w new r after = at (place_in r) refl
-    where
-      count : length new.seen ≡ seen_after p (place_in r)
-      count = ap length after.0 ∙ length-take-le (seen_after p (place_in r)) l after.2
-
-      at : (o : Option ℕ) → place_in r ≡ o → judged_at (length new.seen) r ≡ p
-      at None is = grind (arith, nat_tests, count)
-      at (Some place) is = grind (arith, nat_tests, count)
+  judged_there w new r after = grind (arith, nat_tests, length-take-le)
 
   done_unshown : (at place : ℕ) (d : Done) → is_shown (reply_of_done at place d) ≡ false
   done_unshown at place d = grind (arith, nat_tests)
 
   no_event : (w : World) (ruled : Ruling) → is_shown (reply_of w ruled) ≡ true → IsNext l (take p l) (event_of ruled)
-  no_event w (Granted e d) shown = absurd (true≢false (sym shown ∙ done_unshown w.number w.place d))
-  no_event w _ shown = tt
+  no_event w ruled shown = grind (arith, nat_tests, done_unshown)
 
   shown_none : (r : Reply) → is_shown r ≡ true → place_in r ≡ None
   shown_none r shown = grind (arith, nat_tests)
@@ -185,16 +142,11 @@ module _ (lab : LabValue) (l : List Event) (legal : is_legal_in lab l ≡ true) 
       let ruled = ruling_at lab (world_in lab (take p l)) who c in
       let v = reply_of (after_ruling (world_in lab (take p l)) ruled) ruled in
       let t = tells w who c v later (inl (refl, no_event (after_ruling (world_in lab (take p l)) ruled) ruled shown)) in
-      let none : place_in v ≡ None = shown_none v shown in (
-        line,
-        valid,
-        v,
-        shown,
-        t.0,
-        inl (subst (λ (q : Result Request LineFault). Asked lab (standing (Some who) w) q v (standing (Some who) t.0)) (sym asks) (refl, t.1)),
-        t.2.0 ∙ ap (λ (o : Option ℕ). take (seen_after p o) l) none,
-        t.2.1 ∙ ap (λ (o : Option ℕ). w.places ++ as_list o) none ∙ append-nil w.places,
-      )
+      let none : place_in v ≡ None = shown_none v shown in
+      let asked = subst (λ (q : Result Request LineFault). Asked lab (standing (Some who) w) q v (standing (Some who) t.0)) (sym asks) (refl, t.1) in
+      let seen = t.2.0 ∙ ap (λ (o : Option ℕ). take (seen_after p o) l) none in
+      let places = t.2.1 ∙ ap (λ (o : Option ℕ). w.places ++ as_list o) none ∙ append-nil w.places in
+      (line, valid, v, shown, t.0, inl asked, seen, places)
 
   pub quiet : (w : WindowValue) (known : Option Who) → IsPrefix w.seen (take p l) → CanBeShown lab (take p l) known → Quiet w known
   quiet w known later s = subst (λ (k : Option Who). Quiet w k) (sym s.1) (quiet_known w s.0 s.2 s.4 later s.3 s.5 s.6)

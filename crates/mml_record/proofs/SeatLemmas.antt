@@ -1,29 +1,29 @@
 -- For each whole record there are sessions that can have made it. A view is a command that only asks to be shown
 -- something: a see, a look or a report. A window is what a seat's sessions have seen of the list of events, and which
 -- of these events were granted to them. The known participant is the one whose hello was granted in the session.
-use Rattle.std.proofs.Common.{◌≡◌, ◌⊎◌, ℕ, ◌≤◌, Bool, true, false, ◌&&◌, not, List, [], ◌∷◌, ◌++◌, length, take, drop, refl, sym, ap, ◌∙◌, subst, inl, inr, Option, None, Some, Result, Ok, Err, arith}
+use Rattle.std.proofs.Common.{◌≡◌, ◌⊎◌, ℕ, ◌≤◌, Bool, true, false, ◌&&◌, not, List, [], ◌∷◌, ◌++◌, length, take, drop, refl, sym, ap, ◌∙◌, subst, inl, inr, Option, None, Some, Result, arith}
 use Rattle.std.proofs.Common.{append-nil, append_assoc, if◌then◌else◌}
 use Rattle.std.proofs.lemmas.{List.take-append-drop, List.length-take-le, Bool.and_parts, Bool.or_cases, Bool.false≢true, Bool.Decides.nat_tests, Slice.Eq.bytes_eq-Decides}
 use mathlib.Core.List.{IsPrefix}
-use Rattle.mml_lab.specs.{declared.who.Who.Who, Labs.LabValue, Labs.IsLab, Rosters.RosterValue, Rosters.principal}
+use Rattle.mml_lab.specs.{declared.who.Who.Who, Labs.LabValue, Labs.IsLab, Rosters.RosterValue}
 use Rattle.mml_lines.specs.{LinesOf.IsWithinLimit, Runs.Chain}
-use Rattle.mml_board.specs.{declared.event.Event.Event, Lists.is_legal_in, Lists.world_in}
+use Rattle.mml_board.specs.{declared.event.Event.Event, Lists.is_legal_in}
 use Rattle.mml_codec.specs.declared.{TheConstants.MAX_REQUEST, request.LineFault.LineFault, request.Request.Request, reply.Reply.Reply}
 use Rattle.mml_codec.specs.declared.greeting.Greeting.{Greeting, TheVariants.Answered, TheVariants.LeftToJudge}
 use Rattle.mml_codec.specs.{Greetings.greeting, Greetings.admitted, Lines.request_in, Replies.reply_line, Replies.place_in}
-use Rattle.mml_window.specs.{Rulings.ruling_at, Windows.WindowValue, Windows.window}
+use Rattle.mml_window.specs.{Windows.WindowValue, Windows.window}
 use Rattle.mml_window.proofs.PrefixLemmas.{prefix_shorter, prefix_length}
 use Rattle.mml_session.specs.{declared.entry.Entry.Entry, declared.session.SessionEnd.SessionEnd, Talks.Talk, Talks.LineTurn, Talks.nobody_known}
 use Rattle.mml_session.specs.Turns.{Standing, standing, places_in, Turn, is_bye}
-use Rattle.mml_session.specs.Records.{Kept, stand, judged_at, is_shown, turn_entries, entries_of, line_entries, left_at, said, entry_text, record_text}
+use Rattle.mml_session.specs.Records.{Kept, stand, judged_at, is_shown, turn_entries, entries_of, line_entries, left_at, said, record_text}
 use Rattle.mml_record.specs.{declared.kept_entry.Entry.Entry as KeptEntry, declared.stage.Stage.Stage, RecordedSeats.Held, RecordedSeats.RecordedSeat, RecordedSeats.IsResumedSeat}
 use Rattle.mml_record.specs.Entries.{all_kept, are_whole, are_ended, record_text as kept_texts}
 use Rattle.mml_record.specs.Certified.{Fits, FitsAsked, FitsGreeting, seen_after, stage_after, is_paused, is_line, sees_some, asks_window, may_rise, GoesOn, IsRecordOf}
 use Rattle.mml_record.proofs.{FitLemmas.first_of, OnceLemmas.ruling_no_bye, RecordLemmas.same_text, ShownLemmas.sees_shown}
 use Rattle.mml_record.proofs.SaidLemmas.{turns_all, turns_asked, judged_there, quiet}
-use Rattle.mml_codec.specs.declared.request.Request.TheVariants as requests
 use Rattle.mml_codec.specs.declared.reply.Refused.TheVariants as refused
 use Rattle.mml_codec.specs.declared.reply.Reply.TheVariants as reply
+use Rattle.mml_session.proofs.RecordLemmas.{text_more}
 use Rattle.mml_session.specs.declared.entry.Entry.TheVariants as entry
 use Rattle.mml_session.specs.declared.session.SessionEnd.TheVariants as ends
 use Rattle.mml_record.specs.declared.kept_entry.Entry.TheVariants as kept
@@ -35,11 +35,6 @@ bye_is r is = grind (arith, nat_tests)
 shown_goes : (r : Reply) → is_shown r ≡ true → (is_bye r ≡ false) × (places_in r ≡ [])
 shown_goes r is = grind (arith, nat_tests)
 
-text_more : (number : ℕ) (es fs : List Entry) → record_text number (es ++ fs) ≡ record_text number es ++ record_text number fs
-text_more number [] fs = refl
-text_more number (e ∷ es) fs =
-    ap (λ x. entry_text number e ++ x) (text_more number es fs) ∙ sym (append_assoc (entry_text number e) (record_text number es) (record_text number fs))
-
 -- ---- after a bye nobody is known
 
 abbrev ForgetsAtBye : Greeting → Type 0
@@ -47,29 +42,20 @@ ForgetsAtBye (Answered q x) = is_bye q ≡ true → x ≡ None
 ForgetsAtBye (LeftToJudge who c) = Unit {0}
 
 forgets_admitted : (found : Option Who) → ForgetsAtBye (admitted found)
-forgets_admitted None = λ is. refl
-forgets_admitted (Some who) = λ is. absurd (false≢true is)
+forgets_admitted found = grind (arith, nat_tests, false≢true)
 
 forgets : (roster : RosterValue) (known : Option Who) (request : Request) → ForgetsAtBye (greeting roster known request)
-forgets roster None (requests.Hello name key) = forgets_admitted (principal roster name key)
-forgets roster (Some who) (requests.Hello name key) = λ is. absurd (false≢true is)
-forgets roster None requests.Bye = λ is. refl
-forgets roster (Some who) requests.Bye = λ is. refl
-forgets roster None (requests.Do c) = λ is. refl
-forgets roster (Some who) (requests.Do c) = tt
+forgets roster known request = grind (arith, nat_tests, forgets_admitted, false≢true)
 
 module _ (lab : LabValue) (l first : List Event) (known : Option Who) (r : Reply) (known' : Option Who) (is : is_bye r ≡ true) where
   bye_greeted : (g : Greeting) → ForgetsAtBye g → FitsGreeting lab l first known g r known' → known' ≡ None
-  bye_greeted (Answered q x) own h = h.1 ∙ own (ap is_bye (sym h.0) ∙ is)
-  bye_greeted (LeftToJudge who c) own h = absurd (false≢true (sym (ruling_no_bye lab l first (ruling_at lab (world_in lab first) who c) r h.1) ∙ is))
+  bye_greeted g own h = grind (arith, nat_tests, false≢true, ruling_no_bye)
 
   bye_asked : (q : Result Request LineFault) → FitsAsked lab l first known q r known' → known' ≡ None
-  bye_asked (Err fault) h = absurd (false≢true (ap is_bye (sym h.0) ∙ is))
-  bye_asked (Ok request) h = bye_greeted (greeting lab.roster known request) (forgets lab.roster known request) h
+  bye_asked q h = grind (arith, nat_tests, false≢true, bye_greeted, forgets)
 
   bye_nobody : (line : List ℕ) → Fits lab l first known line r known' → known' ≡ None
-  bye_nobody line (inl h) = bye_asked (request_in line) h
-  bye_nobody line (inr h) = absurd (false≢true (ap is_bye (sym h.0) ∙ is))
+  bye_nobody line h = grind (arith, nat_tests, bye_asked, false≢true)
 
 -- ---- sessions
 
@@ -216,18 +202,13 @@ module _ (lab : LabValue) (is : IsLab lab) (l : List Event) (number : ℕ) where
   -- a turn that shows nothing has one entry, and a turn that shows something has none
   said_of : (line out : List ℕ) (r : Reply) (new : WindowValue) (p : ℕ) → is_shown r ≡ false → judged_at (length new.seen) r ≡ p
       → out ≡ reply_line lab.ids lab.roster r → turn_entries lab line r new ≡ entry.Said p line out ∷ []
-  said_of line out r new p unshown judged is =
-      ap (λ (b : Bool). if b then [] else said (judged_at (length new.seen) r) line (reply_line lab.ids lab.roster r)) unshown
-      ∙ ap (λ (n : ℕ). said n line (reply_line lab.ids lab.roster r)) judged ∙ ap (said p line) (sym is)
+  said_of line out r new p unshown judged is = grind (arith, nat_tests)
 
   -- if a reply fits a line, and isn't the refusal `memory`, it fits what the line asks
   fits_asked : (known : Option Who) (line out : List ℕ) (r : Reply) (known' : Option Who) (p : ℕ) → out ≡ reply_line lab.ids lab.roster r
       → not (is_line lab out (reply.Refuse refused.Memory)) ≡ true → Fits lab l (take p l) known line r known'
       → FitsAsked lab l (take p l) known (request_in line) r known'
-  fits_asked known line out r known' p at other (inl fits) = fits
-  fits_asked known line out r known' p at other (inr fits) =
-      let same : out ≡ reply_line lab.ids lab.roster (reply.Refuse refused.Memory) = at ∙ ap (λ (q : Reply). reply_line lab.ids lab.roster q) fits.0 in
-      absurd (false≢true (ap not (sym ((bytes_eq-Decides out (reply_line lab.ids lab.roster (reply.Refuse refused.Memory))).1 same)) ∙ other))
+  fits_asked known line out r known' p at other h = grind (arith, nat_tests, false≢true, bytes_eq-Decides)
 
   none_of : (line : List ℕ) (r : Reply) (new : WindowValue) → is_shown r ≡ true → turn_entries lab line r new ≡ []
   none_of line r new shown = ap (λ (b : Bool). if b then [] else said (judged_at (length new.seen) r) line (reply_line lab.ids lab.roster r)) shown
@@ -239,8 +220,9 @@ module _ (lab : LabValue) (is : IsLab lab) (l : List Event) (number : ℕ) where
         (prefix_shorter (take least l) (take p l) l (drop least l, take-append-drop least l) (drop p l, take-append-drop p l)
         (omega (arith, le, few, length-take-le p l few, length-take-le least l (omega (arith, le, few)))))
 
-    -- if sessions make the rest from each window that has seen p events, they also make it from one that has seen
-    -- `least` events. For this, p is `least`, or the known participant can be shown something
+    -- let p be `least`, or let the known participant be one who can be shown something; if sessions make the rest of
+    -- the entries from each window that has seen p events, they also make these entries from a window that has seen
+    -- `least` events
     arrives : (known : Option Who) (w : WindowValue) (least p : ℕ) (es : List Entry) (ps : List ℕ) → least ≤ p → p ≤ length l → w.seen ≡ take least l
         → (p ≡ least) ⊎ (sees_some lab.roster known ≡ true)
         → ((v : WindowValue) → v.seen ≡ take p l → Rest (standing known v) es ps) → Rest (standing known w) es ps
@@ -377,11 +359,7 @@ module _ (lab : LabValue) (is : IsLab lab) (l : List Event) (number : ℕ) where
         }
 
     walks : (es : List Entry) → Walks es
-    walks [] = (
-      λ known w least ps h seen few whole ended. absurd (false≢true ended),
-      λ w least ps h seen few whole ended. absurd (false≢true ended),
-      λ w least ps h seen few whole ended. seat_none w least ps seen h,
-    )
+    walks [] = grind (arith, nat_tests, false≢true, seat_none)
     walks (entry.Said p line out ∷ es) =
         let m = said_middle p line out es (walks es) in (
           m,
@@ -389,22 +367,14 @@ module _ (lab : LabValue) (is : IsLab lab) (l : List Event) (number : ℕ) where
           λ w least ps h seen few whole ended. closes w (entry.Said p line out ∷ es) ps (m None w least ps h seen few whole ended),
         )
     walks (entry.Left p ∷ es) =
-        let m = left_middle p es (walks es) in (
-          m,
-          left_bye p es (walks es),
-          λ w least ps h seen few whole ended. closes w (entry.Left p ∷ es) ps (m None w least ps h seen few whole ended),
-        )
-    walks (entry.Unrecorded p ∷ es) = (
-      λ known w least ps h seen few whole ended. absurd (false≢true whole),
-      λ w least ps h seen few whole ended. absurd (false≢true whole),
-      λ w least ps h seen few whole ended. absurd (false≢true whole),
-    )
+        let m = left_middle p es (walks es) in
+        (m, left_bye p es (walks es), λ w least ps h seen few whole ended. closes w (entry.Left p ∷ es) ps (m None w least ps h seen few whole ended))
+    walks (entry.Unrecorded p ∷ es) = grind (arith, nat_tests, false≢true)
 
 -- ---- whole records
 
 none_paused : (b : Bool) → is_paused (stage_after b) ≡ false
-none_paused true = refl
-none_paused false = refl
+none_paused b = grind (arith, nat_tests)
 
 -- the entries of a whole record are of the kinds that sessions make
 given_of : (lab : LabValue) (l : List Event) (known : Option Who) (stage : Stage) (least : ℕ) (es : List KeptEntry) (ps : List ℕ)
@@ -415,9 +385,8 @@ given_of lab l known stage least (kept.Said p line out ∷ es) ps h whole none =
     (entry.Said p line out ∷ g.0, ap (λ y. kept.Said p line out ∷ y) g.1)
 given_of lab l known stage least (kept.Left p ∷ es) ps h whole none =
     let g = given_of lab l None stages.Open p es ps h.2 whole refl in (entry.Left p ∷ g.0, ap (λ y. kept.Left p ∷ y) g.1)
-given_of lab l known stage least (kept.Unrecorded p ∷ es) ps h whole none = absurd (false≢true whole)
-given_of lab l known stage least (kept.Paused p ∷ es) ps h whole none = absurd (false≢true whole)
 given_of lab l known stage least (kept.Resumed p missed ∷ es) ps h whole none = absurd (false≢true (sym none ∙ h.3))
+given_of lab l known stage least _ ps h whole none = absurd (false≢true whole)
 
 -- if nothing is left out of a record, its entries go on from a state in which some number n of events was seen
 begins_after : (lab : LabValue) (l : List Event) (es : List KeptEntry) (ps : List ℕ) → IsRecordOf lab l es ps → are_whole es ≡ true
@@ -425,9 +394,8 @@ begins_after : (lab : LabValue) (l : List Event) (es : List KeptEntry) (ps : Lis
 begins_after lab l [] ps h whole = (0, omega arith, h)
 begins_after lab l (kept.Said p line out ∷ es) ps h whole = (p, h.1, ((omega arith, inl refl), h.1, h.2, h.3, h.4, h.5, refl, h.7, h.8, h.9, h.10))
 begins_after lab l (kept.Left p ∷ es) ps h whole = (p, h.1, ((omega arith, inl refl), h.1, h.2))
-begins_after lab l (kept.Unrecorded p ∷ es) ps h whole = absurd (false≢true whole)
-begins_after lab l (kept.Paused p ∷ es) ps h whole = absurd (false≢true whole)
 begins_after lab l (kept.Resumed p missed ∷ es) ps h whole = absurd (false≢true h.3)
+begins_after lab l _ ps h whole = absurd (false≢true whole)
 
 -- a seat can have recorded exactly this, after the events `begun`
 abbrev Said : LabValue → List Event → List Event → ℕ → List KeptEntry → List ℕ → Type 0
@@ -444,16 +412,9 @@ goes_on_so lab l begun number es ps is legal begins h whole ended =
     (subst (λ (y : List KeptEntry). GoesOn lab l None stages.Open (length begun) y ps) g.1 h)
     (sym (first_of begun l (length begun) refl begins)) (prefix_length begun l begins)
     (ap are_whole (sym g.1) ∙ whole) (ap (are_ended false) (sym g.1) ∙ ended) in
-    let c = s.leads [] in (
-      record { number = number; ends = c.0; kept = record { bytes = record_text number g.0; whole = true } },
-      s.new,
-      c.1,
-      s.begins,
-      s.places,
-      refl,
-      refl,
-      sym (same_text number g.0) ∙ ap (kept_texts number) (sym g.1),
-    )
+    let c = s.leads [] in
+    let seat : RecordedSeat = record { number = number; ends = c.0; kept = record { bytes = record_text number g.0; whole = true } } in
+    (seat, s.new, c.1, s.begins, s.places, refl, refl, sym (same_text number g.0) ∙ ap (kept_texts number) (sym g.1))
 
 -- if a record is whole, and each of its sessions has ended, sessions can have made it
 pub can_have_said : (lab : LabValue) (l : List Event) (number : ℕ) (es : List KeptEntry) (ps : List ℕ) → IsLab lab → is_legal_in lab l ≡ true
@@ -475,5 +436,4 @@ pub is_a_turn : (lab : LabValue) (l : List Event) (p : ℕ) (known known' : Opti
     → (new : WindowValue) × Turn lab (standing known w) line r (standing known' new) × (new.seen ≡ take (seen_after p (place_in r)) l)
     × (new.places ≡ w.places ++ places_in r) × (judged_at (length new.seen) r ≡ p)
 is_a_turn lab l p known known' line r w legal few seen fits =
-    let t = turns_all lab l legal p few w known known' line r seen fits in
-    (t.0, t.1, t.2.0, t.2.1, judged_there lab l legal p few w t.0 r t.2)
+    grind (arith, nat_tests, turns_all lab l legal p few w known known' line r seen fits, judged_there)

@@ -1,15 +1,15 @@
 -- A participant who sees a node can be shown something at any time. A reply shows something if it is that to a see, a
 -- look or a report. The known participant is the one whose hello was granted in the session.
-use Rattle.std.proofs.Common.{◌≡◌, ◌≢◌, ℕ, ◌<◌, ◌≤◌, ◌^◌, true, false, ◌||◌, List, ◌∷◌, [], ◌++◌, codes, decimal, length, slice_index, refl, sym, ap, subst, Option, None, Some, Ok, ok_or, arith}
-use Rattle.std.proofs.Common.{length-append}
-use Rattle.std.{specs.List.All, proofs.lemmas.Bool.or_right, proofs.lemmas.Bool.false≢true, proofs.lemmas.Fmt.length-decimal-le, proofs.lemmas.List.get_or_default}
+use Rattle.std.{proofs.lemmas.Bool.Decides.nat_tests, specs.List.All, proofs.lemmas.Bool.or_right, proofs.lemmas.Bool.false≢true}
+use Rattle.std.{proofs.lemmas.Fmt.length-decimal-le, proofs.lemmas.List.get_or_default}
+use Rattle.std.proofs.Common.{◌≡◌, ◌≢◌, ℕ, ◌<◌, ◌≤◌, ◌^◌, true, List, ◌∷◌, [], ◌++◌, codes, decimal, length, slice_index, refl, sym, subst, Option, None, Some}
+use Rattle.std.proofs.Common.{Ok, arith, length-append}
 use Rattle.mml_ids.specs.{Lines.IsUnbroken, Ids.rank_in}
 use Rattle.mml_ids.proofs.{SearchLemmas.some_below-find, GivesLemmas.bind-from, GivesLemmas.need-from, IdsLemmas.rank_of_id}
 use Rattle.mml_lab.specs.{declared.who.Who.Who, Labs.LabValue, Labs.IsLab, Rosters.owns}
 use Rattle.mml_lines.specs.LinesOf.{IsWithinLimit}
-use Rattle.mml_board.specs.{declared.event.Event.Event, declared.denial.Denial.TheVariants.NotOwner, Lists.world_in}
-use Rattle.mml_policy.specs.declared.{command.Command.Command, ruling.Ruling.Ruling, verdict.Leave.TheVariants.Look}
-use Rattle.mml_policy.specs.{Clauses.node, Rulings.ruled, Rulings.after_ruling, Verdicts.clauses, Visible.is_teacher}
+use Rattle.mml_board.specs.{declared.event.Event.Event, Lists.world_in}
+use Rattle.mml_policy.specs.{declared.command.Command.Command, declared.verdict.Leave.TheVariants.Look, Rulings.after_ruling}
 use Rattle.mml_codec.specs.{declared.TheConstants.MAX_REQUEST, Canonical.canonical, Canonical.IsWritable, Lines.request_in, Rulings.reply_of}
 use Rattle.mml_codec.proofs.CanonicalLemmas.{canonical_line, request_in-canonical}
 use Rattle.json.specs.Print.{escape_byte}
@@ -32,20 +32,12 @@ CanBeShown lab first known =
     (who : Who) × (known ≡ Some who) × (line : List ℕ) × IsWithinLimit MAX_REQUEST line × (c : Command) × (request_in line ≡ Ok (requests.Do c))
     × Shows lab first who c
 
-unbroken_all : (bs : List ℕ) → All (λ b. b ≢ 10) bs → IsUnbroken bs
+pub unbroken_all : (bs : List ℕ) → All (λ b. b ≢ 10) bs → IsUnbroken bs
 unbroken_all bs h = λ i k. h i 0 k
 
 by_request : (lab : LabValue) (first : List Event) (x : Who) (c : Command) → IsWritable (requests.Do c) → length (canonical (requests.Do c)) ≤ MAX_REQUEST
     → Shows lab first x c → CanBeShown lab first (Some x)
-by_request lab first x c can short shows = (
-  x,
-  refl,
-  canonical (requests.Do c),
-  (unbroken_all (canonical (requests.Do c)) (canonical_line (requests.Do c) can), short),
-  c,
-  request_in-canonical (requests.Do c) can,
-  shows,
-)
+by_request lab first x c can short shows = grind (arith, nat_tests, unbroken_all, canonical_line, request_in-canonical)
 
 -- ---- the teacher's report
 
@@ -64,22 +56,11 @@ unfolding canonical escape_byte
 look_text n = refl
 
 look_short : (n : ℕ) → n < 2 ^ 64 → length (canonical (requests.Do (command.Look n))) ≤ MAX_REQUEST
-look_short n small =
-    let digits : length (decimal n) ≤ 20 = length-decimal-le 20 n (omega arith) (omega arith) small in
-    let all : length (codes "{\"do\":\"look\",\"node\":" ++ (decimal n ++ 125 ∷ [])) ≤ MAX_REQUEST =
-    omega (arith, digits, length-append (codes "{\"do\":\"look\",\"node\":") (decimal n ++ 125 ∷ []), length-append (decimal n) (125 ∷ [])) in
-    subst (λ (x : List ℕ). length x ≤ MAX_REQUEST) (sym (look_text n)) all
+look_short n small = grind (arith, nat_tests, length-decimal-le 20 n (omega arith) (omega arith) small, length-append, look_text)
 
 look_shows : (lab : LabValue) (first : List Event) (x : Who) (i id : ℕ) → rank_in lab.ids id ≡ Some i → owns lab.roster x i ≡ true
     → Shows lab first x (command.Look id)
-look_shows lab first x i id rank own =
-    let w = world_in lab first in
-    let may : (is_teacher x || owns lab.roster x i) ≡ true = or_right (is_teacher x) (owns lab.roster x i) own in
-    let leave : clauses lab.ids lab.roster w x (command.Look id) ≡ Ok (Look i) =
-    bind-from (node lab.ids id NotOwner) _ (Ok (Look i)) i (ap (λ (o : Option ℕ). ok_or o NotOwner) rank)
-    (need-from (is_teacher x || owns lab.roster x i) NotOwner (Ok (Look i)) (Ok (Look i)) may refl) in
-    let is : ruling_at lab w x (command.Look id) ≡ ruled lab.events false w (Ok (Look i)) = ap (ruled lab.events false w) leave in
-    subst (λ (q : Ruling). is_shown (reply_of (after_ruling w q) q) ≡ true) (sym is) refl
+look_shows lab first x i id rank own = grind (arith, nat_tests, or_right, bind-from, need-from)
 
 owner_shown : (lab : LabValue) → IsLab lab → (first : List Event) (x : Who) (i : ℕ) → owns lab.roster x i ≡ true → CanBeShown lab first (Some x)
 owner_shown lab is first x i own =

@@ -1,6 +1,6 @@
--- What the lines of a record asked for, and by which clause each was denied or why it was refused. This is computed
--- from the bytes of the lines and of their replies. The known participant is the one whose hello was granted in the
--- session.
+-- What the lines of a record asked for, and by which clause each was denied or why it was refused. The answers are
+-- computed from the bytes of the lines and of their replies. The known participant is the one whose hello was granted
+-- in the session.
 use Rattle.std.specs.Prelude.{◌≡◌, ℕ, ◌-◌, List, [], ◌∷◌, ◌++◌, codes, length, take, bytes_eq, Option, None, Some, Result, Ok, Err, if◌then◌else◌}
 use Rattle.std.specs.List.{slice_get}
 use Rattle.mml_rules.specs.declared.rule.Kind.{Kind}

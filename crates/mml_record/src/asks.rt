@@ -66,8 +66,8 @@ fn line_of_request(request: &Request) -> Line
     }
 }
 
-// Reads a digit from the front of `rest`, and returns its value. For a byte that is no digit, returns how far it is
-// above the byte `0`, or 0. Returns `None` if `rest` is `None` or empty.
+// Reads a digit from the front of `rest`, and returns its value. For a byte that is no digit, returns the byte minus
+// the byte `0`, but at least 0. Returns `None` if `rest` is `None` or empty.
 fn digit_first(rest: Option<&[u8]>) -> Option<u8>
     ensures { result ≡ digit_first (seen rest.entry) }
 {
@@ -94,8 +94,8 @@ fn is_memory(text: &[u8]) -> bool
 }
 
 // Returns who is known after a line, if `known` was known before it. `greeting` is what the rules of greeting say of
-// the line. They may give a reply at once, and then say who is known. Or they leave a command to the policy, which
-// doesn't change who is known.
+// the line. These rules may give a reply at once, and then say who is known. Or they leave a command to the policy,
+// which doesn't change who is known.
 fn known_by(known: Option<Who>, greeting: Greeting) -> Option<Who>
     ensures { result ≡ known_by known greeting }
 {

@@ -9,16 +9,17 @@ use mml_codec::Reply;
 /// Whether the text of an entry may be written.
 #[derive(Clone, Copy, Debug, PartialEq, Eq, Drop)]
 pub enum Taking {
-    /// It may be written.
+    /// The text may be written.
     Taken,
-    /// It may be written, though the budget is used up: it is the entry of a hello. Recording pauses after it.
+    /// The text may be written, though the budget is used up, since it is the entry of a hello. Recording pauses after
+    /// it.
     Last,
-    /// It may not be written.
+    /// The text may not be written.
     Refused,
 }
 
-/// A budget of a record. It limits how many bytes are recorded of each participant who is known in a seat. A session
-/// goes on whether or not it is recorded.
+/// A budget of a record. The budget limits how many bytes are recorded of each participant who is known in a seat. A
+/// session goes on whether or not it is recorded.
 pub trait Budget {
     // Whether somebody is known, after the replies that were noted.
     ghost known: { Self → Bool };
@@ -26,7 +27,7 @@ pub trait Budget {
     // Whether the last of the noted replies grants a hello.
     ghost greeted: { Self → Bool };
 
-    /// Notes the reply to a line. If it grants a hello, the participant of this hello is known from then on.
+    /// Notes the reply to a line. If the reply grants a hello, the participant of this hello is known from then on.
     fn note_answered(&mut self, reply: &Reply)
         ensures known { known self.new ≡ (is_hello reply.now || known self.old) }
         ensures greeted { greeted self.new ≡ is_hello reply.now };

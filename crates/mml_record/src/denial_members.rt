@@ -6,7 +6,7 @@ ghost use Rattle.mml_record.specs.DenialMembers.{after_comma, denial_members, fr
 
 use mml_journal::split_at_byte;
 
-// Returns these members of a reply, if the first of them is `clause`, and otherwise `None`.
+// Returns `members`, which are members of a reply, if the first of them is `clause`. Otherwise returns `None`.
 #[tactic(auto, unfolding(crate::specs::DenialMembers::if_clause))]
 fn if_clause(members: &[u8]) -> Option<&[u8]>
     ensures { seen result ≡ if_clause members.now }
@@ -29,8 +29,8 @@ fn after_comma(members: &[u8]) -> Option<&[u8]>
     if_clause(rest)
 }
 
-// Returns these members from `clause` on, if it is the first of them, or the second after `at`. Returns `None` if it is
-// neither.
+// Returns the members of a reply from `clause` on, if `clause` is the first of them, or the second after `at`.
+// Otherwise returns `None`.
 #[tactic(auto, unfolding(crate::specs::DenialMembers::from_clause))]
 fn from_clause(members: &[u8]) -> Option<&[u8]>
     ensures { seen result ≡ from_clause members.now }

@@ -32,7 +32,7 @@ fn denial_word(member: &[u8]) -> Option<StudentDenial>
     }
 }
 
-// Returns the denial that the second of these members names. Returns `None` if there is no comma, or the second member
+// Returns the denial that the second of `members` names. Returns `None` if there is no comma, or the second member
 // names none of the listed denials.
 #[tactic(auto, unfolding(crate::specs::DenialNames::denial_after))]
 fn denial_after(members: &[u8]) -> Option<StudentDenial>

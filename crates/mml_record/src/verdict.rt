@@ -7,37 +7,38 @@ use mml_tally::Findings;
 /// The verdict on a text that should be a record.
 #[derive(Clone, Copy, Debug, Drop)]
 pub enum Verdict {
-    /// It is a record, with this summary.
+    /// The text is a record, with this summary.
     Passed(Findings),
-    /// It isn't a record, because of this entry.
+    /// The text isn't a record, because of this entry.
     Refused(BadEntry),
 }
 
 /// The first bad entry of a text.
 #[derive(Clone, Copy, Debug, PartialEq, Eq, Drop)]
 pub struct BadEntry {
-    /// How many bytes come before it. They are the longest beginning of the text that is a record.
+    /// How many bytes come before the entry. These bytes are the longest beginning of the text that is a record.
     pub front: u64,
-    /// The number of its first line in the text, from 1.
+    /// The number of the entry's first line in the text, from 1.
     pub line: u64,
-    /// How many events had been seen, as it says, or 0 if it can't be read.
+    /// How many events had been seen, as the entry says, or 0 if it can't be read.
     pub place: u64,
-    /// Why it is bad.
+    /// Why the entry is bad.
     pub why: Why,
 }
 
 /// Why an entry is bad.
 #[derive(Clone, Copy, Debug, PartialEq, Eq, Drop)]
 pub enum Why {
-    /// The text breaks off within it.
+    /// The text breaks off within the entry.
     Torn,
-    /// It isn't spelled like an entry, or is of another seat.
+    /// The entry isn't spelled like one, or is of another seat.
     NoEntry,
-    /// It says that fewer events had been seen than the entries before it lead to.
+    /// The entry says that fewer events had been seen than the entries before it lead to.
     GoesBack,
-    /// It says that more events had been seen than the journal has.
+    /// The entry says that more events had been seen than the journal has.
     PastEnd,
-    /// It says that more events had been seen than the entries before it lead to, though nothing was asked or shown.
+    /// The entry says that more events had been seen than the entries before it lead to, though nothing was asked or
+    /// shown.
     GoesAhead,
     /// A line comes after a bye, or after an entry which says that lines aren't recorded.
     NoEnd,

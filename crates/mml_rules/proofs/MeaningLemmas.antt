@@ -17,7 +17,7 @@ beq-true a b h = grind (arith, false≢true)
 pub beq-same : (a b : Bool) → a ≡ b → beq a b ≡ true
 beq-same a b h = grind arith
 
--- ---- married, and m right
+-- ---- whether a node is married, and whether its m is right
 
 married-to : (c : Configuration) (i : ℕ) → is_married c i ≡ true → IsMarried c i
 unfolding is_married
@@ -137,9 +137,7 @@ guard-back c i r l h = grind (arith, false_from_ne_true, right-to, and_from, rig
 -- only an update writes m
 pub effect_keeps_m : (c : Configuration) (i : ℕ) (r : Rule) → r ≢ Rule.Update → (effect c i r).m ≡ c.m i
 effect_keeps_m c i Rule.Update other = absurd (other refl)
-effect_keeps_m c i (Rule.Marriage j) other = refl
-effect_keeps_m c i Rule.Seduction other = refl
-effect_keeps_m c i Rule.Abandonment other = refl
+effect_keeps_m c i _ other = refl
 
 -- the guard of a rule holds exactly if the rule may be applied
 pub guard-means : (c : Configuration) (i : ℕ) (r : Rule) → IsLawful c → (guard c i r ≡ true) ↔ MayApply c i r

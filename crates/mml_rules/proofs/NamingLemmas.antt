@@ -34,8 +34,8 @@ module _ (f : ℕ → ℕ) (c d : Configuration) (l : IsLawful c) (r : IsRenamed
   pointing_named : (i : ℕ) → i < c.size → is_some (d.p (f i)) ≡ is_some (c.p i)
   pointing_named i a = ap is_some (r.p i a) ∙ some_named (c.p i)
 
-  -- if two tests agree on each node and its name, and only neighbours of x pass, some name passes exactly if some node
-  -- passes
+  -- let test t of nodes and test u of names agree on each node; if only names linked to x pass u, some name passes u
+  -- exactly if some node passes t
   search_named : (t u : ℕ → Bool) (x : ℕ) → ((k : ℕ) → k < c.size → u (f k) ≡ t k) → ((y : ℕ) → u y ≡ true → d.linked x y ≡ true) → some_below d.size u ≡ some_below c.size t
   search_named t u x same near = same_bool _ _
       (λ h. let y = some_below-find d.size u h in

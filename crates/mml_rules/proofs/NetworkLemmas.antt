@@ -11,7 +11,7 @@ pub neighbours_at-set : (neighbours : List (FinSet nat_cmp)) (a i : ℕ) (s : Fi
     → neighbours_at (set neighbours a s) i ≡ cond (eqb i a) s (neighbours_at neighbours i)
 neighbours_at-set neighbours a i s l = grind (arith, cases_eq, get_or-set_same, eq-eqb, get_or-set_other, ne_eqb)
 
--- after node a gets the registers r, all other nodes have the same registers as before
+-- after node a gets the registers r, a has r, and all other nodes have the same registers as before
 pub registers_at-set : (registers : List Regs) (a i : ℕ) (r : Regs) → a < length registers → registers_at (set registers a r) i ≡ cond (eqb i a) r (registers_at registers i)
 registers_at-set registers a i r l = grind (arith, cases_eq, get_or-set_same, eq-eqb, get_or-set_other, ne_eqb)
 
@@ -25,11 +25,11 @@ pub has-without_neighbour : (neighbours : List (FinSet nat_cmp)) (a b i j : ℕ)
     → sets.contains (neighbours_at (without_neighbour neighbours a b) i) j ≡ (not (eqb i a && eqb j b) && sets.contains (neighbours_at neighbours i) j)
 has-without_neighbour neighbours a b i j l = grind (arith, neighbours_at-set, has_remove, eqb-true)
 
--- adding a neighbour keeps the number of rows
+-- adding a neighbour keeps the number of rows, one for each node
 pub length-with_neighbour : (neighbours : List (FinSet nat_cmp)) (a b : ℕ) → length (with_neighbour neighbours a b) ≡ length neighbours
 length-with_neighbour neighbours a b = length-set neighbours a (sets.insert (neighbours_at neighbours a) b)
 
--- removing a neighbour keeps the number of rows
+-- removing a neighbour keeps the number of rows, one for each node
 pub length-without_neighbour : (neighbours : List (FinSet nat_cmp)) (a b : ℕ) → length (without_neighbour neighbours a b) ≡ length neighbours
 length-without_neighbour neighbours a b = length-set neighbours a (sets.remove (neighbours_at neighbours a) b)
 
@@ -64,7 +64,7 @@ are_both i a j b e f = and_from _ _ (eq-eqb i a e) (eq-eqb j b f)
 pub with_link-lawful : (n : Network) (a b : ℕ) → IsNetwork n → a < length n.registers → b < length n.registers → (a ≡ b → ⊥) → IsNetwork (with_link n a b)
 with_link-lawful n a b w la lb apart = grind (arith, length-with_neighbour, or_right, linked-with_link, or_cases, both_are, or_left, are_both, false_from_ne_true, both_ways)
 
--- if i points at j after a pointer from a to b was set to null, i pointed at j before, and it isn't this pointer
+-- if i points at j after the pointer from a to b was set to null, i pointed at j before, and i isn't a or j isn't b
 pub pointer_left : (registers : List Regs) (a b i j : ℕ) → a < length registers → (registers_at (unpointed registers a b) i).p ≡ Some j
     → ((registers_at registers i).p ≡ Some j) × ((eqb i a && eqb j b) ≡ false)
 pointer_left registers a b i j l = grind (arith, registers_at-set, false_from_ne_true, both_are, both_ways, eq-eqb)

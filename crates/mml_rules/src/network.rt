@@ -75,7 +75,7 @@ impl Network {
         self.registers[node.index() as usize]
     }
 
-    /// Returns the number of nodes. Their ranks are the numbers below it.
+    /// Returns the number of nodes. The ranks of the nodes are the numbers below this number.
     pub fn size(&self) -> u64
         ensures size { result ≡ length self.now.registers }
         ensures network { IsNetwork self.now }

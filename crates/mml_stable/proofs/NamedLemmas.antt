@@ -9,7 +9,7 @@ use Rattle.mml_stable.specs.declared.stability_report.Report.{Report}
 use Rattle.mml_stable.specs.Reports.{each_below, listed_if, pair_at, privileged_at, is_open, open_link, report_of, IsPairOf, IsOpenLinkOf, NamesNodes}
 use Rattle.mml_stable.proofs.WalkLemmas.{certified}
 
--- if P holds of x in case that the test is true, P holds of each item of `listed_if`
+-- if P holds of x whenever the test is true, P holds of each item of `listed_if`
 pub all_listed : {X : Type 0} (P : X → Type 0) (b : Bool) (x : X) → (b ≡ true → P x) → All P (listed_if b x)
 all_listed P b x h = grind (arith, nat_tests)
 

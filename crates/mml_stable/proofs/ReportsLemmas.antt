@@ -8,7 +8,7 @@ use Rattle.mml_rules.specs.{declared.rule.Kind.Kind, Configuration.Configuration
 use Rattle.mml_stable.specs.{inside.Rest.IsFreeFrom, Reports.each_below, Reports.listed_if, Reports.privileged_at, Reports.is_free, Reports.is_open, Reports.open_link, Reports.open_links_at}
 use Rattle.std.specs.FinSet as sets
 
--- the values of f at the numbers below n that pass, as `passing` or as `each_below` lists them, are the same list
+-- `passing` and `each_below` list the same values: those of f at the numbers below n that pass
 listed_below : {A : Type 0} (t : ℕ → Bool) (f : ℕ → A) (n : ℕ) → passing t f n ≡ each_below n (λ b. listed_if (t b) (f b))
 listed_below t f zero = refl
 listed_below t f (suc n) = ap (passing t f) (sym (add-one n)) ∙ passing_more t f n ∙ (λ i. listed_below t f n i ++ one (t n) i)
@@ -17,7 +17,7 @@ listed_below t f (suc n) = ap (passing t f) (sym (add-one n)) ∙ passing_more t
     one true = refl
     one false = refl
 
--- the links from a to each node of the set `ends`, the greater ends of its open links, are the open links of a
+-- if `ends` has the greater ends of the open links of a, the links from a to the nodes of `ends` are these open links
 pub links_of_ends : (c : Configuration) (a : ℕ) (ends : FinSet nat_cmp) → ((b : ℕ) → sets.contains ends b ≡ is_open c a b)
     → map (open_link c a) (ranks_in c.size ends) ≡ open_links_at c a
 links_of_ends c a ends same = grind (arith, nat_tests, filter_agree, listed_below)
@@ -31,7 +31,7 @@ pub none_listed : (n : ℕ) (kind : ℕ → Option Kind) → eqb (length (each_b
 none_listed zero kind = refl
 none_listed (suc n) kind = grind (arith, nat_tests, append-nil, ne_eqb, length-append, (none_listed n kind))
 
--- at the beginning, the rest has all free nodes
+-- the set of all free nodes has the free nodes from node 0 on
 pub all_left : (c : Configuration) (free : FinSet nat_cmp) → free ≡ those_below c.size (is_free c) → IsFreeFrom c 0 free
 all_left c free e b =
     ap (λ s. sets.contains s b) e ∙ has-those_below c.size (is_free c) b
@@ -40,12 +40,12 @@ all_left c free e b =
 past : (a b : ℕ) (x : Bool) → (not (eqb b a) && (not (ltb b a) && x)) ≡ (not (ltb b (a + 1)) && x)
 past a b x = grind (arith, nat_tests, cases_lt, ne_eqb, lt-ltb, cases_eq, eq-eqb, le-ltb)
 
--- after node a is removed, the rest has the free nodes from a + 1 on
+-- if node a is removed from the set of the free nodes from a on, this set has the free nodes from a + 1 on
 pub one_past : (c : Configuration) (a : ℕ) (rest left : FinSet nat_cmp) → IsFreeFrom c a rest → left ≡ sets.remove rest a → IsFreeFrom c (a + 1) left
 one_past c a rest left from e b =
     ap (λ s. sets.contains s b) e ∙ has_remove rest a b ∙ ap (λ t. not (eqb b a) && t) (from b) ∙ past a b (ltb b c.size && is_free c b)
 
--- the rest of the free nodes from a on has a exactly if a is free
+-- the set of the free nodes from a on has a exactly if a is free
 pub has_self : (c : Configuration) (a : ℕ) (rest : FinSet nat_cmp) → a < c.size → IsFreeFrom c a rest → sets.contains rest a ≡ is_free c a
 has_self c a rest l from = from a ∙ (rw (le-ltb a a (omega arith), lt-ltb a c.size l) refl)
 

@@ -1,5 +1,5 @@
--- The walk along the pointers rises and ends at a node that is privileged or points nowhere. It finds the witness of an
--- open link. A climb is the walk with a limit on the number of its steps.
+-- The walk along the pointers rises and ends at a node that is privileged or points nowhere. The walk finds the witness
+-- of an open link. A climb is the walk with a limit on the number of its steps.
 use Rattle.std.proofs.Common.{◌≡◌, ℕ, zero, suc, ◌<◌, ◌≤◌, ◌+◌, Bool, true, false, cond, ◌⊎◌, inl, inr, Option, None, Some, unwrap_or, sym, refl, ap, ◌∙◌, subst, arith, add-one}
 use Rattle.std.proofs.lemmas.Bool.{both_ways, and_parts, Decides.nat_tests}
 use Rattle.mml_rules.specs.{declared.rule.Rule.Rule, declared.rule.Kind.Kind, Configuration.Configuration, Configuration.IsLawful}
@@ -122,7 +122,7 @@ pub top_is : (c : Configuration) (i n x : ℕ) → climb c n x ≡ climb c c.siz
 unfolding top
 top_is c i n x e stays = sym stays ∙ e
 
--- each pointer on the way leads to a greater node that has m false
+-- each pointer on a walk leads to a greater node that has m false
 pub rises : (c : Configuration) (i j : ℕ) → IsLawful c → is_privileged c i ≡ false → (is_married c i ≡ false) ⊎ (c.m i ≡ false) → c.p i ≡ Some j
     → (i < j) × (c.m j ≡ false)
 rises c i j l idle free p =

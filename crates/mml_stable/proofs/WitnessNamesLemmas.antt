@@ -46,7 +46,7 @@ module _ (f : ℕ → ℕ) (c d : Configuration) (l : IsLawful c) (r : IsRenamed
   unfolding top
   top_named i i_in free = climbed c.size d.size i (as_many c.size refl) i_in (ends_there i (top c i) (top-ends c l i i_in free).leads)
 
-  -- the result of a walk under the new names
+  -- the result of a walk, with the node under its new name
   abbrev found : Option (ℕ × Kind) → Option (ℕ × Kind)
   found None = None
   found (Some e) = Some (f e.0, e.1)

@@ -25,8 +25,9 @@ unless_seduction i (Some Kind.Abandonment) = Some (i, Kind.Abandonment)
 abbrev pub walk : Configuration → ℕ → Option (ℕ × Kind)
 walk c i = unless_seduction (top c i) (enabled_kind c (top c i))
 
--- the witness of a link between a and a greater b, both of them free: the node that the walk from a finds. If it finds
--- none, it is the node that the walk from b finds. If neither walk finds one, it is a with a seduction
+-- the witness of a link between a and a greater b, both of them free: the node that the walk from a finds. If that walk
+-- finds none, the witness is the node that the walk from b finds. If neither walk finds one, the witness is a with a
+-- seduction
 unfoldable pub certificate : Configuration → ℕ → ℕ → ℕ × Kind
 certificate c a b = unwrap_or (walk c a) (unwrap_or (walk c b) (a, Kind.Seduction))
 

@@ -36,8 +36,9 @@ pub fn certify(board: &Board, a: Rank, b: Rank) -> (Rank, Kind)
 }
 
 /// Returns the witness of a link between two free nodes (in no pair), `a` and the greater `b`: a privileged node, and
-/// the rule that is enabled there. This is what `witness_from` returns for `a`, or else what it returns for `b`. If
-/// both calls return `None`, it is `a` with a seduction. `kinds` has the rule that is enabled at each node, by rank.
+/// the rule that is enabled there. The witness is what `witness_from` returns for `a`, or else what it returns for `b`.
+/// If both calls return `None`, the witness is `a` with a seduction. `kinds` has the rule that is enabled at each node,
+/// by rank.
 #[tactic(auto, unfolding(crate::specs::Walk::certificate))]
 pub(crate) fn witness(board: &Board, kinds: &[Option<Kind>], a: Rank, b: Rank) -> (Rank, Kind)
     requires kinds { AreKinds (configuration board.now) kinds.now }

@@ -24,7 +24,8 @@ pub(crate) fn find_kinds(board: &Board, kinds: &mut [Option<Kind>])
     }
 }
 
-/// Returns the rule that is enabled at a node, if one is. It is looked up in `kinds`, which `find_kinds` has filled.
+/// Returns the rule that is enabled at a node, if one is. The rule is looked up in `kinds`, which `find_kinds` has
+/// filled.
 #[inline(always)]
 pub(crate) fn kind_at(board: &Board, kinds: &[Option<Kind>], node: Rank) -> Option<Kind>
     requires node { node < length board.now.network.registers }

@@ -22,8 +22,8 @@ use mml_rules::{Kind, Scene, married};
 use std::alloc::Global;
 
 /// Returns the report on the board's configuration: its number, its pairs, its free nodes (in no pair), its privileged
-/// nodes, and whether it is stable. It also has the open links (between free nodes), each with its witness. Returns
-/// `Memory` if memory runs out.
+/// nodes, and whether it is stable. The report also has the open links (between free nodes), each with its witness.
+/// Returns `Memory` if memory runs out.
 pub fn report(alloc: Global, board: &Board) -> Result<Report, Memory>
     ensures report { IfOk result (λ report. report ≡ report_of board.now) }
     ensures nodes { IfOk result (NamesNodes (length board.now.network.registers)) }

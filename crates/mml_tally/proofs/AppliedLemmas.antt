@@ -73,8 +73,8 @@ never w n = count_none n (λ i. is_chosen w i && false) (λ i l. and_right (is_c
 none_left : (w : World) (e : Event) (q : ℕ) (es : List Event) → (after w e).chosen ≡ replicate (size w) None → pending (after w e) q es ≡ 0
 none_left w e q es new = grind (arith, nat_tests, nothing_pending, unchosen)
 
--- the first event of a legal list fits the world, and leads to a lawful world (`IsWorld`) in which the rest of the list
--- is legal
+-- the first event of a legal list passes `is_fit`, and leads to a lawful world (`IsWorld`) in which the rest of the
+-- list is legal
 first_of : (r : RosterValue) (w : World) (e : Event) (es : List Event) → IsWorld w → is_legal_list r w (e ∷ es) ≡ true
     → (is_fit w e ≡ true) × IsWorld (after w e) × (is_legal_list r (after w e) es ≡ true)
 first_of r w e es k legal =

@@ -1,5 +1,5 @@
 -- The bounds on moves and rounds, computed with n / 2 and n % 2.
-use Rattle.std.proofs.Common.{◌≡◌, ◌⊎◌, inl, inr, ℕ, zero, suc, ◌+◌, ◌-◌, ◌*◌, ◌/◌, ◌%◌, refl, sym, ap, ◌∙◌, arith}
+use Rattle.std.proofs.Common.{◌≡◌, ◌⊎◌, inl, inr, ℕ, suc, ◌+◌, ◌-◌, ◌*◌, ◌/◌, ◌%◌, refl, sym, ap, ◌∙◌, arith}
 use Rattle.mml_convergence.specs.{Rounds.rounds_for, Courtships.most_courtships}
 use Rattle.mml_convergence.proofs.NumbersLemmas.{courtships_even, courtships_odd}
 
@@ -18,6 +18,5 @@ pub halves_court : (n : ℕ) → n / 2 * (n - n / 2) ≡ most_courtships n
 halves_court n = at_half n (n / 2) (halved n)
 
 pub rounds_are : (n : ℕ) → 2 * n - n % 2 ≡ rounds_for n
-rounds_are zero = refl
-rounds_are (suc zero) = refl
 rounds_are (suc (suc n)) = omega (arith, rounds_are n)
+rounds_are _ = refl

@@ -29,17 +29,16 @@ next_after q (_ ∷ es) = let rest = next_after (q + 1) es in omega (arith, rest
 pub record IsNext (last q : ℕ) (es : List Event) (close : ℕ) : Type 0 where
   pub which : (close ≡ last) ⊎ ((close ≡ next_close q es) × (next_close q es < q + length es))
 
--- the same holds if one more event comes first and doesn't change the next close
+-- `IsNext` still holds if one more event comes first and doesn't change the next close
 next_earlier : (last q : ℕ) (e : Event) (es : List Event) (close : ℕ) → next_close q (e ∷ es) ≡ next_close (q + 1) es → IsNext last (q + 1) es close
     → IsNext last q (e ∷ es) close
 next_earlier last q e es close same h = grind (arith, nat_tests)
 
 pub fate_next : (last i q : ℕ) (es : List Event) → IsNext last q es (close_of last (fate_of i q es))
-fate_next last i q [] = record { which = inl refl }
 fate_next last i q (event.Grant s j rule ∷ es) = next_earlier last q (event.Grant s j rule) es _ refl (fate_next last i (q + 1) es)
 fate_next last i q (event.Release j ∷ es) = grind (arith, nat_tests, next_earlier, (fate_next last i (q + 1) es))
 fate_next last i q (event.Close ∷ es) = record { which = inr (refl, omega arith) }
-fate_next last i q (_ ∷ es) = record { which = inl refl }
+fate_next last i q _ = record { which = inl refl }
 
 -- ---- the closes come in order
 
@@ -115,9 +114,7 @@ counted n last (m ∷ ms) h = go m.fate (counted n (close_of last m.fate) ms h.2
           (λ j lt. one_more n last p ms rising (omega (arith, ne)) j) in
           grind (arith, nat_tests, rest, split, count_one (n + 1) p (omega arith), ne)
     ]
-    go fate.Released rest le within rising = same _ rest
-    go fate.Dropped rest le within rising = same _ rest
-    go fate.Chosen rest le within rising = same _ rest
+    go _ rest le within rising = same _ rest
 
 pub closes_counted : (test : Move → Bool) (es : List Event) → count_new 0 (filter test (moves es)) ≡ count_applying_closes (length es) (filter test (moves es))
 closes_counted test [] = refl

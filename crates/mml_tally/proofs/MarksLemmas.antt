@@ -42,7 +42,8 @@ abbrev pub AllOf : ℕ → List Move → Type 0
 AllOf n [] = Unit {0}
 AllOf n (m ∷ ms) = (m.who < n) × AllOf n ms
 
--- the count of the moves of s, if one more move is put before the others
+-- if one more move is put before the others, and is a move of s that passes the test, the count of the moves of s grows
+-- by 1
 one_by : (test : Move → Bool) (m : Move) (ms : List Move) (s : ℕ)
     → count_by test (moves_by s (m ∷ ms)) ≡ one (eqb m.who s && test m) + count_by test (moves_by s ms)
 one_by test m ms s = grind (arith, nat_tests, one, more)

@@ -12,7 +12,7 @@ use Rattle.mml_board.specs.declared.event.Event.TheVariants as event
 abbrev pub changes : List Event → ℕ
 changes es = count_by is_close es + count_by is_fault es + count_by is_link es + count_by is_cut es
 
--- this number for a list with the first event e: 1 more if e is a close, a fault, a link or a cut
+-- `changes` is 1 more for a list with one more event in front, if this is a close, a fault, a link or a cut
 one_more : (e : Event) (es : List Event) → changes (e ∷ es) ≡ one (is_close e) + one (is_fault e) + one (is_link e) + one (is_cut e) + changes es
 one_more e es = omega (arith, more is_close e es, more is_fault e es, more is_link e es, more is_cut e es)
 

@@ -1,6 +1,6 @@
--- The rounds since the last fault, link or cut are rounds of a run of grants, releases and closes. So they are within
--- the bound for rounds. The place of an event is its number in the list of events, from 1. A round is a list of events
--- in which each node has its turn: at some point it isn't privileged, or a close applies its move.
+-- The rounds since the last fault, link or cut are rounds of a run of grants, releases and closes. So these rounds are
+-- within the bound for rounds. The place of an event is its number in the list of events, from 1. A round is a list of
+-- events in which each node has its turn: at some point it isn't privileged, or a close applies its move.
 use Rattle.std.proofs.Common.{◌≡◌, ℕ, zero, suc, ◌+◌, ◌≤◌, ◌⊎◌, inl, inr, Bool, true, false, not, cond, List, [], ◌∷◌, ◌++◌, take, drop, refl, sym, ap, ◌∙◌, subst, arith, append_assoc}
 use Rattle.std.proofs.Common.{take-append-drop}
 use Rattle.std.{specs.List.list_all, proofs.lemmas.Bool.and_parts, proofs.lemmas.Bool.eqb-true, proofs.lemmas.Bool.both_ways, proofs.lemmas.Bool.false_from_ne_true, proofs.lemmas.Bool.false≢true}

@@ -1,19 +1,19 @@
--- The moves since the last fault, link or cut are those of a run of grants, releases and closes. So they are within the
--- bound for moves. A world is a network with its registers, its chosen moves, the number of its configuration, and the
--- number of events so far. The place of an event is its number in the list of events, from 1. A node is privileged if
--- some rule is enabled there. A list of events is legal if the rules allow each event after the earlier ones. A grant
--- chooses a move for a node, a release drops it, and a close applies all chosen moves at once. A fault sets a node's
--- registers, a link joins two nodes, and a cut removes a link.
+-- The moves since the last fault, link or cut are those of a run of grants, releases and closes. So these moves are
+-- within the bound for moves. A world is a network with its registers, its chosen moves, the number of its
+-- configuration, and the number of events so far. The place of an event is its number in the list of events, from 1. A
+-- node is privileged if some rule is enabled there. A list of events is legal if the rules allow each event after the
+-- earlier ones. A grant chooses a move for a node, a release drops it, and a close applies all chosen moves at once. A
+-- fault sets a node's registers, a link joins two nodes, and a cut removes a link.
 use Rattle.std.proofs.Common.{◌≡◌, ℕ, ◌+◌, ◌*◌, ◌≤◌, Bool, true, false, cond, eqb, ltb, List, [], ◌∷◌, None, Some, is_some, refl, ap, sym, ◌∙◌, arith, inl, inr, min, ◌⊎◌, unwrap_or, subst}
 use Rattle.std.specs.{Prelude.count_by, List.list_all}
 use Rattle.std.proofs.lemmas.Bool.{and_parts, cases_Bool, eqb-true, eq-eqb, false≢true, false_from_ne_true, Decides.nat_tests}
-use Rattle.mml_rules.specs.{declared.rule.Rule.Rule, Configuration.Configuration, Configuration.IsLawful, Rules.guard, Rules.is_privileged, Rules.step, Rules.AllHold, Rules.kind_of, Matching.IsStable}
+use Rattle.mml_rules.specs.{declared.rule.Rule.Rule, Configuration.Configuration, Configuration.IsLawful, Rules.guard, Rules.is_privileged, Rules.AllHold, Rules.kind_of, Matching.IsStable}
 use Rattle.mml_rules.proofs.MeaningLemmas.{privileged-means}
 use Rattle.mml_lab.specs.{Labs.LabValue, Labs.IsLab, Labs.link_count, Labs.links_below, Rosters.RosterValue}
 use Rattle.mml_board.specs.{declared.event.Event.Event, World.World, World.IsWorld, World.size, World.configuration, World.opening_of, Events.after, Events.is_legal, Runs.is_legal_list, Runs.world_of}
 use Rattle.mml_board.proofs.{WorldLemmas.after-world, WorldLemmas.length-moved_registers, ClausesLemmas.legal_possible, RunsLemmas.list-world}
-use Rattle.mml_convergence.specs.{Runs.is_of_step, Moves.applied_by, Moves.applied_over, Potential.whole_potential, Courtships.most_courtships, Courtships.courting_potential, Most.most_moves}
-use Rattle.mml_convergence.proofs.AppliedLemmas.{Falls, close_paid, network_most}
+use Rattle.mml_convergence.specs.{Runs.is_of_step, Moves.applied_over, Potential.whole_potential, Courtships.most_courtships, Courtships.courting_potential, Most.most_moves}
+use Rattle.mml_convergence.proofs.AppliedLemmas.{Falls, event_pays, network_most}
 use Rattle.mml_convergence.proofs.{WholePotentialLemmas.whole_fell, RestLemmas.same_size, SumsLemmas.count_some, WholeLemmas.courting_fell, WholeLemmas.courting_most}
 use Rattle.mml_tally.specs.{Moves.fate_of, Moves.moves_from, declared.fate.Fate.Fate, declared.granted_move.Move.Move, Marks.is_applied, Marks.is_fate_applied, Bounds.bounds_of}
 use Rattle.mml_tally.specs.Runs.{last_change, is_fate_after, is_applied_after, run_of}
@@ -32,7 +32,8 @@ never_earlier last q (event.Fault i registers ∷ es) le = let rest = never_earl
 never_earlier last q (event.Link a b ∷ es) le = let rest = never_earlier q (q + 1) es (omega arith) in omega (arith, rest)
 never_earlier last q (event.Cut a b ∷ es) le = let rest = never_earlier q (q + 1) es (omega arith) in omega (arith, rest)
 
--- if a fault, link or cut is among the events, the last one is at place q, that of the first event, or later
+-- if a fault, link or cut is among the events, the place of the last of them is at least q, the place of the first
+-- event
 beyond : (last q : ℕ) (es : List Event) → list_all is_of_step es ≡ false → q ≤ last_change last q es
 beyond last q [] some = absurd (false≢true (sym some))
 beyond last q (event.Grant s i rule ∷ es) some = let rest = beyond last (q + 1) es some in omega (arith, rest)
@@ -62,9 +63,7 @@ not_after i last q (event.Cut a b ∷ es) some = refl
 
 applied_so : (k : ℕ) (f : Fate) → one (is_fate_after k f) ≤ one (is_fate_applied f)
 applied_so k (fate.Applied p) = grind (arith, nat_tests)
-applied_so k fate.Released = omega arith
-applied_so k fate.Dropped = omega arith
-applied_so k fate.Chosen = omega arith
+applied_so k _ = omega arith
 
 fewer : (k : ℕ) (ms : List Move) → count_by (is_applied_after k) ms ≤ count_by is_applied ms
 fewer k [] = omega arith
@@ -86,27 +85,14 @@ count_since last q es = count_by (is_applied_after (last_change last q es)) (mov
 
 whole : (r : RosterValue) (w : World) (last q : ℕ) (es : List Event) → IsWorld w → is_legal_list r w es ≡ true → list_all is_of_step es ≡ true
     → Since r w es (count_since last q es)
-whole r w last q es k legal steps = record {
-  from = w;
-  later = es;
-  world = k;
-  legal = legal;
-  steps = steps;
-  end = refl;
-  moves = let few = fewer (last_change last q es) (moves_from q es) in omega (arith, applied_is r w q es k legal, few);
-}
+whole r w last q es k legal steps =
+    let few = fewer (last_change last q es) (moves_from q es) in
+    record { from = w; later = es; world = k; legal = legal; steps = steps; end = refl; moves = omega (arith, applied_is r w q es k legal, few) }
 
 -- if m is n, and `Since` holds after the first event, it holds before this event, too
 pass : (r : RosterValue) (w : World) (e : Event) (es : List Event) (n m : ℕ) → m ≡ n → Since r (after w e) es n → Since r w (e ∷ es) m
-pass r w e es n m same s = record {
-  from = s.from;
-  later = s.later;
-  world = s.world;
-  legal = s.legal;
-  steps = s.steps;
-  end = s.end;
-  moves = omega (arith, same, s.moves);
-}
+pass r w e es n m same s =
+    record { from = s.from; later = s.later; world = s.world; legal = s.legal; steps = s.steps; end = s.end; moves = omega (arith, same, s.moves) }
 
 -- after the first event of a legal list, the world is lawful (`IsWorld`), and the rest of the list is legal
 rest_of : (r : RosterValue) (w : World) (e : Event) (es : List Event) → IsWorld w → is_legal_list r w (e ∷ es) ≡ true
@@ -145,13 +131,6 @@ since r w last q (event.Cut a b ∷ es) k legal =
 
 -- ---- each applied move lowers a potential by 1 or more
 
-event_pays : (P : Configuration → ℕ) → Falls P → (w : World) (e : Event) → IsWorld w → is_of_step e ≡ true
-    → applied_by w e + P (configuration (after w e)) ≤ P (configuration w)
-event_pays P falls w (event.Grant s i rule) k step = omega arith
-event_pays P falls w (event.Release i) k step = omega arith
-event_pays P falls w event.Close k step = close_paid P falls w k
-event_pays P falls w _ k step = absurd (false≢true step)
-
 paid : (P : Configuration → ℕ) → Falls P → (r : RosterValue) (w : World) (es : List Event) → IsWorld w → is_legal_list r w es ≡ true
     → list_all is_of_step es ≡ true → applied_over w es + P (configuration (world_of w es)) ≤ P (configuration w)
 paid P falls r w [] k legal steps = omega arith
@@ -184,9 +163,7 @@ same_links w [] steps = refl
 same_links w (event.Grant s i rule ∷ es) steps = same_links (after w (event.Grant s i rule)) es steps
 same_links w (event.Release i ∷ es) steps = same_links (after w (event.Release i)) es steps
 same_links w (event.Close ∷ es) steps = same_links (after w event.Close) es steps ∙ close_links w
-same_links w (event.Fault i registers ∷ es) steps = absurd (false≢true steps)
-same_links w (event.Link a b ∷ es) steps = absurd (false≢true steps)
-same_links w (event.Cut a b ∷ es) steps = absurd (false≢true steps)
+same_links w _ steps = absurd (false≢true steps)
 
 -- ---- both bounds
 

@@ -1,5 +1,5 @@
--- The number of lines that a clause denied is the sum over the denials of this clause. Also the text about denials, to
--- which the line of the next student is appended. A clause is a condition under which a request is granted.
+-- The number of lines that a clause denied is the sum over the denials of this clause. The line of one more student can
+-- be appended to the text about denials. A clause is a condition under which a request is granted.
 use Rattle.std.proofs.Common.{◌≡◌, ℕ, ◌+◌, add-one, Bool, true, false, cond, List, [], ◌∷◌, ◌++◌, append_assoc, Option, None, Some, refl, sym, ap, ◌∙◌, arith}
 use Rattle.std.{specs.Prelude.option_map, proofs.lemmas.Bool.Decides.nat_tests}
 use Rattle.mml_lab.specs.{Labs.LabValue, Rosters.RosterValue, Rosters.name_of}
@@ -32,7 +32,7 @@ next_named lab asks now before first r s place name denied b n er es en ed =
 
 -- ---- the counts for each clause are sums of the counts for each denial
 
--- 1 if this is a denial of clause 1, otherwise 0
+-- 1 for a denial of clause 1, otherwise 0
 abbrev of_first : Option StudentDenial → ℕ
 of_first n = one (is_named named.Greeted n) + one (is_named named.Hidden n) + one (is_named named.NotOwner n) + one (is_named named.NotTeacher n)
 
@@ -56,7 +56,8 @@ fourth_is None = refl
 fourth_is (Some named.Guard) = refl
 fourth_is (Some _) = refl
 
--- if a line was denied by the clause of its named denial, it is counted for a clause exactly if this denial is
+-- if a line was denied by the clause of its named denial, it is counted for clause c exactly if c is the clause of this
+-- denial
 clause_is : (c : ℕ) (denied : Option ℕ) (n : Option StudentDenial) → denied ≡ option_map clause_named n
     → one (is_clause c denied) ≡ one (is_clause c (option_map clause_named n))
 clause_is c denied n e = λ k. one (is_clause c (e k))

@@ -16,18 +16,19 @@ is_denied a = is_some a.denied
 abbrev pub total_denied : Denials → ℕ
 total_denied d = d.first + d.second + d.third + d.fourth
 
--- whether this is None, or the number of one of the four clauses
+-- whether the value is None, or the number of one of the four clauses
 abbrev pub is_numbered : Option ℕ → Bool
 is_numbered None = true
 is_numbered (Some c) = c == 1 || (c == 2 || (c == 3 || c == 4))
 
--- if a student was known, it is one of the first n, and no clause denied the line, or one of the clauses 1 to 4
+-- if a student was known, it is one of the first n, and the line was denied by no clause, or by one of the clauses 1 to
+-- 4
 abbrev pub IsKnownOf : ℕ → Option ℕ → Option ℕ → Type 0
 IsKnownOf n None denied = Unit {0}
 IsKnownOf n (Some s) denied = (s < n) × (is_numbered denied ≡ true)
 
--- for each line, if a student was known, it is one of the first n, and no clause denied the line, or one of the clauses
--- 1 to 4
+-- if a student was known at a line, it is one of the first n students; each such line was denied by no clause, or by
+-- one of the clauses 1 to 4
 abbrev pub AreAsksOf : ℕ → List Ask → Type 0
 AreAsksOf n [] = Unit {0}
 AreAsksOf n (a ∷ asks) = IsKnownOf n a.who a.denied × AreAsksOf n asks

@@ -22,7 +22,7 @@ student_denial denial.Chosen = Some named.Chosen
 student_denial denial.Guard = Some named.Guard
 student_denial _ = None
 
--- the clause of each of these denials
+-- the number of the clause of each denial that a student can get
 abbrev pub clause_named : StudentDenial → ℕ
 clause_named named.Greeted = 1
 clause_named named.Hidden = 1
@@ -43,7 +43,7 @@ is_named named.Chosen (Some named.Chosen) = true
 is_named named.Guard (Some named.Guard) = true
 is_named _ _ = false
 
--- how many lines got each of these denials
+-- how many of the lines got each denial that a student can get
 abbrev pub named_in : List Ask → NamedDenials
 named_in own = record {
   greeted = count_by (λ a. is_named named.Greeted a.named) own;
@@ -55,7 +55,7 @@ named_in own = record {
   guard = count_by (λ a. is_named named.Guard a.named) own;
 }
 
--- how many lines of a student got each of these denials
+-- how many lines of a student got each denial that a student can get
 abbrev pub named_of : List Ask → ℕ → NamedDenials
 named_of asks s = named_in (asks_by s asks)
 

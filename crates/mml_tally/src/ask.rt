@@ -24,9 +24,9 @@ pub struct Ask {
     pub line: Line,
     /// The number of the clause that denied the line, if one did.
     pub denied: Option<u8>,
-    /// The denial of the line, if it was denied by one that a known student can get.
+    /// The denial of the line, if it was denied, and a known student can get this denial.
     pub named: Option<StudentDenial>,
-    /// Why the line was refused, if it was. It is `None` for a line that isn't a request.
+    /// Why the line was refused, if it was. For a line that isn't a request, the value is `None`.
     pub refused: Option<Refusal>,
 }
 

@@ -21,7 +21,7 @@ pub struct Bounds {
     pub moves: u64,
     /// The rounds until no node is privileged.
     pub rounds: u64,
-    /// The grants and closes until then.
+    /// The grants and closes until no node is privileged.
     pub events: u64,
 }
 

@@ -13,13 +13,13 @@ use mml_ids::Rank;
 /// fault, a link or a cut drops it before.
 #[derive(Clone, Copy, Debug, PartialEq, Eq)]
 pub enum Fate {
-    /// The close at this place applies it.
+    /// The close at this place applies the move.
     Applied(u64),
-    /// The teacher releases it.
+    /// The teacher releases the move.
     Released,
-    /// A fault, a link or a cut drops it.
+    /// A fault, a link or a cut drops the move.
     Dropped,
-    /// It is still chosen.
+    /// No event has applied or dropped the move, so it is still chosen.
     Chosen,
 }
 

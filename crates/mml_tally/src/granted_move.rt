@@ -16,15 +16,15 @@ use std::alloc::Global;
 /// A move that was granted, and what happened to it. A grant chooses a move for a node, and a close applies it.
 #[derive(Clone, Copy, Debug)]
 pub struct Move {
-    /// The place of its grant.
+    /// The place of the move's grant.
     pub place: u64,
-    /// The student who asked for it.
+    /// The student who asked for the move.
     pub who: Student,
-    /// The node at which it was granted.
+    /// The node for which the move was granted.
     pub node: Rank,
-    /// The kind of its rule.
+    /// The kind of the move's rule.
     pub kind: Kind,
-    /// What happened to it.
+    /// What happened to the move.
     pub fate: Fate,
 }
 

@@ -1,8 +1,8 @@
 //! The participants whose lines are all recorded.
 //!
 //! A participant is known on a connection from a granted hello to the bye. Lines of a participant may be missing if
-//! recording paused while the participant was known. They may also be missing if an entry of the record says that
-//! anything may be.
+//! recording paused while the participant was known. Lines of every participant may be missing if an entry of the
+//! record says so.
 ghost use Rattle.std.specs.Prelude.{◌≡◌, ◌++◌, length, OnOk};
 ghost use Rattle.mml_lab.specs.Rosters.{IsPrincipal};
 ghost use Rattle.mml_tally.specs.Lacking.{IsCounted, lacks, has_all_of, whole_name, whole_names, recorded_line};
@@ -33,8 +33,9 @@ impl Findings {
     }
 }
 
-/// Appends the tally's line about the participants whose lines are all in the record. It has the word `whole`, and then
-/// their names: first the teacher's, and then the students' in the lab's order. Returns `Memory` if memory runs out.
+/// Appends the tally's line about the participants whose lines are all in the record. The line has the word `whole`,
+/// and then the names of these participants: first the teacher's, and then the students' in the lab's order. Returns
+/// `Memory` if memory runs out.
 pub fn put_recorded(out: &mut Vec<u8>, lab: &Lab, findings: &Findings) -> Result<(), Memory>
     ensures { OnOk result
         (out.new.items ≡ out.old.items ++ recorded_line lab.now findings.now) }

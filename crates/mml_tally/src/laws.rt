@@ -52,7 +52,7 @@ pub fn students_apply_all_moves()
 {}
 
 /// The tally's line `run` never has more moves since the last fault, link or cut than its line `bounds` has moves. If
-/// it has as many, no node is privileged.
+/// the two numbers are equal, no node is privileged.
 pub fn moves_since_are_within_the_most()
     ensures within { (lab : LabValue) (es : List Event) → IsLab lab →
         is_legal_list lab.roster (opening_of lab.network) es ≡ true →
@@ -63,8 +63,8 @@ pub fn moves_since_are_within_the_most()
         IsStable (configuration (world_of (opening_of lab.network) es)) }
 {}
 
-/// The rounds since the last fault, link or cut are never more than the rounds in the tally's line `bounds`. If they
-/// are as many, no node is privileged.
+/// The rounds since the last fault, link or cut are never more than the rounds in the tally's line `bounds`. If the two
+/// numbers are equal, no node is privileged.
 pub fn rounds_since_are_within_the_most()
     ensures within { (lab : LabValue) (es : List Event) → IsLab lab →
         is_legal_list lab.roster (opening_of lab.network) es ≡ true →
@@ -143,8 +143,8 @@ pub fn refusals_are_of_one_student()
         ≡ count_by (λ a. is_refused Refusal.Full a.refused) asks }
 {}
 
-/// The number of a student's lines that a clause denied is the sum over the denials of that clause. This holds if each
-/// line of a student was denied by the clause of its denial, and by none if it has no denial.
+/// Let each line of a student be denied by the clause of its denial, and by none if it has no denial. Then the number
+/// of a student's lines that a clause denied is the sum over the denials of that clause.
 pub fn columns_are_sums_of_denials()
     ensures { (asks : List Ask) (s : ℕ) → AreNamed asks → AreSums (denials_of asks s) (named_of asks s) }
 {}

@@ -1,5 +1,5 @@
 //! The tally of a run's events: for each student, for the run, and for each node that several own. Each move is
-//! followed through the list of events alone. The tally also says how much may follow after them.
+//! followed through the list of events alone. The tally also says how many moves, rounds and events may still follow.
 //!
 //! A grant chooses a move for a node, a release drops it, and a close applies all chosen moves at once. A fault sets a
 //! node's registers, a link joins two nodes, and a cut removes a link. A granted move is applied by the next close,

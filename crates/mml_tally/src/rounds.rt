@@ -62,8 +62,8 @@ fn replay(lab: &Lab, events: &[Event], board: &mut Board, count: usize)
     }
 }
 
-/// Returns how many rounds end after the first `since` events, counted from there. `board` must be the state after
-/// these events. The later events are applied to it.
+/// Returns how many rounds the events after the first `since` ones have. `board` must be the state after the first
+/// `since` events. The later events are applied to the board.
 fn count_rounds(lab: &Lab, events: &[Event], board: &mut Board, since: usize) -> u64
     requires legal { is_legal_in lab.now events.now ≡ true }
     requires board { board.old ≡ world_in lab.now (take since events.now) }

@@ -20,9 +20,9 @@ use mml_ids::{Memory, Piece, Rank, put};
 use mml_lab::{Lab, Roster, Student, Who};
 use std::alloc::Global;
 
-/// Appends the tally of a run. It has a line for each student, and one for each node that several students own. Then
-/// come a line with the bounds on what may follow, and a line with the counts of the run. `board` is the state after
-/// `events`. Returns `Memory` if memory runs out.
+/// Appends the tally of a run. The tally has a line for each student, and one for each node that several students own.
+/// Then come a line with the bounds on what may follow, and a line with the counts of the run. `board` is the state
+/// after `events`. Returns `Memory` if memory runs out.
 pub fn put_tally(
     out: &mut Vec<u8>,
     alloc: Global,

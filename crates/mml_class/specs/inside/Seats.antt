@@ -35,7 +35,7 @@ pub record AddsSeat (lab : LabValue) (l : List Event) (number : ℕ) (with_asks 
   pub read : IsSeatRead lab l number with_asks text granted granted' asks asks' (Passed found)
   pub together : IsTogether old found new
 
--- why the text of a seat is no record; if it couldn't be read, there is no condition
+-- why the text of a seat is no record; if the text couldn't be read, there is no condition
 abbrev pub IsSeatRefused : LabValue → List Event → ℕ → List ℕ → ClassFault → Type 0
 IsSeatRefused lab l number text (fault.Entry seat bad) = (seat ≡ number) × IsFirstBad lab l number text bad
 IsSeatRefused lab l number text (fault.Places amiss) = ⊥

@@ -11,7 +11,8 @@ close_of last fate.Released = last
 close_of last fate.Dropped = last
 close_of last fate.Chosen = last
 
--- how many of the moves were applied by another close than the applied move before them; `last` is the close before all
+-- how many of the moves were applied by another close than the applied move before them; `last` is the place of the
+-- close that applied the last move before the list
 abbrev pub count_new : ℕ → List Move → ℕ
 count_new last [] = 0
 count_new last (m ∷ ms) = (if close_of last m.fate == last then 0 else 1) + count_new (close_of last m.fate) ms

@@ -6,7 +6,8 @@ use Rattle.mml_policy.specs.Shown.{near}
 use Rattle.mml_policy.proofs.NearLemmas.{shown}
 use Rattle.mml_policy.proofs.look.near.Given as goal
 
--- the neighbours that the loop has appended, followed by those that are left, are all; and there is room for those left
+-- the appended neighbours, followed by those that are left, are all neighbours; and there is room for those that are
+-- left
 abbrev pub invariant-loop-other : goal.invariant-loop-other
 invariant-loop-other l = record {
   within : (j : ℕ) → sets.contains l.left j ≡ true → j < length l.board.network.registers;
