@@ -24,7 +24,7 @@ fn hold_stream<R: Files<File = File>>(rt: &R, stream: RawFd) -> io::Result<()> {
         .write(is_input)
         .open(rt, "/dev/null")?;
     if file.as_raw_fd() == stream {
-        // It stays open to the end of the program.
+        // The descriptor stays open to the end of the program.
         let _ = file.into_raw_fd();
     }
     Ok(())

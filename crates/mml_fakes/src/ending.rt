@@ -5,13 +5,14 @@ use mml_window::{Astray, Log};
 /// How a house has ended, as values that a test can compare.
 #[derive(Clone, Copy, Debug, PartialEq, Eq)]
 pub enum Ending {
-    /// It left a log: the number of events, the number of the last configuration, and whether the journal was halted.
+    /// The house left a log: the number of events, the number of the last configuration, and whether the journal was
+    /// halted.
     Log {
         events: usize,
         number: u64,
         halted: bool,
     },
-    /// The windows that were returned don't have exactly one place for each event. This happens if a window is missing.
+    /// The windows that were returned don't have exactly one place for each event. That happens if a window is missing.
     Astray(Astray),
 }
 

@@ -6,14 +6,14 @@ use std::io::{ErrorKind, Write};
 /// What a `FakeWriter` does when no more writes are to succeed.
 #[derive(Clone, Copy, Debug, PartialEq, Eq)]
 pub enum Refusal {
-    /// It fails with an error of this kind.
+    /// A write fails with an error of this kind.
     Fails(ErrorKind),
-    /// It succeeds, but writes nothing.
+    /// A write succeeds, but writes nothing.
     TakesNothing,
 }
 
-/// A writer that stores at most `step` bytes in each of its next `good` writes, and then refuses to write. Its flushes
-/// fail after `good_flushes` of them.
+/// A writer that stores at most `step` bytes in each of its next `good` writes, and then refuses to write. The writer's
+/// flushes fail after `good_flushes` of them.
 #[derive(Drop)]
 pub struct FakeWriter {
     pub taken: Vec<u8>,
@@ -32,7 +32,7 @@ impl FakeWriter {
     }
 
     /// Returns a writer that stores all bytes of each of its first `good` writes, and then fails with the error
-    /// `Other`. Its flushes succeed.
+    /// `Other`. The flushes of this writer succeed.
     pub fn failing_after(good: usize, alloc: Global) -> FakeWriter {
         FakeWriter {
             taken: Vec::new(alloc),

@@ -17,7 +17,7 @@ pub fn boxed_board(alloc: Global, lab: &Lab) -> Result<Box<Board>, Fail> {
     Ok(Box::new(alloc, Board::new(alloc, lab)?)?)
 }
 
-/// Makes a lab file with at most 100 events and four sessions, whose teacher is tess. Its arguments are the line with
+/// Makes a lab file with at most 100 events and four sessions, whose teacher is tess. The arguments are the line with
 /// the links, the students by name and key, and the nodes by identifier, owner and further lines. The line with the
 /// links and the further lines may be empty.
 #[macro_export]
@@ -62,8 +62,8 @@ pub const FAR_APART: &str = lab!(
     [(7, "ana", ""), (65535, "ana", "")]
 );
 
-/// Returns the file of the largest lab. It has the greatest limits, 256 students with the longest names and keys, and
-/// 256 nodes with the greatest identifiers. Each node is linked to all others and owned by two students. Returns an
+/// Returns the file of the largest lab. The file has the greatest limits, 256 students with the longest names and keys,
+/// and 256 nodes with the greatest identifiers. Each node is linked to all others and owned by two students. Returns an
 /// error if memory runs out.
 pub fn greatest(alloc: Global) -> Result<String, AllocError> {
     let mut text = String::new(alloc);

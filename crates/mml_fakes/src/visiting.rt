@@ -16,8 +16,8 @@ use std::alloc::Global;
 use std::sync::Wait;
 use std::test::Fail;
 
-/// Opens a house over the path of three, and returns it; it isn't started yet. Its sink fails from its put number
-/// `fail_at` on, counted from 1, or never if that is `None`. Returns an error if memory runs out.
+/// Opens a house over the path of three, and returns it before it is started. The house's sink fails from its put
+/// number `fail_at` on, counted from 1, or never if that is `None`. Returns an error if memory runs out.
 pub fn open_path<R: Wait>(
     rt: &R,
     alloc: Global,
@@ -62,8 +62,8 @@ pub fn visit_windows<V: Visit<S> + Drop, S: Sink + Drop, H: House, R: Wait>(
 /// granted events was missing.
 pub type Visited<T, S> = (Option<T>, Result<Log<S>, Astray>);
 
-/// Starts the opened house `blank`, makes a visit through two of its windows, and ends it. Returns the result of the
-/// visit, and how the house has ended. Returns an error if memory runs out at the start.
+/// Starts the opened house `blank`, makes a visit through two of its windows, and ends the house. Returns the result of
+/// the visit, and how the house has ended. Returns an error if memory runs out at the start.
 pub fn visit_house<V: Visit<S> + Drop, S: Sink + Drop, H: House, R: Wait>(
     rt: &R,
     alloc: Global,

@@ -5,13 +5,14 @@
 ghost use Rattle.std.specs.Prelude.{◌≡◌, true};
 ghost use Rattle.mml_policy.specs.Acts.{is_act};
 
+use crate::fake_reader::FakeReader;
+use crate::fake_writer::FakeWriter;
 use mml_journal::Sink;
 use mml_lab::Who;
 use mml_policy::Command;
 use mml_session::{NoGate, SessionEnd, serve_one};
 use mml_window::{Answer, Desk, House, Window};
 use std::alloc::Global;
-use std::io::{Read, Write};
 use std::sync::Wait;
 
 /// A window of a house (one run of a lab), and what is needed to ask for acts through it.
@@ -34,7 +35,7 @@ impl<'a, S: Sink + Drop, H: House, R: Wait> WindowAtDesk<'a, S, H, R> {
 
     /// Serves a session through the window, as connection 1, and without a gate. Reads lines from `reader` and writes
     /// the replies to `writer`. Returns how the session ended.
-    pub fn serve<In: Read, Out: Write>(&mut self, reader: &mut In, writer: &mut Out) -> SessionEnd {
+    pub fn serve(&mut self, reader: &mut FakeReader<'_>, writer: &mut FakeWriter) -> SessionEnd {
         serve_one(
             self.rt,
             self.alloc,
@@ -80,7 +81,7 @@ impl<'a, S: Sink + Drop, H: House, R: Wait> Pair<'a, S, H, R> {
         }
     }
 
-    /// Returns the first and the second window. They are needed to end the house.
+    /// Returns the first and the second window. The two windows are needed to end the house.
     pub fn into_windows(self) -> (Window<H>, Window<H>) {
         let Pair { one, two } = self;
         let WindowAtDesk { window: first, .. } = one;

@@ -23,7 +23,7 @@ pub fn open_pipe<R: Files<File = File>>(rt: &R, path: &str) -> Result<File, File
         if is_read(&file) {
             return Ok(file);
         }
-        // Waits for this time; nothing is polled.
+        // Waits for `PAUSE` milliseconds; nothing is polled.
         let _ = poll(&mut [], PAUSE);
     }
     Err(FileFault::Refused)

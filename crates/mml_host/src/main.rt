@@ -1,5 +1,5 @@
-//! The program for people. It checks labs, answers scripts, serves connections and classes, judges what a run left, and
-//! prints the limits.
+//! The program for people. This program checks labs, answers scripts, serves connections and classes, judges what a run
+//! left, and prints the limits.
 #![tactic(auto)]
 
 use mml_host_program::{JournalEye, is_for_limits, is_of_class, print_limits};

@@ -34,6 +34,6 @@ abbrev pub deadlines : List ℕ
 deadlines = limit_line (codes "greeting") 10 (codes "seconds") ++ (limit_line (codes "desk-greeting") 5 (codes "seconds")
     ++ (limit_line (codes "next-line") 600 (codes "seconds") ++ limit_line (codes "write") 10 (codes "seconds")))
 
--- all limits
+-- the lines of all limits
 abbrev pub limits_text : List ℕ
 limits_text = network_limits ++ (class_limits ++ (text_limits ++ (record_limits ++ deadlines)))

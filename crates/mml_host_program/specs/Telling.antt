@@ -15,9 +15,9 @@ use Rattle.mml_resuming.specs.Resuming.{whole_of, resumed_line}
 abbrev pub ports_line : ℕ → ℕ → List ℕ
 ports_line port desk = concat (codes "listening on port " ∷ decimal port ∷ codes ", desk on port " ∷ decimal desk ∷ codes "\n" ∷ [])
 
--- The house of a class has this log, which isn't halted. Its events are a legal list, and the sink has the journal of
--- this list. The places after the first `first` are those that the windows of the house were given, each once. The last
--- line was written, with the number of events and the number of the configuration after them
+-- The house of a class has this log, which isn't halted. The log's events are a legal list, and the sink has the
+-- journal of this list. The places after the first `first` are those that the windows of the house were given, each
+-- once. The last line was written, with the number of events and the number of the configuration after them
 pub record EndsWell {S : Type 0} (first : ℕ) (lab : LabValue) (sink : S → Option (List ℕ)) (wrote wrote' : Option (List ℕ)) (log : Log S) : Type 0 where
   pub windows : List WindowValue
   pub kept : IsLogFrom first lab sink windows log

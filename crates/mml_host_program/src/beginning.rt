@@ -4,14 +4,14 @@ ghost use Rattle.std.specs.Io.KnownBytes.{Appends};
 ghost use Rattle.mml_journal.specs.Taken.{IsFresh};
 ghost use Rattle.mml_host_program.specs.Telling.{EndsWell, ports_line, TellsClass};
 
-use crate::class::Ready;
+use crate::class::{Ready, without_log};
 use crate::fault::ServerFault;
 use crate::socket_class::SocketClass;
 use crate::system::System;
 use mml_hosting::{Hosted, serve_host};
 use mml_ids::Piece;
 use mml_journal::Sink;
-use mml_ports::{HostState, TwoPorts, bell_of, open_ports};
+use mml_ports::{EndBell, HostState, Ports, TwoPorts, bell_of, open_ports};
 use mml_program::{Fault as ProgramFault, write_pieces};
 use mml_session::Observer;
 use mml_window::Log;
@@ -21,56 +21,74 @@ use std::net::{Net, TcpListener, TcpStream};
 use std::sync::Wait;
 
 impl<C: Observer + Send + Drop> Ready<C> {
-    /// Serves a new class: writes the first line, serves the connections, and writes the last line. Granted events go
-    /// to the journal's `sink`. Returns the log whose events the last line counts. Returns the reason if the class
-    /// can't begin, or fails.
-    pub(crate) fn begin<
+    /// Serves a new class with a new host state. Granted events go to the journal's `sink`. Returns the reason if the
+    /// class can't begin, or fails. If a session ran out of memory, returns that error after the last line.
+    pub(crate) fn start<
         R: System + Net<Listener = TcpListener, Stream = TcpStream> + Sync,
         S: Sink + Send + Drop,
         W: Write,
-    >(self, rt: &R, sink: S, writer: &mut W) -> Result<Log<S>, ServerFault>
+    >(self, rt: &R, sink: S, writer: &mut W) -> Result<(), ServerFault>
+        requires fresh { IsFresh (S.contents sink) }
+        requires countable { S.failures sink < 2 ^ 64 - 1 }
+        requires as_many { length self.observers.others.items + 1 ≡ self.lab.sessions }
+    {
+        let state = HostState::new(rt.alloc(), &self.lab);
+        let served = without_log(self.begin(rt, sink, &state, writer));
+        let told = told_memory(served, rt, &state);
+        drop(state);
+        told
+    }
+
+    // Serves a new class in the host state `state`: writes the first line, serves the connections, and writes the last
+    // line. Granted events go to the journal's `sink`. Returns the log whose events the last line counts. Returns the
+    // reason if the class can't begin, or fails. If a session ran out of memory, that is only noted in the state.
+    fn begin<
+        'a,
+        R: System + Net<Listener = TcpListener, Stream = TcpStream> + Sync,
+        S: Sink + Send + Drop,
+        W: Write,
+    >(self, rt: &'a R, sink: S, state: &'a HostState, writer: &mut W) -> Result<Log<S>, ServerFault>
         requires fresh { IsFresh (S.contents sink) }
         requires countable { S.failures sink < 2 ^ 64 - 1 }
         requires as_many { length self.observers.others.items + 1 ≡ self.lab.sessions }
         ensures { IfOk result (TellsClass self.lab S.contents self.ports.port self.ports.desk
             (W.contents writer.old) (W.contents writer.new)) }
     {
-        write_listening(rt.alloc(), self.ports.port, self.ports.desk, writer)?;
-        self.serve_with_state(rt, sink, writer)
+        match announce(rt, state, &self.ports, writer) {
+            Ok(bell) => {
+                let ended = self.serve_to_the_end(rt, sink, state, &bell, writer);
+                drop(bell);
+                ended
+            }
+            Err(fault) => {
+                drop(self);
+                drop(sink);
+                Err(fault)
+            }
+        }
     }
 
-    // Serves the connections with a new host state, and writes the last line. Returns the log. If a session ran out of
-    // memory, returns that error after the last line.
-    fn serve_with_state<
-        R: System + Net<Listener = TcpListener, Stream = TcpStream> + Sync,
-        S: Sink + Send + Drop,
-        W: Write,
-    >(self, rt: &R, sink: S, writer: &mut W) -> Result<Log<S>, ServerFault>
-        requires fresh { IsFresh (S.contents sink) }
-        requires countable { S.failures sink < 2 ^ 64 - 1 }
-        requires as_many { length self.observers.others.items + 1 ≡ self.lab.sessions }
-        ensures { IfOk result (EndsWell 0 self.lab S.contents (W.contents writer.old) (W.contents writer.new)) }
-    {
-        let state = HostState::new(rt.alloc(), &self.lab);
-        let log = self.serve_to_the_end(rt, sink, &state, writer)?;
-        told_memory(rt, &state)?;
-        Ok(log)
-    }
-
-    // Serves the connections with this host state until the class is over, and writes the last line. Returns the log.
-    // If a session ran out of memory, that is only noted in the state.
+    // Serves the connections with this host state and bell until the class is over, and writes the last line. Returns
+    // the log. If a session ran out of memory, that is only noted in the state.
     fn serve_to_the_end<
+        'a,
         R: System + Net<Listener = TcpListener, Stream = TcpStream> + Sync,
         S: Sink + Send + Drop,
         W: Write,
-    >(self, rt: &R, sink: S, state: &HostState, writer: &mut W) -> Result<Log<S>, ServerFault>
+    >(
+        self,
+        rt: &'a R,
+        sink: S,
+        state: &'a HostState,
+        bell: &EndBell<'a, R>,
+        writer: &mut W,
+    ) -> Result<Log<S>, ServerFault>
         requires fresh { IsFresh (S.contents sink) }
         requires countable { S.failures sink < 2 ^ 64 - 1 }
         requires as_many { length self.observers.others.items + 1 ≡ self.lab.sessions }
         ensures { IfOk result (EndsWell 0 self.lab S.contents (W.contents writer.old) (W.contents writer.new)) }
     {
         let alloc = rt.alloc();
-        let bell = bell_of(rt, state, &self.ports)?;
         let Ready {
             lab,
             ports,
@@ -80,8 +98,8 @@ impl<C: Observer + Send + Drop> Ready<C> {
             at_desk,
             elsewhere: at_port,
         } = open_ports(rt, alloc, state, ports);
-        let served = serve_host::<SocketClass<'_, R, S, C>, _>(
-            rt, alloc, lab, sink, observers, at_desk, at_port, &bell, writer,
+        let served = serve_host::<SocketClass<'a, R, S, C>, _>(
+            rt, alloc, lab, sink, observers, at_desk, at_port, bell, writer,
         );
         match served {
             Ok(house) => Ok(log_of(house)),
@@ -90,12 +108,32 @@ impl<C: Observer + Send + Drop> Ready<C> {
     }
 }
 
-/// Returns the error `Memory` if the host's state notes that memory ran out, and otherwise `Ok`.
-pub(crate) fn told_memory<R: Wait>(rt: &R, state: &HostState) -> Result<(), ServerFault> {
-    if state.lacked_memory(rt) {
+// Writes the first line of a class that is served at these ports. Returns the ports' bell, or an error if the write
+// fails, memory runs out, or the system refuses the bell's descriptor.
+fn announce<'a, R: AllocGlobal, W: Write>(
+    rt: &'a R,
+    state: &'a HostState,
+    ports: &Ports,
+    writer: &mut W,
+) -> Result<EndBell<'a, R>, ServerFault>
+    ensures { OnOk result (Appends (W.contents writer.old) (W.contents writer.new)
+        (ports_line ports.now.port ports.now.desk)) }
+{
+    write_listening(rt.alloc(), ports.port, ports.desk, writer)?;
+    Ok(bell_of(rt, state, ports)?)
+}
+
+/// Returns the error of a class that was `served`, or else `Memory` if the host's state notes that memory ran out, and
+/// otherwise `Ok`.
+pub(crate) fn told_memory<R: Wait>(
+    served: Result<(), ServerFault>,
+    rt: &R,
+    state: &HostState,
+) -> Result<(), ServerFault> {
+    if served.is_ok() && state.lacked_memory(rt) {
         Err(ServerFault::Common(ProgramFault::Memory))
     } else {
-        Ok(())
+        served
     }
 }
 

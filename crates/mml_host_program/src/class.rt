@@ -11,7 +11,7 @@ use mml_files::OldJournal;
 use mml_hosting::{Observers, no_observers};
 use mml_journal::{FileSink, NullSink};
 use mml_lab::Lab;
-use mml_ports::{HostState, Ports};
+use mml_ports::Ports;
 use mml_program::memory_if_lacked;
 use mml_recording::{RecordFolder, RecordState, Seats, end_syncing, sync_until_done};
 use mml_resuming::AuditedJournal;
@@ -19,6 +19,7 @@ use mml_session::Observer;
 use mml_window::Log;
 use std::fs::File;
 use std::io::Write;
+use std::marker::Model;
 use std::net::{Net, TcpListener, TcpStream};
 use std::rt::Files;
 use std::{io, thread};
@@ -55,12 +56,50 @@ impl<'a> ClassJournal<'a> {
     }
 }
 
-/// A class that is ready to be served: its lab, its ports and its journal.
+/// A class that is ready to be served: its lab, its ports and its journal. A journal from which the class is resumed has
+/// passed the audit for this lab. Contracts see only the number of sessions that the lab allows.
 #[derive(Drop)]
 pub(crate) struct Class<'a> {
-    pub lab: Lab,
-    pub ports: Ports,
-    pub journal: ClassJournal<'a>,
+    lab: Lab,
+    ports: Ports,
+    journal: ClassJournal<'a>,
+}
+
+impl<'a> Model for Class<'a> {
+    ghost use Rattle.std.specs.Prelude.{ℕ};
+    ghost use Rattle.mml_host_program.specs.Classes.{IsAuditedIn};
+
+    ghost Value = { ℕ };
+
+    ghost view = { λ c. c.lab.sessions };
+
+    ghost invariant = { λ c. IsAuditedIn c.lab c.journal };
+}
+
+impl<'a> Class<'a> {
+    /// Returns the class with this lab, these ports and this journal.
+    pub(crate) fn new(lab: Lab, ports: Ports, journal: ClassJournal<'a>) -> Class<'a>
+        requires audited { IsAuditedIn lab journal }
+        ensures { result ≡ lab.sessions }
+    {
+        Class {
+            lab,
+            ports,
+            journal,
+        }
+    }
+
+    // Returns the lab of the class.
+    fn lab(&self) -> &Lab
+        ensures { result.now.sessions ≡ self.now }
+    {
+        &self.lab
+    }
+
+    // Returns the watch of the class's journal, if that is a plain file.
+    fn watch(&self) -> Option<&'a JournalWatch<'a>> {
+        self.journal.watch()
+    }
 }
 
 /// What a class needs to be served at its ports, apart from its journal.
@@ -71,16 +110,14 @@ pub(crate) struct Ready<C: Drop> {
     pub observers: Observers<C>,
 }
 
-/// Serves a class until it is over. Records it if there is a folder. If its journal is a plain file, lets `eye` check
-/// that file meanwhile. Returns the reason if the class can't begin or be resumed, fails, isn't recorded completely, or
-/// lost its journal's file.
+/// Serves a class until it is over. Records it if there is a folder. If the class's journal is a plain file, lets `eye`
+/// check that file meanwhile. Returns the reason if the class can't begin or be resumed, fails, isn't recorded
+/// completely, or lost its journal's file.
 pub(crate) fn serve_class<
     R: System + Files<File = File> + Net<Listener = TcpListener, Stream = TcpStream> + Sync,
     L: Look + Sync,
->(rt: &R, class: Class<'_>, folder: Option<RecordFolder>, eye: &L) -> Result<(), ServerFault>
-    requires audited { IsAuditedIn class.lab class.journal }
-{
-    match class.journal.watch() {
+>(rt: &R, class: Class<'_>, folder: Option<RecordFolder>, eye: &L) -> Result<(), ServerFault> {
+    match class.watch() {
         Some(watch) => serve_watched(rt, class, folder, watch, eye),
         None => serve_recorded(rt, class, folder),
     }
@@ -97,14 +134,12 @@ fn serve_watched<
     folder: Option<RecordFolder>,
     watch: &JournalWatch<'_>,
     eye: &L,
-) -> Result<(), ServerFault>
-    requires audited { IsAuditedIn class.lab class.journal }
-{
+) -> Result<(), ServerFault> {
     thread::scope(
         thread::scope_env(),
         rt,
         |scope| -> Result<(), ServerFault>
-            requires { IsSync R.row × IsSync L.row × IsAuditedIn class.lab class.journal }
+            requires { IsSync R.row × IsSync L.row }
         {
             let is_watched = scope.spawn(move || watch.look_until_over(rt, eye)).is_ok();
             let served = serve_recorded(rt, class, folder);
@@ -121,9 +156,7 @@ fn serve_watched<
 // Serves a class, and records it if there is a folder.
 fn serve_recorded<
     R: System + Files<File = File> + Net<Listener = TcpListener, Stream = TcpStream> + Sync,
->(rt: &R, class: Class<'_>, folder: Option<RecordFolder>) -> Result<(), ServerFault>
-    requires audited { IsAuditedIn class.lab class.journal }
-{
+>(rt: &R, class: Class<'_>, folder: Option<RecordFolder>) -> Result<(), ServerFault> {
     match folder {
         Some(folder) => serve_in_folder(rt, class, folder),
         None => serve_unrecorded(rt, class),
@@ -133,35 +166,53 @@ fn serve_recorded<
 // Serves a class without recording it.
 fn serve_unrecorded<
     R: System + Files<File = File> + Net<Listener = TcpListener, Stream = TcpStream> + Sync,
->(rt: &R, class: Class<'_>) -> Result<(), ServerFault>
-    requires audited { IsAuditedIn class.lab class.journal }
-{
-    let observers = no_observers(rt.alloc(), &class.lab)?;
-    serve_ports(rt, class, observers)
+>(rt: &R, class: Class<'_>) -> Result<(), ServerFault> {
+    match no_observers(rt.alloc(), class.lab()) {
+        Ok(observers) => serve_ports(rt, class, observers),
+        Err(memory) => {
+            drop(class);
+            Err(ServerFault::from(memory))
+        }
+    }
 }
 
 // Serves a class, and records it in this folder. Returns the error of the class, or else `Unrecorded` if something
 // couldn't be recorded.
 fn serve_in_folder<
     R: System + Files<File = File> + Net<Listener = TcpListener, Stream = TcpStream> + Sync,
->(rt: &R, class: Class<'_>, folder: RecordFolder) -> Result<(), ServerFault>
-    requires audited { IsAuditedIn class.lab class.journal }
-{
-    let state = RecordState::new(rt.alloc(), &class.lab).map_err(of_record)?;
-    serve_seats(rt, class, folder, &state)?;
-    told_whole(&state)
+>(rt: &R, class: Class<'_>, folder: RecordFolder) -> Result<(), ServerFault> {
+    match RecordState::new(rt.alloc(), class.lab()) {
+        Ok(state) => {
+            let told = told_whole(serve_seats(rt, class, folder, &state), &state);
+            drop(state);
+            told
+        }
+        Err(fault) => {
+            drop(class);
+            drop(folder);
+            Err(of_record(fault))
+        }
+    }
 }
 
 // Opens the file of each seat in the folder, and serves a class that is recorded there. Returns an error if a file
 // can't be opened, or the class fails.
 fn serve_seats<
     R: System + Files<File = File> + Net<Listener = TcpListener, Stream = TcpStream> + Sync,
->(rt: &R, class: Class<'_>, folder: RecordFolder, state: &RecordState) -> Result<(), ServerFault>
-    requires audited { IsAuditedIn class.lab class.journal }
-{
-    let seats = folder.open_seats(rt, &class.lab, state);
-    let Seats { recorders, files } = seats.map_err(of_record)?;
-    serve_synced(rt, class, recorders, files.as_slice(), state)
+>(rt: &R, class: Class<'_>, folder: RecordFolder, state: &RecordState) -> Result<(), ServerFault> {
+    match folder.open_seats(rt, class.lab(), state) {
+        Ok(Seats { recorders, files }) => {
+            let served = serve_synced(rt, class, recorders, files.as_slice(), state);
+            drop(files);
+            drop(folder);
+            served
+        }
+        Err(fault) => {
+            drop(class);
+            drop(folder);
+            Err(of_record(fault))
+        }
+    }
 }
 
 // Serves a class, while another thread syncs the files of its record. If no thread can be started, syncs them once, at
@@ -176,16 +227,13 @@ fn serve_synced<
     files: &[File],
     state: &RecordState,
 ) -> Result<(), ServerFault>
-    requires audited { IsAuditedIn class.lab class.journal }
-    requires as_many { length observers.others.items + 1 ≡ class.lab.sessions }
+    requires as_many { length observers.others.items + 1 ≡ class }
 {
     thread::scope(
         thread::scope_env(),
         rt,
         |scope| -> Result<(), ServerFault>
-            requires { IsSync R.row × IsSend C.row
-                × (length observers.others.items + 1 ≡ class.lab.sessions)
-                × IsAuditedIn class.lab class.journal }
+            requires { IsSync R.row × IsSend C.row × (length observers.others.items + 1 ≡ class) }
         {
             let is_synced = scope
                 .spawn(move || sync_until_done(rt, state, files))
@@ -197,12 +245,13 @@ fn serve_synced<
     )
 }
 
-// Returns the error `Unrecorded` if a write to the record or a sync of its files has failed, and otherwise `Ok`.
-fn told_whole(state: &RecordState) -> Result<(), ServerFault> {
-    if state.has_failed() {
+// Returns the error of a class that was `served`, or else `Unrecorded` if a write to the record or a sync of its files
+// has failed, and otherwise `Ok`.
+fn told_whole(served: Result<(), ServerFault>, state: &RecordState) -> Result<(), ServerFault> {
+    if served.is_ok() && state.has_failed() {
         Err(ServerFault::Unrecorded)
     } else {
-        Ok(())
+        served
     }
 }
 
@@ -212,8 +261,7 @@ fn serve_ports<
     R: System + Files<File = File> + Net<Listener = TcpListener, Stream = TcpStream> + Sync,
     C: Observer + Send + Drop,
 >(rt: &R, class: Class<'_>, observers: Observers<C>) -> Result<(), ServerFault>
-    requires audited { IsAuditedIn class.lab class.journal }
-    requires as_many { length observers.others.items + 1 ≡ class.lab.sessions }
+    requires as_many { length observers.others.items + 1 ≡ class }
 {
     let mut writer = Retrying::new(io::writer(rt));
     match serve_journaled(rt, class, observers, &mut writer) {
@@ -223,14 +271,13 @@ fn serve_ports<
 }
 
 // Serves a class at its ports with its kind of journal: none, a plain file that is synced and watched, a file that
-// can't be, or the journal from which the class is resumed.
+// can't be synced, or the journal from which the class is resumed.
 fn serve_journaled<
     R: System + Files<File = File> + Net<Listener = TcpListener, Stream = TcpStream> + Sync,
     C: Observer + Send + Drop,
     W: Write,
 >(rt: &R, class: Class<'_>, observers: Observers<C>, writer: &mut W) -> Result<(), ServerFault>
-    requires audited { IsAuditedIn class.lab class.journal }
-    requires as_many { length observers.others.items + 1 ≡ class.lab.sessions }
+    requires as_many { length observers.others.items + 1 ≡ class }
 {
     let Class {
         lab,
@@ -243,20 +290,17 @@ fn serve_journaled<
         observers,
     };
     match journal {
-        ClassJournal::None => without_log(ready.begin(rt, NullSink::new(), writer)),
+        ClassJournal::None => ready.start(rt, NullSink::new(), writer),
         ClassJournal::Plain(file, watch) => {
-            without_log(ready.begin(rt, WatchedSink::new(file, 0, watch), writer))
+            ready.start(rt, WatchedSink::new(file, 0, watch), writer)
         }
-        ClassJournal::Other(file) => without_log(ready.begin(rt, FileSink::new(file), writer)),
-        ClassJournal::Old(past) => {
-            let state = HostState::new(rt.alloc(), &ready.lab);
-            without_log(ready.go_on(rt, &state, past, writer))
-        }
+        ClassJournal::Other(file) => ready.start(rt, FileSink::new(file), writer),
+        ClassJournal::Old(past) => ready.resume(rt, past, writer),
     }
 }
 
-// Drops the log of a class that has ended well. Returns `Ok`, or the error if the class failed.
-fn without_log<S: Drop>(ended: Result<Log<S>, ServerFault>) -> Result<(), ServerFault>
+/// Drops the log of a class that has ended well. Returns `Ok`, or the error if the class failed.
+pub(crate) fn without_log<S: Drop>(ended: Result<Log<S>, ServerFault>) -> Result<(), ServerFault>
     ensures { OnOk result (IsOk ended) }
 {
     match ended {

@@ -14,8 +14,8 @@ use thiserror::Error;
 /// Why the host ended before its work was done.
 #[derive(Debug, Drop, Error)]
 pub enum ServerFault {
-    /// An error that commands of `mml_program` have too. It concerns the command line, the lab, the journal or the
-    /// output, or says that memory ran out.
+    /// An error that commands of `mml_program` have too. Such an error concerns the command line, the lab, the journal
+    /// or the output, or says that memory ran out.
     #[error("{0}")]
     Common(ProgramFault),
     /// The host can't listen on a port.
@@ -27,7 +27,7 @@ pub enum ServerFault {
     /// A check at the end failed: the places that were given aren't those of the events, each once.
     #[error("host: the tally does not fit")]
     Astray,
-    /// There was no window for the desk's seat. This doesn't happen: a lab has at least one session.
+    /// There was no window for the desk's seat. This error doesn't happen: a lab has at least one session.
     #[error("host: no place for a window")]
     Place,
     /// The system allows the program too few open files for a class.

@@ -18,8 +18,8 @@ const FILES: usize = 7;
 const THREADS: usize = 4;
 
 /// Checks whether the system allows the files and threads that a class needs at least. Opens so many files and starts
-/// so many threads, and closes and ends them again. Returns `FewFiles` or `FewThreads` if it allows fewer, or `Memory`
-/// if memory runs out.
+/// so many threads, and closes and ends them again. Returns `FewFiles` or `FewThreads` if the system allows fewer, or
+/// `Memory` if memory runs out.
 pub fn look_at_limits<R: Files<File = File> + Threads + Wait + Sync>(
     rt: &R,
     alloc: Global,

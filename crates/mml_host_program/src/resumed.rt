@@ -4,14 +4,14 @@ ghost use Rattle.mml_resuming.specs.Resuming.{IsAudited};
 ghost use Rattle.mml_host_program.specs.Telling.{ports_line, TellsResumed};
 
 use crate::beginning::{log_of, told_memory, write_listening};
-use crate::class::{Past, Ready};
+use crate::class::{Past, Ready, without_log};
 use crate::fault::ServerFault;
 use crate::journal_watch::WatchedSink;
 use crate::old_file::OldFile;
 use crate::socket_class::SocketClass;
 use crate::system::System;
 use mml_journal::Sink;
-use mml_ports::{HostState, Ports, TwoPorts, bell_of, open_ports};
+use mml_ports::{EndBell, HostState, Ports, TwoPorts, bell_of, open_ports};
 use mml_program::Fault as ProgramFault;
 use mml_resuming::{AuditedJournal, ResumeFault, Store, resume_audited};
 use mml_session::Observer;
@@ -23,10 +23,27 @@ use std::net::{Net, TcpListener, TcpStream};
 use std::rt::Files;
 
 impl<C: Observer + Send + Drop> Ready<C> {
-    /// Serves a class that is resumed from the journal `past`, in the host state `state`: writes the first two lines,
-    /// serves the connections, and writes the last line. Returns the log; the last line says how many events the log
-    /// has. Returns the reason if the class isn't resumed, or fails.
-    pub(crate) fn go_on<
+    /// Serves a class that is resumed from the journal `past`, with a new host state. Returns the reason if the class
+    /// isn't resumed, or fails. If a session ran out of memory, returns that error after the last line.
+    pub(crate) fn resume<
+        R: System + Files<File = File> + Net<Listener = TcpListener, Stream = TcpStream> + Sync,
+        W: Write,
+    >(self, rt: &R, past: Past<'_>, writer: &mut W) -> Result<(), ServerFault>
+        requires audited { IsAudited self.lab past.audited }
+        requires as_many { length self.observers.others.items + 1 ≡ self.lab.sessions }
+    {
+        let state = HostState::new(rt.alloc(), &self.lab);
+        let served = without_log(self.go_on(rt, &state, past, writer));
+        let told = told_memory(served, rt, &state);
+        drop(state);
+        told
+    }
+
+    // Serves a class that is resumed from the journal `past`, in the host state `state`: writes the first two lines,
+    // serves the connections, and writes the last line. Returns the log; the last line says how many events the log
+    // has. Returns the reason if the class isn't resumed, or fails. If a session ran out of memory, that is only noted
+    // in the state.
+    fn go_on<
         'a,
         R: System + Files<File = File> + Net<Listener = TcpListener, Stream = TcpStream> + Sync,
         W: Write,
@@ -42,7 +59,14 @@ impl<C: Observer + Send + Drop> Ready<C> {
         ensures { IfOk result (TellsResumed self.lab (λ _. None) past.entry.audited.bytes.now
             self.ports.port self.ports.desk (W.contents writer.old) (W.contents writer.new)) }
     {
-        let first = first_line(rt.alloc(), &self.ports)?;
+        let Opening { first, bell } = match opening_of(rt, state, &self.ports) {
+            Ok(opening) => opening,
+            Err(fault) => {
+                drop(self);
+                drop(past);
+                return Err(fault);
+            }
+        };
         let Past {
             journal,
             audited,
@@ -55,24 +79,29 @@ impl<C: Observer + Send + Drop> Ready<C> {
             bytes: audited.bytes,
             watch,
         };
-        self.go_on_after(rt, audited, store, first.as_slice(), state, writer)
+        let log = self.go_on_after(rt, audited, store, first.as_slice(), state, &bell, writer);
+        drop(first);
+        drop(bell);
+        log
     }
 
     // Serves a class that is resumed from the audited journal `past`, which `store` cuts to its whole lines. The
     // line `first`, which names the ports, is written together with the next line, about the state that the journal
-    // leads to. Returns the log. If a session ran out of memory, returns that error after the last line.
+    // leads to. Returns the log.
     fn go_on_after<
+        'a,
         R: System + Net<Listener = TcpListener, Stream = TcpStream> + Sync,
         S: Sink + Send + Drop,
         T: Store<S> + Drop,
         W: Write,
     >(
         self,
-        rt: &R,
+        rt: &'a R,
         past: AuditedJournal<'_>,
         store: T,
         first: &[u8],
-        state: &HostState,
+        state: &'a HostState,
+        bell: &EndBell<'a, R>,
         writer: &mut W,
     ) -> Result<Log<S>, ServerFault>
         requires audited { IsAudited self.lab past }
@@ -82,7 +111,6 @@ impl<C: Observer + Send + Drop> Ready<C> {
             self.ports.desk (W.contents writer.old) (W.contents writer.new)) }
     {
         let alloc = rt.alloc();
-        let bell = bell_of(rt, state, &self.ports)?;
         let Ready {
             lab,
             ports,
@@ -92,16 +120,35 @@ impl<C: Observer + Send + Drop> Ready<C> {
             at_desk,
             elsewhere: at_port,
         } = open_ports(rt, alloc, state, ports);
-        let resumed = resume_audited::<SocketClass<'_, R, S, C>, _, _>(
-            rt, alloc, lab, past, store, first, observers, at_desk, at_port, &bell, writer,
+        let resumed = resume_audited::<SocketClass<'a, R, S, C>, _, _>(
+            rt, alloc, lab, past, store, first, observers, at_desk, at_port, bell, writer,
         );
-        let log = match resumed {
-            Ok(house) => log_of(house),
-            Err(fault) => return Err(told_as(fault, state.lacked_memory(rt))),
-        };
-        told_memory(rt, state)?;
-        Ok(log)
+        match resumed {
+            Ok(house) => Ok(log_of(house)),
+            Err(fault) => Err(told_as(fault, state.lacked_memory(rt))),
+        }
     }
+}
+
+// What is made before a class is resumed: its first line, and the bell that wakes its ports.
+#[derive(Drop)]
+struct Opening<'a, R> {
+    first: Vec<u8>,
+    bell: EndBell<'a, R>,
+}
+
+// Returns the first line of a class that is served at these ports, and their bell. Returns an error if memory runs out,
+// or the system refuses the bell's descriptor.
+fn opening_of<'a, R: AllocGlobal>(
+    rt: &'a R,
+    state: &'a HostState,
+    ports: &Ports,
+) -> Result<Opening<'a, R>, ServerFault>
+    ensures { IfOk result (λ opening. opening.first.items ≡ ports_line ports.now.port ports.now.desk) }
+{
+    let first = first_line(rt.alloc(), ports)?;
+    let bell = bell_of(rt, state, ports)?;
+    Ok(Opening { first, bell })
 }
 
 // Returns the first line of a class, which names its two ports. Returns `Memory` if memory runs out.
@@ -114,7 +161,7 @@ fn first_line(alloc: Global, ports: &Ports) -> Result<Vec<u8>, ProgramFault>
 }
 
 // Returns the host's error for a class that wasn't resumed, or failed. If the journal couldn't be cut and memory had
-// run out (`lacked`), that is `Memory`, and otherwise the error of the fault.
+// run out (`lacked`), the error is `Memory`, and otherwise that of the fault.
 fn told_as(fault: ResumeFault, lacked: bool) -> ServerFault {
     match fault {
         ResumeFault::Store if lacked => ServerFault::Common(ProgramFault::Memory),

@@ -3,12 +3,12 @@ use crate::system::System;
 use mml_hosting::ClassTypes;
 use mml_journal::Sink;
 use mml_ports::{EndBell, Incoming, Port, ReplyWriter, SocketCutOff, SocketSession};
-use mml_session::Observer;
+use mml_session::{Observer, SessionTypes};
 use std::marker::PhantomData;
 use std::net::{Net, TcpListener, TcpStream};
 
-/// The types of a class that is served over sockets, with a runtime `R`, a journal's sink `S` and observers `C`. It has
-/// no values.
+/// The types of a class that is served over sockets, with a runtime `R`, a journal's sink `S` and observers `C`. The
+/// type has no values.
 pub(crate) struct SocketClass<'a, R, S, C>(PhantomData<(&'a R, S, C)>);
 
 impl<
@@ -16,7 +16,7 @@ impl<
     R: System + Net<Listener = TcpListener, Stream = TcpStream> + Sync,
     S: Sink + Send + Drop,
     C: Observer + Send + Drop,
-> ClassTypes for SocketClass<'a, R, S, C> {
+> SessionTypes for SocketClass<'a, R, S, C> {
     type Runtime = R;
 
     type Sink = S;
@@ -24,7 +24,14 @@ impl<
     type Reader = Incoming<'a, R>;
 
     type Writer = ReplyWriter<'a, R>;
+}
 
+impl<
+    'a,
+    R: System + Net<Listener = TcpListener, Stream = TcpStream> + Sync,
+    S: Sink + Send + Drop,
+    C: Observer + Send + Drop,
+> ClassTypes for SocketClass<'a, R, S, C> {
     type Kept = SocketSession<'a, R>;
 
     type Observer = C;

@@ -17,7 +17,7 @@ pub enum Task<'a> {
 }
 
 /// A lab and the two ports of its class; for 0, the system chooses a port. If a journal is named, the lines of granted
-/// events are written to it; if a record is named, the lines of each seat are.
+/// events are written to it. If a record is named, the lines of each seat are written there.
 #[derive(Drop)]
 pub struct HostTask<'a> {
     pub lab: &'a str,
@@ -47,8 +47,8 @@ pub fn is_of_class(words: &[String]) -> bool {
     }
 }
 
-/// Returns the task that these words ask for; the first word is the program's name. Returns `CommandLine` if they don't
-/// fit any task, and `Memory` if memory runs out.
+/// Returns the task that these words ask for; the first word is the program's name. Returns `CommandLine` if the words
+/// don't fit any task, and `Memory` if memory runs out.
 pub fn read_words<'a>(alloc: Global, words: &'a [String]) -> Result<Task<'a>, ProgramFault> {
     let matches = match_words(command_line(alloc)?, words)?;
     match matches.subcommand() {

@@ -1,7 +1,7 @@
 -- The seats of a house before anybody was served, their records, and how the house ends. A house is one run of a lab
--- that threads share. Its book has the granted events, the board after them and their journal; its log is its result. A
--- window is what the sessions of a seat have seen of the list of events, and the places of the events that were granted
--- to them. The desk is dismissed by the teacher's bye.
+-- that threads share. The book of a house has the granted events, the board after them and their journal; the log of a
+-- house is its result. A window is what the sessions of a seat have seen of the list of events, and the places of the
+-- events that were granted to them. The desk is dismissed by the teacher's bye.
 use Rattle.std.proofs.Common.{rules, ◌≡◌, ◌∙◌, ap, sym, subst, ℕ, zero, suc, ◌+◌, ◌<◌, ◌≤◌, ◌==◌, Bool, true, false, List, [], ◌∷◌, ◌++◌, flat_map, length, length-append, refl, All, Option, Result, Ok, Err, IfOk, MatchBool, arith}
 use Rattle.std.{specs.List.AllZip, specs.List.list_all, specs.List.range_with_len, specs.List.sum_by, proofs.KnownBytes.Appends-nil}
 use Rattle.std.proofs.lemmas.{Bool.Decides.nat_tests, List.length-map, List.map-append, List.Sums.AllPass-from_list_all, List.Sums.sum_by-append, List.Sums.sum_by-cons, List.Sums.sum_by_push, List.Concat.flat_map-cons}
@@ -219,7 +219,7 @@ module _ {S K C R W : Type 0} (t : Terms K C R W) (sink : S → Option (List ℕ
   badly_early wrote fault.Astray early = (early, Appends-nil wrote)
   badly_early wrote _ early = absurd early
 
-  -- if there is a log, the error is the reason why its last line wasn't written whole
+  -- if there is a log, the error is the reason why the host's last line wasn't written whole
   pub badly_logged : (house : Hosted S K C)
       → HostsFrom t.begun t.given t.lab sink t.remaining t.contents t.recorded t.shows to_desk to_come house
       → (wrote wrote' : Option (List ℕ)) (f : ServeFault)

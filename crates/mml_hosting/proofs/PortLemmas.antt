@@ -8,9 +8,9 @@ use Rattle.mml_hosting.specs.Counting.{count_all, count_busy, count_free, count_
 use Rattle.mml_hosting.specs.declared.{seat.ServedSession.ServedSession, seat.Seat.Seat, port_serving.Busy.Busy}
 use Rattle.mml_serving.proofs.ArrivingLemmas.{Takes-nil, Takes-trans}
 
--- The connections that came so far are in the seats, or were turned away. The seats `first` had served some connections
--- before. These and those that came are, together, the connections that the free and the busy seats have served or
--- serve, and those in `turned`
+-- The connections that came so far are in the seats, or were turned away. `first` has the seats before that. The
+-- connections that they had served and those that came are together those that the free and the busy seats have served
+-- or serve, and those in `turned`.
 pub record History {H K C R W U : Type 0} (shows : K → ServedSession R W) (IsAway : R × W → Type 0) (known now : Option (List (R × W))) (first free : List (Seat H K C))
     (busy : List (Busy H K C R W U)) : Type 0 where
   pub connections : List (R × W)

@@ -10,24 +10,24 @@ bound_for shows b = came_to shows b.handle.promise.0.value.record ++ b.handle.pr
 abbrev pub count_in : {H K C R W : Type 0} → (K → ServedSession R W) → (ℕ → ℕ) → (R × W → ℕ) → Seat H K C → ℕ
 count_in shows g h s = g s.record.number + sum_by h (came_to shows s.record)
 
--- this sum over all free seats
+-- the sum of `count_in` over all free seats
 abbrev pub count_free : {H K C R W : Type 0} → (K → ServedSession R W) → (ℕ → ℕ) → (R × W → ℕ) → List (Seat H K C) → ℕ
 count_free shows g h free = sum_by (count_in shows g h) free
 
--- the same sum over a busy seat, with the connection that is being served there
+-- `count_in` for a busy seat, with the connection that is being served there
 abbrev pub count_at : {H K C R W U : Type 0} → (K → ServedSession R W) → (ℕ → ℕ) → (R × W → ℕ) → Busy H K C R W U → ℕ
 count_at shows g h b = g b.handle.promise.0.value.record.number + sum_by h (bound_for shows b)
 
--- this sum over all busy seats
+-- the sum of `count_at` over all busy seats
 abbrev pub count_busy : {H K C R W U : Type 0} → (K → ServedSession R W) → (ℕ → ℕ) → (R × W → ℕ) → List (Busy H K C R W U) → ℕ
 count_busy shows g h busy = sum_by (count_at shows g h) busy
 
--- this sum over all seats of a port, the free and the busy ones
+-- the sum over all seats of a port, the free and the busy ones
 abbrev pub count_all : {H K C R W U : Type 0} → (K → ServedSession R W) → (ℕ → ℕ) → (R × W → ℕ) → List (Seat H K C) → List (Busy H K C R W U) → ℕ
 count_all shows g h free busy = count_free shows g h free + count_busy shows g h busy
 
--- no such sum changes: the free and the busy seats together have the same numbers and connections as before, in any
--- order
+-- `count_all` stays the same for all `g` and `h`: the free and the busy seats together have the same numbers and
+-- connections as before, in any order
 abbrev pub KeepCounts : {H K C R W U : Type 0} → (K → ServedSession R W) → List (Seat H K C) → List (Busy H K C R W U) → List (Seat H K C)
     → List (Busy H K C R W U) → Type 0
 KeepCounts {H} {K} {C} {R} {W} shows free busy free' busy' = (g : ℕ → ℕ) (h : R × W → ℕ) → count_all shows g h free' busy' ≡ count_all shows g h free busy

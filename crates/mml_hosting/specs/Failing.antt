@@ -1,7 +1,7 @@
 -- What holds of houses with two ports that fail. The book of a house has its granted events, the board after them and
--- their journal. The places of a window are the numbers of the events that it was granted. They went astray if those of
--- all windows aren't those of the book's events, each once. A house is one run of a lab that threads share. The log of
--- a house is its result at the end.
+-- their journal. The places of a window are the numbers of the events that it was granted. The places went astray if
+-- those of all windows aren't those of the book's events, each once. A house is one run of a lab that threads share.
+-- The log of a house is its result at the end.
 use Rattle.std.specs.{Prelude.◌≡◌, Prelude.◌≤◌, Prelude.ℕ, Prelude.true, Prelude.false, Prelude.List, Prelude.[], Prelude.◌++◌, Prelude.flat_map, Prelude.length, Prelude.All, Prelude.Option, List.AllZip, List.list_all, List.range_with_len, Io.KnownBytes.Appends}
 use mathlib.Core.List.{IsPrefix}
 use Rattle.mml_lab.specs.Labs.{LabValue}
@@ -13,8 +13,8 @@ use Rattle.mml_hosting.specs.{Hosting.HostsFrom, Ports.Attends, Ports.HaveSame, 
 use Rattle.mml_serving.specs.declared.serving.ServeFault.TheVariants as why
 use Rattle.mml_hosting.specs.declared.hosted.HostFault.TheVariants as fault
 
--- Both ports were served through these windows. This states about the seats and their connections what `HostsFrom`
--- states
+-- Both ports were served through these windows. About the seats and their connections, `ServesBoth` states what
+-- `HostsFrom` states
 pub record ServesBoth {K C R W : Type 0} (t : Terms K C R W) (to_desk to_come : Option (List (R × W))) (at_desk others : List (SeatRecord K C))
     (desk_windows windows : List WindowValue) : Type 0 where
   pub at_least : All (λ w. IsPrefix t.begun w.seen) (desk_windows ++ windows)

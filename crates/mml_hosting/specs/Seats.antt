@@ -13,7 +13,7 @@ use Rattle.mml_session.specs.declared.session.SessionEnd.TheVariants as end
 
 -- The parameters of a house's contracts. The first three are its lab, the events from before it was opened, and what
 -- the observer of the seat with each number had kept then. The others are functions. Two return the bytes that a
--- connection's reader has still to return, and those that were written to its writer. The last two return what a
+-- connection's reader has still to return, and those that were written to its writer. The last two return what an
 -- observer has kept, and the session that a kept value shows
 pub record Terms (K C R W : Type 0) : Type 0 where
   pub lab : LabValue
@@ -80,8 +80,8 @@ abbrev pub IsDismissed : {R W : Type 0} → List (ServedSession R W) → Type 0
 IsDismissed {R} {W} ss =
     (before : List (ServedSession R W)) × (s : ServedSession R W) × (ss ≡ before ++ s ∷ []) × (is_teachers_bye s.ending ≡ true) × AreGoingOn before
 
--- The sessions of a seat changed its window from having seen the events from before the house to `w`. They changed its
--- observer from what the observer of this number had kept then to what it has kept now
+-- The sessions of a seat changed its window from having seen the events from before the house to `w`. These sessions
+-- changed the seat's observer from what the observer of this number had kept then to what it has kept now
 abbrev pub Led : {K C R W : Type 0} → Terms K C R W → SeatRecord K C → WindowValue → Type 0
 Led t r w = Chain (Leads t r.number) (stand (window t.begun []) (t.given r.number)) (sessions_of t.shows r) (stand w (t.recorded r.observer))
 

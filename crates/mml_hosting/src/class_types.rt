@@ -6,24 +6,19 @@ use crate::accepting::{Accept, Bell, CutOff};
 use crate::hosted::Hosted;
 use crate::replies::Observed;
 use crate::seat::{Keep, Seat};
-use mml_journal::Sink;
 use mml_serving::HangUp;
-use mml_session::Observer;
-use std::io::{Read, Write};
-use std::sync::Wait;
+use mml_session::{Observer, SessionTypes};
 use std::thread::Threads;
 
-/// The types that serving a class needs, bundled so that a function takes them as one type parameter. A caller has to
-/// name the bundle, since the compiler can't infer it.
-pub trait ClassTypes: Send {
-    /// The runtime, which starts threads.
-    type Runtime: Threads + Wait + Sync;
-    /// The sink to which the journal is written.
-    type Sink: Sink + Send + Drop;
-    /// The reading end of a connection.
-    type Reader: Read + Send + Drop;
-    /// The writing end of a connection.
-    type Writer: Write + HangUp + Observed + Send + Drop;
+/// The types that serving a class needs, bundled so that a function takes them as one type parameter: those of its
+/// sessions, which threads share, and further ones. A caller has to name the bundle, since the compiler can't infer it.
+pub trait ClassTypes: SessionTypes<
+    Runtime: Threads + Sync,
+    Sink: Send,
+    Reader: Send + Drop,
+    Writer: HangUp + Observed + Send + Drop,
+>
+    + Send {
     /// What a seat keeps of a session after its end.
     type Kept: Keep<Self::Reader, Self::Writer> + Send + Drop;
     /// The observer of a seat's sessions.
@@ -42,11 +37,11 @@ pub trait ClassTypes: Send {
 pub type SeatOf<Y, H> = Seat<H, <Y as ClassTypes>::Kept, <Y as ClassTypes>::Observer>;
 
 /// The two ends of a connection of a class of these types.
-pub type EndsOf<Y> = (<Y as ClassTypes>::Reader, <Y as ClassTypes>::Writer);
+pub type EndsOf<Y> = (<Y as SessionTypes>::Reader, <Y as SessionTypes>::Writer);
 
 /// The result of a house of a class of these types.
 pub type HostedOf<Y> = Hosted<
-    <Y as ClassTypes>::Sink,
+    <Y as SessionTypes>::Sink,
     <Y as ClassTypes>::Kept,
     <Y as ClassTypes>::Observer,
 >;

@@ -2,7 +2,8 @@
 //! teacher says bye at the desk.
 //!
 //! A house is one run of a lab that threads share: its list of granted events, the board after them, and their journal.
-//! A seat serves one connection after another, each through the seat's window. Its observer may record its sessions.
+//! A seat serves one connection after another, each through the seat's window. The observer of a seat may record its
+//! sessions.
 #![tactic(auto)]
 
 mod accepting;

@@ -1,8 +1,8 @@
 //! A port: it accepts connections as they come, and serves each in a seat that is free.
 //!
-//! A seat serves one connection after another, each in a thread. It is busy while it serves one, and otherwise free.
-//! Its window is what its sessions have seen of the list of events. A cut-off is the means by which another thread ends
-//! a connection.
+//! A seat serves one connection after another, each in a thread. A seat is busy while it serves one, and otherwise
+//! free. The window of a seat is what its sessions have seen of the list of events. A cut-off is the means by which
+//! another thread ends a connection.
 ghost use Rattle.std.specs.Prelude.{◌≡◌, ◌<◌, ◌≤◌, ◌+◌, ◌^◌, ℕ, true, false, All, IfOk, IfErr, IfSome, IfNone, [], vec_len, vec_capacity};
 ghost use Rattle.mml_hosting.specs.Seats.{IsReady, IsSeat, ServesIn, came_to, terms};
 ghost use Rattle.mml_hosting.specs.Ports.{ServesPort, TurnsOthersAway};
@@ -18,7 +18,7 @@ use crate::seat::{Keep, Seat, serve_in};
 use mml_ids::Memory;
 use mml_lines::{WriteFault, put_all};
 use mml_serving::HangUp;
-use mml_session::{Observer, Setting};
+use mml_session::{Observer, SessionTypes, Setting};
 use mml_window::Desk;
 use std::alloc::Global;
 use std::io::{Read, Write};
@@ -66,8 +66,8 @@ type BusyOf<Y, H> = Busy<
     H,
     <Y as ClassTypes>::Kept,
     <Y as ClassTypes>::Observer,
-    <Y as ClassTypes>::Reader,
-    <Y as ClassTypes>::Writer,
+    <Y as SessionTypes>::Reader,
+    <Y as SessionTypes>::Writer,
     <Y as ClassTypes>::CutOff,
 >;
 
@@ -78,8 +78,8 @@ type HandleOf<Y, H> = PromisedHandle<
         H,
         <Y as ClassTypes>::Kept,
         <Y as ClassTypes>::Observer,
-        <Y as ClassTypes>::Reader,
-        <Y as ClassTypes>::Writer,
+        <Y as SessionTypes>::Reader,
+        <Y as SessionTypes>::Writer,
     >,
 >;
 
@@ -101,8 +101,8 @@ fn first_done<Y: ClassTypes, H: Begun, M: Mark>(
     None
 }
 
-// Removes the busy seat at this index from the list, drops its cut-off, waits until its thread has ended, and
-// returns the seat, in which another connection can now be served.
+// Removes the busy seat at this index from the list, drops its cut-off, and waits until its thread has ended. Returns
+// the seat, in which another connection can now be served.
 fn join_one<Y: ClassTypes, H: Begun>(
     rt: &Y::Runtime,
     busy: &mut Vec<BusyOf<Y, H>>,
@@ -144,8 +144,8 @@ fn next_to_join<Y: ClassTypes, H: Begun, M: Mark>(
     }
 }
 
-// Moves the seats whose threads have ended from `busy` to `free`. Without marks, all connections must have been cut
-// off: then waits for all threads, and moves all seats.
+// Moves the seats whose threads have ended from `busy` to `free`. Without marks, waits for all threads, and moves all
+// seats. All connections must have been cut off before in this case.
 fn gather<Y: ClassTypes, H: Begun, M: Mark>(
     rt: &Y::Runtime,
     free: &mut Vec<SeatOf<Y, H>>,
@@ -300,7 +300,7 @@ impl<'s, Y: ClassTypes + 's, H: Begun + Send + Sync + 's> Shared<'s, Y, H> {
     }
 
     // Takes back the seats whose threads have ended. Then serves a connection (`ends`) in the free seat that
-    // `next_free` returns, in a thread of its own. Turns the connection away if there is none. `cut_off` is the means
+    // `next_free` returns, in a thread of its own. Turns the connection away if no seat is free. `cut_off` is the means
     // to end the connection from the port's thread.
     fn take_in<E>(
         &self,

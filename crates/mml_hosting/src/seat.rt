@@ -76,7 +76,7 @@ pub struct SeatRecord<K: Drop, C: Drop> {
 /// seat by its number.
 #[derive(Drop)]
 pub struct Seat<H: Begun, K: Drop, C: Drop> {
-    /// Whether it is the seat of the desk: the teacher's bye there ends the service.
+    /// Whether this is the seat of the desk, at which the teacher's bye ends the service.
     pub is_desk: bool,
     pub window: Window<H>,
     pub record: SeatRecord<K, C>,
@@ -143,7 +143,14 @@ fn serve_session<Y: ClassTypes, H: Begun>(
     let (mut reader, mut writer) = ends;
     let replies = writer.reply_observer();
     let mut both = Both { observer, replies };
-    let ending = serve_observed(setting, window, &mut reader, &mut writer, number, &mut both);
+    let ending = serve_observed::<Y, H, _>(
+        setting,
+        window,
+        &mut reader,
+        &mut writer,
+        number,
+        &mut both,
+    );
     let Both {
         observer,
         replies: _,

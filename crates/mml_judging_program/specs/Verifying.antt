@@ -3,7 +3,7 @@ use Rattle.std.specs.{Prelude.ℕ, Prelude.Bool, Prelude.true, Prelude.false, Pr
 use Rattle.mml_lab.specs.Labs.{LabValue}
 use Rattle.mml_tally.specs.{declared.record_text.Findings.Findings, Lacking.recorded_line}
 
--- the end of the first line, after the number of events, by whether the record is whole
+-- the end of the first line, after the number of events; `not whole` is a part of this end if the record isn't whole
 abbrev pub end_of : Bool → List ℕ
 end_of true = codes " events\n"
 end_of false = codes " events, not whole\n"

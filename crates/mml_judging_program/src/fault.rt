@@ -22,8 +22,8 @@ pub enum JudgingFault {
 }
 
 impl JudgingFault {
-    /// Returns the exit status of the error: 3 if the record is refused, and 4 if it can't be read. An error
-    /// of `mml_program` has the same status as there.
+    /// Returns the exit status of the error: 3 if the record is refused, and 4 if the record can't be read. An error of
+    /// `mml_program` has the same status as there.
     pub fn status(&self) -> u8
         ensures { result ≡ exit_status self.now }
     {

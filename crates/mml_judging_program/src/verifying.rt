@@ -167,8 +167,8 @@ fn put_verified(
     put_begun(text, begun)
 }
 
-// Returns the end of the first line, after the number of events. It says `not whole` if something is left out of the
-// record.
+// Returns the end of the first line, after the number of events. This end says `not whole` if something is left out of
+// the record.
 fn end_of(is_whole: bool) -> &'static str
     ensures { result.now ≡ end_of is_whole }
 {

@@ -47,8 +47,8 @@ pub fn is_for_judging(words: &[String]) -> bool {
     }
 }
 
-/// Returns the task that these words ask for; the first word is the program's name. Returns `CommandLine` if they don't
-/// fit any task, and `Memory` if memory runs out.
+/// Returns the task that these words ask for; the first word is the program's name. Returns `CommandLine` if the words
+/// don't fit any task, and `Memory` if memory runs out.
 pub fn read_words<'a>(alloc: Global, words: &'a [String]) -> Result<Task<'a>, ProgramFault> {
     let matches = match_words(command_line(alloc)?, words)?;
     match matches.subcommand() {

@@ -91,8 +91,8 @@ impl Crowd {
         }
     }
 
-    /// Adds a connection to the guests. It is served from the instant `since` on. Returns `Memory`, and doesn't add it,
-    /// if memory runs out.
+    /// Adds a connection to the guests. The connection is served from the instant `since` on. Returns `Memory`, and
+    /// doesn't add it, if memory runs out.
     pub fn note_served<Rt: Wait>(
         &self,
         rt: &Rt,
@@ -141,8 +141,8 @@ impl Crowd {
     }
 
     /// If a new connection waits for a seat, sends away a stranger, if `let_stranger_go` finds one. Does nothing if the
-    /// clock fails. It is called after a connection was answered, or when the hello of a connection is denied, since
-    /// this connection may then be sent away.
+    /// clock fails. The function is called after a connection was answered, or when the hello of a connection is
+    /// denied, since this connection may then be sent away.
     pub fn make_room<Rt: Wait + Clock>(&self, rt: &Rt) {
         if self.is_wanted()
             && let Ok(now) = Instant::now(rt)

@@ -1,4 +1,4 @@
-//! The lines by which the other side learns why its connection is ended. They aren't replies of a session.
+//! The lines by which the other side learns why its connection is ended. These lines aren't replies of a session.
 //!
 //! A seat serves one connection after another.
 use mml_hosting::BUSY;
@@ -6,7 +6,7 @@ use mml_hosting::BUSY;
 /// Why the host ends a connection.
 #[derive(Clone, Copy, Debug, PartialEq, Eq)]
 pub enum EndReason {
-    /// There is no seat for it.
+    /// There is no seat for the connection.
     Busy,
     /// A line didn't come in time, or no hello was granted in time.
     Late,

@@ -31,13 +31,13 @@ struct Parting {
     stream: TcpStream,
     // When the next step is due: sending its denial, or, if everything was sent, closing it.
     next: Instant,
-    // Whether everything was sent, so that it only has to be closed.
+    // Whether everything was sent, so that the connection only has to be closed.
     is_sent: bool,
 }
 
 impl Parting {
-    // Does the next step for the connection if it is due. Before that time, returns the connection unchanged. If
-    // everything was sent, closes the connection, and returns `None`. Otherwise sends the denial of its hello and the
+    // Does the next step for the connection if the step is due, and otherwise returns the connection unchanged. If
+    // everything was sent, closes the connection, and returns `None`. If not, sends the denial of its hello and the
     // line of `Busy`, and shuts down its writing side. Then returns the connection, to be closed later, or `None` if
     // `closing` has closed it already.
     fn step(self, now: Instant) -> Option<Parting> {
@@ -179,7 +179,7 @@ impl Partings {
             if let Some(first) = all.pop_front()
                 && let Some(parting) = first.step(now)
             {
-                // It fits, since it was in the list before.
+                // The connection fits into the list, since it was in it before.
                 let _ = all.push_back(parting);
             }
         }
@@ -193,7 +193,7 @@ impl Partings {
                 if first.is_sent {
                     let _may_send = drain(&first.stream);
                 } else {
-                    // It fits, since it was in the list before.
+                    // The connection fits into the list, since it was in it before.
                     let _ = all.push_back(first);
                 }
             }

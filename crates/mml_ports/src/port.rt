@@ -34,7 +34,7 @@ const SILENCE: u64 = 5;
 // How often the host tries to connect to its own port, to wake the thread that waits in an accept there.
 const WAKE_TRIES: u32 = 50;
 
-// How many milliseconds it waits for each of these connections.
+// How many milliseconds the host waits for each of these connections.
 const WAKE_TIMEOUT: u64 = 100;
 
 // A newcomer: a connection that was accepted, and waits for a seat.
@@ -45,9 +45,9 @@ struct Newcomer<'a, Rt> {
     cut_off: SocketCutOff<'a, Rt>,
     connection: SharedConnection<'a, Rt>,
     since: Instant,
-    // Whether it was checked already. The first check makes its socket's reads non-blocking.
+    // Whether the newcomer was checked already. The first check makes its socket's reads non-blocking.
     is_looked_at: bool,
-    // What the checks have found that it sent.
+    // What the newcomer has sent, as far as the checks have found.
     peeked: Peeked,
 }
 
@@ -203,8 +203,8 @@ impl<'a, Rt: Clock + Wait + Eprint> Port<'a, Rt> {
         }
     }
 
-    // Returns the next newcomer to serve, if there is a seat for it. Otherwise returns `None`. Before that, the crowd
-    // sends a guest away if one must leave, and the first newcomer is turned away if it has waited for half a second.
+    // Returns the next newcomer to serve, if there is a seat for it. Otherwise, the crowd first sends a guest away if
+    // one must leave, and the first newcomer is turned away if it has waited for half a second. Then returns `None`.
     // Notes in the crowd whether a newcomer waits for a seat. Returns `None` also if there are no newcomers, or the
     // clock fails.
     fn admit_next(&mut self) -> Option<SocketAccepted<'a, Rt>> {
@@ -234,9 +234,8 @@ impl<'a, Rt: Clock + Wait + Eprint> Port<'a, Rt> {
         None
     }
 
-    // Returns the index of the newcomer to turn away if too many wait. This is the first one that has sent no line
-    // although it had time for one. If there is none, it is the first that hasn't sent a hello, and otherwise the first
-    // of all.
+    // Returns the index of the newcomer to turn away if too many wait. The choice is the first newcomer that has sent
+    // no line although it had time for one, or else the first that hasn't sent a hello, or else the first of all.
     fn first_to_drop(&mut self, now: Instant) -> usize {
         let mut first_without_hello = None;
         for index in 0..self.waiting.len() {
@@ -253,8 +252,8 @@ impl<'a, Rt: Clock + Wait + Eprint> Port<'a, Rt> {
         first_without_hello.unwrap_or(0)
     }
 
-    // Returns the index of the newcomer to serve next. This is the first one that has sent a hello. If there is none,
-    // it is the first that has sent another line, and otherwise the first of all.
+    // Returns the index of the newcomer to serve next. The choice is the first newcomer that has sent a hello, or else
+    // the first that has sent another line, or else the first of all.
     fn first_to_speak(&mut self) -> usize {
         let mut first_with_line = None;
         for index in 0..self.waiting.len() {
@@ -275,7 +274,7 @@ impl<'a, Rt: Clock + Wait + Eprint> Port<'a, Rt> {
     // to be served from `now` on. Returns `None` if there are no newcomers. If memory runs out, notes that in the
     // host's state: the newcomer is served, but isn't counted as a guest.
     fn take_next(&mut self, now: Instant) -> Option<SocketAccepted<'a, Rt>> {
-        // If only one waits, it needs no check.
+        // A single newcomer is chosen without a check.
         let index = if self.waiting.len() > 1 {
             self.first_to_speak()
         } else {
@@ -374,14 +373,14 @@ impl<'a, Rt: Clock + Wait + Eprint> Accept<
     }
 }
 
-/// The signal that a session has ended. It counts the session in the host's state. If the host ends with it, it also
-/// wakes the threads that wait in an accept, by a connection to each port.
+/// The signal that a session has ended. The signal counts the session in the host's state. If the host ends with this
+/// session, the signal also wakes the threads that wait in an accept, by a connection to each port.
 #[derive(Drop)]
 pub struct EndBell<'a, Rt> {
     pub rt: &'a Rt,
     pub state: &'a HostState,
     pub ports: [SocketAddr; 2],
-    /// A spare descriptor. It is closed at the end, so that one is free for the connection that wakes an accept.
+    /// A spare descriptor, which is closed at the end, so that one is free for the connection that wakes an accept.
     pub spare: Mutex<Option<TcpListener>>,
 }
 

@@ -133,7 +133,7 @@ impl SharedSocket {
         };
         let stream = self.stream.read(rt);
         if let Some(stream) = &*stream {
-            // This fails if the other side is gone.
+            // The call fails if the other side is gone.
             let _ = stream.shutdown(how);
         }
     }
@@ -169,7 +169,7 @@ impl SharedSocket {
         self.is_writing.store(false, Ordering::SeqCst);
     }
 
-    /// Counts a hello of the connection that was denied. Its denial is the next reply to write.
+    /// Counts a hello of the connection that was denied. The denial is the next reply to write.
     pub(crate) fn note_denial(&self) {
         self.denied.fetch_add(1, Ordering::SeqCst);
         self.is_denial_next.store(true, Ordering::SeqCst);
@@ -194,8 +194,8 @@ impl SharedSocket {
 }
 
 // Returns what has come at a socket with non-blocking reads, judged by its first 512 bytes, which stay in the socket.
-// Returns `Nothing` if they contain no whole line, or the system refuses the check. If memory runs out, a hello counts
-// as any other line.
+// Returns `Nothing` if these bytes contain no whole line, or the system refuses the check. If memory runs out, a hello
+// counts as any other line.
 fn peek_at(stream: &TcpStream, alloc: Global) -> Peeked {
     let mut seen = [0; PEEK_SIZE];
     let Ok(count) = stream.peek(&mut seen) else {

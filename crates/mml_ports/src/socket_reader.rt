@@ -32,7 +32,7 @@ enum FirstLine {
 }
 
 /// The reading end of a connection. A read fails if the line takes too long, even if single bytes of it come. Until a
-/// hello is granted (at the desk the teacher's), a read returns at most one line. In this time a read fails ten seconds
+/// hello is granted (at the desk the teacher's), a read returns at most one line. Until then a read fails ten seconds
 /// after the beginning of the connection, and at the desk five seconds after it, whatever is sent.
 #[derive(Drop)]
 pub struct SocketReader<'a, Rt> {
@@ -122,7 +122,7 @@ impl<'a, Rt: Clock + Wait> SocketReader<'a, Rt> {
     }
 
     // Reads bytes that have come, or come before the deadline, but none after the end of the line, and returns how
-    // many. This is used before the hello is granted, so that what follows it is read later.
+    // many. The function is used before the hello is granted, so that what follows the hello is read later.
     fn read_line_in_time(&mut self, buf: &mut [u8]) -> io::Result<usize>
         ensures { ReadsAtMost result buf.new }
     {

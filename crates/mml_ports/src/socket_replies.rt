@@ -12,9 +12,9 @@ use mml_session::{Ending, SessionEnd};
 use std::sync::Wait;
 use std::sync::atomic::Ordering;
 
-/// The observer of the replies to a connection. It notes that a line was answered, for the connection's reader. For the
-/// connection's writer and the port's crowd, it notes whose hello was granted, which hellos were denied, the teacher's
-/// bye, and that the session was ended by a line that was too long.
+/// The observer of the replies to a connection. The observer notes that a line was answered, for the connection's
+/// reader. For the connection's writer and the port's crowd, the observer notes whose hello was granted, which hellos
+/// were denied, the teacher's bye, and that the session was ended by a line that was too long.
 #[derive(Drop)]
 pub struct SocketReplies<'a, Rt> {
     connection: SharedConnection<'a, Rt>,
@@ -50,8 +50,8 @@ impl<'a, Rt: Wait> SocketReplies<'a, Rt> {
 
 impl<'a, Rt: Wait> ReplyObserver for SocketReplies<'a, Rt> {
     // Notes that a line was answered, and what the reply means for the connection. The first granted hello is handled
-    // by `note_greeting`. Before that, a denial of a hello's name and key is counted, and the writer will delay it. The
-    // reply to the teacher's bye at the desk is noted as the one that dismisses the class.
+    // by `note_greeting`. Until a hello is granted, a denial of a hello's name and key is counted, and the writer will
+    // delay it. The reply to the teacher's bye at the desk is noted as the one that dismisses the class.
     fn note_reply(&mut self, reply: &Reply) {
         let socket = &self.connection.socket;
         socket.is_line_answered.store(true, Ordering::SeqCst);

@@ -1,4 +1,4 @@
-//! The writing end of a connection. It delays denials of hellos, and sends the reason when the connection ends.
+//! The writing end of a connection. This end delays denials of hellos, and sends the reason when the connection ends.
 //!
 //! The turn of a denial is the time before which it isn't sent. A stranger is a connection on which no hello was
 //! granted; at the desk only the teacher's counts. The seat of a connection is the part of the server that serves it,
@@ -29,7 +29,7 @@ pub const WRITE_LIMIT: u64 = 10;
 // The last milliseconds of the delay of a denial, in which a connection that is being ended doesn't wait any longer.
 const NEAR: u64 = 500;
 
-/// The writing end of a connection. It delays each denial of a hello's name and key until its turn, which
+/// The writing end of a connection. This end delays each denial of a hello's name and key until its turn, which
 /// `HostState::turn_of_denial` determines, so that nobody can try many keys quickly.
 #[derive(Drop)]
 pub struct SocketWriter<'a, Rt> {
@@ -211,7 +211,7 @@ impl<'a, Rt: Clock + Wait + Eprint> Write for SocketWriter<'a, Rt> {
     }
 }
 
-/// The writing end of a connection, with retries after signals. It shuts down the writing side at the end.
+/// The writing end of a connection, with retries after signals. The writing side is shut down at the end.
 #[derive(Drop)]
 pub struct ReplyWriter<'a, Rt> {
     end: Retrying<SocketWriter<'a, Rt>>,
@@ -335,8 +335,9 @@ impl<'a, Rt: Clock + Wait + Eprint> Keep<Incoming<'a, Rt>, ReplyWriter<'a, Rt>>
     for SocketSession<'a, Rt> {
     ghost shows = { λ kept. kept.0.value };
 
-    // Drops a session that has ended. Its connection leaves the crowd, so that its seat is free, and if it ran out of
-    // memory, that is noted in the host's state. Returns a snapshot of the session, which contracts alone can read.
+    // Drops a session that has ended. The session's connection leaves the crowd, so that its seat is free, and if the
+    // session ran out of memory, that is noted in the host's state. Returns a snapshot of the session, which contracts
+    // alone can read.
     fn keep(session: ServedSession<Incoming<'a, Rt>, ReplyWriter<'a, Rt>>) -> SocketSession<'a, Rt>
         ensures { result.0.value ≡ session.entry }
     {

@@ -31,12 +31,12 @@ struct Notes {
     next_denial: Option<Instant>,
     // How many hellos were denied because of their name and key.
     denials: u64,
-    // The number of denials at which they are reported next.
+    // The number of denials at which the next report about them is due.
     next_report: u64,
 }
 
 /// The state of a host, which its threads share: how many sessions have ended, whether the host is over, and whether
-/// memory ran out. It also says when denials are due, and who is served at each port.
+/// memory ran out. The state also says when denials are due, and who is served at each port.
 #[derive(Drop)]
 pub struct HostState {
     notes: Mutex<Notes>,
@@ -124,8 +124,8 @@ impl HostState {
         );
     }
 
-    /// Returns the turn of the next denial of a name and key: the time before which it isn't sent. This is now, or 12
-    /// milliseconds after the turn of the last denial, if that is later. The denials of both ports are counted
+    /// Returns the turn of the next denial of a name and key: the time before which it isn't sent. The turn is now, or
+    /// 12 milliseconds after the turn of the last denial, if that is later. The denials of both ports are counted
     /// together. Returns an error if the clock fails.
     pub fn turn_of_denial<Rt: Wait + Clock>(&self, rt: &Rt) -> io::Result<Instant> {
         let now = Instant::now(rt)?;

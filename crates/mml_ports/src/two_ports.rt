@@ -24,7 +24,7 @@ const CHECK_INTERVAL: u64 = 1;
 /// Why the host can't listen on a port.
 #[derive(Clone, Copy, Debug, PartialEq, Eq)]
 pub enum ListenFault {
-    /// The system refuses it, or another program listens there.
+    /// The system refuses the port, or another program listens there.
     Refused,
     /// Memory ran out.
     Memory,
@@ -54,7 +54,7 @@ pub struct Ports {
 /// Listens on the desk's port and then on the students', for connections of this machine only. If a number is 0, the
 /// system chooses the port. If the desk's number isn't 0, waits for at most a second for a first connection there. So
 /// the teacher's program is connected before a student can see that the class begins. Returns an error if the host
-/// can't listen on one of them.
+/// can't listen on one of the two ports.
 pub fn listen_at<R: Clock + Net<Listener = TcpListener, Stream = TcpStream>>(
     rt: &R,
     port: u16,
@@ -119,8 +119,8 @@ fn on_this_machine(port: u16) -> SocketAddr {
 }
 
 /// Returns the bell that is rung when a session ends, and that wakes the accepts at both ports when the host is over.
-/// It holds a spare descriptor, a copy of the desk's listener. Returns an error if the system refuses the copy, or
-/// memory runs out.
+/// The bell holds a spare descriptor, a copy of the desk's listener. Returns an error if the system refuses the copy,
+/// or memory runs out.
 pub fn bell_of<'a, R>(
     rt: &'a R,
     state: &'a HostState,

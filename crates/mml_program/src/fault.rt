@@ -50,7 +50,8 @@ pub enum Fault {
     /// A check at the end failed: the places that were given aren't those of the events, each once.
     #[error("serve: the tally does not fit")]
     Astray,
-    /// There was no reader's slot for a window. This doesn't happen: the slots are reserved when a house is started.
+    /// There was no reader's slot for a window. This error doesn't happen: the slots are reserved when a house is
+    /// started.
     #[error("serve: no place for a window")]
     Place,
     /// The journal's file can't be made, locked or kept, or a line of the journal wasn't written whole.

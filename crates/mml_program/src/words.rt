@@ -40,8 +40,8 @@ pub struct ServeTask<'a> {
     pub journal: Option<&'a str>,
 }
 
-/// Returns the task that these words ask for; the first word is the program's name. Returns `CommandLine` if they don't
-/// fit any task, and `Memory` if memory runs out.
+/// Returns the task that these words ask for; the first word is the program's name. Returns `CommandLine` if the words
+/// don't fit any task, and `Memory` if memory runs out.
 pub fn read_words<'a>(alloc: Global, words: &'a [String]) -> Result<Task<'a>, Fault> {
     let matches = match_words(command_line(alloc)?, words)?;
     match matches.subcommand() {
@@ -129,8 +129,8 @@ pub fn with_optional<'a>(
     command.arg(Arg::new(alloc, value).action(ArgAction::Set))
 }
 
-// Returns the description of a command with this name. It has no flags for help and version, and no subcommand for
-// help.
+// Returns the description of a command with this name. The description has no flags for help and version, and no
+// subcommand for help.
 fn command_without_help<'a>(alloc: Global, name: &'a str) -> Command<'a> {
     Command::new(alloc, name)
         .disable_help_flag(true)

@@ -122,9 +122,9 @@ impl SeatBudget {
             .is_ok()
     }
 
-    // Returns whether an entry of this many `bytes` may be written while nobody is known. If so, charges it to the
-    // common counter. It may be written if such entries then have at most `STRANGER` bytes on this connection, and at
-    // most `BUDGET` on all connections together.
+    // Returns whether an entry of this many `bytes` may be written while nobody is known. If so, charges the entry to
+    // the common counter. An entry may be written if such entries then have at most `STRANGER` bytes on this
+    // connection, and at most `BUDGET` on all connections together.
     fn takes_unknown(&mut self, bytes: u64) -> bool
         ensures known { self.new.account ≡ self.old.account }
         ensures greeted { self.new.is_greeted ≡ self.old.is_greeted }

@@ -1,6 +1,6 @@
--- What holds of a house that failed. Its book has the granted events, the board after them and their journal. The
--- places of a window are the numbers of the events that it was granted. They went astray if those of all windows aren't
--- those of the book's events, each once. The log of a house is its result at the end.
+-- What holds of a house that failed. The book of a house has the granted events, the board after them and their
+-- journal. The places of a window are the numbers of the events that it was granted. The places went astray if those of
+-- all windows aren't those of the book's events, each once. The log of a house is its result at the end.
 use Rattle.std.proofs.{Common.◌≡◌, Common.ℕ, Common.List, Common.All, Common.length, Common.Option, Common.subst, KnownBytes.Appends-nil}
 use mathlib.Core.List.{IsPrefix}
 use Rattle.mml_lab.specs.Labs.{LabValue}

@@ -1,7 +1,7 @@
--- What holds of a house that failed. A house is one run of a lab that threads share. Its book has the granted events,
--- the board after them and their journal, and its log is its result at the end. The places of a window are the numbers
--- of the events that it was granted. The places of all windows went astray if they aren't those of the book's events,
--- each once.
+-- What holds of a house that failed. A house is one run of a lab that threads share. The book of a house has the
+-- granted events, the board after them and their journal, and the log is the result at the end. The places of a window
+-- are the numbers of the events that it was granted. The places of all windows went astray if they aren't those of the
+-- book's events, each once.
 use Rattle.std.specs.Prelude.{◌≡◌, ◌⊎◌, ℕ, true, false, List, [], All, length, Option, None}
 use Rattle.std.specs.{List.list_all, Io.KnownBytes.Appends}
 use mathlib.Core.List.{IsPrefix}

@@ -53,8 +53,9 @@ pub record ServesWindows {R W : Type 0} (lab : LabValue) (remaining : R → Opti
   pub idle : All (λ w. w ≡ window [] []) unused
   pub each : ServesAll lab remaining contents to_come count sessions used
 
--- The connections were served, as `ServesWindows` states, and the house has this log. Its events are a legal list, and
--- each window has seen a beginning of it. The places that the windows were given are those of the events, each once
+-- The connections were served, as `ServesWindows` states, and the house has this log. The log's events are a legal
+-- list, and each window has seen a beginning of this list. The places that the windows were given are those of the
+-- events, each once
 pub record ServesHouse {S R W : Type 0} (lab : LabValue) (sink : S → Option (List ℕ)) (remaining : R → Option (List ℕ)) (contents : W → Option (List ℕ))
     (to_come : Option (List (R × W))) (count : ℕ) (sessions : List (EndedSession R W)) (log : Log S) : Type 0 where
   pub windows : List WindowValue

@@ -10,7 +10,7 @@ use std::io::{ErrorKind, Read, Write};
 use std::net::TcpListener;
 use std::vec::IntoIter;
 
-/// A source of connections. It returns each connection as it comes, as a reading and a writing end.
+/// A source of connections, which returns each connection as it comes, as a reading and a writing end.
 pub trait Arrivals<R: Read + Drop, W: Write + Drop> {
     // The connections that are still to come; `None` if contracts can't name them.
     ghost to_come: { Self → Option (List (R × W)) } = { λ _. None };
@@ -23,18 +23,18 @@ pub trait Arrivals<R: Read + Drop, W: Write + Drop> {
             (λ _. Takes (to_come self.old) (to_come self.new) []) };
 }
 
-/// The reading end of a connection. Its handle can be closed while the value lives on.
+/// The reading end of a connection, whose handle can be closed while the value lives on.
 pub trait LetGo: Read {
     // The statement that the handle is closed. Bytes in memory have no handle.
     ghost IsLetGo: { Self → Type 0 } = { λ _. Unit {0} };
 
-    /// Closes its handle. Nothing more is read.
+    /// Closes the connection's handle. Nothing more is read.
     fn let_go(&mut self)
         ensures remaining { Self.remaining self.new ≡ Self.remaining self.old }
         ensures closed { IsLetGo self.new };
 }
 
-/// The writing end of a connection. It can signal to the other side that no more bytes follow.
+/// The writing end of a connection, which can signal to the other side that no more bytes follow.
 pub trait HangUp: Write {
     // The statement that the connection is ended and the handle closed. Bytes in memory have neither.
     ghost IsHungUp: { Self → Type 0 } = { λ _. Unit {0} };

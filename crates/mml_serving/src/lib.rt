@@ -9,6 +9,7 @@ mod arrivals;
 mod connection;
 mod number_words;
 mod seating;
+mod server_types;
 mod serving;
 mod socket;
 
@@ -16,5 +17,6 @@ pub use announcing::{write_last, write_listening};
 pub use arrivals::{Arrivals, HangUp, LetGo};
 pub use connection::{Connection, EndedSession};
 pub use number_words::{read_connections, read_port};
+pub use server_types::{EndedOf, ServedHouseOf, ServerOf, ServerTypes};
 pub use serving::{ServeFault, ServedHouse, end_for, serve_arrivals, serve_house_on, serve_on};
 pub use socket::{Socket, linger};

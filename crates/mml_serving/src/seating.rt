@@ -2,22 +2,20 @@
 //!
 //! A window is one session's view of the published events and board. A seat is a connection with its window.
 ghost use Rattle.std.specs.Prelude.{◌≡◌, ◌≢◌, ◌<◌, ◌≤◌, ◌+◌, [], ◌∷◌, All, IfOk, OnOk, length, map};
-ghost use Rattle.std.specs.Thread.{IsSync, IsSend};
 ghost use Rattle.mml_window.specs.Windows.{window};
 ghost use Rattle.mml_serving.specs.Arriving.{Takes};
 ghost use Rattle.mml_serving.specs.Serving.{Each, IsServed, ServesAll, ends_of};
 
 use crate::arrivals::{Arrivals, HangUp, LetGo};
 use crate::connection::{Connection, EndedSession};
-use mml_journal::Sink;
-use mml_session::{Gate, Setting, serve_one};
+use crate::server_types::{EndedOf, ServerTypes};
+use mml_session::{SessionTypes, Setting, serve_one};
 use mml_window::{Desk, House, Window};
 use std::alloc::Global;
 use std::io::{ErrorKind, Read, Write};
 use std::snapshot::Snapshot;
-use std::sync::Wait;
 use std::thread;
-use std::thread::{Promise, PromisedHandle, Threads};
+use std::thread::{Promise, PromisedHandle, Scope, Threads};
 
 /// Why no more connections were served.
 #[derive(Clone, Copy)]
@@ -35,28 +33,33 @@ struct Seated<H: House, R: Drop, W: Drop> {
     connection: Connection<R, W>,
 }
 
+// A connection of a server of these types, and its window.
+type SeatedOf<Y, H> = Seated<H, <Y as SessionTypes>::Reader, <Y as SessionTypes>::Writer>;
+
+// The handle of a thread that serves a connection of a server of these types.
+type HandleOf<Y, H> = PromisedHandle<
+    (Window<H>, EndedOf<Y>),
+    ConnectionPledge<<Y as SessionTypes>::Reader, <Y as SessionTypes>::Writer>,
+>;
+
 /// Serves the next `connections` connections, each in a thread of its own and through one of `windows`. Returns the
 /// used windows, and how the sessions ended, both in the order in which the connections came. Returns an error if
 /// accepting a connection or starting a thread fails, or memory runs out. All threads have ended when it returns, even
 /// after an error.
 pub(crate) fn serve_all<
-    Rt: Threads + Wait + Sync,
-    S: Sink + Send + Drop,
+    Y: ServerTypes,
     H: House + Send + Sync,
-    R: LetGo + Send + Drop,
-    W: HangUp + Send + Drop,
-    A: Arrivals<R, W> + Drop,
-    G: Gate + Sync,
+    A: Arrivals<Y::Reader, Y::Writer> + Drop,
 >(
-    setting: &Setting<'_, Rt, S, H>,
+    setting: &Setting<'_, Y::Runtime, Y::Sink, H>,
     windows: Vec<Window<H>>,
     arrivals: A,
     connections: u8,
-    gate: &G,
-) -> Result<(Vec<Window<H>>, Vec<EndedSession<R, W>>), SeatingFault>
+    gate: &Y::Gate,
+) -> Result<(Vec<Window<H>>, Vec<EndedOf<Y>>), SeatingFault>
     requires fresh { All (λ w. w ≡ window [] []) windows.items }
     requires few { connections ≤ length windows.items }
-    ensures { IfOk result (λ parts. ServesAll H.lab R.remaining W.contents
+    ensures { IfOk result (λ parts. ServesAll H.lab Y.Reader.remaining Y.Writer.contents
         (A.to_come arrivals) connections parts.1.items parts.0.items) }
 {
     let rt = setting.rt;
@@ -65,38 +68,90 @@ pub(crate) fn serve_all<
     thread::scope(
         thread::scope_env(),
         rt,
-        |scope| -> Result<(Vec<Window<H>>, Vec<EndedSession<R, W>>), SeatingFault>
-            requires { IsSync Rt.row × IsSync G.row × IsSend S.row × IsSend H.row × IsSync H.row
-                × IsSend R.row × IsSend W.row × All (λ w. w ≡ window [] []) windows.items
+        |scope| -> Result<(Vec<Window<H>>, Vec<EndedOf<Y>>), SeatingFault>
+            requires { All (λ w. w ≡ window [] []) windows.items
                 × (connections ≤ length windows.items) }
-            ensures { IfOk result (λ parts. ServesAll H.lab R.remaining W.contents
+            ensures { IfOk result (λ parts. ServesAll H.lab Y.Reader.remaining Y.Writer.contents
                 (A.to_come arrivals) connections parts.1.items parts.0.items) }
         {
-            let mut arrivals = arrivals;
-            let mut windows = windows;
-            let Ok(mut handles) = Vec::with_capacity(alloc, usize::from(connections)) else {
-                return Err(SeatingFault::Memory);
+            let shared: Shared<'_, Y, H> = Shared {
+                rt,
+                alloc,
+                desk,
+                gate,
             };
-            for index in 0..connections {
-                let seat = next_seat(&mut arrivals, &mut windows, index + 1)?;
-                let pledge = ConnectionPledge(Snapshot::of(&seat.connection));
-                match scope.spawn_with(
-                    pledge,
-                    move || -> (Window<H>, EndedSession<R, W>)
-                        requires { seat.window ≡ window [] [] }
-                        ensures { IsServed H.lab R.remaining W.contents seat.connection
-                            result.1 result.0 }
-                    { serve_seated(rt, alloc, desk, seat, gate) },
-                ) {
-                    Ok(handle) => handles.push_reserved(handle),
-                    Err(_) => return Err(SeatingFault::Memory),
-                }
-            }
-            // Connections after the last one are closed at once.
-            drop(arrivals);
-            join_all(rt, alloc, handles)
+            shared.serve_each(scope, windows, arrivals, connections)
         },
     )
+}
+
+// What the threads of a server share.
+#[derive(Drop)]
+struct Shared<'s, Y: ServerTypes, H: House> {
+    rt: &'s Y::Runtime,
+    alloc: Global,
+    desk: &'s Desk<Y::Sink, H>,
+    gate: &'s Y::Gate,
+}
+
+impl<'s, Y: ServerTypes + 's, H: House + Send + Sync + 's> Shared<'s, Y, H> {
+    // Accepts the next `connections` connections, and serves each in a thread of its own. Waits until all threads have
+    // ended, and returns the used windows and the ended sessions, both in the order in which the connections came.
+    // Returns an error, without waiting, if accepting a connection or starting a thread fails, or memory runs out.
+    fn serve_each<E, A: Arrivals<Y::Reader, Y::Writer> + Drop>(
+        &self,
+        scope: &Scope<'s, E>,
+        windows: Vec<Window<H>>,
+        arrivals: A,
+        connections: u8,
+    ) -> Result<(Vec<Window<H>>, Vec<EndedOf<Y>>), SeatingFault>
+        requires fresh { All (λ w. w ≡ window [] []) windows.items }
+        requires few { connections ≤ length windows.items }
+        ensures { IfOk result (λ parts. ServesAll H.lab Y.Reader.remaining Y.Writer.contents
+            (A.to_come arrivals) connections parts.1.items parts.0.items) }
+    {
+        let mut arrivals = arrivals;
+        let mut windows = windows;
+        let Ok(mut handles) = Vec::with_capacity(self.alloc, usize::from(connections)) else {
+            return Err(SeatingFault::Memory);
+        };
+        for index in 0..connections {
+            let seat = next_seat(&mut arrivals, &mut windows, index + 1)?;
+            let handle = self.serve_apart(scope, seat)?;
+            handles.push_reserved(handle);
+        }
+        // Connections after the last one are closed at once.
+        drop(arrivals);
+        join_all(self.rt, self.alloc, handles)
+    }
+
+    // Starts a thread that serves the connection of a seat, and returns the thread's handle. Returns `Memory` if no
+    // thread could be made.
+    fn serve_apart<E>(
+        &self,
+        scope: &Scope<'s, E>,
+        seat: SeatedOf<Y, H>,
+    ) -> Result<HandleOf<Y, H>, SeatingFault>
+        requires fresh { seat.window ≡ window [] [] }
+        ensures { IfOk result (λ handle. handle.promise.0.value ≡ seat.connection) }
+    {
+        let rt = self.rt;
+        let alloc = self.alloc;
+        let desk = self.desk;
+        let gate = self.gate;
+        let pledge = ConnectionPledge(Snapshot::of(&seat.connection));
+        match scope.spawn_with(
+            pledge,
+            move || -> (Window<H>, EndedOf<Y>)
+                requires { seat.window ≡ window [] [] }
+                ensures { IsServed H.lab Y.Reader.remaining Y.Writer.contents seat.connection
+                    result.1 result.0 }
+            { serve_seated::<Y, H>(rt, alloc, desk, seat, gate) },
+        ) {
+            Ok(handle) => Ok(handle),
+            Err(_) => Err(SeatingFault::Memory),
+        }
+    }
 }
 
 // The contract of a thread's result: the connection was served to its end, through a window that had seen nothing.
@@ -167,17 +222,18 @@ fn accept_fault(kind: ErrorKind) -> SeatingFault
 // Serves the connection of a seat, and closes it as soon as its session has ended. So neither the other side nor the
 // system has to wait for other sessions. Returns the seat's window, and how the session ended with the connection's two
 // ends.
-fn serve_seated<Rt: Wait, S: Sink + Drop, H: House, R: LetGo + Drop, W: HangUp + Drop, G: Gate>(
-    rt: &Rt,
+fn serve_seated<Y: ServerTypes, H: House>(
+    rt: &Y::Runtime,
     alloc: Global,
-    desk: &Desk<S, H>,
-    seat: Seated<H, R, W>,
-    gate: &G,
-) -> (Window<H>, EndedSession<R, W>)
+    desk: &Desk<Y::Sink, H>,
+    seat: SeatedOf<Y, H>,
+    gate: &Y::Gate,
+) -> (Window<H>, EndedOf<Y>)
     requires fresh { seat.window ≡ window [] [] }
-    ensures served { IsServed H.lab R.remaining W.contents seat.connection result.1 result.0 }
-    ensures hung_up { W.IsHungUp result.1.connection.writer }
-    ensures let_go { R.IsLetGo result.1.connection.reader }
+    ensures served { IsServed H.lab Y.Reader.remaining Y.Writer.contents seat.connection
+        result.1 result.0 }
+    ensures hung_up { Y.Writer.IsHungUp result.1.connection.writer }
+    ensures let_go { Y.Reader.IsLetGo result.1.connection.reader }
 {
     let Seated {
         mut window,

@@ -15,9 +15,10 @@ ghost use Rattle.mml_serving.specs.Endings.{EndsBadly, EndsEarly, EndsWithout, S
 ghost use Rattle.mml_serving.specs.Serving.{ServesHouse, had_memory};
 
 use crate::announcing::write_last;
-use crate::arrivals::{Arrivals, HangUp, LetGo};
+use crate::arrivals::Arrivals;
 use crate::connection::{EndedSession, all_had_memory};
 use crate::seating::{SeatingFault, serve_all};
+use crate::server_types::{ServedHouseOf, ServerOf, ServerTypes};
 use crate::socket::Socket;
 use mml_journal::Sink;
 use mml_lab::Lab;
@@ -42,7 +43,8 @@ pub struct ServedHouse<S: Drop, R: Drop, W: Drop> {
 pub enum ServeFault {
     /// Memory ran out, or no thread could be made.
     Memory,
-    /// There was no reader's slot for a window. This doesn't happen: the slots are reserved when a house is started.
+    /// There was no reader's slot for a window. This error doesn't happen: the slots are reserved when a house is
+    /// started.
     Place,
     /// A connection couldn't be accepted.
     Accept,
@@ -109,7 +111,17 @@ pub fn serve_house_on<Rt: Threads + Wait + Sync, S: Sink + Send + Drop, G: Gate 
     ensures badly { IfErr result (ServesBadly lab S.contents connections
         (W.contents writer.old) (W.contents writer.new)) }
 {
-    let house = match serve_arrivals(rt, alloc, lab, listener, connections, sink, gate, writer) {
+    let served = serve_arrivals::<ServerOf<'_, Rt, S, Socket, Socket, G>, _, _>(
+        rt,
+        alloc,
+        lab,
+        listener,
+        connections,
+        sink,
+        gate,
+        writer,
+    );
+    let house = match served {
         Ok(house) => house,
         Err(fault) => return Err(fault),
     };
@@ -124,33 +136,25 @@ pub fn serve_house_on<Rt: Threads + Wait + Sync, S: Sink + Send + Drop, G: Gate 
 /// house for them, ends it when all sessions have ended, and then writes the last line. If there is no fault, the house
 /// has one legal list of events, and each reply is that of the rules after a beginning of it. The places that the
 /// replies name are those of its events, each once.
-pub fn serve_arrivals<
-    Rt: Threads + Wait + Sync,
-    S: Sink + Send + Drop,
-    R: LetGo + Send + Drop,
-    W: HangUp + Send + Drop,
-    A: Arrivals<R, W> + Drop,
-    G: Gate + Sync,
-    O: Write,
->(
-    rt: &Rt,
+pub fn serve_arrivals<Y: ServerTypes, A: Arrivals<Y::Reader, Y::Writer> + Drop, O: Write>(
+    rt: &Y::Runtime,
     alloc: Global,
     lab: Lab,
     arrivals: A,
     connections: u8,
-    sink: S,
-    gate: &G,
+    sink: Y::Sink,
+    gate: &Y::Gate,
     writer: &mut O,
-) -> Result<ServedHouse<S, R, W>, ServeFault>
+) -> Result<ServedHouseOf<Y>, ServeFault>
     requires sessions { connections ≤ lab.sessions }
-    requires fresh { IsFresh (S.contents sink) }
-    requires countable { S.failures sink < 2 ^ 64 - 1 }
-    ensures served { IfOk result (λ house. ServesHouse lab S.contents R.remaining W.contents
+    requires fresh { IsFresh (Y.Sink.contents sink) }
+    requires countable { Y.Sink.failures sink < 2 ^ 64 - 1 }
+    ensures served { IfOk result (λ house. ServesHouse lab Y.Sink.contents Y.Reader.remaining Y.Writer.contents
         (A.to_come arrivals) connections house.sessions.items house.log) }
     ensures unhalted { IfOk result (λ house. house.log.halted ≡ false) }
     ensures last { IfOk result (λ house. Appends (O.contents writer.old) (O.contents writer.new)
         (done_line (length house.log.events) (world_in lab house.log.events).number)) }
-    ensures badly { IfErr result (EndsBadly lab S.contents R.remaining W.contents
+    ensures badly { IfErr result (EndsBadly lab Y.Sink.contents Y.Reader.remaining Y.Writer.contents
         (A.to_come arrivals) connections (O.contents writer.old) (O.contents writer.new)) }
 {
     let blank = match open_house(rt, alloc, lab, sink) {
@@ -158,14 +162,7 @@ pub fn serve_arrivals<
         Err(HouseFault::Memory) => return Err(ServeFault::Memory),
         Err(HouseFault::Place) => return Err(ServeFault::Place),
     };
-    let served = serve_in_house::<Brand, _, _, _, _, _, _>(
-        rt,
-        alloc,
-        blank,
-        arrivals,
-        connections,
-        gate,
-    );
+    let served = serve_in_house::<Y, Brand, A>(rt, alloc, blank, arrivals, connections, gate);
     let house = match served {
         Ok(house) => house,
         Err(fault) => return Err(fault),
@@ -178,62 +175,54 @@ pub fn serve_arrivals<
 
 // Serves the next `connections` connections in the new house `blank`, and ends the house. Returns its log and the ended
 // sessions, or why the house failed.
-fn serve_in_house<
-    H: House + Send + Sync,
-    Rt: Threads + Wait + Sync,
-    S: Sink + Send + Drop,
-    R: LetGo + Send + Drop,
-    W: HangUp + Send + Drop,
-    A: Arrivals<R, W> + Drop,
-    G: Gate + Sync,
->(
-    rt: &Rt,
+fn serve_in_house<Y: ServerTypes, H: House + Send + Sync, A: Arrivals<Y::Reader, Y::Writer> + Drop>(
+    rt: &Y::Runtime,
     alloc: Global,
-    blank: Blank<S>,
+    blank: Blank<Y::Sink>,
     arrivals: A,
     connections: u8,
-    gate: &G,
-) -> Result<ServedHouse<S, R, W>, ServeFault>
+    gate: &Y::Gate,
+) -> Result<ServedHouseOf<Y>, ServeFault>
     requires named { blank ≡ house_of H.name H.lab }
     requires few { connections ≤ H.lab.sessions }
-    ensures served { IfOk result (λ house. ServesHouse H.lab S.contents R.remaining W.contents
+    ensures served { IfOk result (λ house. ServesHouse H.lab Y.Sink.contents Y.Reader.remaining Y.Writer.contents
         (A.to_come arrivals) connections house.sessions.items house.log) }
     ensures early { IfErr result
-        (EndsEarly H.lab S.contents R.remaining W.contents (A.to_come arrivals) connections) }
+        (EndsEarly H.lab Y.Sink.contents Y.Reader.remaining Y.Writer.contents (A.to_come arrivals) connections) }
 {
     let Ok((desk, mut windows)) = blank.start::<H>(alloc) else {
         return Err(ServeFault::Memory);
     };
     let Ok(unused) = windows.split_off(usize::from(connections)) else {
-        return end_for(ServeFault::Memory, rt, alloc, desk);
+        return Err(end_for(ServeFault::Memory, rt, alloc, desk));
     };
     let setting = Setting {
         rt,
         alloc,
         desk: &desk,
     };
-    match serve_all(&setting, windows, arrivals, connections, gate) {
+    match serve_all::<Y, H, A>(&setting, windows, arrivals, connections, gate) {
         Ok((windows, sessions)) => match end_house(rt, alloc, desk, windows, unused) {
             Ok(log) => Ok(ServedHouse { log, sessions }),
             Err(fault) => Err(fault),
         },
-        Err(SeatingFault::Memory) => end_for(ServeFault::Memory, rt, alloc, desk),
-        Err(SeatingFault::Accept) => end_for(ServeFault::Accept, rt, alloc, desk),
+        Err(SeatingFault::Memory) => Err(end_for(ServeFault::Memory, rt, alloc, desk)),
+        Err(SeatingFault::Accept) => Err(end_for(ServeFault::Accept, rt, alloc, desk)),
     }
 }
 
-/// Ends a house that has failed, and returns `fault` as the error. Ignores the result of ending it, so that no other
-/// fault is reported.
-pub fn end_for<Rt: Wait, S: Sink + Drop, H: House, T, F>(
+/// Ends a house that has failed, and returns `fault`. Ignores the result of ending it, so that no other fault is
+/// reported.
+pub fn end_for<Rt: Wait, S: Sink + Drop, H: House, F>(
     fault: F,
     rt: &Rt,
     alloc: Global,
     desk: Desk<S, H>,
-) -> Result<T, F>
-    ensures { result ≡ Err fault }
+) -> F
+    ensures { result ≡ fault }
 {
     let _ = desk.finish(rt, Vec::new(alloc));
-    Err(fault)
+    fault
 }
 
 // Ends a house. `windows` are those through which connections were served, and `unused` the others. Returns the house's
@@ -252,7 +241,7 @@ fn end_house<Rt: Wait, S: Sink + Drop, H: House>(
     let mut windows = windows;
     let mut unused = unused;
     if windows.append(&mut unused).is_err() {
-        return end_for(ServeFault::Memory, rt, alloc, desk);
+        return Err(end_for(ServeFault::Memory, rt, alloc, desk));
     }
     match desk.finish(rt, windows) {
         Ok(log) => Ok(log),

@@ -9,7 +9,7 @@ use std::net::{Shutdown, TcpStream};
 use std::sync::atomic::{AtomicBool, Ordering};
 use std::time::Duration;
 
-// The most turns of `linger`. In each it waits for bytes that still come, and reads them.
+// The most turns of `linger`. In each turn, `linger` waits for bytes that still come, and reads them.
 const TURNS: u32 = 64;
 
 // The most milliseconds that a turn of `linger` takes, so that all of them together take less than a second.
@@ -18,7 +18,7 @@ const TURN: u64 = 15;
 // The most bytes that a turn of `linger` reads, so that all together read at most 64 kB.
 const TURN_SIZE: usize = 1024;
 
-/// A handle of a connected socket. Once it is closed, each read and each write fails.
+/// A handle of a connected socket. After the handle is closed, each read and each write fails.
 #[derive(Drop)]
 pub struct Socket {
     pub(crate) end: Retrying<Handle>,

@@ -4,7 +4,7 @@ ghost use Rattle.std.specs.Prelude.{◌≢◌, ◌<◌, ◌+◌, ℕ, List, leng
 ghost use Rattle.mml_resuming.specs.Resuming.{counted_of, whole_of};
 
 /// If bytes after the last newline of an old journal are dropped, they are fewer than 102, which the longest line of an
-/// event has. So they may be the beginning of such a line, but not a whole one.
+/// event has. So the dropped bytes may be the beginning of such a line, but not a whole one.
 pub fn a_tail_is_shorter_than_a_line()
     ensures { (bytes : List ℕ) → counted_of bytes ≢ bytes →
         length bytes < length (whole_of bytes) + 102 }

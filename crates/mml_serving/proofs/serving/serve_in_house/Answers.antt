@@ -11,7 +11,7 @@ serve_all-requires-clause-fresh g c = λ _ _.
 pub end_house-requires : goal.end_house-requires
 end_house-requires g c =
     let all = c.in-Ok-serve_all.ensures in
-    let served = each_long (IsServed g.H.House.lab g.R.Read.remaining g.W.Write.contents) _ _ _ all.served in
+    let served = each_long (IsServed g.H.House.lab g.Y.Reader.Read.remaining g.Y.Writer.Write.contents) _ _ _ all.served in
     let rest = ap (λ (ws : List WindowValue). length ws) c.in-Ok-split_off.ensures.tail in
     record {
       few = omega (arith, served, all.all, c.requires.few, rest, length-drop c.from.result c.in-Ok.windows.items, c.from.ensures, c.in-Ok.ensures.count);
