@@ -1,4 +1,4 @@
--- The forms of names and keys.
+-- Which texts are well-formed names and keys.
 use Rattle.std.proofs.lemmas.Bool.{Decides.nat_tests, and_from, and_parts, or_cases, eqb-true, eq-eqb, leb-true, le-leb, ltb-true, lt-ltb}
 use Rattle.std.proofs.lemmas.{Grind.common_steps, List.Elements.All-weaker, List.Elements.All-tail, List.Elements.All-cons, List.Sums.AllPass-from_list_all, List.Sums.list_all-from_AllPass}
 use Rattle.std.proofs.Common.{◌≡◌, ◌↔◌, ℕ, List, [], ◌∷◌, length, Bool, true, ◌||◌, arith, All, nat_le, rules}

@@ -31,7 +31,7 @@ one_owner old rows rows' node index k d owners row new within at here is_row is_
     turned : (x y : ℕ) → eqb x y ≡ eqb y x
     turned x y = same_bool (eqb x y) (eqb y x) (λ h. eq-eqb y x (sym (eqb-true x y h))) (λ h. eq-eqb x y (sym (eqb-true y x h)))
 
--- if all rows are empty, they contain the nodes below rank 0, which are none
+-- empty rows contain the nodes below rank 0, since there are none
 pub no_nodes : (owners : List (List ℕ)) (n : ℕ) (rows : Rows) → rows ≡ replicate n (sets.empty {R = nat_cmp}) → (s i : ℕ)
     → sets.contains (row_at rows s) i ≡ (ltb i 0 && is_owner owners s i)
 no_nodes owners n rows are s i = grind (arith, cases_lt, has_empty, le-ltb, get_or-replicate, get_or_past, length-replicate)

@@ -1,4 +1,4 @@
--- The sets of neighbours of all nodes, in a list with a row for each node. One more neighbour is added to a row.
+-- Adding a neighbour to one row of a list that has a row, the set of neighbours, for each node.
 use Rattle.std.proofs.lemmas.{Bool.cases_eq, Bool.eq-eqb, Bool.ne_eqb, Bool.eqb-true, List.get_or-set_same, List.get_or-set_other, List.get_or_default}
 use Rattle.std.proofs.Common.{◌≡◌, ℕ, ◌<◌, ◌&&◌, ◌||◌, eqb, List, [], length, get_or, set, arith}
 use Rattle.std.specs.{Ordering.nat_cmp, FinSet.FinSet}

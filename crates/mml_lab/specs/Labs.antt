@@ -4,7 +4,7 @@ use Rattle.mml_ids.specs.{Search.count_below, Ids.IsTable}
 use Rattle.mml_rules.specs.{Configuration.Configuration, Network.Network, Network.configuration_of, Network.IsNetwork}
 use Rattle.mml_lab.specs.{declared.TheConstants.MAX_EVENTS, declared.TheConstants.MAX_SESSIONS, Rosters.RosterValue, Rosters.IsRoster}
 
--- a lab; each node is named by its rank
+-- a lab, in which each node is named by its rank
 pub record LabValue : Type 0 where
   -- the identifiers of the nodes in rising order; a node's rank is its index here
   pub ids : List ℕ

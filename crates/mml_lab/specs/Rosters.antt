@@ -76,7 +76,7 @@ abbrev pub owns : RosterValue → Who → ℕ → Bool
 owns r who.Teacher i = false
 owns r (who.Student s) i = list_any (λ o. o == s) (owners_of r i)
 
--- who is a participant: the teacher, or one of the students
+-- the value of `Who` is a participant: the teacher, or one of the students
 abbrev pub IsPrincipal : RosterValue → Who → Type 0
 IsPrincipal r who.Teacher = Unit {0}
 IsPrincipal r (who.Student s) = s < length r.students

@@ -1,4 +1,4 @@
--- How a roster and a lab are stored. No contract of a public function cites this.
+-- How a roster and a lab are stored. No contract of a public function cites these definitions.
 pub mod Owned
 pub mod RosterView
 pub mod LabView

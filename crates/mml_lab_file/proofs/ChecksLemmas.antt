@@ -1,4 +1,4 @@
--- Checking the links while they are added, one after another, to the rows of neighbours. Each node has a row.
+-- Checking each link before it is added to the rows. The rows are a list with the set of each node's neighbours.
 use Rattle.std.proofs.lemmas.Bool.{Decides.nat_tests, Decides.Decides-int_eq, and_parts, and_from, not-false, false≢true, lt-ltb}
 use Rattle.std.proofs.Common.{◌≡◌, ℕ, ℤ, pos, ◌-◌, ◌<◌, ◌≤◌, true, not, ◌&&◌, List, length, get_or, take, map, Option, Some, None, Ok, Err, ap, subst, arith}
 use Rattle.std.specs.{Prelude.is_some, Prelude.slice_index, Prelude.position, FinSet.FinSet, Ordering.nat_cmp, Ordering.int_eq}

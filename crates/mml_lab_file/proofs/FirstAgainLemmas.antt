@@ -1,4 +1,4 @@
--- The first name that an earlier account has, and rosters in which all names are different.
+-- The first account whose name an earlier account has, and rosters in which all names are different.
 use Rattle.std.proofs.Common.{◌≡◌, ◌↔◌, ℕ, suc, ◌<◌, ◌≤◌, List, ◌∷◌, length, Option, Some, None, true, false, not, refl, sym, ap, ◌∙◌, arith, true≢false, All}
 use Rattle.std.{specs.List.position, specs.Option.option_map, proofs.lemmas.Slice.Eq.bytes_eq-Decides}
 use Rattle.std.proofs.lemmas.Bool.{Decides.nat_tests, cases_Bool, cases_order, not-false}

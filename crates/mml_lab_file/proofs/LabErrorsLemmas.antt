@@ -1,4 +1,4 @@
--- The errors of a lab file are reported in their order.
+-- The error that is reported for a lab file is the first one in the order of `order_of`.
 use Rattle.std.proofs.lemmas.Bool.{Decides.nat_tests, cases_lt, lt-ltb, le-ltb, lt-leb, le-leb}
 use Rattle.std.proofs.Common.{◌≡◌, ◌<◌, ◌+◌, ℕ, suc, List, [], ◌∷◌, ◌++◌, Option, Some, None, Result, Ok, Err, option_map, nat_lt, nat_le, sym, ◌∙◌, subst, arith}
 use Rattle.std.specs.List.{slice_get}

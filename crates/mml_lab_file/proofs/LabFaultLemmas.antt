@@ -65,7 +65,7 @@ pub makes : (raw : RawSpec) → lab_fault raw ≡ None → lab_from raw ≡ Ok (
 unfolding lab_from
 makes raw = grind arith
 
--- if `lab_from` returns an error, it is the file's first one
+-- if `lab_from` returns an error, it is the file's first error
 pub refuses : (raw : RawSpec) (f : LabFault) → lab_from raw ≡ Err f → lab_fault raw ≡ Some f
 unfolding lab_from
 refuses raw f = grind arith

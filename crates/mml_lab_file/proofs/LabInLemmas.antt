@@ -27,7 +27,7 @@ is_linked_turned links a b = list_any-same (joins a b) (joins b a) links (grind 
 pub no_loop : (links : List (ℤ × ℤ)) (a : ℤ) → position is_loop links ≡ None → is_linked links a a ≡ false
 no_loop links a none = grind (arith, cases_Bool, list_any-found, and_parts, both_ways, position-None)
 
--- the file's node with an identifier
+-- `node` is the file's first node with the identifier id
 pub record IsNodeAt (nodes : List NodeSpec) (id : ℕ) (node : NodeSpec) : Type 0 where
   pub found : node_with nodes id ≡ Some node
   pub stands : IsFound (λ n. number_of n.id == id) nodes node

@@ -1,4 +1,4 @@
--- Searching for the first name that an earlier account has, student by student.
+-- Searching for the first student whose name an earlier account has.
 use Rattle.std.{proofs.lemmas.Bool.Decides.nat_tests, proofs.lemmas.List.length-map, specs.Prelude.bytes_eq, specs.List.list_any, specs.Map.lookup}
 use Rattle.std.proofs.Common.{◌≡◌, ℕ, suc, ◌+◌, ◌-◌, ◌<◌, List, [], ◌∷◌, ◌++◌, length, get_or, take, map, None, Bool, true, false, ◌||◌, Ok, Err, refl, sym, ap, ◌∙◌, arith, string_bytes, String}
 use Rattle.std.proofs.Common.{Global, is_some, true≢false, append-nil, length-append, rules}
@@ -29,8 +29,7 @@ lookup_any : (name : List ℕ) (es : List Entry) → is_some (lookup (λ k. byte
 lookup_any name [] = refl
 lookup_any name (e ∷ es) = grind (arith, string_bytes, lookup_any name es)
 
--- if the map has the students before x, looking up x's name in it has the result of the test on the list of all
--- accounts
+-- if the map has the students before x, `is_taken` of x's name has the result of `is_name_again` on all accounts
 pub taken_at : (teacher : KeptAccount) (all done rest : List KeptAccount) (x : KeptAccount) (es : List Entry) (t name : List ℕ) (r b : Bool)
     → done ++ x ∷ rest ≡ all → map entry_account es ≡ map account_view done → t ≡ string_bytes teacher.name → name ≡ string_bytes x.name
     → r ≡ is_taken t es name → r ≡ b → is_name_again (account_view teacher ∷ map account_view all) (length done + 1) ≡ b
@@ -43,7 +42,7 @@ taken_at teacher all done rest x es t name r b parts seen same_teacher same is a
     rw (accounts, index) (grind (arith, at_middle, take_middle, account_view teacher, map account_view done, account_view x, map account_view rest)) in
     grind (arith, nat_tests, lookup_any)
 
--- a search that begins after the teacher's account finds the same, since no account is before the teacher's
+-- a search that skips the teacher's account finds the same, since no account is before the teacher's
 pub teacher_first : (accounts : List Account) → 0 < length accounts
     → first_from (is_name_again accounts) 1 (length accounts - 1) ≡ first_below (is_name_again accounts) (length accounts)
 teacher_first accounts some = first_next (is_name_again accounts) 0 (length accounts) some refl ∙ ap (first_from (is_name_again accounts) 0) (omega arith)
@@ -84,7 +83,7 @@ pub record IsSoFar (teacher : KeptAccount) (all done : List KeptAccount) (es : L
       (length (account_view teacher ∷ map account_view all) - (length done + 1))
       ≡ first_below (is_name_again (account_view teacher ∷ map account_view all)) (length (account_view teacher ∷ map account_view all))
 
--- before the first student, this holds of an empty map
+-- before the first student, `IsSoFar` holds of an empty map
 pub at_start : (teacher : KeptAccount) (all : List KeptAccount) (es : List Entry) → es ≡ [] → IsSoFar teacher all [] es
 at_start teacher all es empty = grind (arith, teacher_first)
 

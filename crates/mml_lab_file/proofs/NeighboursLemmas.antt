@@ -27,12 +27,12 @@ pub has-neighbours_of : (ids : List ℕ) (links : List (ℤ × ℤ)) (id q : ℕ
 unfolding neighbours_of
 has-neighbours_of ids links id q = has-those_below (length ids) (λ rank. is_linked links (pos id) (pos (slice_index ids rank))) q
 
--- the rows have the neighbours that the links join
+-- each row has the ranks of the nodes that a link joins to the row's node
 pub record AreRows (ids : List ℕ) (links : List (ℤ × ℤ)) (rows : Rows) : Type 0 where
   pub size : length rows ≡ length ids
   pub members : (i q : ℕ) → i < length ids → sets.contains (neighbours_at rows i) q ≡ sets.contains (neighbours_of ids links (slice_index ids i)) q
 
--- empty rows have the neighbours that an empty list of links joins
+-- without links, empty rows have the neighbours of each node
 pub no_rows : (ids : List ℕ) (rows : Rows) → rows ≡ replicate (length ids) (sets.empty {R = nat_cmp}) → AreRows ids [] rows
 no_rows ids rows is = grind (arith, length-replicate, get_or-replicate, has_empty, has-neighbours_of, and_right)
 
@@ -58,7 +58,7 @@ one_more ids table links k link rows new lt is long step so_far = grind (
   le-ltb,
 )
 
--- the rows of all links have the neighbours of each node
+-- rows that have the neighbours of each node are the list of `neighbours_of` for all identifiers
 pub all_rows : (ids : List ℕ) (links : List (ℤ × ℤ)) (rows : Rows) → AreRows ids links rows → rows ≡ map (neighbours_of ids links) ids
 all_rows ids links rows are = same_lists rows (map (neighbours_of ids links) ids) (are.size ∙ sym (length-map ids (neighbours_of ids links)))
     (λ i d lt. let in_i : i < length ids = omega (arith, are.size) in

@@ -56,7 +56,7 @@ nodes_ok bytes raw e d k lt =
 
 -- ---- the owners by rank
 
--- the file's node that has a rank, and the owners of this node
+-- `node` is a node of the file, and the lab has the same owners at rank i
 record IsOwnedBy (raw : RawSpec) (i : ℕ) (node : NodeSpec) : Type 0 where
   index : ℕ
   within : index < length raw.nodes

@@ -35,7 +35,7 @@ is_linked links a b = list_any (joins a b) links
 abbrev pub lacks_owner : List Account → NodeSpec → Bool
 lacks_owner students node = list_any (λ name. not (list_any (has_name name) students)) node.owners
 
--- two names that are the same
+-- the list has exactly two names, which are the same
 abbrev pub are_one_twice : List (List ℕ) → Bool
 are_one_twice (a ∷ b ∷ []) = bytes_eq a b
 are_one_twice _ = false

@@ -204,8 +204,8 @@ fn id_table(alloc: Global, nodes: &[RawNode]) -> Result<IdTable, LabFault>
     IdTable::new(alloc, &ids).map_err(fault_of_ids)
 }
 
-/// Turns an error of identifiers into one of a lab: `IdFault::Memory` into `LabFault::Memory`, and any other into an
-/// `Id`.
+/// Turns an error of identifiers into one of a lab: `IdFault::Memory` into `LabFault::Memory`, and any other into
+/// `LabFault::Id`.
 fn fault_of_ids(fault: IdFault) -> LabFault
     ensures { result ≡ id_fault_as fault }
 {

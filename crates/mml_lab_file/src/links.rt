@@ -116,7 +116,7 @@ fn neighbour_rows(
 {
     let mut rows = vec![in alloc; NodeSet::empty(); ids.len() as usize]?;
     for index in 0..links.len() {
-        // This is a reference, since the toolchain doesn't copy a value that contains a rank, even if its type is
+        // A reference is used because the toolchain doesn't copy a value that contains a rank, even if its type is
         // `Copy`.
         let a = &rank_at(ids, links[index].0);
         let b = &rank_at(ids, links[index].1);

@@ -38,7 +38,7 @@ const BEN: Talk = (
     lines!(welcome("ben"), seen(0, false, 6, "null"), guard),
 );
 
-/// Somebody who hasn't said hello asks for a close and says bye at the desk. This doesn't end the house.
+/// Somebody who hasn't said hello asks for a close and says bye at the desk. The house doesn't end by that.
 const NOBODY: Talk = (true, lines!(close, bye), lines!(not_greeted, left));
 
 /// The teacher's connection closes a step, and then breaks off within a line.

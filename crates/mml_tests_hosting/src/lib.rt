@@ -1,5 +1,5 @@
 //! Tests of houses that serve one connection after another, of classes that are resumed from a journal, and of calls
-//! whose requests for memory are refused. They use only public items.
+//! whose requests for memory are refused. The tests use only public items.
 #![tactic(auto)]
 
 #[cfg(test)]

@@ -58,7 +58,7 @@ done: 2 events, configuration 1
 const LONG: &str = "1 0 grant ana 1 seduction
 2 0 close and more and more and more and more and more and more and more and more and more and more and more.";
 
-/// The store of an old journal, for tests. It has only the allocator, since the journal is in memory.
+/// The store of an old journal, for tests. The store has only the allocator, since the journal is in memory.
 #[derive(Drop)]
 struct Shelf(Global);
 
@@ -197,7 +197,7 @@ fn are_refused<R: Threads + Wait + Sync>(rt: &R, alloc: Global) -> Result<[bool;
 }
 
 /// Checks that a class isn't resumed from a journal with an illegal event, with too many events, or with a torn line
-/// that is too long. It must be refused for the right reason, and print nothing.
+/// that is too long. Such a class must be refused for the right reason, and print nothing.
 #[test]
 fn what_is_no_journal_is_refused(rt: HostRuntime) -> Result<(), Fail> {
     assert_eq!(rt; are_refused(&rt, rt.alloc())?, [true; 3]);

@@ -12,7 +12,7 @@ use mml_journal::MemorySink;
 use mml_lab::Lab;
 use mml_lab_file::read_lab;
 use mml_serving::HangUp;
-use mml_session::NoObserver;
+use mml_session::{NoObserver, SessionTypes};
 use std::alloc::{AllocError, Global};
 use std::collections::VecDeque;
 use std::io;
@@ -24,8 +24,8 @@ use std::test::Fail;
 use std::thread::Threads;
 use std::vec::IntoIter;
 
-/// A bell that counts how often it was rung. It is rung for each session that has ended, and for a port that can't be
-/// served.
+/// A bell that counts how often it was rung. The bell is rung for each session that has ended, and for a port that
+/// can't be served.
 #[derive(Drop)]
 pub struct Count(AtomicU64);
 
@@ -98,7 +98,7 @@ pub struct Timed<'a> {
     pub text: &'a str,
 }
 
-/// Connections in memory. They come in their order, each when its number of sessions has ended.
+/// Connections in memory. The connections come in their order, each when its number of sessions has ended.
 #[derive(Drop)]
 pub struct Texts<'a> {
     coming: IntoIter<TextEnds>,
@@ -167,10 +167,10 @@ pub fn cycle_of_six(alloc: Global, events: u64) -> Result<Lab, Fail> {
     Ok(read_lab(alloc, text.as_bytes())?)
 }
 
-/// The types of a class over connections in memory, with a journal in memory and no record. It has no values.
+/// The types of a class over connections in memory, with a journal in memory and no record. The type has no values.
 pub struct TextClass<'a, R>(PhantomData<&'a R>);
 
-impl<'a, R: Threads + Wait + Sync> ClassTypes for TextClass<'a, R> {
+impl<'a, R: Threads + Wait + Sync> SessionTypes for TextClass<'a, R> {
     type Runtime = R;
 
     type Sink = MemorySink;
@@ -178,7 +178,9 @@ impl<'a, R: Threads + Wait + Sync> ClassTypes for TextClass<'a, R> {
     type Reader = VecDeque<u8>;
 
     type Writer = NumberedWriter;
+}
 
+impl<'a, R: Threads + Wait + Sync> ClassTypes for TextClass<'a, R> {
     type Kept = ServedSession<VecDeque<u8>, NumberedWriter>;
 
     type Observer = NoObserver;

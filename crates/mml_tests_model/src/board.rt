@@ -1,5 +1,5 @@
-//! Tests of a board and its copy at the beginning of a run and after each event, even an illegal one. They also test a
-//! look, and a line of the journal. An error means that memory ran out.
+//! Tests of a board and its copy at the beginning of a run and after each event, even an illegal one. The tests also
+//! cover a look, and a line of the journal. An error means that memory ran out.
 //!
 //! The first board of a lab is the one at the beginning of a run. The path of three is the lab of nodes 1, 2 and 3 in a
 //! row. The rank of a node is its index in the rising order of identifiers.
@@ -62,7 +62,7 @@ fn push_links(text: &mut String, board: &Board, node: Rank) -> Result<(), AllocE
     Ok(())
 }
 
-/// Returns a board as text. It has the numbers of the configuration, of events, of privileged nodes and of chosen
+/// Returns a board as text. The text has the numbers of the configuration, of events, of privileged nodes and of chosen
 /// moves, and then each node as `push_node` shows it. If `with_links` is set, the links of each node follow it, as
 /// `push_links` shows them.
 fn board_text(alloc: Global, board: &Board, with_links: bool) -> Result<String, AllocError> {

@@ -67,7 +67,7 @@ fn node_at(nodes: u64, index: u64) -> Rank {
     Rank::at((index % nodes.max(1)).min(255))
 }
 
-/// Returns the rule that is enabled at a node; if it is Marriage, the one with `partner`. Returns Update if none is
+/// Returns the rule that is enabled at a node; for a marriage, the rule with `partner`. Returns Update if none is
 /// enabled, or the board has no such node.
 fn enabled_rule(board: &Board, node: Rank, partner: Rank) -> Rule {
     if node.index() >= board.size() {
@@ -107,8 +107,8 @@ fn fault(numbers: &mut Numbers, node: Rank, other: Rank) -> Event {
     }
 }
 
-/// Returns the event that is drawn at this index; most are moves. It may be illegal. Its nodes are close to each other
-/// in the cycle, and move on by one node every eight events.
+/// Returns the event that is drawn at this index; most are moves. The event may be illegal. The nodes of an event are
+/// close to each other in the cycle, and move on by one node every eight events.
 fn drawn(board: &Board, numbers: &mut Numbers, index: u64) -> Event {
     let place = (index / 8).wrapping_add(numbers.below(8));
     let other = place

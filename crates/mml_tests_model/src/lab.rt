@@ -9,9 +9,9 @@ use mml_rules::Network;
 use std::alloc::{AllocError, Global};
 use std::test::Fail;
 
-/// Returns a character for the relation of a node to another one. If the two are linked, it is `>` if the node points
-/// at the other, and `-` if it doesn't. If they aren't linked, it is `!` if the node points at the other, and `.` if it
-/// doesn't.
+/// Returns a character for the relation of a node to another one. For two linked nodes the character is `>` if the node
+/// points at the other, and `-` if it doesn't. For two nodes without a link it is `!` if the node points at the other,
+/// and `.` if it doesn't.
 fn mark(lab: &Lab, node: Rank, other: Rank) -> &'static str
     requires { node < length lab.now.ids }
 {

@@ -1,5 +1,6 @@
-//! Tests of the model and the journal. They test what no script, audit or lab file can test, for example sets, and
-//! sinks that fail. They also test that each public call that can report out of memory succeeds if there is enough.
+//! Tests of the model and the journal. The tests cover what no script, audit or lab file can test, for example sets,
+//! and sinks that fail. Other tests check that each public call that can report out of memory succeeds if there is
+//! enough.
 #![tactic(auto)]
 
 #[cfg(test)]

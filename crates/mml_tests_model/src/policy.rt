@@ -82,9 +82,9 @@ fn seduction(node: u64) -> Command {
     }
 }
 
-/// Checks the rulings on a legal move. It is granted, or refused as `journal` if the journal is halted. It is refused
-/// as `full` if the limit is reached, even if the journal is halted too. A halted journal mustn't change the rulings on
-/// a denied command, a see or a look.
+/// Checks the rulings on a legal move. The move is granted, or refused as `journal` if the journal is halted. The move
+/// is refused as `full` if the limit is reached, even if the journal is halted too. A halted journal mustn't change the
+/// rulings on a denied command, a see or a look.
 #[test]
 fn a_halted_journal_comes_after_the_limit(rt: HostRuntime) -> Result<(), Fail> {
     let told = rulings_over_the_path(

@@ -53,8 +53,8 @@ impl Visit<Drip> for Acts {
     }
 }
 
-/// Returns how a house must have ended in which all ten acts were asked for. Its sink failed at the line of event
-/// `last`, or never if that is 11.
+/// Returns how a house must have ended in which all ten acts were asked for. The house's sink failed at the line of
+/// event `last`, or never if that is 11.
 fn ending_at(last: u64) -> Ending {
     Ending::Log {
         events: last.saturating_sub(1) as usize,

@@ -1,5 +1,5 @@
-//! Tests of windows, sessions, servers and the program's library. They use only public items. They test what needs
-//! special readers, writers, sinks, gates or windows, and that calls succeed if there is enough memory.
+//! Tests of windows, sessions, servers and the program's library. The tests use only public items. They cover what
+//! needs special readers, writers, sinks, gates or windows, and that calls succeed if there is enough memory.
 #![tactic(auto)]
 
 #[cfg(test)]

@@ -1,5 +1,5 @@
-//! Tests of sessions in threads of their own, which wait for each other at lines and replies. They read byte by byte,
-//! so that each reply is written before the next line is read.
+//! Tests of sessions in threads of their own, which wait for each other at lines and replies. The sessions read byte by
+//! byte, so that each reply is written before the next line is read.
 //!
 //! A house is one run of a lab that threads share.
 mod bytewise;
@@ -18,7 +18,7 @@ use mml_fakes::scripts::{
 use mml_journal::{MemorySink, Sink};
 use mml_lab::Lab;
 use mml_lab_file::read_lab;
-use mml_serving::{ServeFault, ServedHouse, serve_arrivals};
+use mml_serving::{ServeFault, ServedHouse, ServerOf, serve_arrivals};
 use mml_session::{Gate, NoGate};
 use std::alloc::{AllocError, Global};
 use std::sync::Wait;
@@ -77,7 +77,16 @@ fn serve<'a, S: Sink + Send + Drop, R: Threads + Wait + Sync, G: Gate + Sync>(
     if connections > lab.sessions() {
         return Err(Fail::from("more connections than sessions"));
     }
-    Ok(serve_arrivals(rt, alloc, lab, arrivals, connections, sink, gate, out))
+    Ok(serve_arrivals::<ServerOf<'_, R, S, Bytewise<'a>, Vec<u8>, G>, _, _>(
+        rt,
+        alloc,
+        lab,
+        arrivals,
+        connections,
+        sink,
+        gate,
+        out,
+    ))
 }
 
 /// Returns whether the connections are numbered from 1 in their order, and each got exactly its replies.
@@ -269,7 +278,7 @@ const RACES: &[Race] = &[
             ),
         ],
     ),
-    // A close waits until a move was answered, though its line came first: it applies the move.
+    // A close waits until a move was answered, though the close's line came first. The close applies the move.
     (
         &[ANA_MOVES, TESS_CLOSES],
         Holds::Each(IN_ORDER),

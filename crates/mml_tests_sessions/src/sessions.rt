@@ -33,7 +33,7 @@ struct Served<'a> {
 }
 
 impl<'a> Visit<MemorySink> for Session<'a> {
-    /// The result of the session, and whether the close after it applied its move.
+    /// The result of the session, and whether the close after the session applied the session's move.
     type Outcome = Served<'a>;
 
     // Serves the session through the first window, and then asks for the teacher's close through the second one.
@@ -189,8 +189,8 @@ fn failed_writes_are_told(rt: HostRuntime) -> Result<(), Fail> {
     Ok(())
 }
 
-/// Returns the replies to the whole lines among the first `good` bytes of `ANA_MOVES`. Its first line, the hello, has
-/// 42 bytes with its newline.
+/// Returns the replies to the whole lines among the first `good` bytes of `ANA_MOVES`. The first line of `ANA_MOVES`,
+/// the hello, has 42 bytes with its newline.
 fn replies_after(good: usize) -> &'static str {
     if good == ANA_MOVES.len() {
         ANA_GRANTED

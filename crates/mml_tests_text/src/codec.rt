@@ -23,8 +23,8 @@ fn line_of_request(alloc: Global, request: &Request) -> Result<String, Fail> {
     Ok(String::from_utf8(out)?)
 }
 
-// Lines, each with what it must be read as, worked out by hand. They have the greatest numbers, and each kind of value
-// of the registers p and m. Some of the lines are no requests.
+// Lines, each with what it must be read as, worked out by hand. The lines have the greatest numbers, and each kind of
+// value of the registers p and m. Some of the lines are no requests.
 const LINES: &[(&[u8], &str)] = &[
     (br#"{"do":"bye"}"#, r#"{"do":"bye"}"#),
     (
@@ -171,8 +171,8 @@ fn named_node(scratch: &mut LineScratch, line: &[u8]) -> Result<Option<u64>, Fai
 type Results = (Option<usize>, Option<usize>, [Option<u64>; 3]);
 
 /// Returns the results of three checks, all of which use `scratch` as memory for reading lines. The first is the first
-/// row of `LINES` that is read wrongly, and the second the first row of `HELLOS` that is written or read wrongly. They
-/// are `None` if all rows are right. The third has the numbers under `node` in three lines: a plain line, one with
+/// row of `LINES` that is read wrongly, and the second the first row of `HELLOS` that is written or read wrongly. These
+/// two are `None` if all rows are right. The third has the numbers under `node` in three lines: a plain line, one with
 /// nested arrays and objects, and one with a number that is too great to be read.
 fn results_with(alloc: Global, scratch: &mut LineScratch) -> Result<Results, Fail> {
     let line = first_other_line(alloc, scratch)?;

@@ -1,5 +1,5 @@
-//! Tests of lines, requests, replies, scripts and audits, with readers, writers and sinks that count and fail. They use
-//! only public items.
+//! Tests of lines, requests, replies, scripts and audits, with readers, writers and sinks that count and fail. The
+//! tests use only public items.
 #![tactic(auto)]
 
 #[cfg(test)]

@@ -65,7 +65,7 @@ const LENGTHS: &[Length] = &[
     (MAX_LIMIT, 65_537, "\n", false, "TooLong \n"),
 ];
 
-/// Returns a text of `len` digits, which repeats 7, 1, 1. Its period of three doesn't divide 4,096, so the text changes
+/// Returns a text of `len` digits, which repeats 7, 1, 1. The period of three doesn't divide 4,096, so the text changes
 /// if a block of that size is in the wrong place.
 fn digits(alloc: Global, len: usize) -> Result<String, AllocError> {
     let mut text = String::new(alloc);

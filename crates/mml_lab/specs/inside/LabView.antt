@@ -11,6 +11,6 @@ lab_view a = record {
   sessions = a.sessions;
 }
 
--- the stored parts are a lab
+-- the stored fields make up a lab
 abbrev pub IsLabInside : Inside → Type 0
 IsLabInside a = IsLab (lab_view a)

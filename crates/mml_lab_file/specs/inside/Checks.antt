@@ -1,4 +1,4 @@
--- How the program checks a file: it looks up the ends of links by rank, and makes the lab from its results.
+-- How the program checks a file: it looks up the ranks of the links' ends, and makes the lab from its results.
 use Rattle.std.specs.Prelude.{ℕ, ℤ, Bool, false, not, ◌&&◌, List, map, Option, is_some}
 use Rattle.std.specs.{Option.option_map_or, FinSet.FinSet, Ordering.nat_cmp}
 use Rattle.mml_ids.specs.Ids.{rank_in}

@@ -1,4 +1,4 @@
--- The lab of a file that was checked.
+-- The results of checking a file, as a lab.
 use Rattle.std.specs.Prelude.{List, map}
 use Rattle.mml_lab.specs.{declared.accounts.Account.Account, Labs.LabValue, AccountView.account_view, AccountView.entry_account}
 use Rattle.mml_lab_file.specs.{declared.raw_lab.RawNode.RawNode, declared.checks.Checked.Checked, declared.checks.Found.Found, inside.Raw.node_view, inside.Checks.lab_with}

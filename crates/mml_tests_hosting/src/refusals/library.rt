@@ -1,6 +1,6 @@
 //! The C library of `tests/memory/refuse.c`, which refuses requests for memory. The gate runs these tests once more
-//! with it loaded. A test controls it by requests of impossibly many bytes; without the library these are simply
-//! refused.
+//! with this library loaded. A test controls the library by requests of impossibly many bytes; without the library
+//! these requests are simply refused.
 use std::alloc::Global;
 
 /// A size whose request makes the library refuse one later request for memory. The number of that later request is

@@ -26,7 +26,7 @@ fn is_read(found: Result<Vec<u8>, Fault>, wanted: Result<&[u8], Fault>) -> bool 
     }
 }
 
-/// Opens a journal at a path and begins it by `begin_journal_with`, with the number 7 as what is needed. Returns
+/// Opens a journal at a path and begins it by `begin_journal_with`. The number 7 stands for what is needed. Returns
 /// whether the number is returned, and the journal's sink takes a whole line.
 fn is_begun(rt: &HostRuntime, path: &str) -> bool {
     let Ok(journal) = OpenJournal::open(rt, path, &[]) else {

@@ -1,4 +1,4 @@
-//! A test of a slow put. It holds the lock until another session waits for the lock, and a third one was answered.
+//! A test of a slow put. The put holds the lock until another session waits for the lock, and a third one was answered.
 //!
 //! An act is a request for an event. A view is what a see, a look or a report shows. A put is a write to the sink.
 use super::steps::{Hold, Holds, Steps};
@@ -29,7 +29,7 @@ const HOLDS: &[Hold] = &[
     (PUT, 0, 3, 4),
 ];
 
-/// A sink that stores all bytes. Its first put waits as `HOLDS` says, and then lets other threads run `TURNS` times.
+/// A sink that stores all bytes. The first put waits as `HOLDS` says, and then lets other threads run `TURNS` times.
 #[derive(Drop)]
 struct Slow<'a> {
     bytes: Vec<u8>,
@@ -45,7 +45,7 @@ impl<'a> Sink for Slow<'a> {
     ghost failures = { λ s. s.failures };
 
     // Stores all bytes. The first put waits until the second session has come to its second line, and the third has got
-    // its second reply. Then it lets other threads run `TURNS` times. If memory runs out, fails and counts that.
+    // its second reply. Then the put lets other threads run `TURNS` times. If memory runs out, fails and counts that.
     fn put(&mut self, bytes: &[u8]) -> Result<usize, SinkFault> {
         if self.bytes.is_empty() {
             self.steps.come(PUT, Point::Line);

@@ -51,9 +51,9 @@ impl<'a> Steps<'a> {
         self.steps.get(usize::from(connection.saturating_sub(1)))
     }
 
-    /// Waits until `come`, the counter of a connection's steps, is at least `wanted`. If that takes too long, gives up
-    /// and counts that in `given_up`. Does the same if `come` is `None`, which stands for a connection that doesn't
-    /// exist.
+    /// Waits until `come`, the counter of a connection's steps, is at least `wanted`. If the counter takes too long,
+    /// gives up and counts that in `given_up`. Does the same if `come` is `None`, which stands for a connection that
+    /// doesn't exist.
     fn wait_until(&self, come: Option<&AtomicU64>, wanted: u64) {
         let has_come = match come {
             Some(come) => wait_for(come, wanted),
@@ -103,9 +103,9 @@ impl<'a> Steps<'a> {
                 .all(|come| come.load(Ordering::SeqCst) == steps)
     }
 
-    /// Counts the next step of a connection, and makes the connection wait there as `holds` says. Counts it in `misled`
-    /// if it comes to a line when it should come to a reply, or the other way round. For a connection that doesn't
-    /// exist, nothing is counted, and the step is `u64::MAX`.
+    /// Counts the next step of a connection, and makes the connection wait there as `holds` says. Counts one more in
+    /// `misled` if the connection comes to a line when it should come to a reply, or the other way round. For a
+    /// connection that doesn't exist, nothing is counted, and the step is `u64::MAX`.
     pub fn come(&self, connection: u8, point: Point) {
         let step = match self.count_of(connection) {
             Some(come) => come.fetch_add(1, Ordering::SeqCst),

@@ -45,7 +45,7 @@ fn is_listed(alloc: Global, hall: &Hall<Drip>, journal: &[u8]) -> bool {
 }
 
 /// Returns whether the journal in a hall's sink passes both audits if its last line is whole, and neither if that is
-/// torn. If it passes, it must have the hall's events and lead to the hall's board.
+/// torn. A journal that passes must have the hall's events and lead to the hall's board.
 fn is_audited(alloc: Global, hall: &Hall<Drip>) -> bool {
     let journal = hall.sink().bytes.as_slice();
     let is_whole = match journal.last() {

@@ -1,4 +1,4 @@
-//! Tests that each read of a script is made once, and none after the script's end. They also test how a script ends,
+//! Tests that each read of a script is made once, and none after the script's end. Other tests check how a script ends,
 //! and which lines are answered, if a read fails. An error (`Fail`) means that memory ran out.
 use super::script_error_of;
 use mml_fakes::scripts::{

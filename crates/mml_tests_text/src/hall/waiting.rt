@@ -16,8 +16,8 @@ struct Replies {
     unflushed: Cell<usize>,
 }
 
-/// A reader that returns one line of a script in each read. It sets `is_late` if, at some read, the reply to an earlier
-/// line wasn't written and flushed.
+/// A reader that returns one line of a script in each read. The reader sets `is_late` if, at some read, the reply to an
+/// earlier line wasn't written and flushed.
 #[derive(Drop)]
 struct Asker<'a> {
     script: &'a str,
