@@ -1,5 +1,5 @@
-"""Eight clients, each a process of its own, that send a server the same request over and over. They send *bursts* of
-requests, each after the replies to the last one."""
+"""Eight clients, each a process of its own, that send a server the same request over and over. The clients send
+*bursts* of requests, each after the replies to the last one."""
 import multiprocessing
 import socket
 import time

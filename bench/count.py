@@ -50,7 +50,7 @@ ROWS = (
 
 
 class Counter:
-    """Counts the instructions of runs, whose files are in one folder."""
+    """A counter of the instructions of runs, whose files are in one folder."""
 
     def __init__(self, folder: Path) -> None:
         """Copies the two programs into `folder`, which is empty, without their debugging information."""

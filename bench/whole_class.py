@@ -2,11 +2,10 @@
 
     python3 -B -m bench.whole_class [--networks 20] [--each 15] [--seconds 30] [--door]
 
-Each bot has its own connection, in one of eight processes. It looks at its node ten times a second, like the
-students' bot, and asks for the enabled rule. Steps are closed each second, and all registers are drawn anew every
-ten seconds. Prints how long a hello and a move take, and how much memory and processor time the class takes. A
-page of memory that several processes share counts in parts. With `--door`, each bot comes through a door, from its
-own address.
+Each bot has its own connection, in one of eight processes. A bot looks at its node ten times a second, like the
+students' bot, and asks for the enabled rule. Steps are closed each second, and all registers are drawn anew every ten
+seconds. Prints how long a hello and a move take, and how much memory and processor time the class takes. A page of
+memory that several processes share counts in parts. With `--door`, each bot comes through a door, from its own address.
 """
 import argparse
 import csv

@@ -38,18 +38,18 @@ LAST = {  # what a class's server says last when it ends a connection, in words
 LOST, LOST_SO = 7, "the connection was lost: start again"
 STOPS = {  # why a program stops, with its exit status; 0 means the run's end, 1 a wrong command line, 4 no server
     "unknown": (2, "name and key don't match: take both from your slip"),
-    "not-owner": (3, "a node isn't yours: correct the nodes by your slip"),
-    "hidden": (3, "a node isn't shown to you: correct the nodes by your slip"),
+    "not-owner": (3, "a node isn't yours: take the nodes from your slip"),
+    "hidden": (3, "a node isn't shown to you: take the nodes from your slip"),
     "not-teacher": (3, "only the teacher may do this"),
     "malformed": (3, "the server couldn't read a line as a request: correct the program"),
     "busy": (5, "all seats were taken for a minute: come again later"),
     **dict.fromkeys(("full", "journal"), (6, "nothing is granted any longer: tell your teacher")),
 }
-NODE, OPTIONS, TOLD, PASSING = "a number", ("--log", "--tunnel"), "; --help prints what to type", ("busy", "memory")
+NODE, OPTIONS, TOLD, PASSING = "a whole number", ("--log", "--tunnel"), "; --help prints what to type", ("busy", "memory")
 KEYS: dict[str, dict[str, str]] = {  # the keys of each request, with the kind of each value
     "hello": {"name": "a string", "key": "a string"}, "bye": {}, "see": {"node": NODE}, "look": {"node": NODE},
     "move": {"node": NODE, "at": NODE, "rule": "a rule"}, "close": {}, "report": {}, "release": {"node": NODE},
-    "fault": {"node": NODE, "p": "a number or null", "m": "true or false"}, "link": {"a": NODE, "b": NODE}, "cut": {"a": NODE, "b": NODE},
+    "fault": {"node": NODE, "p": "a whole number or null", "m": "true or false"}, "link": {"a": NODE, "b": NODE}, "cut": {"a": NODE, "b": NODE},
 }
 RULES = ("update", "marriage", "seduction", "abandonment")
 INSTEAD = {"none": "null", "nil": "null", "null": "null", "undefined": "null", "true": "true", "yes": "true", "false": "false", "no": "false"}
@@ -193,7 +193,7 @@ class Slip:
             raise NoSlip(f"{path}: no line `{missing[0]} ..`, so this isn't a slip")
         door, network, fingerprint = (it.get(word, "") for word in ("door", "network", "fingerprint"))
         if door and not (door_of(door) and network and re.fullmatch("[0-9a-f]{64}", fingerprint)):
-            raise NoSlip(f"{path}: it names a door, but has no line `network ..`, or no line `fingerprint ..` with 64 digits")
+            raise NoSlip(f"{path}: a slip with a door also needs a line `network ..`, and a line `fingerprint ..` with 64 digits")
         return Slip(port_of(it["port"]), it["name"], it["key"], nodes_of(it.get("nodes", "")), door, network, fingerprint)
 
     @staticmethod
@@ -211,7 +211,7 @@ def text_of(path: str | Path, variable: str = "") -> str:
     """Returns the text of a file. If a variable is given, `-` stands for its value in the environment. Raises NoSlip if the text can't be read."""
     if variable and str(path) == "-":
         if variable not in os.environ:
-            raise NoSlip(f"the environment has no {variable}")
+            raise NoSlip(f"the environment variable {variable} isn't set")
         return os.environ[variable]
     try:
         return Path(path).read_text(encoding="utf-8-sig")
@@ -252,7 +252,7 @@ def nodes_of(word: str = "") -> tuple[int, ...]:
 def require_certificate(certificate: bytes | None, slip: Slip) -> None:
     """Raises NoDoor if the certificate doesn't have the slip's fingerprint."""
     if hashlib.sha256(certificate or b"").hexdigest() != slip.fingerprint:
-        raise NoDoor(f"the certificate of the door at {slip.door} isn't the slip's, so nothing was sent")
+        raise NoDoor(f"the door at {slip.door} has another certificate than your slip names, so nothing was sent")
 
 
 def tls() -> Any:
@@ -380,7 +380,7 @@ class Client:
             looks = {node: self.look(node) for node in wanted}
             if len({look.at for look in looks.values()}) <= 1:
                 return looks
-        raise Moving(f"{tries} times a step was closed between two looks")
+        raise Moving(f"{tries} times a step was closed between two looks: try again")
 
     def move(self, look: Look, rule: Rule | None = None, partner: int | None = None) -> Move:
         """Asks for a move by the look's enabled rule, or by `rule`. A marriage is with `partner`, or the highest suitor. Raises Malformed if there is none."""
@@ -528,14 +528,14 @@ def run(program: Callable[[list[str]], None], usage: str) -> None:
 def is_a(kind: str, value: object) -> bool:
     """Returns whether a value in a request has that kind, which is one of the texts in KEYS."""
     number = type(value) is int and 0 <= value < 2**64
-    return {"a number": number, "a number or null": number or value is None, "a string": isinstance(value, str),
+    return {NODE: number, "a whole number or null": number or value is None, "a string": isinstance(value, str),
             "true or false": isinstance(value, bool), "a rule": value in RULES}[kind]
 
 
 def said(value: object) -> str:
     """Returns a text with the kind of a value, for a message about a wrong kind. A number out of range is named as such."""
-    kinds = {bool: "true or false", str: "a string", type(None): "null", dict: "an object", list: "a list", float: "no whole number"}
-    return NODE if is_a(NODE, value) else kinds.get(type(value), "out of range")
+    kinds = {bool: "true or false", str: "a string", type(None): "null", dict: "an object", list: "a list", float: "a number with a point or exponent"}
+    return NODE if is_a(NODE, value) else kinds.get(type(value), "a number out of range")
 
 
 def wrong(line: str) -> str | None:
@@ -543,9 +543,9 @@ def wrong(line: str) -> str | None:
     if len(sent(line)) >= MOST:
         return f"more than {MOST} bytes: the server ends the connection"
     if line.startswith("\ufeff"):
-        return "a byte order mark at its beginning"
+        return "the line begins with a byte order mark"
     if "\n" in line or "\r" in line:
-        return "several lines: a request is one"
+        return "several lines: a request is one line"
     if foreign := re.search("[\ud800-\udfff]", line):
         return f"not UTF-8 at byte {len(sent(line[:foreign.start()])) + 1}"
     doubled, strange = list[str](), list[str]()
@@ -566,7 +566,7 @@ def wrong(line: str) -> str | None:
         return DEEP
     if strange:
         return f"not JSON: {strange[0]} is no number"
-    return wrong_value(asked) or wrong_keys(asked) or (f"{doubled[0]} is there twice, and the last one counts" if doubled else None)
+    return wrong_value(asked) or wrong_keys(asked) or (f"the key {doubled[0]} is there twice, and the last one counts" if doubled else None)
 
 
 def hint_for_json(line: str, error: json.JSONDecodeError) -> str:
@@ -623,7 +623,7 @@ def hint_for_key(key: str, asked: dict[str, Any]) -> str:
     if key == "do" and (word := next((each for each in asked if each in KEYS), None)):
         return f' (write {{"do":"{word}"}} for {word})'
     near = next((each for each in asked if each not in ("do", key) and (each.lower() == key or meant(each, [key]))), None)
-    return f" (you wrote {near})" if near else " (who points at the node)" if key == "with" else ""
+    return f" (you wrote {near})" if near else " (the neighbour that points at the node)" if key == "with" else ""
 
 
 def sent(line: str) -> bytes:
@@ -641,7 +641,7 @@ def wrong_value(value: object, deep: int = 1) -> str | None:
     if isinstance(value, str) and any("\ud800" <= char <= "\udfff" for char in value):
         return "half of a surrogate pair"
     if isinstance(value, float) and abs(value) == float("inf"):
-        return "a number past the greatest double"
+        return "a number that is too large"
     if not isinstance(value, dict | list):
         return None
     if deep > DEEPEST:
@@ -688,7 +688,7 @@ class ByHand:
                 with self.log.open("a", encoding="utf-8", errors="surrogateescape") as it:
                     it.write(f"{time.strftime('%H:%M:%S')} {line}\n")
         except OSError as error:
-            self.note(f"{self.log}: {error.strerror}: the log ends here")
+            self.note(f"{self.log}: {error.strerror}: no more lines are logged")
             self.log = None
 
     def note(self, text: str) -> None:
@@ -760,8 +760,8 @@ async def tunnel(slip: Slip, port: int) -> None:
     try:
         server = await asyncio.start_server(lead, "127.0.0.1", port)
     except OSError as error:
-        raise NoServer(f"port {port} of this machine: {error.strerror}; --tunnel SLIP PORT takes another") from None
-    print(f"port {port} of this machine leads through the door at {slip.door} to {slip.network}; Ctrl-C ends it", flush=True)
+        raise NoServer(f"port {port} of this machine: {error.strerror}; --tunnel SLIP PORT uses another port") from None
+    print(f"port {port} of this machine leads through the door at {slip.door} to {slip.network}; Ctrl-C closes the tunnel", flush=True)
     await server.serve_forever()
 
 
@@ -771,10 +771,10 @@ def by_hand(words: list[str]) -> None:
         raise NoSlip(f"{strange[0]}: there is no such option{meant(strange[0], OPTIONS)}{TOLD}")
     if words[0] == "--tunnel":
         import asyncio
-
         far, rest = Slip.of(words[1:])
-        if not far.door or len(rest) > 1:
-            raise NoSlip(f"--tunnel SLIP [PORT]: the slip has to name a door{TOLD}")
+        problem = "this slip names no door" if not far.door else "there are too many arguments" if len(rest) > 1 else ""
+        if problem:
+            raise NoSlip(f"--tunnel SLIP [PORT]: {problem}{TOLD}")
         return asyncio.run(tunnel(far, port_of(rest[0]) if rest else far.port))
     log = None
     if "--log" in words:
@@ -784,7 +784,7 @@ def by_hand(words: list[str]) -> None:
         log, words = Path(words[index + 1]), words[:index] + words[index + 2:]
     given: tuple[Slip | None, list[str]] = (None, []) if len(words) == 1 and words[0].isdecimal() else Slip.of(words)
     if given[1]:
-        raise NoSlip(f"{given[1][0]}: nothing more is expected{TOLD}")
+        raise NoSlip(f"{given[1][0]}: this argument is one too many{TOLD}")
     talk = ByHand(given[0], given[0].port if given[0] else port_of(words[0]), log)
     for line in [] if talk.ended else open(0, encoding="utf-8", errors="surrogateescape", newline="\n", closefd=False):
         talk.send(line.rstrip("\r\n"))

@@ -28,7 +28,7 @@ public class Bot {
         String reply = replies.next();
         return switch (find("\"(?:deny|refuse)\":\"([a-z-]+)\"", reply)) {
             case "unknown" -> stop(2, "name and key don't match: take both from your slip");
-            case "not-owner" -> stop(3, "a node isn't yours: correct the nodes by your slip");
+            case "not-owner" -> stop(3, "a node isn't yours: take the nodes from your slip");
             case "malformed" -> stop(3, "the server couldn't read a line as a request: correct the program");
             case "full", "journal" -> stop(6, "nothing is granted any longer: tell your teacher");
             case "over" -> stop(0, "the run is over");
@@ -68,12 +68,12 @@ public class Bot {
         boolean isSlip = words.length == 1;
         String file = words[isSlip ? 0 : 2], variable = isSlip ? "CENDUWA_SLIP" : "CENDUWA_KEY", text = System.getenv(variable);
         if (!file.equals("-")) text = Files.isRegularFile(Path.of(file)) ? Files.readString(Path.of(file)) : null;
-        if (text == null) stop(1, file.equals("-") ? "the environment has no " + variable : file + " can't be read");
+        if (text == null) stop(1, file.equals("-") ? "the environment variable " + variable + " isn't set" : file + " can't be read");
         if (!isSlip) text = "port " + words[0] + "\nname " + words[1] + "\nnodes " + words[3] + "\n" + text + "\nkey " + text.strip();
         String slip = text.replace("\\", "\\\\").replace("\"", "\\\""), port = find("^port\\s+(\\d{1,5})\\s*$", slip);
         String name = find("^name\\s+(\\S+)", slip), key = find("^key\\s+(\\S+)", slip), nodes = find("^nodes\\s+(\\d+(?:,\\d+)*)\\s*$", slip);
         String lacking = port.isEmpty() || Integer.parseInt(port) > 65535 ? "port" : name.isEmpty() || key.isEmpty() ? "name or key" : nodes.isEmpty() ? "nodes" : "";
-        if (!lacking.isEmpty()) stop(1, "no " + lacking + " in " + file);
+        if (!lacking.isEmpty()) stop(1, "no " + lacking + " in " + (isSlip ? file : "the arguments"));
         play(port, name, key, nodes.split(","));
     }
 }

@@ -14,7 +14,7 @@ static FILE *server;
 /* The denials and refusals that end the bot, each with its exit status and a line. After others, the bot looks again. */
 static const char *STOPS[][2] = {
     {"\"unknown\"", "2 name and key don't match: take both from your slip"},
-    {"\"not-owner\"", "3 a node isn't yours: correct the nodes by your slip"},
+    {"\"not-owner\"", "3 a node isn't yours: take the nodes from your slip"},
     {"\"malformed\"", "3 the server couldn't read a line as a request: correct the program"},
     {"\"full\"", "6 nothing is granted any longer: tell your teacher"},
     {"\"journal\"", "6 nothing is granted any longer: tell your teacher"}, {"\"over\"", "0 the run is over"}};
@@ -63,17 +63,16 @@ static void play(const char *port, const char *name, const char *key, const char
 int main(int count, char **words) {
     static char port[16], name[64], key[128], nodes[2048];
     if (count != 2 && count != 5) STOP(1, "usage: bot SLIP, or PORT NAME KEYFILE NODE,..");
-    const char *file = words[count == 2 ? 1 : 3], *variable = count == 2 ? "CENDUWA_SLIP" : "CENDUWA_KEY", *given = getenv(variable);
+    const char *file = words[count == 2 ? 1 : 3], *variable = count == 2 ? "CENDUWA_SLIP" : "CENDUWA_KEY", *given = getenv(variable), *place = count == 2 ? file : "the arguments";
     FILE *from = strcmp(file, "-") ? fopen(file, "r") : given ? fmemopen((char *)given, strlen(given), "r") : NULL;
-    if (!from) STOP(1, "%s: can't be read, or the environment lacks %s", file, variable);
+    if (!from && !strcmp(file, "-")) STOP(1, "the environment variable %s isn't set", variable);
+    if (!from) STOP(1, "%s can't be read", file);
     text[fread(text, 1, sizeof text - 1, from)] = 0, sscanf(text, "%127s", key);
-    for EACH(line, text, '\n') {
-        sscanf(line, "port %15s", port), sscanf(line, "name %63s", name);
-        sscanf(line, "key %127s", key), sscanf(line, "nodes %2047s", nodes);
-    }
+    for EACH(line, text, '\n')
+        sscanf(line, "port %15s", port), sscanf(line, "name %63s", name), sscanf(line, "key %127s", key), sscanf(line, "nodes %2047s", nodes);
     if (count == 5) snprintf(port, 16, "%s", words[1]), snprintf(name, 64, "%s", words[2]), snprintf(nodes, 2048, "%s", words[4]);
-    if (!*port || strspn(port, "0123456789") != strlen(port)) STOP(1, "no port in %s", words[1]);
-    if (!*nodes || strspn(nodes, "0123456789,") != strlen(nodes)) STOP(1, "no nodes in %s", words[1]);
+    if (!*port || strspn(port, "0123456789") != strlen(port)) STOP(1, "no port in %s", place);
+    if (!*nodes || strspn(nodes, "0123456789,") != strlen(nodes)) STOP(1, "no nodes in %s", place);
     signal(SIGPIPE, SIG_IGN);
     play(port, name, key, nodes);
 }

@@ -6,7 +6,7 @@ const [fs, net, readline] = [require("fs"), require("net"), require("readline")]
 // The denials and refusals that end the bot, each with its exit status and a line. After any other one, the bot looks again.
 const STOPS = {
   unknown: [2, "name and key don't match: take both from your slip"],
-  "not-owner": [3, "a node isn't yours: correct the nodes by your slip"],
+  "not-owner": [3, "a node isn't yours: take the nodes from your slip"],
   malformed: [3, "the server couldn't read a line as a request: correct the program"],
   full: [6, "nothing is granted any longer: tell your teacher"],
   journal: [6, "nothing is granted any longer: tell your teacher"],
@@ -70,9 +70,9 @@ if (words.length !== 1 && words.length !== 4) stop(1, "usage: node bot.js SLIP, 
 const isSlip = words.length === 1;
 const [file, variable] = isSlip ? [words[0], "CENDUWA_SLIP"] : [words[2], "CENDUWA_KEY"];
 const text = file === "-" ? process.env[variable] : fs.existsSync(file) ? fs.readFileSync(file, "utf-8") : undefined;
-if (text === undefined) stop(1, file === "-" ? `the environment has no ${variable}` : `${file} can't be read`);
+if (text === undefined) stop(1, file === "-" ? `the environment variable ${variable} isn't set` : `${file} can't be read`);
 const after = (word) => new RegExp(`^${word}\\s+(\\S+)\\s*$`, "m").exec(text)?.[1];
 const [port, name, nodes] = isSlip ? ["port", "name", "nodes"].map(after) : [words[0], words[1], words[3]];
-if (!/^\d{1,5}$/.test(port)) stop(1, `no port in ${words[0]}`);
-if (!/^\d+(,\d+)*$/.test(nodes)) stop(1, `no nodes in ${words[0]}`);
+if (!/^\d{1,5}$/.test(port)) stop(1, `no port in ${isSlip ? file : "the arguments"}`);
+if (!/^\d+(,\d+)*$/.test(nodes)) stop(1, `no nodes in ${isSlip ? file : "the arguments"}`);
 play(Number(port), name ?? "", after("key") ?? text.trim(), nodes.split(",").map(Number));

@@ -37,7 +37,7 @@ def seconds_of(words: list[str]) -> float:
     except ValueError:
         seconds = -1.0
     if len(words) > 1 or not seconds >= 0:
-        raise NoSlip(f"{' '.join(words)}: no number of seconds")
+        raise NoSlip(f"{' '.join(words)}: write a number of seconds")
     return seconds
 
 
@@ -54,7 +54,7 @@ def play(words: list[str]) -> None:
             with me:
                 return ask(me, slip.nodes, patience)
         except (Closed, Refused) as lost:
-            if isinstance(lost, Refused) and lost.word != "busy":  # A connection that leaves for a newcomer gets this, too.
+            if isinstance(lost, Refused) and lost.word != "busy":  # `busy` also ends a connection whose seat goes to a newcomer.
                 raise
             me = again(slip, lost)
 

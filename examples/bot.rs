@@ -6,7 +6,7 @@ use std::{env, fs, iter, process, thread, time::Duration};
 /// The denials and refusals that end the bot, each with its exit status and a line. After others, it looks again.
 const STOPS: [(&str, i32, &str); 5] = [
     ("unknown", 2, "name and key don't match: take both from your slip"),
-    ("not-owner", 3, "a node isn't yours: correct the nodes by your slip"),
+    ("not-owner", 3, "a node isn't yours: take the nodes from your slip"),
     ("malformed", 3, "the server couldn't read a line as a request: correct the program"),
     ("full journal", 6, "nothing is granted any longer: tell your teacher"),
     ("over", 0, "the run is over"),
@@ -63,14 +63,14 @@ fn main() {
     let words: Vec<String> = env::args().skip(1).collect();
     let is_slip = words.len() == 1;
     if !is_slip && words.len() != 4 { stop(1, "usage: bot SLIP, or PORT NAME KEYFILE NODE,..") }
-    let (file, variable) = if is_slip { (&words[0], "CENDUWA_SLIP") } else { (&words[2], "CENDUWA_KEY") };
+    let (file, variable, place) = if is_slip { (&words[0], "CENDUWA_SLIP", words[0].as_str()) } else { (&words[2], "CENDUWA_KEY", "the arguments") };
     let text = if file == "-" { env::var(variable).ok() } else { fs::read_to_string(file).ok() };
-    let text = text.unwrap_or_else(|| stop(1, &if file == "-" { format!("the environment has no {variable}") } else { format!("{file} can't be read") }));
+    let text = text.unwrap_or_else(|| stop(1, &if file == "-" { format!("the environment variable {variable} isn't set") } else { format!("{file} can't be read") }));
     let after = |word: &str| text.lines().find_map(|line| line.strip_prefix(word)?.strip_prefix(' ')).map(str::trim);
     let said = |word, place: usize| if is_slip { after(word).unwrap_or("") } else { &words[place] };
-    let port = said("port", 0).parse().unwrap_or_else(|_| stop(1, &format!("no port in {}", words[0])));
+    let port = said("port", 0).parse().unwrap_or_else(|_| stop(1, &format!("no port in {place}")));
     let nodes: Vec<&str> = said("nodes", 3).split(',').collect();
-    if nodes.iter().any(|it| it.parse::<u16>().is_err()) { stop(1, &format!("no nodes in {}", words[0])) }
+    if nodes.iter().any(|it| it.parse::<u16>().is_err()) { stop(1, &format!("no nodes in {place}")) }
     let key = after("key").unwrap_or(text.trim()).replace('\\', r"\\").replace('"', r#"\""#);
     for is_lost in iter::once(false).chain(iter::repeat(true)) {
         let mut server = enter(port, said("name", 1), &key, is_lost);

@@ -13,7 +13,7 @@ def crowd(n: int) -> tuple[list[tuple[int, int]], list[int]]:
 
 def comb(n: int) -> tuple[list[tuple[int, int]], list[int]]:
     """Returns the links of the comb with n nodes, a tree on which a run may take nearly the most moves, and the pointer
-    of each node. Its links are its pointers, and the last node points at none (0)."""
+    of each node. The links of the comb are its pointers, and the last node points at none (0)."""
     pointers = [n + 1 - i if 2 * i <= n else i + 1 if i < n else 0 for i in range(1, n + 1)]
     links = {(min(i, p), max(i, p)) for i, p in enumerate(pointers, 1) if p}
     return sorted(links), pointers

@@ -21,7 +21,7 @@ def owners_of(lab: list[str]) -> dict[int, list[str]]:
         nodes = tomllib.loads(text_of(lab[0]))["node"]
         return {node["id"]: [node["owner"]] if "owner" in node else node["owners"] for node in nodes}
     except (ValueError, KeyError, TypeError):
-        raise NoSlip(f"{lab[0]}: no lab's file") from None
+        raise NoSlip(f"{lab[0]}: this isn't the file of a lab") from None
 
 
 def close_steps(me: Client, owners: dict[int, list[str]]) -> None:

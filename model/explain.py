@@ -28,7 +28,7 @@ def no_update(world: World, i: int) -> str:
 
 
 def no_marriage(world: World, i: int, k: int | None) -> str:
-    """Returns the part of the guard of Marriage with node k that fails at node i. The part about m of i, which all guards have, holds."""
+    """Returns the part of the guard of Marriage with node k that fails at node i. The part that all guards have, about m of i, must hold."""
     if world.p[i] is not None:
         return f"p of {i} isn't null, it is {world.p[i]}"
     if k not in world.links[i]:
@@ -37,7 +37,7 @@ def no_marriage(world: World, i: int, k: int | None) -> str:
 
 
 def no_seduction(world: World, i: int) -> str:
-    """Returns the part of the guard of Seduction that fails at node i. The part about m of i, which all guards have, holds."""
+    """Returns the part of the guard of Seduction that fails at node i. The part that all guards have, about m of i, must hold."""
     if world.p[i] is not None:
         return f"p of {i} isn't null, it is {world.p[i]}"
     suitors = [k for k in world.near(i) if world.p[k] == i]
@@ -52,7 +52,7 @@ def no_seduction(world: World, i: int) -> str:
 
 
 def no_abandonment(world: World, i: int) -> str:
-    """Returns the part of the guard of Abandonment that fails at node i. The part about m of i, which all guards have, holds."""
+    """Returns the part of the guard of Abandonment that fails at node i. The part that all guards have, about m of i, must hold."""
     j = world.p[i]
     if j is None:
         return f"p of {i} is null, so there is nobody to abandon"

@@ -1,7 +1,7 @@
 """The lab file: the first network, who takes part, who owns which nodes, and two limits; and each error of such a file.
 
 The file is read by `tomllib`, which knows TOML 1.0. The proved program also reads what TOML 1.1 added, such as a line
-break in an inline table; here that is no TOML document.
+break in an inline table. The model refuses such a file.
 """
 import re
 import tomllib
@@ -101,7 +101,7 @@ def node_of(value: Any) -> Node:
     """Returns the node in a table of `node`. Raises `Fault` if the table has another form."""
     table = of_kind(value, "node", dict)
     number = of_kind(table.get("id", MISSING), "node.id", int)
-    # The kinds of `owner` and `owners` come first, then that one of the two is there.
+    # First both keys are tested for their kinds, and then that one of the two is there, since errors are reported in this order.
     owner = of_kind(table.get("owner", ""), "node.owner", str)
     owners = of_kind(table.get("owners", [owner]), "node.owners", list)
     if not all(isinstance(name, str) for name in owners) or len(owners) not in (1, 2):

@@ -19,7 +19,7 @@ NEWLINE = b"\n"
 NUMERAL = rb"(0|[1-9][0-9]{0,19})"
 STAMP = rb"%s %s " % (NUMERAL, NUMERAL)
 ASKED = re.compile(STAMP + rb"> ")
-# The kinds of entries. Another kind has its pattern here, and what it means in `Seat.take`.
+# The patterns of entries: of a line with its reply, and of a mark. `Seat.take` has what each kind of entry means.
 SAID = re.compile(STAMP + rb"(>) ([^\n]*)\n" + STAMP + rb"< ([^\n]*)\n")
 MARK = re.compile(STAMP + rb"(?:([.!-])|(\+) %s)\n" % NUMERAL)
 # The stages of a session. FRESH: nothing was recorded yet. OPEN: lines may come. OVER: after a bye. CUT: entries may be
@@ -89,7 +89,7 @@ class Seat:
             return Entry(said[3], int(said[2]), said.end(), said[4], said[7])
         if mark and self.is_stamp(mark) and int(mark[5] or 0) <= GREATEST:
             return Entry(mark[3] or mark[4], int(mark[2]), mark.end())
-        # The text breaks off within the entry if its line has no newline, or is asked and the next one has none.
+        # The text breaks off within the entry if its first line has no newline, or is one with `>` and the next line has none.
         line, newline, rest = text[at:].partition(b"\n")
         asked = ASKED.match(line)
         is_asked = asked is not None and self.is_stamp(asked)

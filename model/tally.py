@@ -109,7 +109,7 @@ def lines_asked(lab: Lab, said: Iterable[Said]) -> list[list[object]]:
 
 
 def lines_by_reply(lab: Lab, said: list[Said], word: str, key: str, columns: tuple[str, ...]) -> list[list[object]]:
-    """Returns a line with this word for each student: for each of `columns` how many of the student's lines had a reply with this value under the key."""
+    """Returns a line for each student: `word`, the name, and for each of `columns` how many of the student's replies have this value under `key`."""
     counts = {name: dict.fromkeys(columns, 0) for name in lab.students()}
     for it in said:
         found = json.loads(it.reply).get(key)

@@ -25,7 +25,7 @@ DETACH, HERE, ALL_BELOW, MOUNT_SETATTR = 2, -100, 0x8000, 442
 DEATH_SIGNAL, DROP_BOUND, NO_NEW_RIGHTS, AMBIENT, CLEAR_ALL = 1, 24, 38, 47, 4  # of <sys/prctl.h>
 RIGHTS_VERSION, MOST_RIGHTS = 0x20080522, 64
 SET_FLAGS, UP = 0x8914, 1  # the call that sets the flags of a network interface, and the flag that enables it
-HOST = "/.host"  # where the files of the host are visible until the program starts
+HOST = "/.host"  # the path at which the files of the host are visible until the program starts
 DEVICES = ("null", "zero", "full", "random", "urandom")
 LINKS = (("fd", "/proc/self/fd"), ("stdin", "/proc/self/fd/0"), ("stdout", "/proc/self/fd/1"), ("stderr", "/proc/self/fd/2"))
 OF_KERNEL = ("sys", "sysrq-trigger", "irq", "bus", "fs")  # files and folders below /proc that the superuser could change
@@ -149,10 +149,10 @@ def pass_listener(port: int, channel: int) -> None:
 
 
 def enter(world: World, folder: str, megabytes: int, channel: int) -> None:
-    """Continues in a new process, the first one in new namespaces. When it ends, all other processes there end too.
-    `folder` is the program's folder, and `megabytes` the size of the new root. A socket that listens at the port of
-    `world` is sent through the descriptor `channel`. The calling process waits for the new one, and exits with its
-    status. Raises the `OSError` of a call that the system refuses."""
+    """Continues in a new process, the first one in new namespaces. When the new process ends, all other processes there
+    end too. `folder` is the program's folder, and `megabytes` the size of the new root. A socket that listens at the
+    port of `world` is sent through the descriptor `channel`. The calling process waits for the new one, and exits with
+    its status. Raises the `OSError` of a call that the system refuses."""
     user, group = os.geteuid(), os.getegid()
     require_success(LIBC.unshare(NAMESPACES), "unshare")
     map_user(user, group)

@@ -28,9 +28,9 @@ ALLOWED = ("stale", "chosen", "memory")
 HINTS = {
     "not-greeted": "each connection begins with a hello, even if an earlier one had a hello",
     "greeted": "one hello on each connection is enough",
-    "unknown": "name and key are on the slip",
-    "not-owner": "its nodes are on the slip",
-    "hidden": "it sees its own nodes and their neighbours",
+    "unknown": "take name and key from the bot's slip",
+    "not-owner": "a bot looks at and moves only its own nodes, which are on its slip",
+    "hidden": "a bot sees only its own nodes and their neighbours",
 }
 IN_PIECES = "; replies are long here and arrive in pieces: a bot reads until the newline"
 ON = "; a bot keeps running until the class is over"
@@ -130,7 +130,7 @@ class Attempt:
             if self.stop.is_set():
                 raise Stopped
             if time.monotonic() > end:
-                raise Fails(f"it can't be started: its namespaces weren't ready after {LATEST:g} seconds")
+                raise Fails(f"it can't be started: making the namespaces that keep it apart took more than {LATEST:g} seconds")
 
     def turn(self) -> None:
         """Runs the class for a few milliseconds, and checks what the bot did. Raises `Fails` if the bot has ended or

@@ -58,8 +58,7 @@ class Bot:
             words = RUN_BY.get(Path(words[0]).suffix, []) + words
         found = (shutil.which(Path(words[0]).absolute()) if is_file else None) or shutil.which(words[0])
         if found is None:
-            return Bot(name, (), f"{words[0]}: there is no such program, or it can't be run; a BOT is a command, as a shell takes it: "
-                       "'python3 bot.py'")
+            return Bot(name, (), cant_run(words[0]))
         rest = [str(Path(each).resolve()) if Path(each).is_file() else each for each in words[1:]]
         for each in rest:
             if Path(each).suffix in RUN_BY and not Path(each).is_file():
@@ -67,9 +66,16 @@ class Bot:
         return Bot(name, (str(Path(found).absolute()), *rest))
 
 
+def cant_run(word: str) -> str:
+    """Returns why a command that begins with `word` can't be run, and what a BOT is."""
+    if Path(word).is_file():
+        return f"{word}: this file can't be run; make it executable, or name the command that runs it, such as 'python3 bot.py'"
+    return f"{word}: there is no such program; a BOT is a command, as a shell takes it, such as 'python3 bot.py'"
+
+
 def runs_itself(file: Path) -> bool:
-    """Returns whether a file can be run directly. It has to be executable. If its name ends in .py, .java or .js, it
-    also has to begin with `#!`, unless it can't be read."""
+    """Returns whether a file can be run directly. Such a file has to be executable. A file whose name ends in .py,
+    .java or .js also has to begin with `#!`, unless it can't be read."""
     if not os.access(file, os.X_OK):
         return False
     if file.suffix not in RUN_BY or not os.access(file, os.R_OK):

@@ -58,8 +58,8 @@ class Scale:
 
 
 def tick_distance(high: int, parts: int = 5) -> int:
-    """Returns the distance of the ticks on an axis from 0 to `high`. It is the first of 1, 2, 5, 10, 20, 50 and so on
-    that divides the axis into at most `parts` parts."""
+    """Returns the distance of the ticks on an axis from 0 to `high`. The distance is the first of 1, 2, 5, 10, 20, 50
+    and so on that divides the axis into at most `parts` parts."""
     step = 1
     while True:
         for factor in (1, 2, 5):
@@ -140,7 +140,7 @@ def key(runs: int, theme: str) -> str:
         x = 12 + 84 * column
         parts.append(line([(x, 14), (x + 22, 14)], "median", colour, theme) + f'<text class="left" x="{x + 28}" y="18">{name}</text>')
     parts.append(f'<text class="left" x="270" y="18">{runs} runs</text>')
-    parts.append('<text class="left" x="12" y="36">points: runs; thick: median; thin: greatest; ring: closest to its bound</text>')
+    parts.append('<text class="left" x="12" y="36">points: runs; thick line: median; thin line: greatest; ring: the run closest to its bound</text>')
     parts.append(line([(12, 46), (34, 46)], "bound") + '<text class="left" x="40" y="50">' + f"{MOVES} moves: proved</text>")
     parts.append(line([(12, 62), (34, 62)], "bound loose") + '<text class="left" x="40" y="66">3n + 2L moves: proved</text>')
     parts.append(line([(12, 78), (34, 78)], "bound least") + '<text class="left" x="40" y="82">2n rounds (2n - 1, n odd): proved</text>')

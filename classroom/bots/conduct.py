@@ -32,8 +32,8 @@ def number_of(value: object) -> int:
 
 
 def most_open(nodes: int) -> int:
-    """Returns how many connections a bot with `nodes` nodes may have open at once. These are two for each node, but at
-    least `nodes + 2`."""
+    """Returns how many connections a bot with `nodes` nodes may have open at once. The number is two for each node, but
+    at least `nodes + 2`."""
     return max(2 * nodes, nodes + 2)
 
 
@@ -105,8 +105,8 @@ class Conduct:
         if (node, at) not in self.looked and (node, at) in self.before:
             self.across += 1
             if (node, at) in self.unanswered or self.across > MOST_ACROSS:
-                self.note_fault(f"on a new connection it asks for a move of node {node} by a look from the lost connection: after the hello, look at "
-                                f"node {node} again")
+                self.note_fault(f"on a new connection it asks for a move of node {node} with the `at` of a look on the lost connection: after the hello, "
+                                f"look at node {node} again")
         elif (node, at) not in self.looked:
             self.note_fault(f"it asks for a move of node {node} with `at` {at}, and no look at node {node} had that number: look first, and ask "
                             "with the `at` of that look")

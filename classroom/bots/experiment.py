@@ -12,6 +12,7 @@ import concurrent.futures
 import contextlib
 import csv
 import ctypes
+import errno
 import io
 import multiprocessing
 import os
@@ -37,7 +38,8 @@ from classroom.run.daemons import Daemon, daemons
 
 COLUMNS = [each.name for each in fields(Row)]
 CHUNK = 20  # the most runs of a task
-OTHER = "name another file by --csv; the same command continues this table"
+CONTINUES, ANOTHER_TABLE = ", which continues this table", "name another file by --csv, which begins a new table"
+FULL = (errno.ENOSPC, errno.EDQUOT)  # the errors of a full disk
 DIES = 1  # prctl's PR_SET_PDEATHSIG
 Key = tuple[str, int, str, str, int]  # what identifies a run: its family, nodes, daemon, start and seed
 
@@ -93,13 +95,13 @@ def settings(words: argparse.Namespace) -> list[Setting]:
                 continue  # The family has no network of this size.
             found += [Setting(spelled, len(network.nodes), how, words.start) for how in words.daemon]
     if not found:
-        raise Fault("no family has a network of these sizes")
+        raise Fault("none of the families has a network of a size in --nodes")
     return found
 
 
 def links_of(nodes: int) -> int:
-    """Returns the number of links of a random network with `nodes` nodes. These are three for each two nodes, but at
-    least as many as in a tree, and at most all that are possible."""
+    """Returns the number of links of a random network with `nodes` nodes. The number is three for each two nodes, but
+    at least that of a tree, and at most that of all possible links."""
     return max(nodes - 1, min(3 * nodes // 2, nodes * (nodes - 1) // 2))
 
 
@@ -123,7 +125,7 @@ def read_rows(path: Path) -> list[Row]:
     try:
         rows = [row_of(each) for each in reader]
     except (ValueError, TypeError, KeyError):
-        raise Fault(f"{path}: line {reader.line_num} isn't a row of an experiment") from None
+        raise Fault(f"{path}: line {reader.line_num} isn't a row of an experiment: delete the line, so that its run is measured again") from None
     if whole != text:
         path.write_text(whole, encoding="utf-8")
     return rows
@@ -221,7 +223,7 @@ def closest(family: str, daemon: str, own: list[Row]) -> str:
     family under one daemon."""
     (_, by_moves, moves, most_moves), (_, by_rounds, rounds, most_rounds) = chart.closest_to_bounds(own)
     return (f"{family:10} {daemon:14} closest to the bound {MOVES}: {moves} of {most_moves} moves (n {by_moves.nodes}, seed {by_moves.seed}); "
-            f"to that of rounds: {rounds} of {most_rounds} (n {by_rounds.nodes}, seed {by_rounds.seed})")
+            f"to the bound of rounds: {rounds} of {most_rounds} (n {by_rounds.nodes}, seed {by_rounds.seed})")
 
 
 def make_table(path: Path) -> None:
@@ -253,7 +255,7 @@ def merge(words: argparse.Namespace, asked: set[Key]) -> int:
         for row in read_rows(file):
             if rows.setdefault(key(row), row) != row:
                 raise Fault(f"{file}: this run is in another table with different numbers: {line_of(row).strip()}", FAILED)
-    with naming_file(words.csv, OTHER):
+    with naming_file(words.csv, "", "name another file by --csv, and this one by --merge"):
         write_sorted(Path(words.csv), list(rows.values()))
     broken = [row for row in rows.values() if row.exceeds_bounds()]
     own = sorted((row for row in rows.values() if key(row) in asked), key=key)
@@ -281,18 +283,20 @@ def print_results(own: list[Row], asked: int, words: argparse.Namespace, broken:
           f"Their folders are: {', '.join(map(str, broken))}" if broken else
           f"{len(own)} of {asked} runs, all within the proved bounds; table: {words.csv}")
     if own and words.plot:
-        with naming_file(words.plot, "name another file by --plot: the same command draws the table"):
+        with naming_file(words.plot, "", "name another file by --plot"):
             Path(words.plot).write_text(chart.chart(own, colours.DARK if words.dark else colours.LIGHT), encoding="utf-8")
         print(f"chart: {words.plot}")
 
 
 @contextlib.contextmanager
-def naming_file(file: str, remedy: str) -> Iterator[None]:
-    """Turns an `OSError` in the `with` block into a `Fault` that names the file and the remedy."""
+def naming_file(file: str, effect: str, remedy: str) -> Iterator[None]:
+    """Turns an `OSError` in the `with` block into a `Fault` that names the file and the remedy. If the disk is full,
+    another remedy is to make room and run the same command again. `effect` is a text that says what this does then."""
     try:
         yield
     except OSError as error:
-        raise Fault(f"{file}: {error.strerror}; make room, or {remedy}", 4) from None
+        room = f"make room and run the same command again{effect}, or " if error.errno in FULL else ""
+        raise Fault(f"{file}: {error.strerror}; {room}{remedy}", 4) from None
 
 
 def experiment(words: argparse.Namespace) -> int:
@@ -308,7 +312,7 @@ def experiment(words: argparse.Namespace) -> int:
     asked = set(parts.of(order, words.part))
     rows = read_rows(path)
     done = {key(row) for row in rows}
-    with naming_file(words.csv, OTHER):
+    with naming_file(words.csv, CONTINUES, ANOTHER_TABLE):
         make_table(path)
     if asked & done:
         print(f"{len(asked & done)} runs are in {path} already")
@@ -317,7 +321,7 @@ def experiment(words: argparse.Namespace) -> int:
     broken: list[Path] = []
     interrupted = False
     try:
-        with naming_file(words.csv, OTHER), path.open("a", encoding="utf-8") as it:
+        with naming_file(words.csv, CONTINUES, ANOTHER_TABLE), path.open("a", encoding="utf-8") as it:
             for row, script in measure(tasks, words.at_once or os.cpu_count() or 1):
                 rows.append(row)
                 it.write(line_of(row))
@@ -327,7 +331,7 @@ def experiment(words: argparse.Namespace) -> int:
                 progress.advance()
     except KeyboardInterrupt:
         interrupted = True
-    with naming_file(words.csv, OTHER):
+    with naming_file(words.csv, CONTINUES, ANOTHER_TABLE):
         write_sorted(path, rows)
     print_results(sorted((row for row in rows if key(row) in asked), key=key), len(asked), words, broken)
     if interrupted:

@@ -105,7 +105,7 @@ def results_of(bots: list[Bot], cases: list[Case], words: argparse.Namespace, to
             with own_room() as room:
                 return try_bot(bot, case, limits, room, folder_of(top, bot, case), stop, seen_by[bot.name] if seen_by else None)
         except OSError as error:
-            why += f"{error.filename or tempfile.gettempdir()}: {error.strerror}; name another folder by the variable TMPDIR"
+            why += f"{error.filename or tempfile.gettempdir()}: {error.strerror}; name another folder by the environment variable TMPDIR"
         except Exception as error:  # An error in one case must not lose the results of others.
             why += f"{type(error).__name__}: {error}"
         return Result(bot.name, case.lab, case.daemon.spelled(), case.seed, False, why)
@@ -129,10 +129,12 @@ def kept_apart(bots: list[Bot], words: argparse.Namespace, top: Path) -> dict[st
               "(docs/COURSE.md)", flush=True)
         return None
     into = Path(words.into).resolve()
-    more = [Path(each).resolve() for each in words.show]
+    more, temporary = [Path(each).resolve() for each in words.show], Path(tempfile.gettempdir())
     for folder in more:
-        if not folder.exists() or seen.contains_any(folder, [Path(tempfile.gettempdir())]):
-            raise Fault(f"--show {folder}: name an existing folder that doesn't contain the folder of temporary files")
+        if not folder.exists():
+            raise Fault(f"--show {folder}: there is no such folder")
+        if seen.contains_any(folder, [temporary]):
+            raise Fault(f"--show {folder}: this folder contains {temporary}, which has the folders of all bots; name a folder that doesn't contain it")
     found = {}
     for bot in bots:
         others = [other.words for other in bots if other is not bot]
@@ -252,7 +254,7 @@ def grade(words: argparse.Namespace) -> int:
     for fault in unwritten:
         print(f"class: {printable(fault)}")
     if len(results) < len(bots) * len(cases):
-        print(f"interrupted: {len(results)} of {len(bots) * len(cases)} cases")
+        print(f"interrupted: {len(results)} of {len(bots) * len(cases)} cases were tried")
         return FAILED
     if unwritten:
         return FAILED

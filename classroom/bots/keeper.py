@@ -1,10 +1,10 @@
 """A process of its own, the keeper, that runs a student's program, the bot, and keeps it within its limits. The first
 line of standard input is a plan, the JSON object with the values of `Plan`.
 
-The keeper ends the program and all processes that it started, also those in other sessions. It does so if the program
-ends, uses too much memory or room for files, or consists of more than 64 processes. It also ends the program if
-standard input ends, as it does when the process that started the keeper is gone. Then it prints how the program ended:
-`ended STATUS` or `killed REASON`.
+The keeper ends the program and all processes that it started, also those in other sessions. The keeper does so if the
+program ends, uses too much memory or room for files, or consists of more than 64 processes. The keeper also ends the
+program if standard input ends, as it does when the process that started the keeper is gone. Then the keeper prints how
+the program ended: `ended STATUS` or `killed REASON`.
 """
 from __future__ import annotations
 
@@ -151,7 +151,7 @@ def apply_limits(plan: Plan) -> None:
 
 
 class Watch:
-    """Measures the memory and the files of a program, against the limits of its plan."""
+    """A measurement of a program's memory and files, against the limits of its plan."""
 
     def __init__(self, plan: Plan) -> None:
         """Notes which file has the program's output, the keeper's standard error, since it doesn't count as memory."""
@@ -187,11 +187,11 @@ class Watch:
         """Returns a text about the first limit that the program exceeds, or an empty text."""
         every = below(os.getpid())
         if len(every) > MOST_PROCESSES:
-            return f"more than {MOST_PROCESSES} processes"
+            return f"it had more than {MOST_PROCESSES} processes"
         if self.memory(every) > self.plan.megabytes << 20:
-            return f"more than {self.plan.megabytes} megabytes of memory"
+            return f"it used more than {self.plan.megabytes} megabytes of memory"
         if self.files_size() > FOLDER_MEGABYTES << 20:
-            return f"more than {FOLDER_MEGABYTES} megabytes in files"
+            return f"it had more than {FOLDER_MEGABYTES} megabytes in files"
         return ""
 
 

@@ -56,9 +56,9 @@ class Row:
 
 
 def drawn(setting: Setting, seed: int) -> labs.Lab:
-    """Returns a lab with the network and the registers at the beginning of a run. They depend on the family, size,
-    start and seed, but not on the daemon. Raises `Fault` if there is no such family, or if it has no network of this
-    size."""
+    """Returns a lab with the network and the registers at the beginning of a run. Network and registers depend on the
+    family, size, start and seed, but not on the daemon. Raises `Fault` if there is no such family, or if it has no
+    network of this size."""
     chance = random.Random(f"{setting.family} {setting.nodes} {setting.start} {seed}")
     count = None if setting.family.startswith(SIZED) else setting.nodes
     nodes, links = networks.family(setting.family, count, 0, chance)

@@ -252,7 +252,7 @@ class Playing:
         what = " ".join(str(asked[key]) for key in ("do", "node", "rule", "with") if key in asked)
         text = f"{what} is denied as {told['deny']}, clause {told['clause']}: {told['text']}"
         if "at" in told:
-            text += f"; it was asked with `at` {asked.get('at')}, and the current number is {told['at']}"
+            text += f"; its `at` is {asked.get('at')}, and the current configuration has the number {told['at']}"
         node = number_of(asked.get("node"))
         if told["deny"] in ("not-owner", "hidden", "stale") or node not in {each.id for each in self.lab.nodes}:
             return text
@@ -278,9 +278,9 @@ class Playing:
         has the time of its last line, the line, and the nodes at which it never looked."""
         heard = self.heard[who]
         ago = time.monotonic() - heard.last_at
-        never = [node for node in self.lab.nodes_of(who) if node not in heard.conduct.seen]
+        never = [f"node {node}" for node in self.lab.nodes_of(who) if node not in heard.conduct.seen]
         text = f"; its last line came {ago:.1f} seconds earlier: {heard.last}"
-        text += f"; it never looked at {' and '.join(map(str, never))}" * bool(never)
+        text += f"; it never looked at {' and '.join(never)}" * bool(never)
         return text + "; with --own-rule no look shows the rule: the bot has to decide by p, m and near" * bool(heard.conduct.rules_hidden)
 
     def say_bye(self, connection: int) -> None:

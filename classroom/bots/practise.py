@@ -88,7 +88,7 @@ def made(words: argparse.Namespace, names: list[str]) -> labs.Lab:
     identifiers = list(range(1, nodes + 1))
     own = own_nodes(words.node, identifiers, len(names), chance)
     if len(own) < len(names):
-        raise Fault(f"{len(own)} nodes for {len(names)} BOTs: name more by --node")
+        raise Fault(f"{len(own)} nodes for {len(names)} BOTs: name more nodes by --node")
     owner = {node: names[index % len(names)] for index, node in enumerate(own)}
     keys = {name: key() for name in [*names, HOUSE]}
     dealt = [labs.Node(node, [owner.get(node, HOUSE)]) for node in identifiers]
@@ -99,9 +99,9 @@ def made(words: argparse.Namespace, names: list[str]) -> labs.Lab:
 
 
 def opened(lab: labs.Lab, names: list[str], words: argparse.Namespace) -> Playing:
-    """Returns the class of a lab, in which programs play the students in `names`. Its port is that of the arguments or
-    the next free one. If the arguments have a bot but no port, the port is any free one. Raises `Fault` if no port is
-    free."""
+    """Returns the class of a lab, in which programs play the students in `names`. The class's port is that of the
+    arguments or the next free one. If the arguments have a bot but no port, the port is any free one. Raises `Fault` if
+    no port is free."""
     def at(port: int) -> Playing | None:
         """Returns the class at that port, or None if the port is taken."""
         try:
@@ -195,7 +195,7 @@ class Practice:
             gone = not self.kept and self.timeout is not None
             if self.timeout is not None and (idle > self.timeout or gone and idle > REST):
                 adds = "".join(explaining.of_waiting(playing, name) for name in playing.programs)
-                self.tell(f"it hangs: {'no program is left, and ' if gone else ''}the class waits for {waiting}{adds}")
+                self.tell(f"the run hangs: {'no program is left, and ' if gone else ''}the class waits for {waiting}{adds}")
                 return False
             if idle > QUIET and self.told != waiting and time.monotonic() - self.told_at > QUIET:
                 self.tell(f"waiting for {waiting}")
@@ -241,8 +241,8 @@ def practise(words: argparse.Namespace) -> int:
 
 
 def open_private(path: str, flags: int) -> int:
-    """Opens a file with these flags, and returns its descriptor. If that makes a new file, only its owner can read it.
-    Used as the `opener` of `open`."""
+    """Opens a file with these flags, and returns its descriptor. A new file can be read only by its owner. Used as the
+    `opener` of `open`."""
     return os.open(path, flags, 0o600)
 
 

@@ -40,10 +40,10 @@ class Relay:
     """A listening socket and its connections. One thread serves all of them."""
 
     def __init__(self, answer: Answer, left: Callable[[int], None], numbers: range, port: int = 0) -> None:
-        """Listens at a port, or at any free one if it is 0. `answer` returns the reply to a line of a connection. Its
-        third argument says whether the line came after a pause. If it returns no bytes, the connection is closed.
-        `left` is called with the number of each connection that has ended. Connections get the numbers in `numbers`.
-        Raises `OSError` if the port is taken."""
+        """Listens at a port, or at any free one if it is 0. `answer` returns the reply to a line of a connection. The
+        third argument of `answer` says whether the line came after a pause. If `answer` returns no bytes, the
+        connection is closed. `left` is called with the number of each connection that has ended. Connections get the
+        numbers in `numbers`. Raises `OSError` if the port is taken."""
         self.answer, self.left = answer, left
         self.free = list(numbers)
         self.longest = limits.allowed().line

@@ -1,5 +1,5 @@
-"""The files of this machine that a bot, a student's program, sees if it is kept apart from other files. They are its
-own files, and those that its interpreter needs.
+"""The files of this machine that a bot, a student's program, sees if it is kept apart from other files. Such a bot sees
+its own files, and those that its interpreter needs.
 
 A *command* here is the tuple of words that starts a bot.
 """
@@ -96,9 +96,9 @@ def is_in_any(folders: Iterable[Path], path: Path) -> bool:
 
 
 def hidden(words: tuple[str, ...], others: Iterable[tuple[str, ...]], results: Path) -> tuple[str, ...]:
-    """Returns the paths among the shown files that have to be hidden from a bot with the command `words`. These are the
-    folder of results, and the files of the commands in `others`. The whole folder of such a file is hidden if it has
-    nothing that the bot needs."""
+    """Returns the paths among the shown files that have to be hidden from a bot with the command `words`. Such paths
+    are the folder of results, and the files of the commands in `others`. The whole folder of such a file is hidden if
+    it has nothing that the bot needs."""
     own, everyones = files_of(words), common()
     found = {file for other in others for file in files_of(other)} - set(own)
     theirs = [file for file in found if not is_in_any(everyones, file)]

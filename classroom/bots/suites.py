@@ -152,8 +152,9 @@ def planned(plan: Plan, seed: int, how: Daemon) -> Case:
 
 
 def own_lab(path: Path, seed: int, how: Daemon) -> Case:
-    """Returns the case of a teacher's lab in a file, with this seed and this daemon. The bot plays one of the students,
-    and all keys are replaced by new ones. Raises `Fault` if the file isn't a lab."""
+    """Returns the case of a teacher's lab in a file, with this seed and this daemon. The bot plays a student who owns
+    a node alone, if there is one. Only then the case has troubles. All keys are replaced by new ones, and the limits of
+    events and seats by the greatest that a lab may have. Raises `Fault` if the file isn't a lab."""
     made = labs.read(path)
     chance = random.Random(f"{path.stem} {seed}")
     alone = {name: [node.id for node in made.nodes if node.owners == [name]] for name in made.students}
@@ -178,7 +179,7 @@ def of_folder(folder: Path, how: list[Daemon] | None, seeds: int) -> tuple[list[
     try:
         files = sorted(each for each in folder.iterdir() if each.suffix == ".toml")
     except OSError as error:
-        raise Fault(f"{folder}: {error.strerror}; --labs takes a folder of labs, NAME.toml", 4) from None
+        raise Fault(f"{folder}: {error.strerror}; --labs names a folder with labs, which are files NAME.toml", 4) from None
     cases: list[Case] = []
     faults: list[str] = []
     for file in files:
@@ -187,5 +188,5 @@ def of_folder(folder: Path, how: list[Daemon] | None, seeds: int) -> tuple[list[
         except Fault as fault:
             faults.append(str(fault))
     if not cases:
-        raise Fault("; ".join(faults) or f"{folder}: no labs; they are files NAME.toml, which ./class new makes", 2)
+        raise Fault("; ".join(faults) or f"{folder}: this folder has no labs, which are files NAME.toml; ./class new makes them", 2)
     return cases, faults

@@ -63,5 +63,5 @@ def run_attempt(attempt: Attempt, folder: Path) -> Result | None:
     try:
         attempt.write_evidence(folder)
     except (OSError, Fault) as fault:
-        result.unkept = f"{folder}: no record: {getattr(fault, 'strerror', None) or fault}"
+        result.unkept = f"{folder}: the record of this case can't be written: {getattr(fault, 'strerror', None) or fault}"
     return result

@@ -2,9 +2,9 @@
 classes too.
 
 Each trouble is a function here. Most of them *hurt* a node afterwards: they set its registers so that it is privileged,
-and the bot has to move it. Then they run the class until it is stable again. All raise `Fails` if the bot does
-something wrong or is too late, and `Stopped` after an interrupt. The *number* is that of the present configuration, and
-a move is *stale* if it has an earlier one.
+and the bot has to move it. Then these functions run the class until it is stable again. All raise `Fails` if the bot
+does something wrong or is too late, and `Stopped` after an interrupt. The *number* is that of the present
+configuration, and a move is *stale* if it has an earlier one.
 """
 from __future__ import annotations
 
@@ -100,7 +100,7 @@ def fault(attempt: Attempt) -> None:
     """Hurts several nodes of the bot, one after another."""
     for each in attempt.chance.sample(attempt.nodes_owned_alone(), min(MOST_FAULTS, len(attempt.nodes_owned_alone()))):
         node = hurt(attempt, [each])
-        attempt.until_stable(f"a fault at {node} isn't handled")
+        attempt.until_stable(f"a fault at node {node} isn't handled")
 
 
 def cut(attempt: Attempt) -> None:
@@ -114,7 +114,7 @@ def cut(attempt: Attempt) -> None:
     if attempt.case.piece:
         attempt.doing = f", after its connection was closed in the middle of a reply (a part of a reply doesn't count){ON}"
     node = hurt(attempt)
-    attempt.until_stable(f"a fault at {node}, after the bot's connection was closed, isn't handled")
+    attempt.until_stable(f"a fault at node {node}, after the bot's connection was closed, isn't handled")
     attempt.doing = ON
 
 
@@ -125,11 +125,11 @@ def rest(attempt: Attempt, seconds: float = RESTING) -> None:
     recent = attempt.heard.conduct.recent
     recent.clear()
     check_rest(attempt, seconds)
-    if missed := [str(node) for node in attempt.nodes() if node not in recent]:
-        raise Fails(f"the class was at rest for {seconds:g} seconds, and it didn't look at {' and '.join(missed)}: look at all nodes again and again, since a "
-                    "fault may come at any time")
+    if missed := [f"node {node}" for node in attempt.nodes() if node not in recent]:
+        raise Fails(f"the class was at rest for {seconds:g} seconds, and the bot didn't look at {' and '.join(missed)}: look at all nodes again and again, "
+                    "since a fault may come at any time")
     node = hurt(attempt)
-    attempt.until_stable(f"a fault at {node}, after {seconds:g} seconds at rest, isn't handled")
+    attempt.until_stable(f"a fault at node {node}, after {seconds:g} seconds at rest, isn't handled")
     attempt.doing = ON
 
 
@@ -142,11 +142,11 @@ def open_step(attempt: Attempt) -> None:
     """Hurts a node, and leaves the step open for LONG_OPEN seconds after the bot's move of this node was granted."""
     attempt.playing.is_held = True
     node = hurt(attempt)
-    until_granted(attempt, node, f"it didn't ask for {node}, which a fault made privileged,")
+    until_granted(attempt, node, f"it didn't ask for a move of node {node}, which a fault made privileged,")
     attempt.doing = f", while the step stayed open after a grant (the teacher closes it, maybe much later){ON}"
     attempt.run_for(LONG_OPEN)
     attempt.playing.is_held, attempt.doing = False, ON
-    attempt.until_stable(f"a fault at {node}, after which the step stayed open for long, isn't handled")
+    attempt.until_stable(f"a fault at node {node}, after which the step stayed open for long, isn't handled")
 
 
 def release(attempt: Attempt) -> None:
@@ -154,13 +154,13 @@ def release(attempt: Attempt) -> None:
     playing = attempt.playing
     playing.is_held = True
     node = hurt(attempt)
-    until_granted(attempt, node, f"it didn't ask for {node}, which a fault made privileged,")
+    until_granted(attempt, node, f"it didn't ask for a move of node {node}, which a fault made privileged,")
     attempt.run_for(LATE)
     playing.release(node)
-    until_granted(attempt, node, f"the teacher took its move of {node} back in configuration {playing.report['at']}, and it didn't ask again "
+    until_granted(attempt, node, f"the teacher took the bot's move of node {node} back in configuration {playing.report['at']}, and the bot didn't ask again "
                                  "(after a grant look again a little later: the number stays the same)")
     playing.is_held = False
-    attempt.until_stable(f"a fault at {node}, after which the teacher took a move back, isn't handled")
+    attempt.until_stable(f"a fault at node {node}, after which the teacher took a move back, isn't handled")
 
 
 def overtake(attempt: Attempt) -> None:
@@ -170,7 +170,7 @@ def overtake(attempt: Attempt) -> None:
     attempt.playing.overtakes = OVERTAKES
     for _ in range(ROUNDS):
         node = hurt(attempt)
-        attempt.until_stable(f"a fault at {node}, with a step closed between look and move, isn't handled")
+        attempt.until_stable(f"a fault at node {node}, with a step closed between look and move, isn't handled")
         if not attempt.playing.overtakes:
             break
     attempt.playing.overtakes, attempt.doing = 0, ON
@@ -183,7 +183,7 @@ def turn(attempt: Attempt) -> None:
     for _ in range(TURNS):
         attempt.playing.turns = 1
         node = hurt(attempt)
-        attempt.until_stable(f"a fault at {node}, with another fault between look and move, isn't handled")
+        attempt.until_stable(f"a fault at node {node}, with another fault between look and move, isn't handled")
     attempt.playing.turns, attempt.doing = 0, ON
 
 
@@ -193,15 +193,15 @@ def drop(attempt: Attempt) -> None:
     playing = attempt.playing
     playing.is_held = True
     node = hurt(attempt)
-    until_granted(attempt, node, f"it didn't ask for {node}, which a fault made privileged,")
+    until_granted(attempt, node, f"it didn't ask for a move of node {node}, which a fault made privileged,")
     attempt.run_for(LATE)
     other = next(each.id for each in reversed(attempt.case.made.nodes) if each.id != node)
     it = playing.program.ask(TEACHER, do="see", node=other)
     playing.fault(other, it["p"], it["m"])
-    until_granted(attempt, node, f"a fault at {other} dropped its granted move of {node}, and it didn't ask again (a grant is no step: look again, and "
-                         "ask if `chosen` is null)")
+    until_granted(attempt, node, f"a fault at node {other} dropped the bot's granted move of node {node}, and the bot didn't ask again (a grant is "
+                         "no step: look again, and ask if `chosen` is null)")
     playing.is_held = False
-    attempt.until_stable(f"a fault at {node}, whose granted move was dropped, isn't handled")
+    attempt.until_stable(f"a fault at node {node}, whose granted move was dropped, isn't handled")
 
 
 def link_nodes(attempt: Attempt, node: int, other: int) -> None:
@@ -213,10 +213,10 @@ def link_nodes(attempt: Attempt, node: int, other: int) -> None:
     for each in near_of(attempt, node):
         playing.fault(each, node if each == other else None, each != other)
     playing.fault(node, None, False)
-    until_granted(attempt, node, f"the teacher linked {node} and {other}, which points at {node}, and it didn't ask for the marriage (neighbours change in a "
-                         "run: take them from your last look)")
+    until_granted(attempt, node, f"the teacher linked node {node} with node {other}, which points at node {node}, and the bot didn't ask for the "
+                         "marriage (neighbours change in a run: take them from your last look)")
     playing.is_held = False
-    attempt.until_stable(f"a new link between {node} and {other} isn't handled")
+    attempt.until_stable(f"a new link between nodes {node} and {other} isn't handled")
 
 
 def cut_pair(attempt: Attempt, node: int, other: int) -> None:
@@ -229,9 +229,10 @@ def cut_pair(attempt: Attempt, node: int, other: int) -> None:
     playing.fault(node, other, True)
     until_looked(attempt, node)
     playing.relink("cut", node, other)
-    until_granted(attempt, node, f"the teacher cut the link between {node} and {other}, which were married, and it didn't ask for {node}")
+    until_granted(attempt, node, f"the teacher cut the link between nodes {node} and {other}, which were married, and the bot "
+                         f"didn't ask for a move of node {node}")
     playing.is_held = False
-    attempt.until_stable(f"a cut between {node} and {other} isn't handled (neighbours change in a run: take them from your last look)")
+    attempt.until_stable(f"a cut between nodes {node} and {other} isn't handled (neighbours change in a run: take them from your last look)")
 
 
 def relink(attempt: Attempt) -> None:
@@ -250,7 +251,7 @@ def memory(attempt: Attempt) -> None:
     attempt.doing = f", after the refusal `memory`, which means: ask again a little later{ON}"
     attempt.playing.short.update({"look": 2, "move": 1})
     node = hurt(attempt)
-    attempt.until_stable(f"a fault at {node}, after the refusal `memory`, isn't handled")
+    attempt.until_stable(f"a fault at node {node}, after the refusal `memory`, isn't handled")
     attempt.playing.short.clear()
     attempt.doing = ON
 
@@ -262,7 +263,7 @@ def seat(attempt: Attempt) -> None:
     attempt.playing.relay.end_all(relay.BUSY)
     attempt.until_greeted_again(before, "its seat went to a newcomer, so that its last line was `busy`")
     node = hurt(attempt)
-    attempt.until_stable(f"a fault at {node}, after the bot's seat went to a newcomer, isn't handled")
+    attempt.until_stable(f"a fault at node {node}, after the bot's seat went to a newcomer, isn't handled")
 
 
 def taken(attempt: Attempt) -> None:
@@ -277,7 +278,7 @@ def taken(attempt: Attempt) -> None:
     attempt.until_stable("after another owner moved a node, the class isn't stable")
     playing.forestalls = True
     node = hurt(attempt, shared)
-    attempt.until_stable(f"a fault at {node}, which another owner moved first, isn't handled")
+    attempt.until_stable(f"a fault at node {node}, which another owner moved first, isn't handled")
     playing.forestalls, attempt.doing = False, ON
 
 
@@ -290,7 +291,7 @@ def lost(attempt: Attempt) -> None:
     end = time.monotonic() + attempt.limits.seconds
     while not playing.has_lost:
         if time.monotonic() > end:
-            raise Fails(f"it didn't ask for {node}, which a fault made privileged, in {attempt.limits.seconds:g} seconds"
+            raise Fails(f"it didn't ask for a move of node {node}, which a fault made privileged, in {attempt.limits.seconds:g} seconds"
                         f"{playing.explain_silence(attempt.case.who)}{explaining.of_waiting(playing, attempt.case.who)}")
         attempt.turn()
     what = f"its server was gone for {GONE:g} seconds, and came back"
@@ -303,10 +304,10 @@ def lost(attempt: Attempt) -> None:
     try:
         playing.relay.resume()
     except OSError as error:
-        raise Fault(f"port {playing.relay.port}: {error.strerror}", 4) from None
+        raise Fault(f"port {playing.relay.port} can't be opened again: {error.strerror}", 4) from None
     attempt.until_greeted_again(before, what)
     playing.is_held = playing.loses = playing.has_lost = False
-    attempt.until_stable(f"a fault at {node}, after the server was gone for a moment, isn't handled")
+    attempt.until_stable(f"a fault at node {node}, after the server was gone for a moment, isn't handled")
 
 
 def turned_away(attempt: Attempt) -> None:
@@ -334,7 +335,7 @@ def over(attempt: Attempt) -> None:
     end = time.monotonic() + attempt.limits.seconds
     while not (how := attempt.kept.ended()):
         if time.monotonic() > end:
-            raise Fails(f"it got the line that says that the class is over, and still runs after {attempt.limits.seconds:g} seconds: a bot ends then")
+            raise Fails(f"it got the line that says that the class is over, and is still running after {attempt.limits.seconds:g} seconds: a bot ends then")
         if attempt.stop.is_set():
             raise Stopped
         attempt.playing.turn()
@@ -353,7 +354,7 @@ def until_looked(attempt: Attempt, node: int) -> None:
     at, end = attempt.playing.report["at"], time.monotonic() + attempt.limits.seconds
     while (node, at) not in attempt.heard.conduct.looked:
         if time.monotonic() > end:
-            raise Fails(f"it didn't look at {node} again in {attempt.limits.seconds:g} seconds{attempt.playing.explain_silence(attempt.case.who)}")
+            raise Fails(f"it didn't look at node {node} again in {attempt.limits.seconds:g} seconds{attempt.playing.explain_silence(attempt.case.who)}")
         attempt.turn()
 
 
@@ -383,12 +384,12 @@ def rules(attempt: Attempt) -> None:
         draw_registers(attempt, node, known)
         rule = privileged(attempt).get(node)
         if rule is not None:
-            until_granted(attempt, node, f"it didn't ask for {rule} at {node}, which is privileged,")
+            until_granted(attempt, node, f"it didn't ask for {rule} at node {node}, which is privileged,")
             continue
         until_looked(attempt, node)
         attempt.run_for(LOOKED)
     playing.is_held = False
-    attempt.until_stable(f"faults at {node} and its neighbours aren't handled")
+    attempt.until_stable(f"faults at node {node} and its neighbours aren't handled")
 
 
 EACH: dict[str, Callable[[Attempt], None]] = {

@@ -45,7 +45,7 @@ def all_of(lab: labs.Lab, script: list[str]) -> str:
     replies, said = out.decode("ascii"), error.decode(errors="replace").strip()
     count = replies.count("\n")
     if process.returncode != 0 or count != len(script):
-        raise Fault(said or f"{count} replies to {len(script)} lines", process.returncode or 4)
+        raise Fault(said or f"the program printed {count} replies to {len(script)} lines", process.returncode or 4)
     return replies
 
 

@@ -78,7 +78,7 @@ class Bench:
 
     def script(self) -> bytes:
         """Returns the script, a list of request lines, that repeats the current run over a new lab with this network.
-        It begins with the hellos and with setting all registers."""
+        The script begins with the hellos and with setting all registers."""
         hello = [(TEACHER, {"do": "hello", "name": "teacher", "key": "teacher"}), (STUDENT, {"do": "hello", "name": "student", "key": "student"})]
         own = [(who, request | {"at": request["at"] - self.before} if "at" in request else request) for who, request in self.requests]
         return "".join(f"{who} {json.dumps(request)}\n" for who, request in [*hello, *own]).encode()

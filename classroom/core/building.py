@@ -24,8 +24,8 @@ def lacks_program() -> bool:
 
 
 class Signals:
-    """Notes the last signal that would have ended this process, in `came`, and when it came. Replaces the handlers of
-    such signals until it is closed."""
+    """Handlers of the signals that would end this process, until `close` is called. The last such signal is noted in
+    `came`, with its time."""
 
     def __init__(self) -> None:
         """Replaces the handlers, except those of ignored signals."""
@@ -65,4 +65,4 @@ def build() -> int:
 def set_up() -> None:
     """Builds the program if this is a clone that lacks it. Raises `Fault` if the build fails."""
     if lacks_program() and build() != 0:
-        raise Fault("the program isn't built, so nothing was done")
+        raise Fault("the build of the program failed, so nothing was done")

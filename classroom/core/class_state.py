@@ -80,7 +80,7 @@ class ClassState:
 
 def write(folder: Path, state: dict[str, Any]) -> None:
     """Writes the state of a network, a JSON object of the form that this module documents, into the folder of its run.
-    If it can't be written, as on a full disk, the old file stays, and no error is raised."""
+    If the state can't be written, as on a full disk, the old file stays, and no error is raised."""
     new = folder / f"{STATE}.new"
     try:
         new.write_text(json.dumps(state, separators=(",", ":")) + "\n", encoding="utf-8")

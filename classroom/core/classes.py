@@ -61,7 +61,7 @@ class Class:
         except (ValueError, KeyError, TypeError, RecursionError, AttributeError):
             sound = False
         if not sound:
-            raise Fault(f"{folder / FILE}: it doesn't name the networks of a class", FAILED)
+            raise Fault(f"{folder / FILE}: this file doesn't name the networks of a class", FAILED)
         return made
 
     def is_valid(self) -> bool:
@@ -78,8 +78,8 @@ class Class:
         )
 
     def write(self, folder: Path) -> None:
-        """Writes the file into the folder of the class. If it can't be written, as on a full disk, the old file stays,
-        and no error is raised."""
+        """Writes the file into the folder of the class. If the file can't be written, as on a full disk, the old file
+        stays, and no error is raised."""
         new = folder / f"{FILE}.new"
         try:
             new.write_text(json.dumps(asdict(self)) + "\n", encoding="utf-8")
@@ -108,9 +108,9 @@ def name_of(files: Sequence[Path]) -> str:
 
 
 def make_folder(into: Path, networks: list[Network]) -> Path:
-    """Makes the folder of a class of these networks below `into`, and returns it. Its `class.json` names this process
-    as the one that holds the desks. The folder's name has the minute and the name of the class. Raises `Fault` if the
-    folder can't be made."""
+    """Makes the folder of a class of these networks below `into`, and returns it. The folder's `class.json` names this
+    process as the one that holds the desks. The folder's name has the minute and the name of the class. Raises `Fault`
+    if the folder can't be made."""
     folder = new_folder(into, Path(f"{name_of([Path(network.lab) for network in networks])}.toml"))
     Class(networks, Process.of(os.getpid())).write(folder)
     return folder

@@ -17,7 +17,7 @@ def seconds(word: str) -> float:
     """Returns the number of seconds that an argument of the command line spells. Raises `ArgumentTypeError` unless the
     number is above 0."""
     if not re.fullmatch(r"\d+(\.\d+)?", word) or float(word) == 0:
-        raise argparse.ArgumentTypeError(f"{word} isn't a number of seconds")
+        raise argparse.ArgumentTypeError(f"{word} isn't a number of seconds above 0")
     return float(word)
 
 

@@ -15,7 +15,7 @@ PATTERNS = {
 }
 # For each kind of a request's values in `client.KEYS`, the function that parses such a value.
 READ: dict[str, Callable[[str], object]] = {
-    "a number": int, "a number or null": lambda value: None if value in ("-", "null") else int(value),
+    "a whole number": int, "a whole number or null": lambda value: None if value in ("-", "null") else int(value),
     "true or false": lambda value: value == "true",
 }
 
@@ -74,7 +74,9 @@ class Word:
 
 
 WORDS = {
-    "close": Word("", "close the step: all chosen moves are applied at once", Action.ASK, (Button("close", "Close the step", "close"),)),
+    "close": Word("", "close the step: all chosen moves are applied at once", Action.ASK, (
+        Button("close", "Close the step", "close", "applies all chosen moves at once"),
+    )),
     "fault": Word("NODE NEIGHBOUR|null true|false", "set a node's p and m", Action.ASK, (
         Button("set", "Set them", "fault #picked #p #m", "a fault: gives the node these registers"),
     ), is_edit=True),
@@ -86,7 +88,9 @@ WORDS = {
                   (Button("break", "Longest start", "break", "sets all registers to a start from which a run takes long"),)),
     "link": Word("NODE NODE", "add a link", Action.ASK, is_edit=True, links=1),
     "cut": Word("NODE NODE", "remove a link", Action.ASK, is_edit=True, links=-1),
-    "release": Word("NODE", "take a chosen move back", Action.ASK, (Button("release", "Release its move", "release #picked", kind="button"),)),
+    "release": Word("NODE", "take back the chosen move of a node", Action.ASK, (
+        Button("release", "Release its move", "release #picked", "takes back the chosen move of this node", kind="button"),
+    )),
     "report": Word("", "print the matching, and how many events are left", Action.REPORT),
     "wait": Word("", "print for whom the class waits", Action.WAIT),
     "who": Word("", "print who is connected, and who hasn't moved yet", Action.WHO),
@@ -96,8 +100,11 @@ WORDS = {
                   (Button("every", "by the clock", "every #seconds", "closes a step at intervals of this many seconds"),)),
     "when-idle": Word("SECONDS", "close a step when no move came for this time", Action.CLOSE_BY,
                       (Button("when-idle", "when idle", "when-idle #seconds", "closes a step when no move came for this many seconds"),)),
-    "by-hand": Word("", "close a step only when you type `close`", Action.CLOSE_BY, (Button("by-hand", "by hand", "by-hand"),)),
-    "daemon": Word("WORD", "close steps as central, synchronous, random:P, schedule, adversary, when-idle:SECONDS, every:SECONDS, by-hand", Action.DAEMON),
+    "by-hand": Word("", "close a step only when you type `close`", Action.CLOSE_BY, (
+        Button("by-hand", "by hand", "by-hand", "closes a step only when you press Close the step, or type `close`"),
+    )),
+    "daemon": Word("WORD", "close steps by one of the daemons central, synchronous, random:P, schedule, adversary, when-idle:SECONDS, every:SECONDS, by-hand",
+                   Action.DAEMON),
     "page": Word("", "move the page on which you act to a new address; its old address no longer works", Action.PAGE),
     "key": Word("NAME", "give a student a new key, while the class continues", Action.KEY),
     "help": Word("", "list these words", Action.HELP),
@@ -109,9 +116,9 @@ BY_LINKS = {it.links: word for word, it in WORDS.items() if it.links}  # the com
 
 
 def request(word: str, values: Sequence[str]) -> dict[str, Any]:
-    """Returns the values of the request that the command `word` sends to the server. It has to be a command whose
-    action is `ASK`. `values` are its arguments, as they are typed or as a line of the journal has them. Raises
-    `ValueError` if an argument can't be read."""
+    """Returns the values of the request that the command `word` sends to the server. The command's action has to be
+    `ASK`. `values` are its arguments, as they are typed or as a line of the journal has them. Raises `ValueError` if an
+    argument can't be read."""
     return {"do": word} | {key: READ[kind](value) for (key, kind), value in zip(KEYS[word].items(), values)}
 
 

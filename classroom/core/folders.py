@@ -1,6 +1,7 @@
 """The folders of runs: making a new one, the record of a run that continues, and the lab and journal of given runs.
 
-A *run* is a class over one network. Its *lab* defines the network and its students, and its *journal* has its events.
+A *run* is a class over one network. The *lab* of a run defines the network and its students, and the *journal* has the
+run's events.
 """
 from __future__ import annotations
 
@@ -25,8 +26,9 @@ FILES = (RECORD, f"{RECORD}.new", STATE, f"{STATE}.new", LAYOUT, f"{LAYOUT}.new"
 
 
 def new_folder(into: Path, lab: Path) -> Path:
-    """Makes a new folder below `into` that no other user can read, and returns it. Its name has the minute and the name
-    of the lab, but in the folder of a class only the lab's name. Raises `Fault` if the folder can't be made."""
+    """Makes a new folder below `into` that no other user can read, and returns it. The folder's name has the minute and
+    the name of the lab, but in the folder of a class only the lab's name. Raises `Fault` if the folder can't be
+    made."""
     stamp = lab.stem if (into / CLASS).is_file() else f"{datetime.now():%Y-%m-%dT%H%M}-{lab.stem}"
     for number in range(1, 1000):
         folder = into / (stamp if number == 1 else f"{stamp}-{number}")
@@ -37,7 +39,7 @@ def new_folder(into: Path, lab: Path) -> Path:
             continue
         except OSError as error:
             raise Fault(f"{folder}: {error.strerror}; name another folder by --into FOLDER", 4) from None
-    raise Fault(f"{into}: no name is free for a folder", 4)
+    raise Fault(f"{into}: no name for a new folder is free there; name another folder by --into FOLDER", 4)
 
 
 def of_folder(folder: Path) -> Run:
@@ -71,7 +73,7 @@ class Process:
 
     @staticmethod
     def of(number: int) -> Process:
-        """Returns the process that has the number now. Its start time is empty if there is no such process or it has
+        """Returns the process that has the number now. The start time is empty if there is no such process or it has
         ended."""
         try:
             stat = Path(f"/proc/{number}/stat").read_text(encoding="utf-8", errors="replace")
@@ -136,13 +138,13 @@ class Record:
 
     @staticmethod
     def lacking(folder: Path, port: int) -> Record:
-        """Returns a record for the folder of a run that has none, as the first version 0.9.0 left them. Its students'
-        port is `port`, and its other values are those with which a run begins by default."""
+        """Returns a record for the folder of a run that has none, as the first version 0.9.0 left them. The record's
+        port for students is `port`, and its other values are those with which a run begins by default."""
         return Record(str(folder / "lab.toml"), port, 0, None, "when-idle:2", None, Process(0, ""), Process(0, ""))
 
     def write(self, folder: Path) -> None:
-        """Writes the record into the folder. If it can't be written, as on a full disk, the old file stays, and no
-        error is raised."""
+        """Writes the record into the folder. If the record can't be written, as on a full disk, the old file stays, and
+        no error is raised."""
         new = folder / f"{RECORD}.new"
         try:
             new.write_text(json.dumps(asdict(self)) + "\n", encoding="utf-8")

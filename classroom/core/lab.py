@@ -95,14 +95,14 @@ def document(path: Path) -> dict[str, Any]:
     except OSError as error:
         raise Fault(f"{path}: {error.strerror}", 4) from None
     except UnicodeDecodeError:
-        raise Fault(f"{path}: the bytes aren't UTF-8", 2) from None
+        raise Fault(f"{path}: this file isn't text in UTF-8: save it as UTF-8", 2) from None
     except tomllib.TOMLDecodeError as error:
-        raise Fault(f"{path}: Python's TOML reader doesn't read it: {error}", 2) from None
+        raise Fault(f"{path}: Python's TOML reader refuses this file: {error}", 2) from None
 
 
 def unread(path: Path, error: str) -> str:
-    """Returns an error line about a file that the proved program couldn't read. It has the system's reason if this
-    process can't open the file either, and otherwise `error`, the program's own reason."""
+    """Returns an error line about a file that the proved program couldn't read. The line has the system's reason if
+    this process can't open the file either, and otherwise `error`, the program's own reason."""
     try:
         with path.open("rb"):
             return f"{path}: {error}"
@@ -179,6 +179,6 @@ def write_new(path: Path, content: str) -> None:
             path.unlink()
             raise
     except FileExistsError:
-        raise Fault(f"{path} is there already, and isn't overwritten") from None
+        raise Fault(f"{path} is there already, and isn't overwritten: name another file, or move this one away") from None
     except OSError as error:
         raise Fault(f"{path}: {error.strerror}", 4) from None

@@ -67,7 +67,7 @@ def parsed(text: str) -> Limits:
 
 def another(what: str) -> Fault:
     """Returns the fault to raise if the program is of another version. `what` is what that version prints."""
-    return Fault(f"mml is of another version, which prints {what}: build it again", FAILED)
+    return Fault(f"mml is of another version, which prints {what}: `./mml build` builds it again", FAILED)
 
 
 @cache

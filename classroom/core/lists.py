@@ -93,7 +93,7 @@ def read(path: Path, words: argparse.Namespace) -> People:
     else:
         found = People([([], Person(line.strip())) for line in text.splitlines() if line.strip()])
     if not found.people:
-        raise Fault(f"{path}: no names")
+        raise Fault(f"{path}: this list has no names")
     return found
 
 

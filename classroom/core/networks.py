@@ -54,8 +54,8 @@ def random_links(count: int, links: int, chance: random.Random) -> Links:
 
 def family(word: str, count: int | None, students: int, chance: random.Random) -> tuple[int, Links]:
     """Returns the number of nodes and the links of the network that the argument `word` names, such as `cycle` or
-    `grid:3x2`. Its nodes are numbered from 1. If the argument has no size, there are `count` nodes, or as many as
-    `students` if `count` is None. `chance` makes random choices. Raises `Fault` if there is no such network."""
+    `grid:3x2`. The network's nodes are numbered from 1. If the argument has no size, there are `count` nodes, or as
+    many as `students` if `count` is None. `chance` makes random choices. Raises `Fault` if there is no such network."""
     sized = re.fullmatch(r"grid:(\d{1,3})x(\d{1,3})|random:(\d{1,3}):(\d{1,5})", word)
     if sized and sized[1]:
         width, height = int(sized[1]), int(sized[2])
@@ -116,7 +116,7 @@ def from_file(path: Path, count: int | None) -> tuple[list[int], Links]:
     except OSError as error:
         raise Fault(f"{path}: {error.strerror}", 4) from None
     except UnicodeDecodeError:
-        raise Fault(f"{path}: the bytes aren't UTF-8") from None
+        raise Fault(f"{path}: this file isn't text in UTF-8: save it as UTF-8") from None
     for number, line in enumerate(lines, 1):
         words = line.partition("#")[0].replace(",", " ").replace("-", " ").split()
         if not words:
@@ -137,13 +137,13 @@ def wrong_link(words: list[str], seen: dict[frozenset[int], int]) -> str | None:
     """Returns what is wrong with the words of a line with a link, or None if nothing is. `seen` has the links of
     earlier lines, with the numbers of these lines."""
     if len(words) != 2 or not all(word.isascii() and word.isdecimal() for word in words):
-        return "not two numbers"
+        return "a link is two numbers"
     (a, b), most = map(int, words), limits.allowed().identifier
     if not (1 <= a <= most and 1 <= b <= most):
-        return f"a node is 1 to {most}"
+        return f"the number of a node is 1 to {most}"
     if a == b:
-        return "a node isn't linked to itself"
-    return f"these are linked in line {seen[frozenset((a, b))]} already" if frozenset((a, b)) in seen else None
+        return "a node can't be linked to itself"
+    return f"these nodes are linked in line {seen[frozenset((a, b))]} already" if frozenset((a, b)) in seen else None
 
 
 def enough(word: str, nodes: int) -> str:

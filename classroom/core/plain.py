@@ -1,5 +1,5 @@
 """Plain files in a folder that other users may fill. A plain file is a regular one, neither a pipe nor a device, so
-that reading it never waits. It is read up to a limit only."""
+that reading it never waits. Such a file is read up to a limit only."""
 from __future__ import annotations
 
 import os
@@ -38,7 +38,7 @@ def read(path: Path, most: int) -> bytes:
         is_large = os.fstat(it.fileno()).st_size > most
         content = b"" if is_large else it.read(most + 1) or b""
     if is_large or len(content) > most:
-        raise Fault(f"{path}: it has more than {most} bytes", FAILED)
+        raise Fault(f"{path}: this file has more than {most} bytes", FAILED)
     return content
 
 

@@ -32,8 +32,8 @@ def begin(words: Sequence[str | Path], **how: Any) -> subprocess.Popen[bytes]:
 
 def run(words: Sequence[str | Path], given: bytes = b"", seconds: float | None = None, **how: Any) -> subprocess.CompletedProcess[bytes]:
     """Starts a process as `begin` does, with `given` as its input, waits for its end, and returns its status and its
-    output. If it takes longer than `seconds`, kills it and raises `TimeoutExpired`. `how` has more arguments of
-    `Popen`."""
+    output. If the process takes longer than `seconds`, kills it and raises `TimeoutExpired`. `how` has more arguments
+    of `Popen`."""
     source = subprocess.PIPE if given else subprocess.DEVNULL
     with begin(words, stdin=source, stdout=subprocess.PIPE, stderr=subprocess.PIPE, **how) as process:
         try:

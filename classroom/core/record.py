@@ -51,8 +51,8 @@ def json_object(text: bytes) -> dict[str, Any]:
 
 
 class Reader:
-    """Splits the bytes of a seat's file, which may still grow, into entries. Skips lines that belong to no entry, since
-    `verify` reports them."""
+    """A reader that splits the bytes of a seat's file, which may still grow, into entries. Lines that belong to no
+    entry are skipped, since `verify` reports them."""
 
     def __init__(self) -> None:
         self.rest = b""
@@ -98,7 +98,7 @@ def begun(folder: Path) -> int:
     with this number is missing or wrong."""
     number = plain.number(plain.read(folder / "begun", plain.MOST_KEPT).rstrip(b"\n"))
     if number is None:
-        raise Fault(f"{folder / 'begun'}: it has no number of events", 4)
+        raise Fault(f"{folder / 'begun'}: this file has no number of events", 4)
     return number
 
 

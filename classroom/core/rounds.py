@@ -17,8 +17,8 @@ def counts_told(moves: int, closes: int, rounds: int, most: Bounds | None) -> st
 
 
 class Recovery:
-    """Counts moves, closes and rounds close by close while a run goes on. The program counts those of a whole journal
-    (`classroom.core.tally`)."""
+    """The moves, closes and rounds of a recovery, counted close by close while a run goes on. The program counts those
+    of a whole journal (`classroom.core.tally`)."""
 
     def __init__(self, privileged: Iterable[int]) -> None:
         """Begins to count. `privileged` are the nodes that can move at the beginning."""

@@ -22,9 +22,9 @@ def short(written: str) -> str:
 
 
 def display_names(lab: Lab) -> dict[str, str]:
-    """Returns the name to show for each student, by the name in the lab. It is the short form of the name in the class
-    list, with a number if several students have the same. A student without a written name keeps the name in the
-    lab."""
+    """Returns the name to show for each student, by the name in the lab. The name to show is the short form of the name
+    in the class list, with a number if several students have the same. A student without a written name keeps the name
+    in the lab."""
     found = {name: short(lab.people[name].written) if name in lab.people and lab.people[name].written != name else name
              for name in lab.students}
     count = Counter(found.values())
@@ -43,7 +43,7 @@ def numbers(lab: Lab) -> dict[str, str]:
 
 
 class ShownNames:
-    """Replaces the names of a lab's students by the names that are shown."""
+    """A replacement of the names of a lab's students by the names that are shown."""
 
     def __init__(self, names: Mapping[str, str]) -> None:
         """`names` has the name to show for each name in the lab. Names that it lacks aren't replaced."""

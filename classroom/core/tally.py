@@ -138,8 +138,8 @@ def read(text: str) -> Tally:
 
 
 def by_owner(words: list[str]) -> dict[str, Counter[str]]:
-    """Returns the number of moves of each rule, by owner, from the words of a line. They are a name and four numbers
-    for each owner."""
+    """Returns the number of moves of each rule, by owner, from the words of a line. The words are a name and four
+    numbers for each owner."""
     return {words[at]: by_rule(words[at + 1 : at + 5]) for at in range(0, len(words), 5)}
 
 

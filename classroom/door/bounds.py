@@ -1,5 +1,5 @@
-"""The limits of a door, the port at which students on other machines connect. They bound the connections, the TLS
-handshakes and the bytes per second, of each address and of all together.
+"""The limits of a door, the port at which students on other machines connect. The limits are on the connections, the
+TLS handshakes and the bytes per second, of each address and of all together.
 
 The *origin* of a connection is the text by which it is counted: an IPv4 address, or the network of an IPv6 address.
 """
@@ -55,7 +55,7 @@ class Handshake:
 
 
 class Bounds:
-    """Counts connections and handshakes, for each origin and in all."""
+    """The numbers of connections and handshakes, for each origin and in all."""
 
     def __init__(self) -> None:
         self.connections: Counter[str] = Counter()
@@ -78,8 +78,8 @@ class Bounds:
             del self.connections[origin], self.meters[origin]
 
     def begin(self, it: Handshake) -> None:
-        """Adds a handshake that begins. If its origin has too many, ends the oldest one of that origin. If there are
-        too many in all, ends the oldest one of the origin with the most."""
+        """Adds a handshake that begins. If the handshake's origin has too many, ends the oldest one of that origin. If
+        there are too many in all, ends the oldest one of the origin with the most."""
         counts = Counter(each.origin for each in self.handshakes)
         if counts[it.origin] >= HANDSHAKES_EACH:
             self.drop(it.origin)

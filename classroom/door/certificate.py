@@ -67,11 +67,11 @@ def fingerprint(file: Path) -> str:
     except OSError as error:
         raise Fault(f"{file}: {error.strerror}", FAILED) from None
     if found is None:
-        raise Fault(f"{file}: it has no certificate", FAILED)
+        raise Fault(f"{file}: this file has no certificate", FAILED)
     try:
         return hashlib.sha256(ssl.PEM_cert_to_DER_cert(found[0])).hexdigest()
     except ValueError as error:
-        raise Fault(f"{file}: its certificate can't be read: {error}", FAILED) from None
+        raise Fault(f"{file}: the certificate in this file can't be read: {error}", FAILED) from None
 
 
 def context(file: Path) -> ssl.SSLContext:
@@ -84,5 +84,5 @@ def context(file: Path) -> ssl.SSLContext:
     try:
         it.load_cert_chain(file)
     except (OSError, ValueError) as error:
-        raise Fault(f"{file}: the file has no key that fits its certificate: {error}", FAILED) from None
+        raise Fault(f"{file}: this file has no key that fits its certificate: {error}", FAILED) from None
     return it

@@ -1,5 +1,5 @@
 """Opens a door for the runs of a class, and restarts its process if it ends too early. A *door* is a TLS port at which
-students on other machines connect. It has a folder with its data. A *slip* is a file with what a student needs to
+students on other machines connect. A door has a folder with its data. A *slip* is a file with what a student needs to
 connect."""
 from __future__ import annotations
 
@@ -92,10 +92,10 @@ class OpenDoor:
         for _ in range(TIMES):
             if self.child.wait() == 0 or self.closes.is_set():
                 return self.listener.close()
-            self.tell(f"the door's process has ended, status {self.child.returncode}: it is opened again")
+            self.tell(f"the door's process has ended, status {self.child.returncode}: the door is opened again")
             self.child = self.start_process()
         self.child.wait()
-        self.tell(f"the door is closed: its process ends again and again: {self.folder / 'door.txt'}")
+        self.tell(f"the door stays closed, since its process has ended several times; the reason is in {self.folder / 'door.txt'}")
 
     def close(self) -> None:
         """Closes the door once the runs of all its networks have ended. Doesn't wait for that."""

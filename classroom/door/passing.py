@@ -1,6 +1,6 @@
 """One connection at a door, from its TLS handshake to its end. The *door* is the port at which students on other
-machines connect. It forwards the bytes of a program to the students' port of a network, and a browser's request to the
-server of a page. An *origin* is the address by which connections are counted."""
+machines connect. The door forwards the bytes of a program to the students' port of a network, and a browser's request
+to the server of a page. An *origin* is the address by which connections are counted."""
 from __future__ import annotations
 
 import asyncio
@@ -90,8 +90,8 @@ class Passing:
             return b""
 
     async def serve(self) -> None:
-        """Forwards the connection until it ends. If its first byte is that of an HTTP method, the other end is a page.
-        Otherwise it is the students' port of the network that the handshake named."""
+        """Forwards the connection until it ends. If the connection's first byte is that of an HTTP method, the other
+        end is a page. Otherwise the other end is the students' port of the network that the handshake named."""
         first = await self.first_bytes()
         if not first:
             return

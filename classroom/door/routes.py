@@ -1,6 +1,6 @@
 """The networks of a class that a door forwards connections to, and the ports of each, which are in the folder of its
-run. A *door* is the port at which students on other machines connect. Its folder has a file for each network, a
-*route*."""
+run. A *door* is the port at which students on other machines connect. The folder of a door has a file for each network,
+a *route*."""
 from __future__ import annotations
 
 import json

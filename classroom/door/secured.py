@@ -1,7 +1,7 @@
 """A TLS connection whose two directions end separately.
 
-asyncio's own TLS closes a connection as soon as the other end has announced that it sends nothing more. It drops the
-bytes that weren't sent yet. Here the other end gets all of them.
+asyncio's own TLS closes a connection as soon as the other end has announced that it sends nothing more. asyncio then
+drops the bytes that weren't sent yet. Here the other end gets all of them.
 """
 from __future__ import annotations
 
@@ -105,6 +105,6 @@ class Secured:
         self.writer.transport.abort()
 
     def drop(self) -> None:
-        """Closes the connection at once, without the end of TLS. This is for a connection whose handshake has
+        """Closes the connection at once, without the end of TLS. The function is for a connection whose handshake has
         failed."""
         self.writer.close()

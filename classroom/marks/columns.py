@@ -16,6 +16,7 @@ MORE = ("nodes", "network")  # the columns after those of earlier versions
 COLUMNS = {
     "journal": "the journal that the row is read from",
     "student": "the student's name in the lab",
+    "id": "the student's id in the class list (only with --total)",
     "granted": "moves that were granted",
     "applied": "moves that a close applied; a fault, a link, a cut or a release drops some that were granted",
     **{rule: f"applied moves by the rule {rule}" for rule in RULES},
@@ -53,7 +54,7 @@ def listing() -> str:
 def for_rules(is_total: bool) -> list[str]:
     """Returns the names that a rule can use: those of totals over runs if `is_total` is set, and otherwise those of a
     single run."""
-    left_out = {"journal", *(ONLY_RUNS if is_total else ONLY_TOTALS)}
+    left_out = {"journal", "id", *(ONLY_RUNS if is_total else ONLY_TOTALS)}
     return [name for name in [*COLUMNS, *FOR_RULES] if name not in left_out]
 
 

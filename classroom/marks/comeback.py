@@ -21,7 +21,7 @@ MOST_COUNTED = 50  # the most faults, links and cuts of a run for which its reco
 
 
 class Comeback:
-    """Counts recoveries event by event."""
+    """A counter of recoveries, event by event."""
 
     def __init__(self, lab: labs.Lab) -> None:
         """Begins with the network of a lab, as it is before the first event."""
@@ -58,7 +58,7 @@ class Comeback:
 
 
 class Recount(Replay):
-    """Finds the recoveries in a journal by asking the program for its events again."""
+    """A search for the recoveries in a journal, which asks the program for the journal's events again."""
 
     def __init__(self, lab: labs.Lab, events: list[Event], counted: Comeback) -> None:
         """`counted` counts the recoveries as the events of the lab's journal come."""
@@ -102,12 +102,12 @@ class Recount(Replay):
 
 def told(lab: labs.Lab, events: list[Event]) -> str:
     """Returns the line with the counts of the recovery that ends with the last of these events, by the program's tally
-    of them. They are the first events of a run over the lab. Raises `Fault` if the program is too old to count
+    of them. The events are the first ones of a run over the lab. Raises `Fault` if the program is too old to count
     rounds."""
     journal = "".join(f"{event.place} {event.at} {' '.join(event.words)}\n" for event in events)
     found = tallies.of_texts(labs.text(lab), journal)
     if found.rounds is None:
-        raise Fault("mml is of an older version, which counts no rounds: build it again", 4)
+        raise Fault("mml is of an older version, which counts no rounds: `./mml build` builds it again", 4)
     again = " again" if found.faults or found.links or found.cuts else ""
     return f"stable{again} after {counts_told(*found.since, found.rounds, found.bounds)}"
 

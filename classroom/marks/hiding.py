@@ -16,7 +16,7 @@ WORDS = frozenset(("do", "with", *RULES, *KEYS, *(key for keys in KEYS.values() 
 
 
 class Hider:
-    """Hides the keys of a lab in texts."""
+    """An object that hides the keys of a lab in texts."""
 
     def __init__(self, keys: Iterable[str], names: Iterable[str]) -> None:
         """`keys` are the texts to hide. `names` are texts that are shown even if they equal a key."""

@@ -117,9 +117,9 @@ def rows_of(every: list[Said], name: str, hider: Hider) -> list[Row]:
 
 def beginning(said: Session) -> tuple[int, int]:
     """Returns how many entries a session has up to its granted hello, and the most events that can have come before
-    these entries. The second number is that of the entry after the hello, or 0 if there is none. It is needed because
-    the session didn't see the journal before the hello, so its first entries have the place of the seat's last
-    session."""
+    these entries. The second number is that of the entry after the hello, or 0 if there is none. The second number is
+    needed because the session didn't see the journal before the hello, so its first entries have the place of the
+    seat's last session."""
     count = next((index for index, entry in enumerate(said, 1) if not entry.mark and entry.told().get("ok") == "hello"), len(said))
     return count, said[count].place if count < len(said) else 0
 
@@ -265,7 +265,7 @@ def history(words: argparse.Namespace) -> int:
         raise Fault(f"{run}: no student {name}; there are: {', '.join(lab.students)}")
     with vouched(run) as parts:
         if not parts:
-            raise Fault(f"{run}: it has no record")
+            raise Fault(f"{run}: this run has no record of the lines that were sent")
         refused = [part for part in parts if part.status]
         if refused:
             raise Fault(refused[0].told(), refused[0].status)

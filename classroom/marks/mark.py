@@ -144,10 +144,11 @@ def marked(lab_file: Path, journal: Path) -> Run:
     lab = labs.read(lab_file)
     found = split(journal.read_text(encoding="ascii"))
     if len(found) != told.events:
-        raise Fault(f"{journal}: its run is still going on: end it first", 4)
+        raise Fault(f"{journal}: this run is still going on: end the run first", 4)
     report = replay.report(lab, found)
     if report["stable"] != told.stable:
-        raise Fault(f"{journal}: tally and report disagree, which is an error of the program: don't use these marks, and report it", 4)
+        raise Fault(f"{journal}: the program's `tally` and `report` disagree, which is an error of the program: don't use these marks, "
+                    "and report this error to its developers", 4)
     return Run(lab_file, journal, lab, report["pairs"], told, recorded(journal))
 
 
@@ -161,8 +162,8 @@ def recorded(journal: Path) -> list[Recorded]:
 
 
 def asked_in(part: Vouched) -> RecordCounts | None:
-    """Returns the counts of a record's lines, or None if the record is refused. If its server hasn't ended, the counts
-    are marked as incomplete for all students."""
+    """Returns the counts of a record's lines, or None if the record is refused. If the record's server hasn't ended,
+    the counts are marked as incomplete for all students."""
     asked = tally.of(part.lab, part.journal, record=part.copy).asked if part.status == 0 else None
     if asked is None or part.has_ended:
         return asked
@@ -170,7 +171,8 @@ def asked_in(part: Vouched) -> RecordCounts | None:
 
 
 def refusal(journal: Path, error: str) -> str:
-    """Returns the audit's `error` about a journal as a text. If it names a line of the journal, that line is added."""
+    """Returns the audit's `error` about a journal as a text. If the error names a line of the journal, that line is
+    added."""
     line = re.match(r"audit: line (\d+)", error)
     if line is None:
         return f"{journal}: {error}"
@@ -260,7 +262,7 @@ def mark(words: argparse.Namespace) -> int:
         rows_of, left = totals.by_roster(students, roster, rule)
         totals.write(rows_of, roster.delimiter)
         for name in left:
-            print(printable(f"class: {words.roster} has no {name}"), file=sys.stderr)
+            print(printable(f"class: {words.roster} has no student {name}"), file=sys.stderr)
         return WARNED if left or refused or differ else 0
     if words.total:
         totals.write(totals.by_labs(students, rule))

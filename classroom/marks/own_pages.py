@@ -1,5 +1,5 @@
-"""The page of each student's own run, which is written into the run's folder at its end. It shows the student's lines
-beside the player."""
+"""The page of each student's own run, which is written into the run's folder at its end. The page shows the student's
+lines beside the player."""
 from __future__ import annotations
 
 from collections.abc import Callable

@@ -1,5 +1,5 @@
-"""The reasons why moves of a run were denied, which are the parts of the guards that failed. They come from the plain
-model (`model/`), a second program with the same rules."""
+"""The reasons why moves of a run were denied, which are the parts of the guards that failed. The reasons come from the
+plain model (`model/`), a second program with the same rules."""
 from __future__ import annotations
 
 from collections.abc import Sequence

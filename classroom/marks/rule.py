@@ -84,18 +84,18 @@ def shown(value: Value) -> str:
 
 
 def read(path: Path, columns: Sequence[str]) -> Rule:
-    """Returns the rule in a file. Its expressions may use the names in `columns`. Raises `Fault` if the file can't be
-    read or has a wrong line."""
+    """Returns the rule in a file. The expressions in it may use the names in `columns`. Raises `Fault` if the file
+    can't be read or has a wrong line."""
     try:
         lines = plain.read(path, MOST_BYTES).decode("utf-8-sig").splitlines()
     except UnicodeDecodeError:
-        raise Fault(f"{path}: the bytes aren't UTF-8") from None
+        raise Fault(f"{path}: this file isn't text in UTF-8: save it as UTF-8") from None
     return parsed(path, lines, columns)
 
 
 def parsed(path: Path, lines: Sequence[str], columns: Sequence[str]) -> Rule:
-    """Returns the rule in these lines of the file at `path`. Its expressions may use the names in `columns`. Raises
-    `Fault` with the first wrong line, or if there are no or too many lines."""
+    """Returns the rule in these lines of the file at `path`. The expressions in them may use the names in `columns`.
+    Raises `Fault` with the first wrong line, or if there are no or too many lines."""
     known, found = list(columns), list[Line]()
     for number, text in enumerate(lines, 1):
         try:
@@ -108,18 +108,18 @@ def parsed(path: Path, lines: Sequence[str], columns: Sequence[str]) -> Rule:
         known.append(line.name)
         found.append(line)
     if not 1 <= len(found) <= MOST_LINES:
-        raise Fault(f"{path}: a rule has 1 to {MOST_LINES} lines, as: pass = applied >= 3")
+        raise Fault(f"{path}: a rule has 1 to {MOST_LINES} lines, such as pass = applied >= 3")
     return Rule(path, found)
 
 
 def line_of(tokens: list[tuple[str, str]], number: int, known: Sequence[str]) -> Line:
-    """Returns the line of a rule that consists of these tokens. Its expression may use the names in `known`. Raises
-    `Wrong` if there is an error in it."""
+    """Returns the line of a rule that consists of these tokens. The line's expression may use the names in `known`.
+    Raises `Wrong` if there is an error in it."""
     if len(tokens) < 3 or tokens[0][0] != "name" or tokens[1] != ("sign", "="):
         raise Wrong("write NAME = EXPRESSION")
     name = tokens[0][1]
     if name in known or name in KEYWORDS or name in FUNCTIONS:
-        raise Wrong(f"{name} is a column, an earlier line or a word of rules already")
+        raise Wrong(f"{name} is already the name of a column, of an earlier line or of a word of rules: take another name")
     parser = Parser(tokens[2:], known)
     expression = parser.choice()
     if parser.tokens:
@@ -167,7 +167,7 @@ class Parser:
         """Reads `A if CONDITION else B`, or an expression without `if`."""
         self.depth += 1
         if self.depth > MOST_DEPTH:
-            raise Wrong(f"it is nested more than {MOST_DEPTH} deep")
+            raise Wrong(f"the line is nested more than {MOST_DEPTH} deep")
         first = self.joined("or")
         if self.take("if"):
             condition = self.joined("or")
@@ -202,7 +202,7 @@ class Parser:
         sign = self.take("<", "<=", ">", ">=", "==", "!=")
         found = comparison(sign, left, self.summed()) if sign else left
         if sign and self.take("<", "<=", ">", ">=", "==", "!="):
-            raise Wrong("one comparison at a time: a < b and b < c")
+            raise Wrong("a < b < c can't be written: write a < b and b < c")
         return found
 
     def summed(self) -> Expression:
@@ -230,7 +230,7 @@ class Parser:
     def single(self) -> Expression:
         """Reads a number, a text, a name, a call, or an expression in parentheses."""
         if not self.tokens:
-            raise Wrong("it ends too early")
+            raise Wrong("the line ends too early")
         if self.take("("):
             found = self.choice()
             self.expect(")")
@@ -260,7 +260,7 @@ class Parser:
     def named(self, name: str) -> Expression:
         """Returns the expression for the column or earlier line with that name."""
         if name not in self.names:
-            raise Wrong(f"no column {name}; mark --columns prints them")
+            raise Wrong(f"no column {name}; mark --columns prints the columns")
         return lambda row: row[name]
 
 
@@ -279,7 +279,7 @@ def number(value: Value) -> Fraction:
 def truth(value: Value) -> bool | None:
     """Returns a value as true, false or, if it is unknown, None. Raises `Wrong` for a number or a text."""
     if value is not None and not isinstance(value, bool):
-        raise Wrong(f"{shown(value)} is neither yes nor no; a comparison is, as: applied >= 1")
+        raise Wrong(f"{shown(value)} is neither yes nor no; write a comparison, such as applied >= 1")
     return value
 
 
@@ -294,8 +294,8 @@ def conditional(condition: Expression, first: Expression, other: Expression) -> 
 
 
 def logical(left: Expression, right: Expression, is_or: bool) -> Expression:
-    """Returns the expression `left or right` if `is_or` is set, and otherwise `left and right`. Its value is known if
-    one side decides it."""
+    """Returns the expression `left or right` if `is_or` is set, and otherwise `left and right`. The value of this
+    expression is known if one side decides it."""
     def value(row: Row) -> Value:
         """Returns the value of the expression with `or` or `and` for a row of marks."""
         sides = truth(left(row)), truth(right(row))
@@ -316,7 +316,8 @@ def negation(inner: Expression, is_negated: bool) -> Expression:
 
 
 def of_two(left: Expression, right: Expression, made: Callable[[Known, Known], Known]) -> Expression:
-    """Returns the expression that applies `made` to the values of two expressions. It is unknown if one of them is."""
+    """Returns the expression that applies `made` to the values of two expressions. The result is unknown if one of
+    these values is."""
     def value(row: Row) -> Value:
         """Returns the result of `made` for a row of marks, or None if one of the two values is unknown."""
         one, other = left(row), right(row)
@@ -355,8 +356,8 @@ def arithmetic(sign: str, left: Expression, right: Expression) -> Expression:
 
 
 def called(name: str, given: Sequence[Expression]) -> Expression:
-    """Returns the expression that calls the function `name` of FUNCTIONS on these arguments. Its value is unknown if
-    one of theirs is."""
+    """Returns the expression that calls the function `name` of FUNCTIONS on these arguments. The value of the call is
+    unknown if that of an argument is."""
     def value(row: Row) -> Value:
         """Returns the value of the call for a row of marks, or None if an argument is unknown. Raises `Wrong` if an
         argument isn't a number."""

@@ -44,7 +44,7 @@ class Vouched:
 
     @property
     def journal(self) -> Path:
-        """Returns the path of the copy of the journal. The copy ends where the record ends."""
+        """Returns the path of the copy of the journal. The copy has the events up to the end of the record."""
         return self.copy / "journal"
 
     @property
@@ -70,8 +70,9 @@ def has_ended(run: Path) -> bool:
 
 def entries_up_to(text: bytes, events: int) -> bytes:
     """Returns the complete entries at the beginning of a seat's text that belong to the first `events` events of the
-    journal. This is seen from the numbers of events before the entries, and by the events that they granted. Later
-    entries belong to a run that is still going on. Searches from the end, because the numbers of events never fall."""
+    journal. Which entries belong to them is seen from the numbers of events before the entries, and by the events that
+    they granted. Later entries belong to a run that is still going on. Searches from the end, because the numbers of
+    events never fall."""
     end = text.rfind(b"\n") + 1
     while end:
         start = text.rfind(b"\n", 0, end - 1) + 1
@@ -114,8 +115,8 @@ def is_open(seat: Path) -> bool:
 
 
 def mark_incomplete(into: Path) -> None:
-    """Marks the copy of a record as one in which entries may be missing. For this it appends a session that was cut off
-    to a seat, if possible to one without an open session."""
+    """Marks the copy of a record as one in which entries may be missing. Appends a session that was cut off to a seat,
+    if possible to one without an open session."""
     events = (into / "journal").read_bytes().count(b"\n")
     for file in sorted(seats(into), key=is_open)[:1]:
         seat = file.name.partition(".")[0]
@@ -125,8 +126,8 @@ def mark_incomplete(into: Path) -> None:
 
 @contextmanager
 def vouched(run: Path) -> Iterator[list[Vouched]]:
-    """Yields the records of a run's folder with their verdicts, the oldest first. Their copies are removed at the end
-    of the block. Raises `Fault` if the journal, or the beginning of a record, can't be read."""
+    """Yields the records of a run's folder with their verdicts, the oldest first. The copies of the records are removed
+    at the end of the block. Raises `Fault` if the journal, or the beginning of a record, can't be read."""
     is_whole, lives = has_ended(run), goes_on(run)
     lines = plain.read(run / "journal", limits.allowed().journal).split(b"\n")[:-1]
     records = kept(run)

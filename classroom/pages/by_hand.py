@@ -1,5 +1,5 @@
-"""The page on which a student plays by hand. Its server connects to the class's server with the student's name and key,
-as a program would, and shows the replies on that connection.
+"""The page on which a student plays by hand. The page's server connects to the class's server with the student's name
+and key, as a program would, and shows the replies on that connection.
 
 A page has a connection only after its hello, the request with name and key. The connection takes a *seat* at the
 class's server, and a page that is closed frees its seat.
@@ -186,6 +186,6 @@ def last_word(seat: Seat) -> str:
 
 
 def open_play_page(port: int, title: str, lab: Lab) -> PlayServer:
-    """Returns the server of the page, which listens at a port or the next free one. It doesn't answer yet. Raises
+    """Returns the server of the page, which listens at a port or the next free one, and doesn't answer yet. Raises
     `Fault` if no port is free."""
     return opened(port, lambda number: PlayServer(number, title, lab))

@@ -1,4 +1,4 @@
-"""The style of a drawing in a file of its own. Its colours are literal values, because programs other than browsers
+"""The style of a drawing in a file of its own. The colours are literal values, because programs other than browsers
 don't support the variables of a style. A *theme* is `light` or `dark`, and gives each variable a value."""
 from __future__ import annotations
 

@@ -42,7 +42,7 @@ class Drawing:
 
     @property
     def measures(self) -> dict[str, float]:
-        """Returns all sizes and line widths by their names. They depend on the radius of a node."""
+        """Returns all sizes and line widths by their names. All of them depend on the radius of a node."""
         radius, form = self.view.layout.radius, self.view.form
         plain = {
             "radius": radius, "ring": 1.28 * radius, "ringLine": max(1.5, 0.14 * radius), "discLine": max(1.2, 0.1 * radius),
@@ -124,7 +124,8 @@ class Drawing:
         return f'<text x="{(x + u) / 2:g}" y="{(y + v) / 2:g}">{witness}: {self.view.form.word(rule)}</text>'
 
     def pointer(self, node: int, state: State) -> str:
-        """Returns the path element for a node's pointer. Its path is empty if the node points at none or is married."""
+        """Returns the path element for a node's pointer. The element's path is empty if the node points at none or is
+        married."""
         target = state.pointers[node]
         drawn = "" if target is None or married(node, state) else self.arrow(node, target)
         return f'<path class="pointer" data-of="{node}" d="{drawn}" marker-end="url(#arrow)"/>'
@@ -181,7 +182,7 @@ class Drawing:
         return describe_node(node, owners, pointer, state.ms[node], partner, state.privileged.get(node, ""), state.chosen.get(node, ""))
 
     def mark(self, event: Event | None) -> str:
-        """Returns the text element that names a fault, link or cut beside its nodes. It is empty for any other
+        """Returns the text element that names a fault, link or cut beside its nodes. The element is empty for any other
         event."""
         size = self.measures["mark"]
         if event is None or not event.is_edit:
@@ -213,8 +214,8 @@ class Drawing:
 
 
 def drawing_of(lab: Lab, links: Iterable[tuple[int, int]] | None = None, field: Field = WIDE) -> Drawing:
-    """Returns the drawing of a lab's network for a field. Its links are `links`, or those of the lab if that is
-    None."""
+    """Returns the drawing of a lab's network for a field. The drawing has the links in `links`, or those of the lab if
+    that is None."""
     owners = {node.id: node.owners for node in lab.nodes}
     return Drawing(lab, view_of(owners, sorted(lab.links if links is None else links), field))
 

@@ -36,7 +36,7 @@ class State:
     since: int = 0  # moves since the last fault, link or cut
 
     def copy(self) -> State:
-        """Returns a copy. It shares with the original those values that are never changed but only replaced."""
+        """Returns a copy, which shares with the original those values that are never changed but only replaced."""
         return State(self.place, self.number, self.links, dict(self.pointers), dict(self.ms), dict(self.chosen),
                      self.privileged, self.pairs, self.open, self.stable, self.moves, self.since)
 
@@ -50,7 +50,7 @@ class Frame:
 
 
 class Looking(Replay):
-    """Collects the frames of a replay, by looks and reports after each event."""
+    """A replay that collects frames, by looks and reports after each event."""
 
     def __init__(self, lab: labs.Lab, events: list[Event]) -> None:
         """Begins with the lab's network. Nothing is asked before `run`."""

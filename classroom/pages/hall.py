@@ -45,8 +45,8 @@ class Hall(TwoAddresses):
                  views: Callable[[], Views] = list) -> None:
         """Listens at the port, but doesn't answer before `open`. `act` handles a line of the teacher, `state` is the
         first state that is shown, and `looks` the token of the address to look at, if it has one already. `views`
-        returns the positions of each network's nodes. It is called for each page, since the search for a layout may
-        take a second. Raises `OSError` if the port is taken."""
+        returns the positions of each network's nodes. `views` is called for each page, since the search for a layout
+        may take a second. Raises `OSError` if the port is taken."""
         super().__init__(port, Page, title, looks)
         self.act, self.views = act, views
         self.turn = threading.Condition()

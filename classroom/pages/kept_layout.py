@@ -1,5 +1,5 @@
-"""The layout of a network of no known shape, for which positions have to be searched. It is kept in the folder of the
-network's run, so that the search is made once."""
+"""The layout of a network of no known shape, for which positions have to be searched. The layout is kept in the folder
+of the network's run, so that the search is made once."""
 from __future__ import annotations
 
 import json

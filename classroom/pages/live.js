@@ -86,7 +86,7 @@ class Live {
   showWaits() {
     const { state, data } = this, nodes = [...data.nodes.keys()].filter((node) => state.rule[node] > 0 && state.chosen[node] === 0);
     const chosen = state.chosen.reduce((sum, rule) => sum + (rule > 0), 0);
-    this.aside.say("waiting", nodes.length > 0 ? `Waiting for ${nodes.length}` : chosen > 0 ? "All are chosen" : "Waiting for nobody");
+    this.aside.say("waiting", nodes.length > 0 ? `Waiting for ${nodes.length}` : chosen > 0 ? "All that can move are chosen" : "Waiting for nobody");
     this.aside.say("close", `Close the step · ${chosen} of ${nodes.length + chosen}`);
     const rows = nodes.slice(0, WAITED).map((node) => this.waited(node));
     if (nodes.length > WAITED) rows.push(Object.assign(this.document.createElement("li"), { textContent: `and ${nodes.length - WAITED} more` }));

@@ -108,7 +108,7 @@ def message(rows: Frames, present: Present, before: Now | None, now: Now) -> dic
 
 
 def open_pages(port: int, title: str, lab: Lab, typed: queue.SimpleQueue[str], looks: str | None = None) -> Pages:
-    """Returns the server of the page, which listens at a port or the next free one. It doesn't answer yet. Lines of the
-    teacher are put into `typed`, and `looks` is the token of the address to look at, if the run had one before. Raises
-    `Fault` if no port is free."""
+    """Returns the server of the page, which listens at a port or the next free one, and doesn't answer yet. Lines of
+    the teacher are put into `typed`, and `looks` is the token of the address to look at, if the run had one before.
+    Raises `Fault` if no port is free."""
     return opened(port, lambda number: Pages(number, title, lab, typed, looks))

@@ -64,7 +64,7 @@ class Script:
 
 
 class Replay:
-    """Replays the events of a journal. Subclasses ask for more after each event."""
+    """A replay of a journal's events. Subclasses ask for more after each event."""
 
     def __init__(self, lab: labs.Lab, events: list[Event]) -> None:
         """Begins with the lab's network. No event is asked for before `replies`."""
@@ -151,7 +151,7 @@ class Replay:
             done = call("script", lab, lines)
         replies = done.output.splitlines()
         if done.status != 0 or len(replies) != len(script.lines):
-            raise Fault(done.error or f"{len(replies)} replies to {len(script.lines)} lines", done.status or 4)
+            raise Fault(done.error or f"the program printed {len(replies)} replies to {len(script.lines)} lines", done.status or 4)
         for line, reply, take in zip(script.lines, replies, script.takes):
             told = values_of(reply)
             if "ok" not in told:

@@ -82,7 +82,7 @@ def is_tree(near: Near) -> bool:
 
 
 def walk(near: Near, start: int) -> list[int]:
-    """Returns the nodes of a path or cycle in their order. They begin at `start`, and continue towards its lowest
+    """Returns the nodes of a path or cycle in their order. The first node is `start`, and the next one its lowest
     neighbour."""
     order, seen = [start], {start}
     while True:

@@ -1,9 +1,9 @@
 """Layouts in which the distance of two nodes corresponds to the length of the shortest path between them.
 
-They are computed by stress majorization (Gansner, Koren and North, 'Graph drawing by stress majorization', 2004),
-beginning with classical scaling. In a large network a node is pulled by its neighbours and by some *pivots*. A pivot
-represents the nodes around it (Ortmann, Klimenta and Brandes, 'A sparse stress model', 2016). Nothing is random: the
-same network always has the same layout. In the functions, `far` has the distances between all nodes, as `distances`
+Such layouts are computed by stress majorization (Gansner, Koren and North, 'Graph drawing by stress majorization',
+2004), beginning with classical scaling. In a large network a node is pulled by its neighbours and by some *pivots*. A
+pivot represents the nodes around it (Ortmann, Klimenta and Brandes, 'A sparse stress model', 2016). Nothing is random:
+the same network always has the same layout. In the functions, `far` has the distances between all nodes, as `distances`
 returns them.
 """
 from __future__ import annotations
@@ -141,7 +141,7 @@ def distances(nodes: Sequence[int], links: Iterable[tuple[int, int]]) -> Rows:
 
 def classical_scaling(far: Rows, axes: Rows) -> Rows:
     """Returns two coordinates of each node, a row each, that explain most of the distances: the classical scaling in
-    two dimensions. It is computed by power iteration, which begins at these axes."""
+    two dimensions. The scaling is computed by power iteration, which begins at these axes."""
     squares = [[each * each for each in row] for row in far]
     means = [sum(row) / len(row) for row in squares]
     mean = sum(means) / len(means)

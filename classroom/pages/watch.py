@@ -101,7 +101,7 @@ class Present:
 
 
 class Watch:
-    """Reads the state of a run at the desk: looks at each node once, and then only at nodes that events name."""
+    """A reader of a run's state at the desk: it looks at each node once, and then only at nodes that events name."""
 
     def __init__(self, lab: labs.Lab, client: Client, report: Report, closing: str) -> None:
         """Looks at each node, and begins with this report. `client` is the desk's connection, and `closing` says how

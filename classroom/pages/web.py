@@ -1,5 +1,5 @@
 """The base of all servers of pages: limits on connections, a time limit for each request, and the headers of answers.
-They answer on this machine only."""
+These servers answer on this machine only."""
 from __future__ import annotations
 
 import io

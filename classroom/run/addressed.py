@@ -13,7 +13,7 @@ NETWORKS, RESUME, END, HELP = "networks", "resume", "end", "help"
 OWN = {
     NETWORKS: "the table of all networks, with the state of each",
     f"{RESUME} NETWORK": "go on with a network whose server or desk is gone",
-    f"{END} NETWORK": "end a network; of one that is down, give it up",
+    f"{END} NETWORK": "end a network, or give it up if it is down",
 }
 BARE = {word for word, it in WORDS.items() if not it.form} | {RESUME}  # the commands after which the name of a network may stand
 NAMING = {word for word, it in WORDS.items() if it.form == "NAME"}  # the words for one student

@@ -30,7 +30,7 @@ def scheduled(rules: Mapping[int, str], nodes: Sequence[int]) -> int:
 
 
 class Adversary:
-    """Searches on its own bench for the moves that make a run long. A method that uses the bench raises `Fault` if the
+    """A search on its own bench for the moves that make a run long. A method that uses the bench raises `Fault` if the
     program of the bench can't be started or asked."""
 
     def __init__(self, seed: str, partner_of: Partner = min) -> None:

@@ -39,7 +39,7 @@ def report_line(report: Report) -> str:
 
 
 class Announcer:
-    """Prints the events and the state of a run, as lines."""
+    """A printer of a run's events and state, as lines."""
 
     def __init__(self, lab: labs.Lab, folder: Path, known: Follower, tell: Callable[[str], None]) -> None:
         """`folder` is that of the run, `known` has its journal and its report, and the callback prints a line."""
@@ -69,7 +69,7 @@ class Announcer:
         try:
             Recount(self.lab, past, self.comeback).counts()
         except Fault as fault:
-            self.tell(f"the earlier events of this run aren't counted: {fault}")
+            self.tell(f"the events of this run before now aren't counted: {fault}")
             for event in past:
                 if event.is_edit:
                     self.comeback.edit(event)
@@ -105,7 +105,7 @@ class Announcer:
         """Prints a line if the lab has few events left, and ends the run after the last one."""
         if self.known.count == int(MOST_TOLD * self.lab.events) > 0:
             self.tell_edits()
-            self.tell(f"{self.events_used()}: after the last one nothing more is granted")
+            self.tell(f"{self.events_used()}: after the last event nothing more is granted")
         if self.known.count >= self.lab.events:
             self.tell_edits()
             self.end_by("full")
@@ -143,7 +143,7 @@ class Announcer:
         return [f"{node} ({' and '.join(self.shown.owners(node))}): {rule}" for node, rule in self.known.waiting()]
 
     def tell_waiting(self) -> None:
-        """Prints the nodes that the class waits for if they have changed since the last time. If they are many, prints
+        """Prints the nodes that the class waits for if they have changed since the last time. If there are many, prints
         the first ones."""
         now = self.waiting()
         if now and now != self.told_waiting:
@@ -162,9 +162,9 @@ class Announcer:
             return
         self.over = word
         if word == "journal":
-            what = f"journal: {self.why_journal()}, then {self.go_on}"
+            what = f"{self.why_journal()}, then {self.go_on}"
         else:
-            what = f"full: {self.events_used()}{self.why_full()}"
+            what = f"the journal is full, {self.events_used()}{self.why_full()}"
         self.tell(f"nothing more is granted: {what}")
 
     def why_full(self) -> str:
@@ -178,10 +178,10 @@ class Announcer:
 
     def why_journal(self) -> str:
         """Returns why the journal takes no more lines, and the remedy. Waits a few seconds for the server to report
-        what happened to the file. If it reports nothing, no line could be written."""
+        what happened to the file. If the server reports nothing, no line could be written."""
         for _ in range(LOOKS):
             lost = self.lost_journal()
             if lost:
-                return f"its file {lost}; put the old file back"
+                return f"the journal's file {lost}; put the old file back"
             time.sleep(PAUSE)
-        return "no line can be written to it; make room on the disk"
+        return "no line can be written to the journal; make room on the disk"

@@ -42,7 +42,7 @@ def wait_for_desk(folder: Path, record: Record) -> None:
         end = time.monotonic() + PATIENCE
         while holder.lives():
             if time.monotonic() > end:
-                raise Fault(f"{folder}: process {holder.number} was asked to leave the desk of this run, and still has it: end that process")
+                raise Fault(f"{folder}: process {holder.number} was asked to leave the desk of this run, but hasn't: end that process")
             time.sleep(0.05)
 
 
@@ -56,7 +56,7 @@ def attach(words: argparse.Namespace) -> int:
     lab_file, _ = of_folder(folder)
     record = Record.read(folder)
     if record is None or not record.server.lives():
-        raise Fault(f"{folder}: its server has ended: {CLASS} run --resume {folder} continues the run")
+        raise Fault(f"{folder}: the server of this run has ended: {CLASS} run --resume {folder} continues the run")
     lab = labs.read(lab_file)
     check_stand_in(words, lab, lab_file)
     wait_for_desk(folder, record)

@@ -1,5 +1,5 @@
-"""A run from its first step to its last: steps are closed, and typed commands are run. It also watches the room for the
-journal, on the disk and by the limit on the size of files.
+"""A run from its first step to its last: steps are closed, and typed commands are run. The module also watches the room
+for the journal, on the disk and by the limit on the size of files.
 
 The *desk* is the teacher's connection to the server, and the *daemon* decides when a step is closed. The *house* plays
 for absent students. The functions return the reason for the end of a run as a word, which is empty while the run
@@ -49,7 +49,7 @@ def disk_line(left: int, why: str) -> tuple[str, str]:
     about it. `why` is the reason if nothing can be written, and empty otherwise."""
     if left > 0 and not why:
         return ("little", f"the disk has little room: {left} bytes are left") if left < LITTLE else ("", "")
-    what = f"takes nothing ({why})" if why else "is full"
+    what = f"can't be written ({why})" if why else "is full"
     return "full", (f"the disk {what}: the next line of the journal can't be written, and after this failure nothing "
                     "is granted any longer; make room")
 

@@ -13,7 +13,7 @@ from classroom.core.classes import Class
 from classroom.core.folders import Record
 from classroom.core.program import Fault
 from classroom.run.member import Member, News
-from classroom.run.several import Several, hold_class, members_of
+from classroom.run.several import Several, members_of, run_desk
 
 PATIENCE = 60.0  # seconds in which a process that has lost its terminal has to leave the desks
 
@@ -30,14 +30,14 @@ def wait_for_desks(folder: Path, kept: Class) -> None:
     end = time.monotonic() + PATIENCE
     while kept.desk.lives():
         if time.monotonic() > end:
-            raise Fault(f"{folder}: process {kept.desk.number} was asked to leave the desks of this class, and still has them: end that process")
+            raise Fault(f"{folder}: process {kept.desk.number} was asked to leave the desks of this class, but hasn't: end that process")
         time.sleep(0.05)
 
 
 def begin(member: Member, several: Several, again: bool, starts: bool) -> None:
-    """Takes the desk of a network in a class. If its server has ended, starts the server first if `starts` is set, and
-    otherwise marks the network as down and prints its alarm. If its run was ended on purpose, only marks the network as
-    ended, unless both `starts` and `again` are set."""
+    """Takes the desk of a network in a class. If the network's server has ended, starts the server first if `starts` is
+    set, and otherwise marks the network as down and prints its alarm. If the network's run was ended on purpose, only
+    marks the network as ended, unless both `starts` and `again` are set."""
     record = Record.read(member.folder)
     if record is not None and record.ended and not record.goes_on() and not (starts and again):
         member.status = ENDED
@@ -70,4 +70,4 @@ def hold_again(words: argparse.Namespace, folder: Path) -> int:
         for member in members:
             begin(member, several, again, starts)
 
-    return hold_class(folder, members, news, words, start)
+    return run_desk(folder, members, news, words, start)

@@ -53,7 +53,7 @@ def end_of(word: str | None, before: str | None = None) -> datetime | None:
 
 
 class Clock:
-    """Warns before the end of a lesson, and reports the end."""
+    """The clock of a lesson, with warnings before its end and a line at its end."""
 
     def __init__(self, end: datetime, begun: datetime) -> None:
         """`end` is the end of the lesson, and `begun` the present time. Warnings that were due before that are left

@@ -50,7 +50,7 @@ def owner(number: str) -> str:
 
 
 class Connected:
-    """Notes which connections to the students' port begin and end."""
+    """The connections to the students' port, with lines about those that begin and end."""
 
     def __init__(self, port: int, seats: int, but: int, names: dict[int, str] | None = None,
                  tells: bool = True) -> None:
@@ -107,7 +107,7 @@ class Connected:
         if not self.full and (len(here) >= self.seats or not listens):
             self.full = True
             lines.append("all seats are taken: newcomers are turned away; type who to see which students have them" if listens else
-                         "this server has let in as many connections as it can: newcomers aren't let in any longer")
+                         "this server has accepted all connections that `sessions` in the lab allows: nobody else can connect in this run")
         return lines
 
     def process(self, number: str | None) -> str:

@@ -96,7 +96,7 @@ class Desk:
         `reconnect` makes another one."""
         self.lost = str(error)
         self.client.hang_up()
-        self.tell(f"the desk: {error}; saying hello again")
+        self.tell(f"the desk has lost its connection: {error}; saying hello again")
 
     def catch_up(self) -> None:
         """Counts the events that the journal has already. Prints only the configuration from which the class

@@ -69,5 +69,5 @@ def finish(folder: Path, tell: Callable[[str], None], brief: bool = False) -> in
         tell(f"class: {error.filename or folder}: {error.strerror}; the journal is {folder / 'journal'}")
         return 4
     if not brief:
-        tell(f"all of it is in {folder}")
+        tell(f"all files of the run are in {folder}")
     return 0

@@ -47,7 +47,8 @@ class News:
 
 
 class Follower:
-    """Follows the journal of a run, and asks at the desk for the report if an event may have changed it."""
+    """A reader of a run's journal as it grows, which asks at the desk for the report if an event may have changed
+    it."""
 
     def __init__(self, lab: Lab, journal: Path, client: Client) -> None:
         """Opens the journal, and asks for the first report on the desk's connection."""

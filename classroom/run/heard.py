@@ -65,8 +65,8 @@ def together(what: str, who: list[str]) -> list[str]:
 
 
 class Heard:
-    """Counts what is in a record as it grows, for lines at the desk. The lines name students, and never show what they
-    sent."""
+    """The counts of what is in a record as it grows, for lines at the desk. The lines name students, and never show
+    what they sent."""
 
     def __init__(self, folder: Path, lab: Lab) -> None:
         """Follows the record in a folder, from its beginning. The lab names the students."""

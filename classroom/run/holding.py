@@ -224,7 +224,7 @@ def hold(run: Running, it: server.Server) -> int | None:
         run.tell("another process takes over the desk")
         return None
     except (Closed, Refused, Denied) as error:
-        run.tell(f"the server: {error}")
+        run.tell(f"the desk can't be used: {error}")
         return give_up(it, run, LATE if isinstance(error, Over) else TICK)
     with contextlib.closing(DiskRoom(run.folder, it.process.number)) as room:
         why = attend(desk, it, run.until == "stable", run.typed, room, run.hung)
@@ -262,7 +262,7 @@ def take_leave(it: server.Server, desk: Desk, why: str, run: Running) -> int | N
         if why != "died":
             desk.client.bye()
     except (Closed, Refused, Denied) as error:
-        tell(f"the desk: {error}")
+        tell(f"the desk has lost its connection: {error}")
     if not it.hosted and why != "died":
         it.stop()
     elif not wait_for_server(it, run):
@@ -271,14 +271,14 @@ def take_leave(it: server.Server, desk: Desk, why: str, run: Running) -> int | N
     elif why == "died" or it.status() != 0 and not it.lacks_record():
         put_back(desk.known.journal, run.folder / "journal", tell)
         tell(f"the server has ended{' by itself' if why == 'died' and it.status() >= 0 else ''}, {it.how()}")
-        tell(f"to go on: {desk.announcer.go_on}")
+        tell(f"to continue the run: {desk.announcer.go_on}")
         return FAILED
     for line in it.printed().splitlines():
         if line.startswith("host: "):
-            tell(f"the server said: {line.removeprefix('host: ')}")
+            tell(f"the server printed: {line.removeprefix('host: ')}")
     if it.lacks_record():
         tell("the record isn't whole, since the disk didn't take all of it; the journal is whole")
-    tell("stable, and so the run is ended" if why == "stable" else "the run is ended")
+    tell("the network is stable, so the run is ended" if why == "stable" else "the run is ended")
     return {"journal": FAILED, "full": WARNED}.get(why, WARNED if it.lacks_record() else 0)
 
 

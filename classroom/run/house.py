@@ -23,13 +23,14 @@ def require_house(lab: Lab, file: object) -> None:
 
 
 class House:
-    """Asks for the moves of nodes that the class waits for. Each time it takes a seat of the server for a moment."""
+    """The house, which asks for the moves of nodes that the class waits for. For each request the house takes a seat of
+    the server for a moment."""
 
     def __init__(self, lab: Lab, port: int, seconds: float | None, tell: Callable[[str], None], played: Collection[str] = (),
                  keep: Callable[[list[str]], None] = lambda names: None) -> None:
-        """If `seconds` isn't None, the house plays each node for which the class has waited for `seconds` seconds. It
-        plays at once for the students named in `played`, and `keep` stores their names when they change. `port` is the
-        students' port, and the first callback prints a line."""
+        """If `seconds` isn't None, the house plays each node for which the class has waited for `seconds` seconds. The
+        house plays at once for the students named in `played`, and `keep` stores their names when they change. `port`
+        is the students' port, and the first callback prints a line."""
         self.port, self.seconds, self.tell = port, seconds, tell
         self.key = lab.students[HOUSE]
         self.held = set(lab.held())

@@ -1,5 +1,5 @@
-"""The first connection at a host's desk. It is tried while the host starts, before any other process can know the
-desk's port. The *host* is the server of a class, and its *desk* is the port for the teacher."""
+"""The first connection at a host's desk. The connection is tried while the host starts, before any other process can
+know the desk's port. The *host* is the server of a class, and its *desk* is the port for the teacher."""
 from __future__ import annotations
 
 import socket
@@ -24,7 +24,7 @@ def held(port: int) -> socket.socket:
 
 
 class Knock:
-    """Connects to a port of this machine as soon as a program listens there."""
+    """A connection to a port of this machine, which is made as soon as a program listens there."""
 
     def __init__(self, port: int) -> None:
         """Reserves the port, or a free one if `port` is 0. Reserves nothing if another program has the port, since the

@@ -34,7 +34,7 @@ FACTS = {
     "look_from": re.compile(r"page to look at from elsewhere (http\S+)"),
 }
 TOLD_IN_TABLE = ("slips: ", "desk ", READY, "page to act")
-DIED = re.compile(r"the server has ended.*|the server: .*|nothing more is granted: .*|class: .*")
+DIED = re.compile(r"the server has ended.*|the desk can't be used: .*|nothing more is granted: .*|class: .*")
 LEFT_OUT = re.compile(r"to go on: .*|the lesson .*|it is \d\d:\d\d: .*")  # The class's desk prints such a line itself, once for all networks.
 
 
@@ -87,8 +87,8 @@ class Member:
         threading.Thread(target=self.follow, args=[self.child, hear, ended], daemon=True).start()
 
     def resume_words(self, *but: str) -> list[str]:
-        """Returns the arguments for a run that continues. They are those of the network without its port, its folder,
-        `--serve` and `--beside`. The options in `but` are also left out, each with its value."""
+        """Returns the arguments for a run that continues. These arguments are those of the network without its port,
+        its folder, `--serve` and `--beside`. The options in `but` are also left out, each with its value."""
         words = list(self.more)
         for word in ("--port", "--into", *but):
             if word in words:
@@ -130,7 +130,8 @@ class Member:
         return True
 
     def note_end(self) -> None:
-        """Notes that the process has ended. Unless its run has ended too, the network is down, and gets an alarm."""
+        """Notes that the process has ended. Unless the network's run has ended too, the network is down, and gets an
+        alarm."""
         assert self.child is not None
         self.code = self.child.returncode
         for pipe in (self.child.stdin, self.child.stdout):
@@ -173,8 +174,9 @@ class Member:
             self.child.send_signal(signal.SIGUSR1)
 
     def page(self, acts: bool) -> str:
-        """Returns the address of the network's page. If `acts` is set, it is the one to act at on this machine.
-        Otherwise it is the one to look at, through the door if there is one. It is empty if there is no such page."""
+        """Returns the address of the network's page. If `acts` is set, this is the address to act at on this machine.
+        Otherwise it is the address to look at, through the door if there is one. The result is empty if there is no
+        such page."""
         return self.facts.get("act", "") if acts else self.facts.get("look_from", self.facts.get("page", ""))
 
     def shown(self, acts: bool = False) -> NetworkState:

@@ -157,7 +157,7 @@ def start_server(run: Running, port_asked: int, record: Record | None = None) ->
     if slips.exists():
         run.tell(f"slips: {slips}")
     if it.port != port_asked:
-        run.tell(f"port {port_asked} is in use")
+        run.tell(f"port {port_asked} is in use, so another port is taken")
     seats = f"{run.lab.sessions - 1} students at once" if it.hosted else \
         f"{run.lab.sessions} connections in all, the teacher's among them"
     run.tell(f"port {it.port}, for {seats}; folder {run.folder}")
@@ -167,9 +167,9 @@ def start_server(run: Running, port_asked: int, record: Record | None = None) ->
 
 
 def ports_for(asked: int | None, default: int, known: Sequence[int | None]) -> list[int]:
-    """Returns a port for each lab. If `asked` isn't None, these are consecutive ports from `asked` on. Otherwise they
-    are those in `known` if all differ, or else consecutive ports from `default` on. `known` has for each lab the port
-    on its slips, or None."""
+    """Returns a port for each lab. If `asked` isn't None, these are consecutive ports from `asked` on. Otherwise the
+    ports are those in `known` if all differ, or else consecutive ports from `default` on. `known` has for each lab the
+    port on its slips, or None."""
     ports = [port for port in known if port is not None]
     if asked is None and len(set(ports)) == len(known):
         return ports

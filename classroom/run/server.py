@@ -24,7 +24,7 @@ LOST = re.compile(r"(?m)^host: the journal's file (was .*): nothing more is gran
 
 @dataclass
 class Server:
-    """A listening server. Its output goes to `server.txt` in its folder."""
+    """A listening server. The server's output goes to `server.txt` in its folder."""
 
     process: Process
     port: int  # the port for students

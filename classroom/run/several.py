@@ -1,6 +1,6 @@
 """A class of several networks: one process for each network, and one desk for all of them.
 
-The *desk* is where the teacher types commands, a terminal or a program. A *member* is a network with its process. A
+The *desk* is the terminal or program at which the teacher types commands. A *member* is a network with its process. A
 network is *down* if its server or its desk is gone, which is printed as an alarm. *News* are functions in a queue,
 which one thread calls one after another.
 """
@@ -121,7 +121,7 @@ class Several:
         found = [index for index in indices if name in self.members[index].lab.students]
         if len(found) != 1:
             there = ", ".join(self.names[index] for index in found)
-            self.say(f"{name} is in several networks: name one of {there}" if found else f"no student {name} in this class")
+            self.say(f"{name} is in several networks: put one of these before the command: {there}" if found else f"no student {name} in this class")
         return found if len(found) == 1 else []
 
     def ask(self, member: Member, word: str, line: str, is_alone: bool) -> None:
@@ -132,7 +132,7 @@ class Several:
                 member.start(self.hear, self.note_end)
                 self.prompt()
             elif is_alone:
-                self.say(f"{member.name}: it isn't down")
+                self.say(f"{member.name} isn't down")
         elif word == addressed.END and member.status == DOWN:
             try:
                 self.say(f"{member.name}: {member.give_up()}")
@@ -220,9 +220,9 @@ class Several:
             self.ask(member, addressed.END, addressed.END, False)
 
     def state(self, acts: bool, ended: bool = False) -> ClassState:
-        """Returns the state of the class, as the page for all networks shows it. It has the addresses of the networks'
-        pages: those to act at if `acts` is set, and otherwise those to look at. `ended` says whether the class has
-        ended."""
+        """Returns the state of the class, as the page for all networks shows it. The state has the addresses of the
+        networks' pages: those to act at if `acts` is set, and otherwise those to look at. `ended` says whether the
+        class has ended."""
         return ClassState(title(self.folder), [member.shown(acts) for member in self.members], self.lines, ended)
 
     def goes_on(self) -> bool:
@@ -247,7 +247,7 @@ class Several:
         if self.is_left:
             self.say("another process takes over the desks")
             return FAILED
-        self.say(f"the class is ended; all of it is in {self.folder}: {CLASS} mark {self.folder} prints the marks")
+        self.say(f"the class is ended; all its files are in {self.folder}: {CLASS} mark {self.folder} prints the marks")
         return max(member.code for member in self.members)
 
     def end(self) -> None:
@@ -332,7 +332,7 @@ def networks_of(words: argparse.Namespace) -> list[Network]:
         if names.count(name) > 1:
             raise Fault(f"two labs are called {name}: rename one")
         if name.isdecimal() or name == addressed.EVERY:
-            raise Fault(f"a lab of a class can't be called {name}: rename it")
+            raise Fault(f"a lab of a class can't be called {name}, which means something else in commands: rename the lab")
     return found
 
 
@@ -345,34 +345,48 @@ def room_of(lab: str) -> str:
 def require_ports(words: argparse.Namespace, count: int) -> None:
     """Raises `Fault` if the ports of `count` networks and their pages would exceed the last one."""
     if max(*words.ports, *words.plays, (words.page or 0) + count) > LAST_PORT:
-        raise Fault(f"{count} labs need a port each, and none is above {LAST_PORT}: name a lower --port, --page or --play")
+        raise Fault(f"{count} labs need a port each, and the last port is {LAST_PORT}: name a lower --port, --page or --play")
 
 
-def hold_class(folder: Path, members: list[Member], news: News, words: argparse.Namespace, first: Callable[[Several], None]) -> int:
-    """Opens the page and the door of a class if the arguments ask for them. Then calls `first`, which starts the
-    networks, and runs the desk of the class to its end. Returns the exit status. Raises `Fault` if the page or the door
-    can't be opened, or if the end of the lesson has passed."""
+def run_desk(folder: Path, members: list[Member], news: News, words: argparse.Namespace, start_networks: Callable[[Several], None]) -> int:
+    """Opens the page and the door of a class if the arguments ask for them, writes the class's file, and calls
+    `start_networks`. Then runs the desk of the class to its end. If the class continues, uses the earlier end of the
+    lesson, address of the page and door again, which the file has. Returns the exit status. Raises `Fault` if the page
+    or the door can't be opened, or if the end of the lesson has passed."""
     typed = words.typed or sys.stdin is not None and sys.stdin.isatty()
     kept = Class.read(folder)
     end = end_of(words.ends, kept.ends if kept else None)
     several = Several(folder, members, news, typed, Clock(end, datetime.now()) if end else None)
     if words.page is not None:
-        several.hall = hall.opened(words.page, title(folder), lambda line: news.put(lambda: several.act(line)),
-                                   several.state(False), kept.looks if kept else None,
-                                   lambda: [hall.view(member.folder, member.lab) for member in members])
+        several.hall = page_of(several, words.page, kept.looks if kept else None)
     files = [Path(member.network.lab) for member in members]
     with letting.door(with_door(words), files, several.say, kept.door if kept else None) as door:
         for member in members:
             member.more += ["--door-at", door] if door is not None else []
         if several.hall is not None:
             several.from_elsewhere = letting.page_for_all(door, files[0], several.hall.server_port, several.hall.looks)
-        Class([member.network for member in members], Process.of(os.getpid()), page=several.hall.server_port if several.hall else None,
-              looks=several.hall.looks if several.hall else None, ends=end.isoformat() if end else None, door=door).write(folder)
+        write_class(several, end, door)
         several.queue_signals()
-        first(several)
+        start_networks(several)
         if typed:
             several.listen()
         return several.attend()
+
+
+def page_of(several: Several, port: int, token: str | None) -> hall.Hall:
+    """Opens the page of all networks of a class, at a port or the next free one. `token` is the token of the page's
+    earlier address, or None for a new address. Raises `Fault` if no port is free."""
+    members = several.members
+    return hall.opened(port, title(several.folder), lambda line: several.news.put(lambda: several.act(line)), several.state(False), token,
+                       lambda: [hall.view(member.folder, member.lab) for member in members])
+
+
+def write_class(several: Several, end: datetime | None, door: str | None) -> None:
+    """Writes the file of a class, with this process as the one that holds its desks. `end` is the end of the lesson, and
+    `door` the folder of the door, if there are any."""
+    page = several.hall
+    Class([member.network for member in several.members], Process.of(os.getpid()), page=page.server_port if page else None,
+          looks=page.looks if page else None, ends=end.isoformat() if end else None, door=door).write(several.folder)
 
 
 def with_door(words: argparse.Namespace) -> argparse.Namespace:
@@ -401,4 +415,4 @@ def side_by_side(words: argparse.Namespace) -> int:
         for member in members:
             member.start(several.hear, several.note_end)
 
-    return hold_class(folder, members, news, words, start)
+    return run_desk(folder, members, news, words, start)

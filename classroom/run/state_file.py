@@ -18,7 +18,7 @@ PAUSE = 1.0  # seconds between two writings
 
 
 class StateFile:
-    """Keeps `state.json` in the folder of a run up to date (`classroom.core.class_state` documents it)."""
+    """The file `state.json` in the folder of a run, kept up to date (`classroom.core.class_state` documents it)."""
 
     def __init__(self, folder: Path, names: ShownNames) -> None:
         """`folder` is that of the run, and `names` are the names that pages show for students."""

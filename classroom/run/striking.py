@@ -17,7 +17,7 @@ LOOKS = 5  # how often it checks whether moves were granted meanwhile
 
 
 class Striker:
-    """Closes steps at a desk when its daemon decides so."""
+    """The part of a desk that closes steps when the desk's daemon decides so."""
 
     def __init__(self, seed: int = 1) -> None:
         """`seed` determines the random choices of daemons."""

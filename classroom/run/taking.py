@@ -52,7 +52,7 @@ def greet(it: Server, teacher: tuple[str, str]) -> Client:
 
 def reason_line(error: Closed | Refused) -> str:
     """Returns the line that says why the desk can't be taken."""
-    return "another process is connected to the desk" if isinstance(error, Refused) and error.word == "busy" else f"the desk: {error}"
+    return "another process is connected to the desk" if isinstance(error, Refused) and error.word == "busy" else f"the desk can't connect: {error}"
 
 
 def wait_for_end(typed: Typed, hung: Callable[[], None]) -> bool:

@@ -1,4 +1,4 @@
-"""The lines of a run. They go to the terminal, to the run's folder, and to its pages."""
+"""The lines of a run. The lines go to the terminal, to the run's folder, and to its pages."""
 from __future__ import annotations
 
 import os
@@ -12,9 +12,9 @@ from classroom.core.printable import printable
 
 
 def is_private(typed: bool) -> bool:
-    """Returns whether only the teacher reads what is printed. This holds for a terminal and for the system's journal,
-    but not for a file. It also holds for a pipe if `typed` says that a program types the commands: then this program
-    reads what is printed."""
+    """Returns whether only the teacher reads what is printed. Returns True for a terminal and for the system's journal,
+    but not for a file. Returns True for a pipe, too, if `typed` says that a program types the commands: then this
+    program reads what is printed."""
     try:
         mode = os.fstat(sys.stdout.fileno()).st_mode
         return sys.stdout.isatty() or stat.S_ISSOCK(mode) or typed and not stat.S_ISREG(mode)
@@ -23,7 +23,8 @@ def is_private(typed: bool) -> bool:
 
 
 class Teller:
-    """Prints lines and appends them to a file in the folder. A closed terminal or a full disk raises no error."""
+    """A printer of lines, which also appends them to a file in the folder. A closed terminal or a full disk raises no
+    error."""
 
     def __init__(self, folder: Path) -> None:
         """`folder` is that of the run, in which the lines are kept."""

@@ -12,7 +12,7 @@ MOST_NODES = 6  # the most nodes that are named
 
 
 def moves(moved: Sequence[tuple[int, str, str]]) -> str:
-    """Returns a text for the moves of a step, each with its node, student and rule. If they are many, the text has only
+    """Returns a text for the moves of a step, each with its node, student and rule. For many moves, the text has only
     the number of moves of each rule."""
     if len(moved) <= MOST_MOVES:
         return ", ".join(f"{node} ({name}) {rule}" for node, name, rule in moved)
@@ -35,7 +35,7 @@ def edits(events: Sequence[Event]) -> str:
 
 
 def named(nodes: Sequence[int]) -> str:
-    """Returns a text that lists nodes. If they are many, it has the first ones and the number of the others."""
+    """Returns a text that lists nodes. For many nodes, the text has the first ones and the number of the others."""
     shown = ", ".join(map(str, nodes[:MOST_NODES]))
     more = len(nodes) - MOST_NODES
     return f"nodes {shown} and {more} more" if more > 0 else f"node{'s' if len(nodes) > 1 else ''} {shown}"

@@ -34,7 +34,7 @@ OTHERS = 128  # how many characters a key is taken to be drawn from if one of it
 
 
 def refused(path: Path, error: str) -> Iterator[str]:
-    """Yields the lines to print about a lab's file that the program refuses with the text `error`. They have this
+    """Yields the lines to print about a lab's file that the program refuses with the text `error`. These lines have the
     error, the line in the file at which it is, and suggestions for unknown keys."""
     text = path.read_bytes().decode("utf-8-sig", errors="replace")
     yield f"{path}: {error}"
@@ -202,7 +202,7 @@ def limit_warnings(lab: labs.Lab) -> Iterator[str]:
     people, most = len(lab.without_house().students) + 1, limits.allowed().sessions
     if lab.sessions < people:
         yield (f"{lab.sessions} sessions are fewer than {people - 1} students and a teacher"
-               + (f"; no lab has more than {most}: ./class new --groups makes several labs" if people > most else ""))
+               + (f"; no lab has more than {most}: ./class new --groups makes several labs" if people > most else "; raise `sessions`"))
     need = bounds.of_lab(lab)
     if lab.events < need.events:
         yield f"{lab.events} events are fewer than the class may need: {need.moves} moves and as many closes; raise `events`"

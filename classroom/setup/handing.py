@@ -77,7 +77,7 @@ def ways(words: argparse.Namespace, files: list[Path], rooms: list[str], before:
         at = words.port + index if words.port else old.port if old else FIRST_PORT + index
         page = words.page_port + index if words.page_port else old.page if old else FIRST_PAGE + index
         if max(at, page) > LAST_PORT:
-            raise Fault(f"{len(files)} labs need a port each, and none is above {LAST_PORT}: name a lower --port or --page-port")
+            raise Fault(f"{len(files)} labs need a port each, and the last port is {LAST_PORT}: name a lower --port or --page-port")
         is_kept = old is not None and not words.door and not words.ssh
         ssh = "" if words.door else words.ssh or f"NAME@{own_host_name()}"
         lead = (old.door, old.fingerprint, old.ssh) if old and is_kept else (words.door or "", known, ssh)

@@ -143,7 +143,7 @@ def new(words: argparse.Namespace) -> int:
     merge = merge_of(Path(words.lab))
     for file in itertools.chain([merge], *((lab, slips.page_of(lab), slips.teacher_of(lab), slips.folder_of(lab)) for lab in where)):
         if os.path.lexists(file):
-            raise Fault(f"{file} is there already, and isn't overwritten")
+            raise Fault(f"{file} is there already, and isn't overwritten: name another lab, or move this file away")
     every = [make(words, {name: everywhere[name] for name in part.names}, chance) for part in parts]
     if words.strict:
         refuse_idle(every, words)

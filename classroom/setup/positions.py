@@ -22,7 +22,7 @@ class Table:
 
 @dataclass
 class Value:
-    """The value of a key, while it is read line by line until its brackets are closed. Its tables in braces are
+    """The value of a key, while it is read line by line until its brackets are closed. The value's tables in braces are
     appended to a list."""
 
     name: str = ""  # the name of the key

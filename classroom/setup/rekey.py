@@ -42,14 +42,14 @@ def changed(path: Path, name: str, key: str) -> str:
     after = "".join(lines)
     before["student"][index]["key"] = key
     if labs.parsed(after) != before:
-        raise Fault(f"{path}: the key of {name} isn't written as `key = \"..\"` on one line; change it by hand")
+        raise Fault(f"{path}: the key of {name} isn't written as `key = \"..\"` on one line; change the key by hand")
     return after
 
 
 def files_of(word: str) -> tuple[list[Path], Path, Record | None]:
-    """Returns three values about the lab that `word` names, by its file or the folder of a run. They are all files with
-    a copy of the lab, the file beside which its slips are, and the record of the run. The record is None if `word`
-    names a lab's file or the run has none. Raises `Fault` if the folder isn't that of a run."""
+    """Returns three values about the lab that `word` names, by its file or the folder of a run. The values are all
+    files with a copy of the lab, the file beside which its slips are, and the record of the run. The record is None if
+    `word` names a lab's file or the run has none. Raises `Fault` if the folder isn't that of a run."""
     path = Path(word)
     if not path.is_dir():
         return [path], path, None
@@ -96,5 +96,5 @@ def rekey(words: argparse.Namespace) -> int:
     if record is not None and record.goes_on():
         print("the run that is going on still accepts the old key: type `key NAME` at its desk instead")
     elif record is not None:
-        print(f"to go on with it: {CLASS} run --resume {words.lab}{' --again' if record.ended else ''}")
+        print(f"to continue the run: {CLASS} run --resume {words.lab}{' --again' if record.ended else ''}")
     return 0

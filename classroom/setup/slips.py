@@ -17,9 +17,9 @@ FIRST_PORT, FIRST_PAGE = 4711, 4790
 
 @dataclass(frozen=True)
 class Way:
-    """The way into a network, which is the same on all its slips. It has the network's name and room, the ports of its
-    server and of its page to play, and a door with its fingerprint or an account for ssh. A *door* is a TLS port for
-    students on other machines."""
+    """The way into a network, which is the same on all its slips. The way has the network's name and room, the ports of
+    its server and of its page to play, and a door with its fingerprint or an account for ssh. A *door* is a TLS port
+    for students on other machines."""
 
     port: int
     network: str
@@ -65,7 +65,7 @@ def teacher_of(lab: Path) -> Path:
 
 
 def slip(made: Lab, name: str, port: int) -> list[str]:
-    """Returns those lines of a slip that every client reads. It is the slip of the student or teacher `name` of the lab
+    """Returns those lines that every client reads of the slip of the student or teacher `name`. The slip is for the lab
     `made`, whose server has this port."""
     key = made.students[name] if name in made.students else made.teacher[1]
     nodes = ",".join(map(str, made.nodes_of(name)))

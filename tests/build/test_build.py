@@ -112,8 +112,8 @@ class Builds(InClone):
         self.assertEqual((each["low"], each["left"], each["right"]), (2 * number, 2 * number, number))
 
     def test_where_it_is_proved(self) -> None:
-        """In a Git clone, the build makes its repository on the clone's disk, in a folder that no check reads. It
-        removes it at the end."""
+        """In a Git clone, the build makes its repository on the clone's disk, in a folder that no check reads. The
+        build removes this repository at the end."""
         git = self.clone / ".git"
         git.mkdir()
         self.set("waits", "left")

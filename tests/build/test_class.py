@@ -1,4 +1,4 @@
-"""Commands of `./class` in a clone whose program isn't built. They build the program, and leave nothing half
+"""Commands of `./class` in a clone whose program isn't built. Such commands build the program, and leave nothing half
 done."""
 from __future__ import annotations
 
@@ -59,7 +59,7 @@ class SetsUp(InClone):
         self.assertFalse((self.room / "words").exists())
 
     def test_each_word(self) -> None:
-        """Each command builds the program first. If that fails, it does nothing."""
+        """Each command builds the program first. If the build fails, the command does nothing."""
         self.set("fails", "low")
         before = sorted(self.clone.rglob("*"))
         for words in (("new", *WORDS), ("check", "it.toml"), ("run", "it.toml"), ("attach", "it"), ("slips", "it.toml"), ("key", "it.toml", "ana"),
@@ -67,7 +67,7 @@ class SetsUp(InClone):
             done = self.call("./class", *words)
             self.assertEqual((done.returncode, done.stdout), (1, ""), words)
             self.assertIn("\nmml: the build failed, see ", done.stderr, words)
-            self.assertTrue(done.stderr.endswith("class: the program isn't built, so nothing was done\n"), done.stderr)
+            self.assertTrue(done.stderr.endswith("class: the build of the program failed, so nothing was done\n"), done.stderr)
             (self.clone / "crates/mml_host/build.log").unlink()
         self.assertEqual(sorted(self.clone.rglob("*")), before)
 
@@ -94,7 +94,7 @@ class SetsUp(InClone):
         self.assertEqual(self.made(), sorted(FIRST))
 
     def test_named_programs(self) -> None:
-        """Programs that the environment names aren't built. If they don't exist, nothing is made."""
+        """Programs that the environment names aren't built. If the named programs don't exist, nothing is made."""
         done = self.new(MML_PROGRAM=str(self.room / "none"), MML_HOST="/bin/true")
         self.assertEqual((done.returncode, done.stdout, self.made()), (1, "", []))
         self.assertIn("mml isn't built", done.stderr)

@@ -102,7 +102,7 @@ class InRoom(unittest.TestCase):
 
 
 class Going:
-    """A running class. Its lines are read one by one."""
+    """A running class, whose lines are read one by one."""
 
     def __init__(self, test: InRoom, lab: Path | None, *more: str | Path, before: tuple[str, ...] = (), ready: str = "^words: ",
                  **environment: str) -> None:

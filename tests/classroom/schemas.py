@@ -1,4 +1,4 @@
-"""A checker for the JSON Schemas in `docs/`. It supports only the keywords that they use."""
+"""A checker for the JSON Schemas in `docs/`. The checker supports only the keywords that these schemas use."""
 from __future__ import annotations
 
 import json

@@ -19,7 +19,7 @@ NAMES = ("Zoë Müller", "José García", "Lukas Schmidt", "Lukas Schmidt", "Ana
 
 
 class GoingClass(Going):
-    """The desk of a running class. Its lines are read one by one."""
+    """The desk of a running class, whose lines are read one by one."""
 
     def __init__(self, test: InRoom, *more: str | Path, **environment: str) -> None:
         """Starts a class by these arguments of `./class`, and reads up to the line with the commands of its desk."""

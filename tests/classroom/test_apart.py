@@ -114,8 +114,8 @@ class Apart(Grades):
 
     def test_room_and_memory_that_no_process_has_are_limited(self) -> None:
         output = self.grades("fills", "hides-memory", "shares-memory", "digs")
-        self.assertEqual(output.count("\n        it was ended: more than 64 megabytes in files\n"), 3, output)
-        self.assertEqual(output.count("\n        it was ended: more than 200 megabytes of memory\n"), 6, output)
+        self.assertEqual(output.count("\n        it was ended: it had more than 64 megabytes in files\n"), 3, output)
+        self.assertEqual(output.count("\n        it was ended: it used more than 200 megabytes of memory\n"), 6, output)
         self.assertEqual(self.passed(output, "digs"), 0)
 
 
@@ -131,8 +131,8 @@ class Together(Grades):
 
     def test_limits_hold_as_well(self) -> None:
         output = self.grades("fills", "hides-memory", more=("--not-apart",))
-        self.assertEqual(output.count("\n        it was ended: more than 64 megabytes in files\n"), 3, output)
-        self.assertEqual(output.count("\n        it was ended: more than 200 megabytes of memory\n"), 3, output)
+        self.assertEqual(output.count("\n        it was ended: it had more than 64 megabytes in files\n"), 3, output)
+        self.assertEqual(output.count("\n        it was ended: it used more than 200 megabytes of memory\n"), 3, output)
         self.assertTrue(output.startswith("class: bots aren't kept apart (--not-apart): "), output)
 
     def test_no_link_of_a_bot_is_followed_and_nothing_of_it_is_left(self) -> None:

@@ -19,8 +19,8 @@ class Attach(Cycle):
     """Runs over the cycle of `examples/`."""
 
     def killed(self, *more: str) -> Going:
-        """Starts a run with these options, and kills it after a move, a close and a fault. Returns it. Its server is
-        still running."""
+        """Starts a run with these options, and kills it after a move, a close and a fault. Returns the run, whose
+        server is still running."""
         going = Going(self, CYCLE, "--close", "by-hand", *more)
         server = going.server()
         self.addCleanup(self.end, server)
@@ -99,7 +99,7 @@ class Attach(Cycle):
         stop(server)
         self.addCleanup(self.end, server)
         going.process.send_signal(signal.SIGTERM)
-        going.until("^the desk: no answer in ")
+        going.until("^the desk has lost its connection: no answer in ")
         going.until(f"^waiting until the server ends, process {server}; type `end` to stop waiting$")
         going.type("end")
         self.assertEqual(going.ends(), 4, going.lines)
@@ -126,7 +126,7 @@ class Attach(Cycle):
         self.assertEqual(going.ended(), 0, going.lines)
         done = words("attach", going.folder)
         self.assertEqual((done.returncode, done.stderr), (
-            1, f"class: {going.folder}: its server has ended: {CLASS} run --resume {going.folder} continues the run\n"))
+            1, f"class: {going.folder}: the server of this run has ended: {CLASS} run --resume {going.folder} continues the run\n"))
         self.assertEqual(words("attach", self.room / "none").returncode, 1)
 
 

@@ -103,7 +103,7 @@ class Broken(Cycle):
             self.assertEqual((refused.exception.word, gus.look(4).chosen), ("journal", None))
         going.type("fault 1 2 true")
         going.until("^no: journal")
-        going.until("^nothing more is granted: journal: ")
+        going.until("^nothing more is granted: .*journal")
         self.assertEqual(going.ends(), 4, going.lines)
         self.assertTrue(any(line.startswith("ok: 0 events") for line in going.lines), going.lines)
         self.assertTrue(any("No space left on device; the journal is" in line for line in going.lines), going.lines)
@@ -121,7 +121,7 @@ class Broken(Cycle):
         with Client(going.port, "gus", KEYS["gus"]) as gus, self.assertRaises(Refused) as refused:
             gus.move(gus.look(4))
         self.assertEqual((refused.exception.word, journal.stat().st_size), ("journal", size))
-        going.until("^nothing more is granted: journal: ")
+        going.until("^nothing more is granted: .*journal")
         self.assertEqual(going.ends(), 4, going.lines)
         self.assertEqual(self.whole(going.folder), 60)
 
@@ -133,7 +133,7 @@ class Broken(Cycle):
             going.type("fault 1 2 true")
             going.until(f"^configuration {number}: ")
         act(going.folder / "journal")
-        going.until("^nothing more is granted: journal: its file ")
+        going.until("^nothing more is granted: the journal's file ")
         self.assertEqual(going.ends(), status, going.lines)
         return going
 
@@ -142,8 +142,8 @@ class Broken(Cycle):
         """Nobody asks for anything. The teacher is informed all the same, and nothing is lost."""
         for act in (self.remove, self.move, self.replace):
             going = self.lost(act)
-            told = f"its file was removed, moved or replaced; put the old file back, then {CLASS} run --resume {going.folder}"
-            self.assertIn(f"nothing more is granted: journal: {told}", going.lines)
+            told = f"the journal's file was removed, moved or replaced; put the old file back, then {CLASS} run --resume {going.folder}"
+            self.assertIn(f"nothing more is granted: {told}", going.lines)
             kept = going.folder / ("journal.saved" if act == self.replace else "journal")
             self.assertIn(f"the journal's old content is saved in {kept}", going.lines)
             self.assertEqual(kept.read_bytes().count(b"\n"), 3)
@@ -176,7 +176,7 @@ class Broken(Cycle):
         acts: list[tuple[Callable[[Path], object], int]] = [(lambda journal: os.truncate(journal, 19), 4), (lengthen, 3)]
         for act, status in acts:
             going = self.lost(act, status)
-            self.assertTrue(any(line.startswith("nothing more is granted: journal: its file was changed; put the old file back, then ")
+            self.assertTrue(any(line.startswith("nothing more is granted: the journal's file was changed; put the old file back, then ")
                                 for line in going.lines), going.lines)
 
     def test_no_event_is_left(self) -> None:
@@ -190,7 +190,7 @@ class Broken(Cycle):
             except Closed:  # The event ends the class, and replies that aren't sent by then are lost.
                 pass
         self.assertEqual(going.ends(), 5, going.lines)
-        self.assertTrue(any(line.startswith("nothing more is granted: full: events 1 of 1; ") for line in going.lines), going.lines)
+        self.assertTrue(any(line.startswith("nothing more is granted: the journal is full, events 1 of 1; ") for line in going.lines), going.lines)
         self.assertEqual(self.whole(going.folder), 1)
         self.assertEqual((going.folder / "journal").read_text(encoding="ascii"), "1 0 grant gus 4 update\n")
 
@@ -283,7 +283,7 @@ class Broken(Cycle):
         self.assertEqual(found.changes([listens, *served]), [])
         self.assertEqual(found.changes([listens, *served[1:]]), ["gone: someone from elsewhere"])
         self.assertEqual(found.changes([listens, *served]), ["connected: someone from elsewhere"])
-        self.assertEqual(Connected(4711, 2, 7).changes(served[1:])[1][:48], "this server has let in as many connections as it")
+        self.assertEqual(Connected(4711, 2, 7).changes(served[1:])[1][:40], "this server has accepted all connections")
         found.known = {6: "first", 5: "second"}
         self.assertEqual(found.who(), "2 of 2 seats: first, second")
 

@@ -123,7 +123,7 @@ class Check(InRoom):
 
     def test_more_people_than_any_lab_has_sessions(self) -> None:
         most = MOST["sessions"]
-        for students, rest in ((most - 1, "\n"), (most, f"; no lab has more than {most}: ./class new --groups makes several labs\n")):
+        for students, rest in ((most - 1, "; raise `sessions`\n"), (most, f"; no lab has more than {most}: ./class new --groups makes several labs\n")):
             more = "".join(table("[[student]]", f'name = "s{number}"', f'key = "{number:032x}"') for number in range(students - 2))
             self.says(5, f"warning: 4 sessions are fewer than {students} students and a teacher{rest}", text=GOOD + more)
 

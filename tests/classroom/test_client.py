@@ -62,13 +62,13 @@ HURT = (
     ('{"do":"look","node":0x4}',
      'not JSON at byte 22 (write the number in decimal digits)'),
     ('{"do":"look","node":4.0}',
-     'node is no whole number, not a number (write 4, without a point)'),
+     'node is a number with a point or exponent, not a whole number (write 4, without a point)'),
     ('{"do":"look","node":4.5}',
-     'node is no whole number, not a number'),
+     'node is a number with a point or exponent, not a whole number'),
     ('{"do":"look","node":"4"}',
-     'node is a string, not a number (write 4, without quotes)'),
+     'node is a string, not a whole number (write 4, without quotes)'),
     ('{"do":"look","node":[4]}',
-     'node is a list, not a number (write 4, without brackets)'),
+     'node is a list, not a whole number (write 4, without brackets)'),
     ('{"do":"look","node":None}',
      'not JSON at byte 21 (write null)'),
     ('{"do":"look","nodes":4}',
@@ -92,23 +92,23 @@ HURT = (
     ('{"do":"move","node":4,"at":0,"rule":"dance"}',
      'rule is "dance", not one of update, marriage, seduction, abandonment'),
     ('{"do":"move","node":4,"at":0,"rule":"marriage"}',
-     'missing "with" (who points at the node)'),
+     'missing "with" (the neighbour that points at the node)'),
     ('{"do":"move","node":4,"at":0,"rule":"marriage","With":3}',
      'missing "with" (you wrote With)'),
     ('{"do":"move","node":4,"at":0,"rule":"marriage","with":"3"}',
-     'with is a string, not a number (write 3, without quotes)'),
+     'with is a string, not a whole number (write 3, without quotes)'),
     ('{"do":"fault","node":4,"p":None,"m":true}',
      'not JSON at byte 28 (write null)'),
     ('{"do":"fault","node":4,"p":"null","m":true}',
-     'p is a string, not a number or null (write null, without quotes)'),
+     'p is a string, not a whole number or null (write null, without quotes)'),
     ('{"do":"fault","node":4,"p":null,"m":True}',
      'not JSON at byte 37 (write true)'),
     ('{"do":"fault","node":4,"p":null,"m":"false"}',
      'm is a string, not true or false (write false, without quotes)'),
     ('{"do":"fault","node":4,"p":null,"m":1}',
-     'm is a number, not true or false (write true)'),
+     'm is a whole number, not true or false (write true)'),
     ('{"do":"hello","name":4,"key":"k"}',
-     'name is a number, not a string (write "4", in double quotes)'),
+     'name is a whole number, not a string (write "4", in double quotes)'),
     ('{"do":"hello","name":"gus","keys":"k"}',
      'missing "key" (you wrote keys)'),
     ('{"do":"link","from":1,"to":2}',
@@ -119,7 +119,7 @@ HURT = (
 
 HINT = "; --help prints what to type"  # after wrong words
 # Wrong lines that a schema can't exclude.
-BEYOND = ("not UTF-8", "a byte order mark", "half of a surrogate pair", "nested deeper than", "a number past", "out of range")
+BEYOND = ("not UTF-8", "the line begins with a byte order mark", "half of a surrogate pair", "nested deeper than", "a number that is too large", "out of range")
 
 
 class Server:
@@ -167,7 +167,7 @@ class Before(unittest.TestCase):
         server = Server(self, b'{"ok":"hello","who":"gus"}', b'{"ok":"bye"}')
         me = Client(server.port, "gus", "k")
         rows: tuple[tuple[dict[str, object], str], ...] = (
-            ({"do": "look", "node": "4"}, "node is a string, not a number (write 4, without quotes)"),
+            ({"do": "look", "node": "4"}, "node is a string, not a whole number (write 4, without quotes)"),
             ({"do": "loook", "node": 4}, "unknown do: loook (did you mean look?)"), ({"do": "see", "node": {4}}, "Object of type set"),
         )
         for request, why in rows:
@@ -191,7 +191,7 @@ class Before(unittest.TestCase):
                     me.look(4)
 
     def test_who_greets_asks_again_when_the_server_is_out_of_memory(self) -> None:
-        """This holds at first and after a lost connection. Any other refusal is raised."""
+        """The first hello and one after a lost connection are asked again. Any other refusal is raised."""
         slip = Slip(1, "gus", "heron", (4,))
         greetings: tuple[Callable[[], object], ...] = (lambda: enter(slip), lambda: again(slip, Closed("lost")))
         for greets in greetings:
@@ -226,9 +226,9 @@ class CommandLine(InRoom):
             (["--lgo"], "--lgo: there is no such option (did you mean --log?)" + HINT),
             ([slip, "--verbose"], "--verbose: there is no such option" + HINT),
             ([slip, "--log"], "--log needs the name of a file" + HINT),
-            ([slip, "again"], "again: nothing more is expected" + HINT),
+            ([slip, "again"], "again: this argument is one too many" + HINT),
             (["4711", "gus"], "SLIP, or PORT NAME KEYFILE NODE,.." + HINT),
-            (["--tunnel", slip], "--tunnel SLIP [PORT]: the slip has to name a door" + HINT),
+            (["--tunnel", slip], "--tunnel SLIP [PORT]: this slip names no door" + HINT),
             (["none.slip"], "none.slip: No such file or directory"), (["0", "gus", slip], "0 isn't a port: write a number from 1 to 65535"),
         ):
             self.assertEqual(self.called(*given), (1, "", f"client.py: {why}\n"), given)

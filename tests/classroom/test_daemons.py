@@ -93,7 +93,8 @@ class Beside:
         del self.book.chosen[node]
 
     def read(self) -> None:
-        """Stands in for reading the journal's new lines. They contain one more grant as long as `later` has a node."""
+        """Stands in for reading the journal's new lines. The lines contain one more grant as long as `later` has a
+        node."""
         if self.later:
             self.book.chosen[self.later.pop()] = ("cyd", "update")
 

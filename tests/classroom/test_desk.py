@@ -124,9 +124,9 @@ class Words(Cycle):
             going.type("fault 1 2 true")
             going.until(f"^configuration {number}: .*; events {number} of 10$")
             if number == 9:
-                going.until("^events 9 of 10: after the last one nothing more is granted$")
+                going.until("^events 9 of 10: after the last event nothing more is granted$")
         line = going.until("^nothing more is granted: ")
-        self.assertRegex(line, "full: events 10 of 10; ")
+        self.assertRegex(line, "the journal is full, events 10 of 10; ")
         self.assertEqual(going.ends(), 5, going.lines)
         self.assertEqual(self.whole(going.folder), 10)
 
@@ -165,7 +165,7 @@ class InATerminal(Cycle):
         terminal.type(b"clossse\x1b[D\x7f\x7f\n", b"no: empty")
         terminal.type(b"\x04", b"to end the run, type `end`")
         terminal.type(b"end\n", b"type `end` once more to end the run")
-        terminal.type(b"end\n", b"all of it is in ")
+        terminal.type(b"end\n", b"all files of the run are in ")
         self.assertEqual(terminal.process.wait(LIMIT), 0)
         os.close(terminal.ours)
 
@@ -191,7 +191,7 @@ class Late(Cycle):
         self.addCleanup(patient.stop)
         holding.start()
         typed.put("fault 1 2 true")
-        self.until(lambda: any(line.startswith("the desk: no answer in 0.5 seconds") for line in lines))
+        self.until(lambda: any(line.startswith("the desk has lost its connection: no answer in 0.5 seconds") for line in lines))
         os.kill(it.process.number, signal.SIGCONT)
         self.until(lambda: "the desk is connected again" in lines)
         typed.put("link 1 3")
@@ -319,7 +319,7 @@ class Disk(InRoom):
         before = resource.getrlimit(resource.RLIMIT_FSIZE)
         resource.setrlimit(resource.RLIMIT_FSIZE, (0, before[1]))
         try:
-            self.assertEqual(self.told(room, 10**9, 10**9), [["the disk takes nothing (File too large)"], []])
+            self.assertEqual(self.told(room, 10**9, 10**9), [["the disk can't be written (File too large)"], []])
         finally:
             resource.setrlimit(resource.RLIMIT_FSIZE, before)
         self.assertEqual(self.told(room, 10**9), [[ROOM_AGAIN]])

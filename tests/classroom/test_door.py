@@ -31,7 +31,7 @@ CLIENT = EXAMPLES.parent / "classroom/client.py"
 
 
 class Lines:
-    """A server that answers each line with its own name and the line. It hangs up after `bye`, or after a last
+    """A server that answers each line with its own name and the line. The server hangs up after `bye`, or after a last
     line of its own."""
 
     def __init__(self, name: str, last: bytes = b"") -> None:
@@ -233,12 +233,12 @@ class Bots(AtDoor):
     def test_a_certificate_that_is_not_the_slip_s(self) -> None:
         seen = self.lines("maths").taken
         other = self.slip("maths", "0" * 64)
-        with self.assertRaisesRegex(NoDoor, "^the certificate of the door at 127.0.0.1:.* isn't the slip's, so nothing was sent$"):
+        with self.assertRaisesRegex(NoDoor, "^the door at 127.0.0.1:.* has another certificate than your slip names, so nothing was sent$"):
             Client.of(other)
         for words in ([str(self.files(other))], ["--tunnel", str(self.files(other))]):
             done = subprocess.run([sys.executable, CLIENT, *words], capture_output=True, text=True, check=False, timeout=LIMIT, input="")
             self.assertEqual((done.returncode, done.stdout), (4, ""))
-            self.assertRegex(done.stderr, "^client.py: the certificate of the door .*; ask your teacher for the certificate\n$")
+            self.assertRegex(done.stderr, "^client.py: the door at .* has another certificate .*; ask your teacher for the certificate\n$")
         self.assertEqual(seen, [])
 
     def test_last_words_reach_the_client(self) -> None:
@@ -299,7 +299,7 @@ class Bots(AtDoor):
         self.wait(lambda: self.told != [])
         with Client.of(self.slip("maths")) as me:
             self.assertEqual(me.ask(do="see", node=1)["by"], "maths")
-        self.assertRegex(self.told[0], "^the door's process has ended, status -9: it is opened again$")
+        self.assertRegex(self.told[0], "^the door's process has ended, status -9: the door is opened again$")
 
     def test_it_ends_with_its_last_network(self) -> None:
         self.lines("maths")
@@ -331,7 +331,7 @@ class Tunnels(AtDoor):
         self.lines("maths")
         port = opening_port()
         with self.tunnel(self.files(self.slip("maths")), str(port)) as line:
-            self.assertEqual(line, f"port {port} of this machine leads through the door at 127.0.0.1:{self.door.port} to maths; Ctrl-C ends it\n")
+            self.assertEqual(line, f"port {port} of this machine leads through the door at 127.0.0.1:{self.door.port} to maths; Ctrl-C closes the tunnel\n")
             with Client(port, "gus", "heron-31") as me:
                 self.assertEqual(me.ask(do="look", node=1)["by"], "maths")
             with socket.create_connection(("127.0.0.1", port), LIMIT) as it:  # A client that ends its own side gets the replies.
@@ -352,7 +352,7 @@ class Tunnels(AtDoor):
             done = subprocess.run([sys.executable, CLIENT, "--tunnel", slip, str(taken.getsockname()[1])], capture_output=True, text=True,
                                   check=False, timeout=LIMIT)
             self.assertEqual(done.returncode, 4)
-            self.assertIn("--tunnel SLIP PORT takes another", done.stderr)
+            self.assertIn("--tunnel SLIP PORT uses another port", done.stderr)
         far = Slip(4711, "gus", "k", (), f"127.0.0.1:{opening_port()}", "maths", "0" * 64)
         done = subprocess.run([sys.executable, CLIENT, "--tunnel", self.files(far)], capture_output=True, text=True, check=False, timeout=LIMIT)
         self.assertEqual(done.returncode, 4)
@@ -532,7 +532,8 @@ class Counts(unittest.TestCase):
         it, ended = Bounds(), list[str]()
 
         def begin(name: str) -> None:
-            """Begins a handshake. Its origin is the first letter of its name, and its end is noted in `ended`."""
+            """Begins a handshake. The handshake's origin is the first letter of its name, and its end is noted in
+            `ended`."""
             it.begin(Handshake(name[0], lambda: ended.append(name)))
 
         with mock.patch.multiple(bounds, HANDSHAKES=5, HANDSHAKES_EACH=3):

@@ -55,7 +55,7 @@ class Disks(InRoom):
         table = self.room / "cases.json"
         done = self.grades(before, "--into", disk, "--json", table)
         self.assertEqual(done.returncode, 5, done.stdout + done.stderr)
-        self.assertRegex(done.stdout, "(?m)^class: .*: no record: No space left on device; name another folder by --into$")
+        self.assertRegex(done.stdout, "(?m)^class: .*: the record of this case can't be written: No space left on device; name another folder by --into$")
         self.assertIn("bot.py: 1 of 1 cases passed\nno-such-bot: not tried: it can't be started\n", done.stdout)
         self.assertEqual([each["passed"] for each in json.loads(table.read_text(encoding="utf-8"))], [True, False])
 
@@ -72,8 +72,10 @@ class Disks(InRoom):
         disk, before = full_disk(self)
         call: list[str | Path] = [*before, sys.executable, TOP / "class", "experiment", "--family", "path", "--nodes", "4", "--runs", "2"]
         rows: tuple[tuple[tuple[str | Path, ...], str], ...] = (
-            (("--csv", disk / "runs.csv"), "runs.csv: No space left on device; make room, or name another file by --csv; the same command continues"),
-            (("--csv", self.room / "runs.csv", "--plot", disk / "runs.svg"), "runs.svg: No space left on device; make room, or name another file by --plot"),
+            (("--csv", disk / "runs.csv"), "runs.csv: No space left on device; make room and run the same command again, which continues this table, or "
+                                           "name another file by --csv, which begins a new table"),
+            (("--csv", self.room / "runs.csv", "--plot", disk / "runs.svg"), "runs.svg: No space left on device; make room and run the same command "
+                                                                             "again, or name another file by --plot"),
         )
         for given, why in rows:
             done = subprocess.run([*call, *given], capture_output=True, text=True, check=False, timeout=LIMIT)
@@ -96,7 +98,7 @@ class Disks(InRoom):
         with unittest.mock.patch.object(Path, "write_text", side_effect=OSError(28, "No space left on device", "/tmp/slip")):
             found = list(grade.results_of([Bot.of("true"), Bot.of("false")], [case], told, self.room, threading.Event()))
         self.assertEqual([result.why for result in found],
-                         ["not tried: /tmp/slip: No space left on device; name another folder by the variable TMPDIR"] * 2)
+                         ["not tried: /tmp/slip: No space left on device; name another folder by the environment variable TMPDIR"] * 2)
         self.assertFalse(any(result.passed for result in found))
 
 
@@ -113,8 +115,8 @@ class AtHome(InRoom):
 
     def test_bytes_replies_and_silence(self) -> None:
         self.assertIn("\nyou: malformed: not UTF-8 at byte 1: \\x80\\x81", self.practises(f"python3 {FAULTY} binary", "15"))
-        self.assertRegex(self.practises(f"python3 {FAULTY} pretends"), r"(?m)^it hangs: the class waits for 1 \(")
-        self.assertRegex(self.practises(f"python3 {FAULTY} hangs"), r"(?m)^it hangs: the class waits for 1 \(")
+        self.assertRegex(self.practises(f"python3 {FAULTY} pretends"), r"(?m)^the run hangs: the class waits for 1 \(")
+        self.assertRegex(self.practises(f"python3 {FAULTY} hangs"), r"(?m)^the run hangs: the class waits for 1 \(")
 
     def test_nothing_stays_of_what_it_started(self) -> None:
         told = self.practises(f"python3 {FAULTY} forks", str(LIMIT))
@@ -150,8 +152,8 @@ class Folders(InRoom):
         (self.room / "wrong").mkdir()
         (self.room / "wrong/one.toml").write_bytes(os.urandom(50))
         rows = (
-            ("none", 4, "none: No such file or directory; --labs takes a folder of labs, NAME.toml"),
-            ("empty", 2, "empty: no labs; they are files NAME.toml, which ./class new makes"),
+            ("none", 4, "none: No such file or directory; --labs names a folder with labs, which are files NAME.toml"),
+            ("empty", 2, "empty: this folder has no labs, which are files NAME.toml; ./class new makes them"),
             ("wrong", 2, f"one.toml: lab: not a TOML document; `{CLASS} check"),
         )
         for name, status, why in rows:

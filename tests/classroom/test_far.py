@@ -129,8 +129,8 @@ class Far(InRoom):
         return networks
 
     def killed(self, number: int, server: int, path: str, run: subprocess.Popen[str], students: set[str]) -> None:
-        """Kills the server of a network, and checks that it is down on the page for all until the desk resumes it.
-        Then its bots come back."""
+        """Kills the server of a network, and checks that it is down on the page for all until the desk resumes it. Then
+        the network's bots come back."""
         before = {name: self.greeted().count(name) for name in students}
         os.kill(server, signal.SIGKILL)
         wait_until(lambda: bool(self.networks(path)[number - 1]["status"] == "down"))

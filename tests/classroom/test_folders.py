@@ -181,7 +181,7 @@ class Hostile(Disputed):
         (folder / RECORD).write_text(json.dumps(kept | {"lab": 5}), encoding="utf-8")
         for done in (words("mark", folder), words("history", folder, "gus")):
             self.assertEqual(done.returncode, 0, done.stderr)
-        self.says(words("attach", folder), 1, "its server has ended")
+        self.says(words("attach", folder), 1, "the server of this run has ended")
         (folder / RECORD).write_text(json.dumps(kept | {"close": "when-it-likes"}), encoding="utf-8")
         self.says(words("run", "--resume", folder, "--again"), 4, folder / RECORD, "when-it-likes isn't one of ")
         (folder / RECORD).write_text(" " * (plain.MOST_KEPT + 1), encoding="utf-8")
@@ -210,7 +210,7 @@ class Plainly(Disputed):
     def test_limits(self) -> None:
         it = self.file("it", "1234")
         self.assertEqual((plain.read(it, 4), plain.tail(it, 2), plain.tail(it, 9)), (b"1234", b"34", b"1234"))
-        self.assertRaisesRegex(Fault, "it has more than 3 bytes", plain.read, it, 3)
+        self.assertRaisesRegex(Fault, "this file has more than 3 bytes", plain.read, it, 3)
         self.assertRaisesRegex(Fault, "this isn't a regular file", plain.read, Path("/dev/zero"), 1 << 40)
         self.assertRaisesRegex(Fault, "this isn't a regular file", plain.read, self.room, 10)
         self.assertRaisesRegex(Fault, "No such file", plain.read, self.room / "none", 10)

@@ -36,15 +36,15 @@ OWN = {
     "asks-always": ("alone-cycle-4", r"asks for a move of node \d with `at` 1\d\d\d, and no look at node \d had that number"),
     "floods": ("path-4", "it floods the server: "),
     "hangs": ("path-4", rf"isn't stable after {SECONDS} seconds: waiting for "),
-    "ignores-faults": ("complete-4", rf"it didn't ask for \w+ at \d+, which is privileged, in {SECONDS} seconds; its last line came "),
+    "ignores-faults": ("complete-4", rf"it didn't ask for \w+ at node \d+, which is privileged, in {SECONDS} seconds; its last line came "),
     "needs-order": ("alone-path-4", rf"isn't stable after {SECONDS} seconds: waiting for "),
     "sulks": ("random-6", rf"its connection was closed, and in {SECONDS} seconds it didn't connect again"),
     "binary": ("path-4", r"^malformed: not UTF-8 at byte 1: \\x80"),
-    "quotes-numbers": ("path-4", r'^malformed: node is a string, not a number \(write \d, without quotes\): {"do": "look", "node": "\d"}$'),
+    "quotes-numbers": ("path-4", r'^malformed: node is a string, not a whole number \(write \d, without quotes\): {"do": "look", "node": "\d"}$'),
     "never-ends-a-line": ("path-4", rf"no hello in {SECONDS} seconds; it sent a line without a newline at the end$"),
     "forks": ("path-4", "it ended by itself, status 0"),
-    "bombs": ("path-4", "it was ended: more than 64 processes"),
-    "eats-memory": ("path-4", "it was ended: more than 200 megabytes of memory"),
+    "bombs": ("path-4", "it was ended: it had more than 64 processes"),
+    "eats-memory": ("path-4", "it was ended: it used more than 200 megabytes of memory"),
     "pretends": ("path-4", rf"no hello in {SECONDS} seconds; it never connected to port \d+$"),
 }
 PLANS = {plan.name: plan for plan in suites.SMALL}
@@ -159,7 +159,8 @@ class Commands(InRoom):
     """The bots that arguments name."""
 
     def test_a_file_that_is_there_is_meant(self) -> None:
-        """This holds with and without a path, and with any interpreter."""
+        """The name of an existing file means this file, with and without a path before it, whichever interpreter runs
+        it."""
         before = Path.cwd()
         self.addCleanup(os.chdir, before)
         os.chdir(self.room)
@@ -176,8 +177,9 @@ class Commands(InRoom):
                 bot = Bot.of(name)
                 self.assertEqual((bot.words, bot.fault), (expected, ""), name)
         self.file("data", "").chmod(0o644)
-        for name in ("data", "none.py", "./none.py"):
-            self.assertIn("there is no such program, or it can't be run", Bot.of(name).fault)
+        self.assertIn("data: this file can't be run; make it executable", Bot.of("data").fault)
+        for name in ("none.py", "./none.py"):
+            self.assertIn("there is no such program; a BOT is a command", Bot.of(name).fault)
 
 
 class Calls(InRoom):
@@ -245,7 +247,7 @@ class Calls(InRoom):
         lines += list(going.stdout)
         going.stdout.close()
         self.assertEqual(going.wait(LIMIT), 4, lines)
-        self.assertIn("interrupted: 12 of 24 cases\n", lines)
+        self.assertIn("interrupted: 12 of 24 cases were tried\n", lines)
         self.assertEqual(len(json.loads(table.read_text(encoding="utf-8"))), 12)
         nothing_left(self)
 

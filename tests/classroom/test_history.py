@@ -84,8 +84,8 @@ class Disputed(Cycle):
     """A class in which gus claims that the server was wrong."""
 
     def disputed(self, stale: int = 1) -> Going:
-        """Starts a run, and returns it. In it gus moves once, is denied `stale` times as stale and once by the guard,
-        and sends a malformed line."""
+        """Starts a run, and returns it. In this run gus moves once, is denied `stale` times as stale and once by the
+        guard, and sends a malformed line."""
         going = Going(self, CYCLE, "--close", "by-hand")
         with Raw(going.port) as wrong:
             self.assertEqual(wrong.ask(hello("gus", "heron-13")), UNKNOWN)

@@ -130,7 +130,7 @@ class Hosted(Cycle):
         """Ctrl-C in the terminal of `run` ends the run with status 0."""
         terminal = InTerminal(self)
         terminal.type(b"fault 1 2 true\n", b"fault at node 1: p 2, m true;")
-        terminal.type(b"\x03", b"all of it is in ")
+        terminal.type(b"\x03", b"all files of the run are in ")
         self.assertEqual(terminal.process.wait(LIMIT), 0)
         os.close(terminal.ours)
         folder = next((self.room / "runs").iterdir())

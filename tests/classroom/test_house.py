@@ -177,7 +177,7 @@ class Standing(InRoom):
         self.assertEqual((going.folder / "journal").read_bytes(), b"")
         self.greet(going)
         self.assertEqual(going.ends(), 0, going.lines)
-        self.assertIn("stable, and so the run is ended", going.lines)
+        self.assertIn("the network is stable, so the run is ended", going.lines)
         self.assertEqual(set(self.grants(going.folder)), {HOUSE})
 
     def test_a_student_is_played_and_left_alone_again(self) -> None:
@@ -291,7 +291,7 @@ class Refused(InRoom):
         for word in ("0s", "x", "-1", "20m"):
             done = words("run", CYCLE, "--stand-in", word, "--into", self.room / "runs")
             self.assertEqual(done.returncode, 1)
-            self.assertIn("isn't a number of seconds", done.stderr)
+            self.assertIn("isn't a number of seconds above 0", done.stderr)
 
 
 if __name__ == "__main__":

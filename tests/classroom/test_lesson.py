@@ -105,7 +105,7 @@ class Lesson(InRoom):
         going.until("^configuration ")
         os.kill(going.server(), signal.SIGKILL)
         self.assertEqual(going.ends(), 4, going.lines)
-        self.assertIn(f"to go on: {CLASS} run --resume {going.folder}", going.lines)
+        self.assertIn(f"to continue the run: {CLASS} run --resume {going.folder}", going.lines)
         for bot in bots:  # The bot would greet again, but here each student ends it and starts another.
             bot.terminate()
         return going.folder
@@ -121,7 +121,7 @@ class Lesson(InRoom):
         self.assertEqual(going.port, self.port)
         bots = self.bots(list(self.lab.students))
         going.type("\n".join(["fault 11 null true"] * (60 + (1024 * most - journal.stat().st_size) // 20)))
-        going.until("^nothing more is granted: journal: no line can be written to it; make room on the disk, then .*class run --resume ")
+        going.until("^nothing more is granted: no line can be written to the journal; make room on the disk, then .*class run --resume ")
         self.assertEqual(going.ends(), 4, going.lines)
         self.are_told_of_the_end(bots, 0, 4, 6)
 

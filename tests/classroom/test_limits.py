@@ -30,7 +30,7 @@ class Reads(unittest.TestCase):
         """Checks that reading this text raises the fault about `what`."""
         with self.assertRaises(Fault) as raised:
             limits.parsed(text)
-        self.assertEqual((str(raised.exception), raised.exception.status), (f"{BEGIN}{what}: build it again", FAILED))
+        self.assertEqual((str(raised.exception), raised.exception.status), (f"{BEGIN}{what}: `./mml build` builds it again", FAILED))
 
     def test_each_limit(self) -> None:
         found = limits.parsed(TEXT)
@@ -108,7 +108,7 @@ class Asks(InRoom):
         cases: tuple[tuple[list[str | Path], int, str], ...] = (
             (["new", self.room / "it.toml", "--students", table, "--groups-by", "Room"], 0, "it-3.toml: 9 nodes"),
             (["new", self.room / "more.toml", "--students", table, "--nodes", "10"], 1, "class: a lab has 1 to 9 nodes, not 10\n"),
-            (["new", self.room / "far.toml", "--students", table, "--links", links], 1, f"class: {links}: line 1: a node is 1 to 99: 1 100\n"),
+            (["new", self.room / "far.toml", "--students", table, "--links", links], 1, f"class: {links}: line 1: the number of a node is 1 to 99: 1 100\n"),
             (["experiment", "--nodes", "4..10"], 1, "4..10 isn't A..B or A..B/STEP with numbers from 1 to 9;"),
         )
         for given, status, what in cases:

@@ -115,7 +115,7 @@ class Mark(InRoom):
         for old, new, error in (
             ('"ok":"move"', '"deny":"guard"', '"rule":"seduction"} is answered {"at":0,'),
             ('"place":2', '"place":3', "the program's reply to event 2 of the journal names event 3"),
-            ('"stable":false', '"stable":true', "tally and report disagree"),
+            ('"stable":false', '"stable":true', "`tally` and `report` disagree"),
         ):
             def another(made: labs.Lab, script: list[str]) -> str:
                 """Returns the program's replies with `old`, which they have once, replaced by `new`."""
@@ -158,7 +158,7 @@ class Mark(InRoom):
         ])
         shorter = self.file("shorter.csv", "Name,ID\nZoë M.,s1\nBen,s2\nNew,s9\n")
         done = words("mark", lab, one, "--roster", shorter)
-        self.assertEqual((done.returncode, done.stderr), (5, f"class: {shorter} has no Eva\n"))
+        self.assertEqual((done.returncode, done.stderr), (5, f"class: {shorter} has no student Eva\n"))
         self.assertEqual([line.split(",")[:3] for line in done.stdout.splitlines()[1:]], [["Zoë M.", "s1", "1"], ["Ben", "s2", "1"], ["New", "s9", "0"]])
         self.assertEqual(words("mark", lab, one, two, "--total").stdout.splitlines()[1], '"Müller, Zoë",s1,2,1,0,0,1,0,1,0,2,0,0,0,0,0,0,2,lab')
 
@@ -218,7 +218,7 @@ class Mark(InRoom):
                             .replace(" 2 seduction", " 3 seduction"))
         for roster, more in ((students, ()), (self.file("names", "\n".join(names[:3]) + "\n"), ("--total",))):
             done = words("mark", lab, journal, "--roster", roster, *more)
-            self.assertEqual(done.stderr, "" if not more else f"class: {roster} has no {printable(names[3].strip())}\n")
+            self.assertEqual(done.stderr, "" if not more else f"class: {roster} has no student {printable(names[3].strip())}\n")
             rows = list(csv.reader(io.StringIO(done.stdout)))
             granted = rows[0].index("granted")
             self.assertEqual([(row[0], row[granted]) for row in rows[1:]], [*zip(names, ("1", "0", "1", "0"))][:len(rows) - 1])

@@ -131,8 +131,9 @@ class New(InRoom):
         links = self.file("links", "1 2\n2 7 # a far one\n\n7-9\n")
         self.assertIn("4 nodes, 3 links", self.new("--links", str(links)))
         self.clean()
-        for line, what in (("3 3", "a node isn't linked to itself"), ("2 1", "these are linked in line 1 already"), ("0 1", "a node is 1 to 65535"),
-                           ("1 65536", "a node is 1 to 65535"), ("1 2 3", "not two numbers"), ("a b", "not two numbers")):
+        for line, what in (("3 3", "a node can't be linked to itself"), ("2 1", "these nodes are linked in line 1 already"),
+                           ("0 1", "the number of a node is 1 to 65535"),
+                           ("1 65536", "the number of a node is 1 to 65535"), ("1 2 3", "a link is two numbers"), ("a b", "a link is two numbers")):
             links = self.file("links", f"1 2\n\n{line}  # this\n")
             self.assertIn(f"class: {links}: line 3: {what}: {line}  # this\n", self.new("--links", str(links), status=1))
 

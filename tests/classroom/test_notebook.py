@@ -1,4 +1,4 @@
-"""The notebook of lesson 6. Its cells run over a table of `experiment`, alone and in nbconvert."""
+"""The notebook of lesson 6. The notebook's cells run over a table of `experiment`, alone and in nbconvert."""
 from __future__ import annotations
 
 import contextlib

@@ -56,7 +56,7 @@ class Practise(InRoom):
                       "the plain model, which decides nothing, adds: p of 2 isn't 1, it is null; "
                       'a right bot would send {"at":0,"do":"move","node":1,"rule":"seduction"}\n', done.stdout)
         self.assertIn("\nyou: the program has ended, status 1\n", done.stdout)
-        self.assertRegex(done.stdout, r"(?m)^it hangs: no program is left, and the class waits for 1 \(you\): seduction, ")
+        self.assertRegex(done.stdout, r"(?m)^the run hangs: no program is left, and the class waits for 1 \(you\): seduction, ")
 
     def test_the_nodes_that_are_dealt_out_need_all_four_rules(self) -> None:
         done = self.practises(EXAMPLES / "bot.py")
@@ -112,8 +112,8 @@ class Practise(InRoom):
         self.assertEqual(done.returncode, 0, done.stdout + done.stderr)
         lines = [line for line in done.stdout.splitlines() if "malformed" in line]
         self.assertEqual(len(lines), 3, lines)
-        self.assertRegex(lines[0], r'^you: malformed: node is a string, not a number \(write \d, without quotes\): {"do": "look", "node": "\d"}$')
-        self.assertEqual(lines[1], "you: 10 times so far: malformed: node is a string, not a number")
+        self.assertRegex(lines[0], r'^you: malformed: node is a string, not a whole number \(write \d, without quotes\): {"do": "look", "node": "\d"}$')
+        self.assertEqual(lines[1], "you: 10 times so far: malformed: node is a string, not a whole number")
         self.assertIn(", 30 malformed lines", lines[2])
 
     def test_denials_of_a_kind_are_told_once_and_counted(self) -> None:
@@ -122,7 +122,7 @@ class Practise(InRoom):
         lines = [line for line in done.stdout.splitlines() if "stale" in line]
         self.assertGreater(len(re.findall("(?m)^configuration ", done.stdout)), 2, "the number was the same for all of them")
         self.assertRegex(lines[0], r"^you: move \d \w+.* is denied as stale, clause 2: this is not the current configuration; "
-                                   r"it was asked with `at` \d+, and the current number is \d+$")
+                                   r"its `at` is \d+, and the current configuration has the number \d+$")
         told = re.fullmatch(r"you: .*, \d+ denials? \(.*?(\d+) stale.*", lines[-1])
         assert told is not None, lines
         self.assertGreater(int(told[1]), 2)
@@ -132,12 +132,12 @@ class Practise(InRoom):
     def test_a_program_that_never_connects_is_told_from_one_that_is_silent(self) -> None:
         done = self.practises(f"python3 {FAULTY} pretends", "--timeout", "1")
         self.assertEqual(done.returncode, 5, done.stdout + done.stderr)
-        self.assertRegex(done.stdout, r"(?m)^it hangs: the class waits for \d \(you\): .*; you: it never connected to port \d+; "
+        self.assertRegex(done.stdout, r"(?m)^the run hangs: the class waits for \d \(you\): .*; you: it never connected to port \d+; "
                                       r'the plain model, which decides nothing, adds: a right bot would send {"at":1?\d,"do":"move",.*}$')
         self.assertTrue(done.stdout.endswith("\nyou: 0 moves, 0 denials; it never asked for: update, marriage, seduction, abandonment\n"), done.stdout)
 
     def test_no_program_goes_on_while_record_and_page_are_made(self) -> None:
-        """These may take long, and nobody would answer a program meanwhile."""
+        """Writing the record and the page may take long, and nobody would answer a program meanwhile."""
         given = ["practise", f"python3 {FAULTY} right", "--nodes", "3", "--into", str(self.room / "runs")]
         code = ("import sys; from classroom import words; from classroom.bots import bots, practise; kept = []; began = bots.RunningBot.__init__\n"
                 "bots.RunningBot.__init__ = lambda self, *given: (kept.append(self), began(self, *given))[1]\n"
@@ -177,7 +177,7 @@ class Practise(InRoom):
         self.assertEqual(going.wait(LIMIT), 0)
         going.stdout.close()
         self.assertTrue(any(line.startswith("you: look 2 is denied as not-owner, clause 1: you do not own this node") for line in rest), rest)
-        self.assertIn('you: malformed: node is a string, not a number (write 1, without quotes): {"do":"look","node":"1"}\\r\n', rest)
+        self.assertIn('you: malformed: node is a string, not a whole number (write 1, without quotes): {"do":"look","node":"1"}\\r\n', rest)
         self.assertTrue(any(line.startswith("stable: pairs 1-2; ") for line in rest), rest)
 
     def plays(self, me: Client, node: int) -> None:

@@ -83,7 +83,7 @@ class Resume(Cycle):
         os.kill(server.number, signal.SIGKILL)
         if what == "host":
             self.assertEqual(going.ends(), 4, going.lines)
-            self.assertIn(f"to go on: {CLASS} run --resume {going.folder}", going.lines)
+            self.assertIn(f"to continue the run: {CLASS} run --resume {going.folder}", going.lines)
         while server.lives():
             pass
 
@@ -128,7 +128,7 @@ class Resume(Cycle):
                 for name in KEYS:  # A student whose bot hadn't greeted starts another bot.
                     self.bot(again, name)
                 self.assertEqual(again.ends(), 0, again.lines)
-                self.assertIn("stable, and so the run is ended", again.lines)
+                self.assertIn("the network is stable, so the run is ended", again.lines)
                 self.whole(going.folder)
                 self.assertTrue((going.folder / "journal").read_bytes().startswith(before[:before.rfind(b"\n") + 1]))
                 self.assertEqual(self.marks(going.folder), self.counted(going.folder))
@@ -182,7 +182,7 @@ class Resume(Cycle):
         going = Going(self, CYCLE, "--close", "by-hand", MML_HOST=str(self.limited(2)))
         going.type("\n".join(["fault 1 2 true"] * 110))
         line = going.until("^nothing more is granted: ")
-        self.assertEqual(line, "nothing more is granted: journal: no line can be written to it; make room on the disk, then "
+        self.assertEqual(line, "nothing more is granted: no line can be written to the journal; make room on the disk, then "
                                f"{CLASS} run --resume {going.folder}")
         self.assertEqual(going.ends(), 4, going.lines)
         self.assertFalse(any("by itself" in line for line in going.lines), going.lines)
@@ -210,7 +210,7 @@ class Resume(Cycle):
                 gus.move(gus.look(4))
             with journal.open("ab") as it:
                 it.write(b"9")  # A full disk leaves the beginning of a line; a limit on the file's size leaves nothing.
-            going.until("^nothing more is granted: journal: no line can be written to it; ")
+            going.until("^nothing more is granted: no line can be written to the journal; ")
         self.assertEqual(going.ends(), 4, going.lines)
 
     def test_another_key_in_mid_course(self) -> None:
@@ -224,7 +224,7 @@ class Resume(Cycle):
         (going.folder / "run.json").write_text(json.dumps({**record, "lab": str(self.room / "mine.toml")}), encoding="utf-8")
         done = words("key", going.folder, "gus")
         self.assertEqual((done.returncode, done.stderr), (0, ""))
-        self.assertIn(f"to go on with it: {CLASS} run --resume {going.folder} --again\n", done.stdout)
+        self.assertIn(f"to continue the run: {CLASS} run --resume {going.folder} --again\n", done.stdout)
         slip = Slip.read(self.room / "mine-slips/gus.slip")
         self.assertEqual((slip.port, slip.nodes), (going.port, (1, 4)))
         for file in (lab, self.room / "mine.toml"):
@@ -242,7 +242,7 @@ class Resume(Cycle):
         with Client(going.port, "gus", KEYS["gus"]) as gus:
             gus.move(gus.look(4))
         going.type("close")
-        line = going.until("^nothing more is granted: full: events 2 of 2; ")
+        line = going.until("^nothing more is granted: the journal is full, events 2 of 2; ")
         self.assertTrue(line.endswith(f"then {CLASS} run --resume {going.folder} --again"))
         self.assertEqual(going.ends(), 5, going.lines)
         kept = going.folder / "lab.toml"

@@ -15,6 +15,7 @@ from tests.classroom.help import EXAMPLES, InRoom, words
 from tests.classroom.runs import journal_of
 
 ROW: dict[str, Value] = {"applied": Fraction(7), "nodes": Fraction(2), "student": "ana", "clause4": None, "whole": True}
+TAKEN = "is already the name of a column, of an earlier line or of a word of rules: take another name"
 
 
 def value(expression: str) -> str:
@@ -54,15 +55,16 @@ class Expressions(unittest.TestCase):
         deep = "(" * (MOST_DEPTH + 1) + "1" + ")" * (MOST_DEPTH + 1)
         for text, error in (
             ("pass", "write NAME = EXPRESSION"), ("= 1", "write NAME = EXPRESSION"), ("pass =", "write NAME = EXPRESSION"),
-            ("1 = 2", "write NAME = EXPRESSION"), ("pass == 1", "write NAME = EXPRESSION"), ("x = 1 +", "it ends too early"),
+            ("1 = 2", "write NAME = EXPRESSION"), ("pass == 1", "write NAME = EXPRESSION"), ("x = 1 +", "the line ends too early"),
             ("x = (1", ") is expected at the end"), ("x = (1 2", ") is expected before 2"), ("x = 1 2", "2 isn't expected here"),
             ("x = and", "and isn't expected here"), ("x = )", ") isn't expected here"), ("x = 1 if true", "else is expected at the end"),
-            ("x = aplied", "no column aplied; mark --columns prints them"), ("applied = 1", "applied is a column, an earlier line or a word of rules already"),
-            ("min = 1", "min is a column, an earlier line or a word of rules already"), ("x = 1 < 2 < 3", "one comparison at a time: a < b and b < c"),
-            ("x = __import__('os')", "no column __import__; mark --columns prints them"), ("x = applied.real", ". can't be used in a rule"),
+            ("x = aplied", "no column aplied; mark --columns prints the columns"),
+            ("applied = 1", f"applied {TAKEN}"),
+            ("min = 1", f"min {TAKEN}"), ("x = 1 < 2 < 3", "a < b < c can't be written: write a < b and b < c"),
+            ("x = __import__('os')", "no column __import__; mark --columns prints the columns"), ("x = applied.real", ". can't be used in a rule"),
             ("x = 1 ** 2", "* isn't expected here"), ("x = [1]", "[ can't be used in a rule"), ("x = 'a", "' can't be used in a rule"),
             ("x = 1234567890123", "1234567890123 has more than 12 digits"), ("x = round(1, 2)", "round takes one number"),
-            ("x = min()", ") isn't expected here"), (f"x = {deep}", f"it is nested more than {MOST_DEPTH} deep"),
+            ("x = min()", ") isn't expected here"), (f"x = {deep}", f"the line is nested more than {MOST_DEPTH} deep"),
             ("x = e\u0301", "e\u0301"[1] + " can't be used in a rule"),
         ):
             with self.assertRaises(Fault) as fault:
@@ -76,10 +78,10 @@ class Expressions(unittest.TestCase):
     def test_each_fault_of_a_value_is_a_line(self) -> None:
         for expression, error in (
             ("applied / 0", "a division by 0"), ("1 / (nodes - 2)", "a division by 0"), ("student + 1", "ana is no number"),
-            ("true + 1", "yes is no number"), ("applied and true", "7 is neither yes nor no; a comparison is, as: applied >= 1"),
-            ("1 if applied else 2", "7 is neither yes nor no; a comparison is, as: applied >= 1"), ("student == 1", "ana and 1 can't be compared"),
+            ("true + 1", "yes is no number"), ("applied and true", "7 is neither yes nor no; write a comparison, such as applied >= 1"),
+            ("1 if applied else 2", "7 is neither yes nor no; write a comparison, such as applied >= 1"), ("student == 1", "ana and 1 can't be compared"),
             ("true == 1", "yes and 1 can't be compared"), ("student < 'b'", "ana is no number"),
-            ("not 1", "1 is neither yes nor no; a comparison is, as: applied >= 1"),
+            ("not 1", "1 is neither yes nor no; write a comparison, such as applied >= 1"),
         ):
             with self.assertRaises(Fault) as fault:
                 value(expression)
@@ -113,7 +115,7 @@ class InMarks(InRoom):
         rows = {row["student"]: row for row in csv.DictReader(io.StringIO(done.stdout))}
         self.assertEqual((rows["gus"]["applied"], rows["gus"]["nodes"], rows["gus"]["enough"], rows["gus"]["points"]), ("6", "4", "no", "12"))
         first = self.file("first.txt", "early = first <= 3\n")
-        self.assertIn("no column first; mark --columns prints them", words("mark", "--total", "--rule", first, self.lab, self.journal).stderr)
+        self.assertIn("no column first; mark --columns prints the columns", words("mark", "--total", "--rule", first, self.lab, self.journal).stderr)
         self.assertEqual(words("mark", "--csv", "--rule", first, self.lab, self.journal).returncode, 0)
         roster = self.file("names.csv", "name\ngus\nhana\nines\njonas\nnobody else\n")
         listed = list(csv.reader(io.StringIO(words("mark", "--roster", roster, "--rule", self.rule, self.lab, self.journal).stdout)))
@@ -125,8 +127,10 @@ class InMarks(InRoom):
         names = [line.split("  ")[0] for line in said.splitlines()]
         heads = csv.reader(io.StringIO(words("mark", "--csv", self.lab, self.journal).stdout)).__next__()
         totals = csv.reader(io.StringIO(words("mark", "--total", self.lab, self.journal).stdout)).__next__()
-        self.assertLessEqual({*heads, *totals} - {"id"}, {*names})
+        self.assertLessEqual({*heads, *totals}, {*names})
         self.assertLessEqual({*columns.for_rules(True), *columns.for_rules(False)}, {*names})
+
+    def test_mark_needs_a_run(self) -> None:
         self.assertEqual(words("mark").stderr, "class: mark: name folders of runs or of classes, or a lab and its journals\n")
 
 

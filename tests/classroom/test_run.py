@@ -81,7 +81,7 @@ class Run(Cycle):
             port = taken.getsockname()[1]
             going = Going(self, CYCLE, "--port", str(port))
             self.assertGreater(going.port, port)
-            self.assertIn(f"port {port} is in use", going.lines)
+            self.assertIn(f"port {port} is in use, so another port is taken", going.lines)
             going.type("end\nend")
             self.assertEqual(going.ends(), 0)
 
@@ -122,7 +122,7 @@ class Run(Cycle):
     def test_demo(self) -> None:
         done = words("demo", "--into", self.room)
         self.assertEqual(done.returncode, 0, done.stdout + done.stderr)
-        self.assertIn("stable, and so the run is ended", done.stdout)
+        self.assertIn("the network is stable, so the run is ended", done.stdout)
         folder = next(self.room.iterdir())
         self.whole(folder)
         self.assertLess((folder / "run.html").stat().st_size, 1_000_000)

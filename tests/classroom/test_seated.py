@@ -87,7 +87,7 @@ class Seated(Cycle):
         return (self.room / "told").read_text(encoding="utf-8")
 
     def killed(self) -> tuple[Going, Record]:
-        """Returns a run that was killed after a fault, and its record. Its server is still running."""
+        """Returns a run that was killed after a fault, and its record. The run's server is still running."""
         going = Going(self, CYCLE, "--close", "by-hand")
         going.type("fault 1 2 true")
         going.until("^configuration 1: fault at node 1: p 2, m true")
@@ -168,7 +168,7 @@ class Seated(Cycle):
         again.process.send_signal(signal.SIGTERM)
         self.assertEqual(again.ends(), 4, again.lines)
         self.assertEqual(again.lines[-2:], [
-            "the server: busy: all seats are taken; come again later",
+            "the desk can't be used: busy: all seats are taken; come again later",
             f"the server, process {record.server.number}, keeps running, and nobody controls it: while it runs, {CLASS} attach {going.folder} connects to its "
             f"desk; after that, {CLASS} mark prints the marks",
         ])

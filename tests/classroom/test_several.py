@@ -85,11 +85,11 @@ class OneDesk(Classes):
         desk.until("^maths-2: configuration 1: ")
         self.assertFalse([line for line in desk.lines[before:] if line.startswith("maths-1: ") or "ALARM" in line])
         desk.type("resume 2")
-        desk.until("^maths-2: it isn't down$")
+        desk.until("^maths-2 isn't down$")
         desk.type("9: close")
         desk.until("^not understood: there is no network 9; there are 1 maths-1, 2 maths-2$")
         desk.type("end all\nend")
-        desk.until(f"^the class is ended; all of it is in {desk.folder}: .* mark .* prints the marks$")
+        desk.until(f"^the class is ended; all its files are in {desk.folder}: .* mark .* prints the marks$")
         self.assertEqual(desk.ends(), 0, desk.lines)
         self.assertEqual((desk.marks("maths-1")["faults"], desk.marks("maths-2")["faults"]), (4, 1))
         self.taken_as_a_whole(desk)
@@ -201,7 +201,7 @@ class OneDesk(Classes):
         for text in ("{}", "[]", "x", json.dumps({"networks": [{"name": "..", "room": "", "lab": ""}], "desk": {"number": 1, "start": ""}})):
             self.file("broken/class.json", text)
             done = words("mark", folder)
-            self.assertEqual((done.returncode, done.stderr), (4, f"class: {folder / 'class.json'}: it doesn't name the networks of a class\n"))
+            self.assertEqual((done.returncode, done.stderr), (4, f"class: {folder / 'class.json'}: this file doesn't name the networks of a class\n"))
 
     def test_the_folder_is_kept(self) -> None:
         desk = self.begin("--close", "by-hand")

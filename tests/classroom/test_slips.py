@@ -96,32 +96,32 @@ class Files(InRoom):
                      '{"do":"fault","node":1,"p":null,"m":true}', '{"do":"hello","name":"a","key":"b"}'):
             self.assertIsNone(wrong(line), line)
         for line, what in (
-            (move.replace(',"at":0', ""), 'missing "at"'), (move.replace(":1", ':"1"'), "node is a string, not a number (write 1, without quotes)"),
+            (move.replace(',"at":0', ""), 'missing "at"'), (move.replace(":1", ':"1"'), "node is a string, not a whole number (write 1, without quotes)"),
             ("hello", 'not JSON at byte 1 (a request is an object: {"do":"bye"})'),
             ('{"é":1,}', "not JSON at byte 9 (there is a comma too many)"), ('{"do":"lok"}', "unknown do: lok (did you mean look?)"),
-            ("\ufeff" + move, "a byte order mark at its beginning"), ('{"do":\n"close"}', "several lines: a request is one"),
+            ("\ufeff" + move, "the line begins with a byte order mark"), ('{"do":\n"close"}', "several lines: a request is one line"),
             ('{"do":"close"', "not JSON: the object isn't closed at its end, and a request is one line"),
             ("", 'not JSON at byte 1 (a request is an object: {"do":"bye"})'),
             ('{"node":1}', 'missing "do"'), ("[1]", "a list, not an object"),
-            ('{"do":"see","do":"see","node":1}', "do is there twice, and the last one counts"),
-            ('{"do":"see","node":true}', "node is true or false, not a number"),
-            ('{"do":"see","node":1.0}', "node is no whole number, not a number (write 1, without a point)"),
-            ('{"do":"see","node":-1}', "node is out of range, not a number"),
-            ('{"do":"see","node":18446744073709551616}', "node is out of range, not a number"),
-            ('{"do":"hello","name":5,"key":"b"}', 'name is a number, not a string (write "5", in double quotes)'),
-            ('{"do":"hello","name":-5,"key":"b"}', "name is out of range, not a string"),
-            ('{"do":"hello","name":"a","key":18446744073709551615}', 'key is a number, not a string (write "18446744073709551615", in double quotes)'),
-            ('{"do":"hello","name":"a","key":18446744073709551616}', "key is out of range, not a string"),
-            ('{"do":"fault","node":1,"p":null,"m":1}', "m is a number, not true or false (write true)"),
-            ('{"do":"move","node":1,"at":0,"rule":0}', f"rule is a number, not one of {', '.join(RULES)}"),
-            ("5", "a number, not an object"), ("-5", "out of range, not an object"),
-            ("18446744073709551616", "out of range, not an object"), ("true", "true or false, not an object"),
-            ('{"do":"move","node":2,"rule":"marriage","at":4}', 'missing "with" (who points at the node)'),
+            ('{"do":"see","do":"see","node":1}', "the key do is there twice, and the last one counts"),
+            ('{"do":"see","node":true}', "node is true or false, not a whole number"),
+            ('{"do":"see","node":1.0}', "node is a number with a point or exponent, not a whole number (write 1, without a point)"),
+            ('{"do":"see","node":-1}', "node is a number out of range, not a whole number"),
+            ('{"do":"see","node":18446744073709551616}', "node is a number out of range, not a whole number"),
+            ('{"do":"hello","name":5,"key":"b"}', 'name is a whole number, not a string (write "5", in double quotes)'),
+            ('{"do":"hello","name":-5,"key":"b"}', "name is a number out of range, not a string"),
+            ('{"do":"hello","name":"a","key":18446744073709551615}', 'key is a whole number, not a string (write "18446744073709551615", in double quotes)'),
+            ('{"do":"hello","name":"a","key":18446744073709551616}', "key is a number out of range, not a string"),
+            ('{"do":"fault","node":1,"p":null,"m":1}', "m is a whole number, not true or false (write true)"),
+            ('{"do":"move","node":1,"at":0,"rule":0}', f"rule is a whole number, not one of {', '.join(RULES)}"),
+            ("5", "a whole number, not an object"), ("-5", "a number out of range, not an object"),
+            ("18446744073709551616", "a number out of range, not an object"), ("true", "true or false, not an object"),
+            ('{"do":"move","node":2,"rule":"marriage","at":4}', 'missing "with" (the neighbour that points at the node)'),
             ('{"do":"move","node":2,"rule":"dance","at":4}', 'rule is "dance", not one of update, marriage, seduction, abandonment'),
             ('{"do":"see","node":1,"x":"' + "a" * 4096 + '"}', "more than 4096 bytes: the server ends the connection"),
         ):
             self.assertEqual(wrong(line), what, line[:60])
-        for value, what in (("1e309", "a number past the greatest double"), ("NaN", "not JSON: NaN is no number"),
+        for value, what in (("1e309", "a number that is too large"), ("NaN", "not JSON: NaN is no number"),
                             ('"\\ud800"', "half of a surrogate pair"), ('"\udcff"', "not UTF-8 at byte 27"), ("[" * 127 + "]" * 127, "nested deeper than 127")):
             self.assertEqual(wrong(f'{{"do":"see","node":1,"x":{value}}}'), what)
 
@@ -296,7 +296,7 @@ class Talking(Cycle):
             self.assertRegex(said.stderr, r"^\w+(\.py)?: name and key don't match: take both from your slip\n$")
             said = call(*command, self.edited(good, "node.slip", "nodes 1", "nodes 2"))
             self.assertEqual(said.returncode, 3)
-            self.assertRegex(said.stderr, r"^\w+(\.py)?: a node isn't yours: correct the nodes by your slip\n$")
+            self.assertRegex(said.stderr, r"^\w+(\.py)?: a node isn't yours: take the nodes from your slip\n$")
 
     def test_a_key_in_the_environment(self) -> None:
         going = Going(self, CYCLE, "--close", "by-hand")
@@ -310,7 +310,7 @@ class Talking(Cycle):
             self.assertEqual(call(*command, *words_of, "4", key="another").returncode, 2)
             said = call(*command, *words_of, "4")
             self.assertEqual(said.returncode, 1)
-            self.assertRegex(said.stderr, r"^\w+(\.py)?: the environment has no CENDUWA_KEY\n$")
+            self.assertRegex(said.stderr, r"^\w+(\.py)?: the environment variable CENDUWA_KEY isn't set\n$")
         self.assertEqual(call(*TEACHER, *words_of, key="another").returncode, 2)
 
     def test_a_slip_in_the_environment(self) -> None:
@@ -323,7 +323,7 @@ class Talking(Cycle):
         self.assertEqual((said.returncode, said.stdout.splitlines()[0]), (0, '{"ok":"hello","who":"gus"}'))
         for command in BOTS:
             self.assertEqual(call(*command, "-", slip=slip.replace(KEYS["gus"], "another")).returncode, 2)
-            for given, why in ((None, "the environment has no CENDUWA_SLIP"), (slip.partition("nodes")[0], "no nodes in -")):
+            for given, why in ((None, "the environment variable CENDUWA_SLIP isn't set"), (slip.partition("nodes")[0], "no nodes in -")):
                 said = call(*command, "-", slip=given)
                 self.assertEqual((said.returncode, said.stdout), (1, ""))
                 self.assertRegex(said.stderr, rf"^\w+(\.py)?: {why}\n$")
@@ -356,7 +356,7 @@ class Talking(Cycle):
         self.assertIn("the server has closed the connection: a line has at most 4096 bytes", said.stdout)
         said = call(*BY_HAND, self.slip(going.port, "gus"), "--log", "/dev/full", typed='{"do":"bye"}\n')
         self.assertEqual((said.returncode, said.stdout.splitlines()[-1]), (0, '{"ok":"bye"}'))
-        self.assertEqual(said.stderr, "client: /dev/full: No space left on device: the log ends here\n")
+        self.assertEqual(said.stderr, "client: /dev/full: No space left on device: no more lines are logged\n")
         done = subprocess.run([*BY_HAND, self.slip(going.port, "gus")], input=b'{"do":"bye\xff"}\n{"do":"bye"}\n', capture_output=True,
                               check=False, timeout=LIMIT)
         self.assertEqual(done.stdout.splitlines()[1:], [b'{"refuse":"malformed"}', b'{"ok":"bye"}'])

@@ -2,8 +2,8 @@
 
 Each is from `./class run` over `examples/cycle.toml`, with bots of three of its students, until both it and its server
 were killed. `first` is from commit 151f29c, the first that called itself 0.9.0, whose program was built without a
-proof. `archive` is from the archive that `./release` made of commit ef46f47. It has a record too, in which gus is
-denied another's node.
+proof. `archive` is from the archive that `./release` made of commit ef46f47. `archive` has a record too, in which gus
+is denied another's node.
 """
 from __future__ import annotations
 
@@ -78,7 +78,7 @@ class Upgrade(Cycle):
                 for student in KEYS:
                     self.bot(going, student)
                 self.assertEqual(going.ends(), 0, going.lines)
-                self.assertIn("stable, and so the run is ended", going.lines)
+                self.assertIn("the network is stable, so the run is ended", going.lines)
                 self.assertGreater(self.whole(folder), events)
                 self.assertTrue((folder / "journal").read_bytes().startswith(before))
                 self.assertEqual(host_call("verify", folder / "lab.toml", folder / "journal", folder / "record").status, 0)

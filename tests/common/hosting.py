@@ -19,7 +19,8 @@ from tests.common.preload import LIMIT, TOP, Ended, built_in, fail, good
 
 HOST = Path(os.environ.get("MML_HOST") or TOP / "crates/mml_host/out/mml_host")
 LISTENS = re.compile(rb"listening on port (\d+), desk on port (\d+)\n")
-# Asks each line of its words at a port, prints the replies, sends half a line, says so, and waits for its end.
+# A program that sends each of its arguments as a line to a port, and prints the replies. Then it sends half a line,
+# prints that, and waits for the end of the connection.
 BOT = """
 import socket, sys
 with socket.create_connection(("127.0.0.1", int(sys.argv[1]))) as it, it.makefile("r", encoding="ascii") as replies:
@@ -42,7 +43,7 @@ def lab_of(room: Path, sessions: int, events: int = 1000) -> Path:
 
 
 class Host:
-    """A host's process, which listens or has already ended. It is killed at the end of its `with` block."""
+    """A host's process, which listens or has already ended. The process is killed at the end of its `with` block."""
 
     def __init__(
         self, *words: object, word: str = "host", before: Sequence[str] = (),

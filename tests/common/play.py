@@ -15,7 +15,7 @@ def main() -> None:
     with open(script, encoding="utf-8") as it:
         lines = [(int(number), request) for number, request in (line.rstrip("\n").split(" ", 1) for line in it)]
     connections = {}
-    # They are opened in the order of their numbers, which the server gives as it accepts.
+    # Connections are opened in the order of their numbers, which the server gives as it accepts.
     for number in sorted({number for number, _ in lines}):
         opened = socket.create_connection(("127.0.0.1", port), timeout=300)
         connections[number] = opened, opened.makefile("r", encoding="utf-8")

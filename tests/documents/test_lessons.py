@@ -29,7 +29,7 @@ def tables(path: str) -> list[list[list[str]]]:
 
 
 def world(links: list[tuple[int, int]], rows: list[list[str]] | None = None) -> World:
-    """Returns a network with these links. Its registers are those of a table whose first column has p and m, or clean
+    """Returns a network with these links. The registers are those of a table whose first column has p and m, or clean
     ones if there is no table."""
     nodes = sorted({end for link in links for end in link})
     near = {node: {a + b - node for a, b in links if node in (a, b)} for node in nodes}
@@ -191,7 +191,7 @@ class Reader(HTMLParser):
         """Ignores an element that is closed at once."""
 
     def handle_endtag(self, tag: str) -> None:
-        """Closes the element that was opened last."""
+        """Closes the element that was opened last. If this is another element, adds its end tag to `crossed`."""
         if self.open.pop() != tag:
             self.crossed.append(tag)
 

@@ -1,4 +1,4 @@
-"""Plays classes over a host, as a user runs it. Their connections come and go.
+"""Plays classes over a host, as a user runs it. The classes' connections come and go.
 
     python3 -m tests.host [WORD..]
 
@@ -44,8 +44,8 @@ def goes_on(talk: Talk, student: Caller, teacher: Caller, turn: int) -> None:
 
 
 def one_after_another(room: Path) -> None:
-    """200 connections go through three seats. They end in every way: by a bye, by closing, within a line, by a
-    reset."""
+    """200 connections go through three seats. These connections end in every way: by a bye, by closing, within a line,
+    by a reset."""
     lab, journal = lab_of(room, 4), room / "journal"
     with Host(lab, 0, 0, journal) as host:
         talk = Talk(lab, 4, room)
@@ -176,8 +176,8 @@ def ends_after(caller: Caller, begun: float, piece: bytes, every: float, left: l
 
 
 def deadlines(room: Path) -> None:
-    """A connection without a hello is closed after ten seconds, and after five at the desk, whatever it sends. It
-    gets a line with the reason."""
+    """A connection without a hello is closed after ten seconds, and after five at the desk, whatever it sends. The
+    connection gets a line with the reason."""
     lab = lab_of(room, 16)
     with Host(lab, 0, 0) as host:
         early = let_in(host.port, hello("cyd"))[0]

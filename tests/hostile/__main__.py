@@ -166,7 +166,7 @@ def gone(port: int, until: float, draw: random.Random) -> str:
 
 
 def stands() -> str:
-    """Returns an empty text. It is called to see that the process of a hostile client has begun."""
+    """Returns an empty text. The function is called to see that the process of a hostile client has begun."""
     time.sleep(0.5)
     return ""
 
@@ -337,9 +337,9 @@ class Silent:
 
 
 def resting(server: Program) -> tuple[int, int]:
-    """Returns the number of threads and open files of a server that has only its two honest clients. It has the main
-    thread and one for each client, the standard streams, and two files for each client. A host also has those for
-    accepting others."""
+    """Returns the number of threads and open files of a server that has only its two honest clients. Such a server has
+    the main thread and one for each client, the standard streams, and two files for each client. A host also has those
+    for accepting others."""
     return (threads(server), handles(server)) if isinstance(server, Host) else (3, 7)
 
 

@@ -1,8 +1,8 @@
 """The contents of a lab, as the program's replies to scripts and its audit show them.
 
-They are written `EVENTS SESSIONS NODES LINKS STUDENTS`. For each node there follow, after a semicolon, its identifier,
-m, its owners, and a mark for each node in rising order: `-` if the two are linked, `>` if the node also points at that
-one, and otherwise `.`.
+The contents are written `EVENTS SESSIONS NODES LINKS STUDENTS`. For each node there follow, after a semicolon, its
+identifier, m, its owners, and a mark for each node in rising order: `-` if the two are linked, `>` if the node also
+points at that one, and otherwise `.`.
 """
 import json
 from collections.abc import Sequence

@@ -27,8 +27,8 @@ def nodes(ids: Iterable[int]) -> str:
 
 
 def sizes() -> list[Row]:
-    """Returns rows with different numbers of nodes and students. Their `events` and `sessions` are the greatest allowed
-    numbers."""
+    """Returns rows with different numbers of nodes and students. The `events` and `sessions` of these labs are the
+    greatest allowed numbers."""
     ids = range(60000, 60257)
     wanted = {
         (1, 1): "ok: 1 nodes, 0 links, 1 students",
@@ -48,7 +48,7 @@ def sizes() -> list[Row]:
 
 
 def loose() -> Row:
-    """Returns the row of a lab without links. Its nodes, students, events and sessions are as many as allowed."""
+    """Returns the row of a lab without links. The lab's nodes, students, events and sessions are as many as allowed."""
     people = tuple(student(number) for number in range(256))
     ids = range(60000, 60256)
     marks = "." * 256

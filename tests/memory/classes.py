@@ -26,7 +26,7 @@ ASKED = [
     (TEACHER, hello("tess")), (STUDENT, hello("ana")), (STUDENT, look("ana")), (TEACHER, fault_at(1)), (STUDENT, seduction(1)), (TEACHER, REPORT),
     (STUDENT, look("ana")),
 ]
-# Their lines in the resumed class, which begins at configuration 1 with a chosen move.
+# The lines of both in the resumed class, which begins at configuration 1 with a chosen move.
 ASKED_LATER = [
     (TEACHER, hello("tess")), (STUDENT, hello("ana")), (TEACHER, CLOSE), (STUDENT, look("ana")), (STUDENT, seduction(2)), (TEACHER, CLOSE),
     (TEACHER, REPORT),

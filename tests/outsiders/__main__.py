@@ -461,7 +461,7 @@ def ten_minutes(room: Path) -> None:
 
 
 def journals(room: Path) -> None:
-    """A journal can't be the output or a pipe without a reader. Only its owner can read it, unless its mode says
+    """A journal can't be the output or a pipe without a reader. Only its owner can read a journal, unless its mode says
     otherwise, and a journal that replaces another has the same mode."""
     lab, journal = lab_of(room, 4), room / "journal"
     for stream in ("", "2"):
@@ -518,7 +518,7 @@ def limits_of_files(room: Path) -> None:
 
 def limited(kilobytes: int, limit: str = "-s") -> list[str]:
     """Returns the words to put before a command, so that the program has this limit in kilobytes, by default on its
-    stack. Its addresses are limited to 64 MB in total."""
+    stack. The program's addresses are limited to 64 MB in total."""
     return ["bash", "-c", f'ulimit {limit} {kilobytes} && ulimit -v 65536 && exec "$@"', "bash"]
 
 

@@ -153,7 +153,7 @@ class Class:
     is_over: threading.Event = field(default_factory=threading.Event)
 
     def bot(self, node: int) -> None:
-        """Runs the bot of a student at a node. It asks for enabled moves, and connects again after some looks."""
+        """Runs the bot of a student at a node. The bot asks for enabled moves, and connects again after some looks."""
         draw = random.Random(node)
         while not self.is_over.is_set():
             it = Honest(self.host.port, line_of(do="hello", key=f"key-{node}", name=f"s-{node}"), self.waits)

@@ -24,8 +24,8 @@ def padded(line: bytes, size: int) -> bytes:
 
 
 def longest_lines(room: Path) -> None:
-    """A line of 4,096 bytes is answered, as first or later line, in one or two pieces. It gets no error for its length
-    when the connection ends later. A line of one byte more is too long."""
+    """A line of 4,096 bytes is answered, as first or later line, in one or two pieces. Such a line gets no error for
+    its length when the connection ends later. A line of one byte more is too long."""
     with Host(lab_of(room, 4), 0, 0) as host:
         longest, longer = padded(look("ana"), MOST), padded(look("ana"), MOST + 1)
         ana, reply = let_in(host.port, padded(hello("ana"), MOST))

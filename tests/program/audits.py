@@ -108,7 +108,7 @@ def fronts(auditor: Auditor) -> None:
 
 
 def replaced(auditor: Auditor) -> None:
-    """Audits the journal with each byte replaced by others. It passes only with the original byte."""
+    """Audits the journal with each byte replaced by others. The journal passes only with the original byte."""
     before = auditor.passed
     for at in range(len(JOURNAL)):
         for other in OTHERS:

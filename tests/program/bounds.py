@@ -135,7 +135,7 @@ def counted(file: Path, steps: list[Step]) -> Counted:
 
 
 def moves(room: Path, size: int) -> int:
-    """Checks a run on the network in which two nodes are linked if their sum is more than the size. It has the
+    """Checks a run on the network in which two nodes are linked if their sum is more than the size. The run has the
     greatest possible number of moves, or one less. Returns the number of moves."""
     half = size // 2
     pointers = {node: size + 1 - node for node in range(1, half + 1)}

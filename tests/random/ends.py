@@ -98,7 +98,7 @@ class Course:
 
 
 class Runner:
-    """Builds the script of a run: asks for moves and closes steps until no node is privileged."""
+    """A builder of a run's script, which asks for moves and closes steps until no node is privileged."""
 
     def __init__(self, rng: Random, lab: Lab, daemon: Daemon) -> None:
         """The daemon chooses among the privileged nodes, and `rng` makes all random choices."""

@@ -1,5 +1,5 @@
-"""Runs over large meshes. Their events are random and always granted, and the teacher asks for a report and looks
-after each."""
+"""Runs over large meshes. The events of these runs are random and always granted, and the teacher asks for a report and
+looks after each."""
 import json
 from random import Random
 from typing import Any, Optional
@@ -26,7 +26,7 @@ def mesh(count: int) -> str:
 
 
 class Meshing:
-    """Builds a script."""
+    """A builder of a script."""
 
     def __init__(self, rng: Random, lab: Lab) -> None:
         """`rng` makes all random choices."""

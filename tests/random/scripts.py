@@ -17,7 +17,7 @@ NAMELESS = [{"do": "close"}, {"do": "report"}, {"do": "bye"}]
 
 
 class Drawing:
-    """Builds a script."""
+    """A builder of a script."""
 
     def __init__(self, rng: Random, lab: Lab) -> None:
         """`rng` makes all random choices."""

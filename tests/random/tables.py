@@ -116,8 +116,8 @@ def rank(node: int) -> str:
 
 def replaced() -> str:
     """Returns each line of the journal, its event, and a sign for each replacement of each of its bytes. The sign is
-    `.` if the result isn't an event, and `?` if it isn't one of this lab. It is `=` for the same event, and `!` with
-    the event for another."""
+    `.` if the result isn't an event, and `?` if it isn't one of this lab. The sign is `=` for the same event, and `!`
+    with the event for another."""
     lab = read_lab((TOP / "examples/built-in.toml").read_bytes())
     text = ""
     for line in (TOP / "examples/whole-run.journal").read_bytes().splitlines():

@@ -105,7 +105,7 @@ def whole_class(room: Path) -> tuple[Path, Path, Path]:
 
 
 def killed_and_resumed(room: Path) -> None:
-    """Replies before a kill are in the record. It marks each seat as possibly incomplete."""
+    """Replies before a kill are in the record. The record marks each seat as possibly incomplete."""
     lab, journal, record = lab_of(room, SEATS), room / "killed.journal", room / "killed"
     with Host(lab, 0, 0, journal, record) as host:
         callers = begin(host)

@@ -128,7 +128,8 @@ def verified(lab: Path, journal: Path, record: Path, found: list[Session], lacki
 
 def flooded(room: Path) -> None:
     """A student floods, and then a client without a hello. Each has one budget for all seats together, and the
-    record marks where it is used up. The lines of others are all recorded, in the same seats too."""
+    record has a mark at the place at which this budget is used up. The lines of others are all recorded, in the same
+    seats too."""
     lab, journal, record = lab_of(room, SEATS), room / "flood.journal", room / "flood"
     with Host(lab, 0, 0, journal, record) as host:
         tess, _ = let_in(host.desk, hello("tess"))

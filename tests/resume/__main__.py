@@ -145,8 +145,8 @@ def power_cuts(room: Path) -> None:
 
 
 def failed_sync(room: Path) -> None:
-    """If a line can't be synced, it is removed, its event is refused, and the journal is halted. It can be resumed
-    later."""
+    """If a line can't be synced, it is removed, its event is refused, and the journal is halted. The class can be
+    resumed later."""
     library = Preloaded("resume/power.c", room, "POWER_COUNTS")
     lab, journal = lab_of(room, 4), room / "journal"
     with Host(lab, 0, 0, journal, variables=library.variables({"POWER_FAIL_AT": "2"})) as host:

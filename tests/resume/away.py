@@ -56,14 +56,6 @@ def longer(journal: Path) -> None:
         it.write(b"3 1 close\n")
 
 
-def seen_elsewhere(journal: Path) -> None:
-    """Does something that changes neither the file's content nor its path."""
-    os.link(journal, journal.with_name("link"))
-    journal.chmod(0o640)
-    os.utime(journal)
-    journal.read_bytes()
-
-
 WAYS: list[tuple[Callable[[Path], None], bytes]] = [
     (removed, GONE), (moved, GONE), (replaced, GONE), (with_folder, GONE), (cut, CHANGED), (emptied, CHANGED), (longer, CHANGED),
 ]
@@ -114,7 +106,7 @@ def taken_away(room: Path) -> None:
 
 
 def taken_away_in_silence(room: Path) -> None:
-    """The host notices it even if nobody sends a request. Its output and status are the same."""
+    """The host notices a change even if nobody sends a request. The host's output and status are the same."""
     lab, journal = lab_of(room, 4), room / "journal"
     for way, line in ((removed, GONE), (emptied, CHANGED)):
         with Host(lab, 0, 0, journal) as host:
@@ -132,13 +124,22 @@ def taken_away_in_silence(room: Path) -> None:
         journal.unlink(missing_ok=True)
 
 
+def link_touch_and_read(journal: Path) -> None:
+    """Makes a second link to the file, changes its mode and its times, and reads it. A host mustn't take this for a
+    change of the journal."""
+    os.link(journal, journal.with_name("link"))
+    journal.chmod(0o640)
+    os.utime(journal)
+    journal.read_bytes()
+
+
 def left_alone(room: Path) -> None:
-    """A second link to a journal, or a change of its mode and times, has no effect."""
+    """A second link to a journal, a change of its mode and times, or a read has no effect."""
     lab, journal = lab_of(room, 4), room / "journal"
     with Host(lab, 0, 0, journal) as host:
         ana, tess = let_in(host.port, hello("ana"))[0], let_in(host.desk, hello("tess"))[0]
         for turn in range(30):
-            seen_elsewhere(journal)
+            link_touch_and_read(journal)
             journal.with_name("link").unlink()
             time.sleep(0.1)
             if b'"place":' not in tess.ask(fault_at(1)):

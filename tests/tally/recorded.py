@@ -133,7 +133,7 @@ def by_hand(room: Path, document: str) -> int:
     text = first.read_bytes()
     changed = (
         ("as it came", text, wanted),
-        # This counts the malformed line, whatever its reply was.
+        # A malformed line is counted as one, whatever its reply was.
         ("memory", text.replace(b'{"refuse":"malformed"}', b'{"refuse":"memory"}'), wanted.replace("refused ana 0 0 0", "refused ana 0 1 0")),
         ("no memory for a line that is denied", text.replace(GUARD, b'{"refuse":"memory"}'),
          wanted.replace("denied ana 3 1 1 1 1", "denied ana 3 1 1 0 1").replace("refused ana 0 0 0", "refused ana 0 1 0")

@@ -120,7 +120,7 @@ class Turns(InRoom):
         first.join(LIMIT)
 
     def test_one_that_waits_for_the_end_of_the_proofs(self) -> None:
-        """It begins after the proofs, or is stopped."""
+        """A check that waits for the end of the proofs begins after them, or is stopped."""
         for running in (Running(beside=0), Running(beside=1)):
             waiting = self.begin(running, f"echo begun > {self.room}/begun", is_alone=running.beside == 1)
             waiting.join(0.5)
@@ -136,7 +136,7 @@ class Turns(InRoom):
         self.assertTrue(self.was_stopped)
 
     def test_one_that_is_killed(self) -> None:
-        """A killed check runs once more. If it is killed again, that is its result."""
+        """A killed check runs once more. If the check is killed again, that is its result."""
         words = ["sh", "-c", f"cd {self.room}; {KILLED_ONCE}"]
         (self.room / "crates/low/src").mkdir(parents=True)
         with mock.patch.object(checks, "check_words", return_value=words):

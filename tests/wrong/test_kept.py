@@ -38,7 +38,7 @@ FILES = {
     "crates/above/README.md": "text\n",
     "crates/above/wrong/it.edit": EDIT,
 }
-# All files of which a check of the crate `above` depends, and those of which it doesn't.
+# All files on which a check of the crate `above` depends, and those on which it doesn't depend.
 READ = [it for it in FILES if not it.startswith(("crates/beside", "crates/above/README"))]
 UNREAD = [it for it in FILES if it not in READ]
 

@@ -223,7 +223,7 @@ class Reading(unittest.TestCase):
                 parse_edit("it.edit", text)
 
     def test_a_text_that_does_not_stand_once(self) -> None:
-        """Such an edit is reported, and the others are tried."""
+        """An edit whose text doesn't occur exactly once is reported, and the others are tried."""
         self.write("good.edit", "# refused: f g", "file: src/lib.rt", "old: one", "new: 1")
         self.write("twice.edit", "# refused: f g", "file: src/lib.rt", "old: two", "new: 2")
         self.write("gone.edit", "# refused: f g", "file: src/lib.rt", "old: four", "new: 4")

@@ -1,10 +1,10 @@
 """Proves crates by runs of `rt ci`, and puts what they make into the clone.
 
-A first run over all crates takes over the proofs that this machine has made before. It is stopped when it begins to
-prove something. Each remaining crate is then proved by a run of its own, which uses the proofs of the runs before. The
-reason is that `rt ci` uses several processes for a crate that is alone in its repository. Otherwise it mostly uses one,
-and the crates above have to wait. A crate on the longest chain of waiting crates, or on one that is nearly as long,
-gets all processors, and is proved before the others.
+A first run over all crates takes over the proofs that this machine has made before. This run is stopped when it begins
+to prove something. Each remaining crate is then proved by a run of its own, which uses the proofs of the runs before.
+The reason is that `rt ci` uses several processes for a crate that is alone in its repository. For other crates `rt ci`
+mostly uses one process, and the crates above have to wait. A crate on the longest chain of waiting crates, or on one
+that is nearly as long, gets all processors, and is proved before the others.
 """
 from __future__ import annotations
 
@@ -37,15 +37,15 @@ def processors() -> int:
 
 def jobs_of(number: int) -> int:
     """Returns the number of processes that `rt ci` is expected to use for a proof of a crate that is alone in its
-    repository. This is half of the `number` processors, but at least 1 and at most MOST_JOBS. It is always 1 if RT_JOBS
-    is set."""
+    repository. The result is half of the `number` processors, but at least 1 and at most MOST_JOBS. The result is
+    always 1 if RT_JOBS is set."""
     return 1 if wanted_processes() else max(1, min(MOST_JOBS, number // 2))
 
 
 def at_once_of(number: int) -> int:
-    """Returns the number of crates that are proved side by side on `number` processors. It is the number of proofs
-    whose processes (`jobs_of`) occupy all processors. If a proof has several processes, one more crate is proved, since
-    each proof begins and ends with a single process."""
+    """Returns the number of crates that are proved side by side on `number` processors. The result is the number of
+    proofs whose processes (`jobs_of`) occupy all processors. If a proof has several processes, one more crate is
+    proved, since each proof begins and ends with a single process."""
     each = jobs_of(number)
     return -(-number // each) + (each > 1)
 

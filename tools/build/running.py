@@ -95,8 +95,8 @@ class Run:
     """A run of `rt ci` over a repository."""
 
     def __init__(self, place: Place, is_first: bool = True, is_whole: bool = False) -> None:
-        """Starts `rt ci` in a repository. A run that `is_first` has the usual priority, and gets all processors unless
-        it `is_whole`, that is, over all crates."""
+        """Starts `rt ci` in a repository. If `is_first` is set, the run has the usual priority, and otherwise a lower
+        one. If only `is_first` is set, the run gets all processors. `is_whole` says that the run is over all crates."""
         self.place, self.read = place, 0
         words = ["rt"] if is_whole or not is_first else [sys.executable, "-B", str(WIDE)]
         with place.log.open("wb") as output:

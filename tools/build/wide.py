@@ -1,7 +1,7 @@
 """Runs `rt` as if there were twice as many processors: `python3 -B wide.py WORDS`.
 
-`rt ci` divides the processors among the proofs that can begin. It counts the tests of a crate as a proof of their own,
-even if there are none. So a crate that is alone in its repository would get only half of them.
+`rt ci` divides the processors among the proofs that can begin. `rt ci` counts the tests of a crate as a proof of their
+own, even if there are none. So a crate that is alone in its repository would get only half of the processors.
 """
 from __future__ import annotations
 

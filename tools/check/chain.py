@@ -61,8 +61,8 @@ def saved_spans(file: Path = KEPT) -> Spans:
 
 
 def chain(spans: Spans, crate: str) -> list[str]:
-    """Returns the crates for which a crate waited, the first one first, and the crate itself. Before each crate comes
-    that one of those which it uses whose proof ended last."""
+    """Returns the crates for which a crate waited, the first one first, and the crate itself. Of the crates that a
+    crate uses, the one whose proof ended last comes before it."""
     found, every = [crate], uses()
     while below := [it for it in every.get(found[0], []) if it in spans]:
         found.insert(0, max(below, key=lambda it: spans[it].end))

@@ -118,9 +118,9 @@ def forget_records() -> None:
 
 
 def check(stages: Stages, left_out: list[str], room: Path) -> int:
-    """Runs the stages with temporary files in the folder `room`. Returns the exit status. It is 1 if a test failed or
-    none ran, 128 plus a signal's number if a signal ended the check, and otherwise 0. `left_out` has texts about the
-    parts that the command line leaves out. At the end no process and no file is left."""
+    """Runs the stages with temporary files in the folder `room`. Returns the exit status. The status is 1 if a test
+    failed or none ran, 128 plus a signal's number if a signal ended the check, and otherwise 0. `left_out` has texts
+    about the parts that the command line leaves out. At the end no process and no file is left."""
     processors = len(os.sched_getaffinity(0))
     adopt_orphans()
     crew, count = Crew(room, processors), Count(left_out)

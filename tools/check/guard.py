@@ -1,5 +1,5 @@
-"""The process that the user has started, the *guard*. It stays alive beside its child, which does the check. If one of
-the two is killed, the other cleans up."""
+"""The process that the user has started, the *guard*. The guard stays alive beside its child, which does the check. If
+one of the two is killed, the other cleans up."""
 from __future__ import annotations
 
 import os

@@ -13,7 +13,7 @@ import sys
 from tools.check.parts import TOP
 
 NAMED = re.compile(r"^It is proved with (`.*`)\.$", re.MULTILINE)
-# The files of the prover and its logic.
+# A version of the toolchain in README.md, with its logic.
 KIT = re.compile(r"`([^`]+ logic ([0-9a-f]+))`")
 
 

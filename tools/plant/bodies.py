@@ -30,8 +30,8 @@ def module_of(file: str) -> str:
 
 
 def type_of(what: str) -> str:
-    """Returns the prover's name of the `impl` with the header `what`, which comes without the word `impl`. It is the
-    name of the type, followed by that of the trait if there is one."""
+    """Returns the prover's name of the `impl` with the header `what`, which comes without the word `impl`. This name is
+    that of the type, followed by that of the trait if there is one."""
     while GENERICS.search(what):
         what = GENERICS.sub("", what)
     first, _, second = what.partition(" for ")

@@ -33,8 +33,8 @@ def is_balanced(text: str) -> bool:
 
 
 def exchanges(line: str) -> Iterator[str]:
-    """Yields all lines that one replacement of EXCHANGED makes of a line. It replaces an operator, a truth value or a
-    method such as `is_some` by its opposite or a similar one."""
+    """Yields all lines that one replacement of EXCHANGED makes of a line. Such a replacement puts the opposite, or
+    something similar, in place of an operator, a truth value or a method such as `is_some`."""
     code = code_of(line)
     for old, new in EXCHANGED:
         for found in re.finditer(re.escape(old), code):

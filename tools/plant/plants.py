@@ -45,9 +45,9 @@ class Plant:
 
 
 def marked(name: str, text: str, mark: str) -> list[str]:
-    """Returns the words after a mark such as `# seen:` in the text of a plant's file, as many as WORDS has for it. They
-    are empty if there is no such line. Raises `PlantFault` if the line has another form. `name` is that of the plant,
-    for the error."""
+    """Returns the words after a mark such as `# seen:` in the text of a plant's file, as many as WORDS has for it.
+    Returns no words if there is no such line. Raises `PlantFault` if the line has another form. `name` is that of the
+    plant, for the error."""
     found = [line.removeprefix(mark).split() for line in text.splitlines() if line.startswith(mark)]
     if len(found) > 1 or any(len(words) != len(WORDS[mark]) for words in found):
         raise PlantFault(f"{name}: not one line '{mark} {' '.join(WORDS[mark])}'")

@@ -83,9 +83,9 @@ def tree_at(top: Path) -> Tree:
 
 
 def check_words(tree: Tree, crate: str, functions: set[str], kept: Path) -> list[str]:
-    """Returns the command line by which the prover checks these functions of a crate, or all if there are none. It is
-    to be run in a copy of the crate's folder. The check continues from the proofs that an earlier one saved in the
-    folder `kept`."""
+    """Returns the command line by which the prover checks these functions of a crate, or all if there are none. The
+    command is to be run in a copy of the crate's folder. The check continues from the proofs that an earlier one saved
+    in the folder `kept`."""
     root = "main" if (tree.folder(crate) / "src/main.rt").is_file() else "lib"
     words = [str(tree.kit / "bin/rattle"), "check", "--crate-name", crate, f"src/{root}.rt"]
     for name in ("std", *tree.uses[crate]):

@@ -50,8 +50,8 @@ class Told:
             self.resting.add(name)
 
     def add_error(self, line: str) -> None:
-        """Adds the line of an error. If it says that a proof's answer doesn't show a goal any more, adds an open goal
-        instead. If it only says that something depends on such an answer, does nothing."""
+        """Adds the line of an error. If the line says that a proof's answer doesn't show a goal any more, adds an open
+        goal instead. If the line only says that something depends on such an answer, does nothing."""
         found = GOAL.fullmatch(line)
         if RESTS_ON_ANSWER.search(line):
             return

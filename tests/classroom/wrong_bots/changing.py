@@ -82,7 +82,8 @@ class KeepsItsOwnRegisters(Bot):
         super().at(replace(look, p=p, m=m))
 
     def ask(self, look: Look, rule: Rule) -> bool:
-        """Asks for the move. If it is granted, notes the registers that the move would lead to, before a step applies it."""
+        """Asks for the move. If the move is granted, notes the registers that the move would lead to, before a step
+        applies it."""
         if not super().ask(look, rule):
             return False
         p, m = look.p, look.m
