@@ -183,7 +183,7 @@ module _ {H K C R W : Type 0} (t : Terms K C R W) where
           serves = both_served;
           holds = (
             dismissed_all desks at_desk.seats without.0,
-            record { left = without.1; leaves = without.2; places = without.3 enough },
+            record { left = without.1; leaves = without.2; places = without.3 enough; few = without.4 },
             begins,
           );
         }
@@ -200,14 +200,15 @@ module _ {S H K C : Type 0} (first : ℕ) (lab : LabValue) (sink : S → Option 
   ended_undismissed undismissed = (undismissed, b, leaves_all)
 
   pub ended_astray : list_all (λ s. s.is_dismissed) desks ≡ true → (astray : Astray) → astray.found ≡ length b.events
-      → (first ≤ astray.found → IsAstrayFrom first windows astray) → EndsWithoutLog first lab sink desks all fault.Astray
-  ended_astray dismissed astray found is = (
+      → length (told_of windows) + first ≤ length b.events → (first ≤ astray.found → IsAstrayFrom first windows astray) → EndsWithoutLog first lab sink desks all fault.Astray
+  ended_astray dismissed astray found few is = (
     AllPass-from_list_all (λ s. s.is_dismissed) desks dismissed,
     b,
     leaves_all,
     λ enough.
         subst (λ (ws : List WindowValue). ¬ (IsEachOnceFrom first (length b.events) (told_of ws))) same
         (subst (λ (m : ℕ). ¬ (IsEachOnceFrom first m (told_of windows))) found (is (omega (arith, enough, found))).places),
+    subst (λ (ws : List WindowValue). length (told_of ws) + first ≤ length b.events) same few,
   )
 
 -- What a failed house has written.

@@ -2,7 +2,7 @@
 -- their journal. The places of a window are the numbers of the events that it was granted. The places went astray if
 -- those of all windows aren't those of the book's events, each once. A house is one run of a lab that threads share.
 -- The log of a house is its result at the end.
-use Rattle.std.specs.{Prelude.◌≡◌, Prelude.◌≤◌, Prelude.ℕ, Prelude.true, Prelude.false, Prelude.List, Prelude.[], Prelude.◌++◌, Prelude.flat_map, Prelude.length, Prelude.All, Prelude.Option, List.AllZip, List.list_all, List.range_with_len, Io.KnownBytes.Appends}
+use Rattle.std.specs.{Prelude.◌≡◌, Prelude.◌≤◌, Prelude.ℕ, Prelude.◌+◌, Prelude.true, Prelude.false, Prelude.List, Prelude.[], Prelude.◌++◌, Prelude.flat_map, Prelude.length, Prelude.All, Prelude.Option, List.AllZip, List.list_all, List.range_with_len, Io.KnownBytes.Appends}
 use mathlib.Core.List.{IsPrefix}
 use Rattle.mml_lab.specs.Labs.{LabValue}
 use Rattle.mml_board.specs.Lists.{world_in}
@@ -51,7 +51,8 @@ EndsAstray {S} t sink to_desk to_come =
     × (astray : WentAstrayFrom (length t.begun) t.lab sink windows) × IsPrefix t.begun astray.left.events)
 
 -- Why there is no log after the ports have ended. Memory ran out; or not every seat of the desk was dismissed; or the
--- places of the windows aren't those of the events after the first `first`, each once
+-- places of the windows aren't those of the events after the first `first`, each once, although there are at most as many
+-- places as these events
 abbrev pub EndsWithoutLog : {S H K C : Type 0} → ℕ → LabValue → (S → Option (List ℕ)) → List (Seat H K C) → List WindowValue → HostFault → Type 0
 EndsWithoutLog {S} first lab sink desks windows fault.Memory = Unit {0}
 EndsWithoutLog {S} first lab sink desks windows fault.Undismissed =
@@ -59,6 +60,7 @@ EndsWithoutLog {S} first lab sink desks windows fault.Undismissed =
 EndsWithoutLog {S} first lab sink desks windows fault.Astray =
     All (λ s. s.is_dismissed ≡ true) desks × (left : BookValue S) × LeavesBook lab sink windows left
     × (first ≤ length left.events → ¬ (IsEachOnceFrom first (length left.events) (told_of windows)))
+    × (length (told_of windows) + first ≤ length left.events)
 EndsWithoutLog {S} first lab sink desks windows _ = ⊥
 
 -- why there is no log: memory ran out, the teacher didn't dismiss the house, or its windows' places went astray

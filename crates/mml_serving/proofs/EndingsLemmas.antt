@@ -1,7 +1,7 @@
 -- What holds of a house that failed. The book of a house has the granted events, the board after them and their
 -- journal. The places of a window are the numbers of the events that it was granted. The places went astray if those of
 -- all windows aren't those of the book's events, each once. The log of a house is its result at the end.
-use Rattle.std.proofs.{Common.◌≡◌, Common.ℕ, Common.List, Common.All, Common.length, Common.Option, Common.subst, KnownBytes.Appends-nil}
+use Rattle.std.proofs.{Common.◌≡◌, Common.◌≤◌, Common.◌+◌, Common.ℕ, Common.List, Common.All, Common.length, Common.Option, Common.subst, KnownBytes.Appends-nil}
 use mathlib.Core.List.{IsPrefix}
 use Rattle.mml_lab.specs.Labs.{LabValue}
 use Rattle.mml_board.specs.World.{World}
@@ -13,11 +13,13 @@ use Rattle.mml_serving.specs.declared.serving.ServeFault.TheVariants as fault
 -- if the house reports that the places of its windows went astray, they aren't those of the events in its book
 pub went_astray : {S : Type 0} (first : ℕ) (lab : LabValue) (sink : S → Option (List ℕ)) (b : BookValue S) (windows : List WindowValue) (astray : Astray)
     → IsBook lab sink b
-    → astray.found ≡ length b.events → All (λ w. IsPrefix w.seen b.events) windows → IsAstrayFrom first windows astray → WentAstrayFrom first lab sink windows
-went_astray first lab sink b windows astray book found seen is = record {
+    → astray.found ≡ length b.events → All (λ w. IsPrefix w.seen b.events) windows → length (told_of windows) + first ≤ length b.events
+    → IsAstrayFrom first windows astray → WentAstrayFrom first lab sink windows
+went_astray first lab sink b windows astray book found seen few is = record {
   left = b;
   leaves = record { book = book; seen = seen };
   places = subst (λ (n : ℕ). ¬ (IsEachOnceFrom first n (told_of windows))) found is.places;
+  few = few;
 }
 
 module _ {S R W : Type 0} (lab : LabValue) (sink : S → Option (List ℕ)) (remaining : R → Option (List ℕ)) (contents : W → Option (List ℕ))

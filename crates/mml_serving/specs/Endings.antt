@@ -2,7 +2,7 @@
 -- granted events, the board after them and their journal, and the log is the result at the end. The places of a window
 -- are the numbers of the events that it was granted. The places of all windows went astray if they aren't those of the
 -- book's events, each once.
-use Rattle.std.specs.Prelude.{◌≡◌, ◌⊎◌, ℕ, true, false, List, [], All, length, Option, None}
+use Rattle.std.specs.Prelude.{◌≡◌, ◌≤◌, ◌⊎◌, ℕ, ◌+◌, true, false, List, [], All, length, Option, None}
 use Rattle.std.specs.{List.list_all, Io.KnownBytes.Appends}
 use mathlib.Core.List.{IsPrefix}
 use Rattle.mml_lab.specs.Labs.{LabValue}
@@ -19,11 +19,12 @@ pub record LeavesBook {S : Type 0} (lab : LabValue) (sink : S → Option (List �
   pub seen : All (λ w. IsPrefix w.seen left.events) windows
 
 -- The house ended with a book, but the windows' places went astray: they aren't those of the book's events after the
--- first `first` events, each once
+-- first `first` events, each once. There are at most as many places as these events
 pub record WentAstrayFrom {S : Type 0} (first : ℕ) (lab : LabValue) (sink : S → Option (List ℕ)) (windows : List WindowValue) : Type 0 where
   pub left : BookValue S
   pub leaves : LeavesBook lab sink windows left
   pub places : ¬ (IsEachOnceFrom first (length left.events) (told_of windows))
+  pub few : length (told_of windows) + first ≤ length left.events
 
 -- a house that began without events ended with a book, but the windows' places went astray
 abbrev pub WentAstray : {S : Type 0} → LabValue → (S → Option (List ℕ)) → List WindowValue → Type 0

@@ -3,9 +3,10 @@
 -- of an event is its number in the list of events, from 1. A window is one session's view of the published events and
 -- board.
 use Rattle.std.{proofs.lemmas.Bool.Decides.nat_tests, proofs.lemmas.Bool.ne_eqb, proofs.lemmas.List.take_more, proofs.lemmas.List.drop_more, proofs.lemmas.List.drop_all, specs.Prelude.MatchBool}
-use Rattle.std.proofs.Common.{◌≡◌, ◌⊎◌, ℕ, zero, suc, ◌+◌, ◌<◌, ◌≤◌, Bool, List, [], ◌∷◌, ◌++◌, length, take, drop, set, get_or, replicate, add-one, refl, sym, ap, ◌∙◌, subst, ⊎_elim, inl, inr, arith}
+use Rattle.std.proofs.Common.{◌≡◌, ◌⊎◌, ℕ, zero, suc, ◌+◌, ◌<◌, ◌≤◌, Bool, List, [], ◌∷◌, ◌++◌, length, map, take, drop, set, get_or, replicate, add-one, refl, sym, ap, ◌∙◌, subst, ⊎_elim, inl, inr, arith}
 use Rattle.std.proofs.Common.{append_assoc, append-nil, cond, leb, leb-true, leb-false, length-append}
-use Rattle.mml_window.specs.{Climbing.Climbs, Windows.WindowValue, Tallies.times, Tallies.told_of, Tallies.once_from, inside.Cursors.left_of, inside.Cursors.IsStuck}
+use Rattle.mml_board.specs.declared.event.Event.{Event}
+use Rattle.mml_window.specs.{Climbing.Climbs, Windows.WindowValue, Windows.window_with, Tallies.times, Tallies.told_of, Tallies.once_from, inside.Cursors.left_of, inside.Cursors.IsStuck}
 
 pub times_skip : (p q : ℕ) (qs : List ℕ) → (p ≡ q → ⊥) → times p (q ∷ qs) ≡ times p qs
 times_skip p q qs differ = ap (λ (b : Bool). cond b (suc (times p qs)) (times p qs)) (ne_eqb p q differ)
@@ -140,9 +141,15 @@ left_first [] n le = refl
 left_first (w ∷ ws) zero le = absurd (omega arith)
 left_first (w ∷ ws) (suc n) le = ap (λ (l : List ℕ). w.places ++ l) (left_first ws n (omega arith))
 
-told_push : (ws : List WindowValue) (w : WindowValue) → told_of (ws ++ w ∷ []) ≡ told_of ws ++ w.places
+-- the places of one more window come last
+pub told_push : (ws : List WindowValue) (w : WindowValue) → told_of (ws ++ w ∷ []) ≡ told_of ws ++ w.places
 told_push [] w = append-nil w.places
 told_push (v ∷ ws) w = ap (λ (l : List ℕ). v.places ++ l) (told_push ws w) ∙ sym (append_assoc v.places (told_of ws) w.places)
+
+-- windows that have seen all events have the places that they had before
+pub told_shown : (events : List Event) (ws : List WindowValue) → told_of (map (λ w. window_with events w.places w.refused w.halts) ws) ≡ told_of ws
+told_shown events [] = refl
+told_shown events (w ∷ ws) = ap (λ (l : List ℕ). w.places ++ l) (told_shown events ws)
 
 -- the first i + 1 windows have as many places as the first i, and those of window i
 pub told_more : (ws : List WindowValue) (i : ℕ) (w : WindowValue) → i < length ws

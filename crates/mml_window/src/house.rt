@@ -13,11 +13,12 @@ use std::sync::ledger::{Book, Ledger, Share};
 /// The name of one house, used only in contracts: a type that ties a desk, its book and its windows to each other. A
 /// house is one run of a lab that threads share: its list of granted events, the board after them, and their journal.
 pub trait House {
-    ghost use Rattle.std.specs.Prelude.{ℕ};
     ghost use Rattle.mml_lab.specs.Labs.{LabValue};
+    ghost use Rattle.mml_window.specs.Houses.{HouseName};
 
-    // A name that no other house has as long as this house exists.
-    ghost name: { ℕ };
+    // A name that no other house has as long as this house exists. It also says how many events came before the house
+    // was opened.
+    ghost name: { HouseName };
 
     // The lab of the house: identifiers, roster, links and registers at the beginning, and limits.
     ghost lab: { LabValue };
@@ -47,9 +48,23 @@ pub(crate) struct Halts<H: House> {
 }
 
 impl<H: House> Ledger for Halts<H> {
-    ghost name = { H.name };
+    ghost name = { H.name.halts };
 
     ghost parts = { H.lab.sessions };
+}
+
+/// The second ledger of a house, for contracts. It counts the events that the house granted. It has a part for each event
+/// that the lab allows, and one more.
+pub(crate) struct Grants<H: House> {
+    of: PhantomData<H>,
+}
+
+impl<H: House> Ledger for Grants<H> {
+    ghost use Rattle.std.specs.Prelude.{◌+◌};
+
+    ghost name = { H.name.grants };
+
+    ghost parts = { H.lab.events + 1 };
 }
 
 /// The count of a house: how many acts were refused because the journal was halted. It takes no bytes.
@@ -57,3 +72,9 @@ pub(crate) type HaltCount<H> = Book<Halts<H>>;
 
 /// A part of this count: how many acts of one window were refused for this reason. It takes no bytes.
 pub(crate) type HaltShare<H> = Share<Halts<H>>;
+
+/// The count of the events that a house granted. It takes no bytes.
+pub(crate) type GrantCount<H> = Book<Grants<H>>;
+
+/// A part of this count: how many events one window was granted. It takes no bytes.
+pub(crate) type GrantShare<H> = Share<Grants<H>>;

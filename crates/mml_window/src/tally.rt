@@ -7,7 +7,7 @@ ghost use Rattle.mml_lab.specs.declared.TheConstants.{MAX_SESSIONS};
 ghost use Rattle.mml_window.specs.Tallies.{times, told_of, IsEachOnceFrom};
 ghost use Rattle.mml_window.specs.inside.Cursors.{left_of, IsStuck};
 
-use crate::house::{HaltCount, House};
+use crate::house::{GrantShare, HaltCount, House};
 use crate::window::Window;
 use mml_lab::MAX_SESSIONS;
 
@@ -56,6 +56,16 @@ pub(crate) fn audit_halts<H: House>(windows: &mut Vec<Window<H>>, count: &mut Ha
 {
     'windows: for index in 0..windows.len() {
         windows[index].audit_halts(count);
+    }
+}
+
+/// Adds the windows' parts of the count of granted events to `count`.
+pub(crate) fn join_grants<H: House>(windows: Vec<Window<H>>, count: &mut GrantShare<H>)
+    ensures { count.new.amount ≡ count.old.amount + length (told_of windows.items) }
+{
+    let mut windows = windows;
+    while let Some(window) = windows.pop() {
+        count.merge(window.into_grants());
     }
 }
 

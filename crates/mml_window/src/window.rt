@@ -18,10 +18,10 @@ ghost use Rattle.mml_window.specs.Views.{AnswersView, TellsNumber};
 ghost use Rattle.mml_window.specs.Tallies.{times};
 ghost use Rattle.mml_window.specs.inside.Cursors.{IsStuck};
 ghost use Rattle.mml_window.specs.inside.Seats.{IsSeat};
-ghost use Rattle.mml_window.specs.inside.Keeping.{IsNextPlace, Keeps};
+ghost use Rattle.mml_window.specs.inside.Keeping.{IsNextPlace, Keeps, granted_by};
 
 use crate::answer::Answer;
-use crate::house::{HaltCount, HaltShare, House, Press};
+use crate::house::{GrantShare, HaltCount, HaltShare, House, Press};
 use crate::looking::{Reader, enter, leave, look_for, take_slot};
 use crate::showing::{look_at, report_at, see_at};
 use crate::sight::{Closed, SightFault};
@@ -47,11 +47,13 @@ pub struct Window<H: House> {
     refused: Option<Refusal>,
     // How many of its acts were refused because the journal was halted.
     halts: HaltShare<H>,
+    // How many events the session was granted, that is, how many places there are.
+    grants: GrantShare<H>,
     of: PhantomData<H>,
 }
 
 impl<H: House> Model for Window<H> {
-    ghost use Rattle.std.specs.Prelude.{◌≡◌, ◌<◌, ◌≤◌, vec_capacity};
+    ghost use Rattle.std.specs.Prelude.{◌≡◌, ◌<◌, ◌≤◌, length, vec_capacity};
     ghost use Rattle.std.specs.Arc.{arc_value};
     ghost use Rattle.mml_window.specs.Windows.{WindowValue, window_with, IsWindow};
     ghost use Rattle.mml_window.specs.inside.Readers.{view_by};
@@ -62,7 +64,8 @@ impl<H: House> Model for Window<H> {
 
     ghost invariant = { λ w. IsWindow H.lab
         (window_with (view_by w.reader).seen w.places.items w.refused w.halts.amount)
-        × (arc_value w.lab ≡ H.lab) × (H.lab.events ≤ vec_capacity w.places) × (0 < w.halts.parts) };
+        × (arc_value w.lab ≡ H.lab) × (H.lab.events ≤ vec_capacity w.places) × (0 < w.halts.parts)
+        × (w.grants.amount ≡ length w.places.items) };
 }
 
 /// What a window is made of: the lab, and room for the places that its session may be granted. The place of an event is
@@ -76,12 +79,19 @@ pub(crate) struct Seat {
 impl<H: House> Window<H> {
     /// Returns a window that is made of a seat (the lab, and room for places), and has seen nothing yet. It takes a
     /// reader's slot of `press`, the writer of the published data, if one is free. `halts` is its part of the house's
-    /// count of acts that were refused because the journal was halted.
-    pub(crate) fn over(press: &Press<H>, seat: Seat, halts: HaltShare<H>) -> Window<H>
+    /// count of acts that were refused because the journal was halted, and `grants` is its part of the count of granted
+    /// events.
+    pub(crate) fn over(
+        press: &Press<H>,
+        seat: Seat,
+        halts: HaltShare<H>,
+        grants: GrantShare<H>,
+    ) -> Window<H>
         requires lawful { IsLab H.lab }
         requires seat { IsSeat H.lab seat }
         requires part { 0 < halts.parts }
         requires none { halts.amount ≡ 0 }
+        requires no_grants { grants.amount ≡ 0 }
         ensures { result ≡ window [] [] }
     {
         let Seat { lab, places } = seat;
@@ -93,6 +103,7 @@ impl<H: House> Window<H> {
             places,
             refused: None,
             halts,
+            grants,
             of: PhantomData,
         }
     }
@@ -116,10 +127,18 @@ impl<H: House> Window<H> {
     }
 
     /// Keeps the event's place (number) if the answer to an act is a grant, and the reason if it is a refusal. After a
-    /// grant, first reads until the window has seen the event, the last one that `press` has published.
+    /// grant, first reads until the window has seen the event, the last one that `press` has published. `grant` counts
+    /// the event, if there is one, and becomes a part of the window's count.
     #[tactic(auto, using(crate::proofs::ClimbingLemmas::climbs_count))]
-    pub(crate) fn keep<R: Wait>(&mut self, rt: &R, press: &Press<H>, answer: &Answer)
-        requires { IsNextPlace H.lab self.old.seen press.now.desk.shown.value.events.items answer.now }
+    pub(crate) fn keep<R: Wait>(
+        &mut self,
+        rt: &R,
+        press: &Press<H>,
+        answer: &Answer,
+        grant: GrantShare<H>,
+    )
+        requires next { IsNextPlace H.lab self.old.seen press.now.desk.shown.value.events.items answer.now }
+        requires counted { grant.amount ≡ granted_by answer.now }
         ensures { Keeps press.now.desk.shown.value.events.items self.old answer.now self.new }
     {
         match answer {
@@ -133,6 +152,7 @@ impl<H: House> Window<H> {
                             published.ends_in(*place, event)
                         });
                         self.places.push_reserved(*place);
+                        self.grants.merge(grant);
                     }
                     None => unreachable!(),
                 }
@@ -262,6 +282,14 @@ impl<H: House> Window<H> {
         ensures few { self.old.halts ≤ count.old.total }
     {
         count.audit(&mut self.halts);
+    }
+
+    /// Returns the window's part of the count of granted events.
+    pub(crate) fn into_grants(self) -> GrantShare<H>
+        ensures { result.amount ≡ length self.places }
+    {
+        let Window { grants, .. } = self;
+        grants
     }
 
     /// Returns how many places (event numbers) the window's session was granted.

@@ -1,4 +1,4 @@
-use Rattle.std.proofs.{Common.rules, Common.◌≡◌, Common.◌++◌, lemmas.List.Sums.AllPass-from_list_all}
+use Rattle.std.proofs.{Common.rules, Common.arith, Common.◌≡◌, Common.◌++◌, lemmas.List.Sums.AllPass-from_list_all}
 use Rattle.mml_hosting.specs.Ports.{windows_of}
 use Rattle.mml_hosting.proofs.HouseLemmas.{ended_undismissed, ended_astray}
 use Rattle.mml_hosting.proofs.hosted.end_house.Goals as goal
@@ -21,4 +21,5 @@ pub returns-in-Err-clause-without : goal.returns-in-Err-clause-without
 returns-in-Err-clause-without g c =
     let all : c.append.new.self.items ≡ windows_of c.args.desk_seats.items ++ windows_of c.args.seats.items = search rules in
     ended_astray c.args.first g.H.House.lab g.Y.Sink.Sink.contents c.args.desk_seats.items _ _ c.into_book.result all c.into_book.ensures
-    c.finish_from-ended.ensures.seen (search rules) c.in-Err.field-0 c.in-Err.ensures.left c.in-Err.ensures.astray
+    c.finish_from-ended.ensures.seen (search rules) c.in-Err.field-0 c.in-Err.ensures.left
+    (omega (arith, c.requires.begun, c.finish_from-ended.ensures.counted)) c.in-Err.ensures.astray

@@ -4,35 +4,35 @@ use Rattle.mml_window.specs.{Books.BookValue, Answers.Decides, inside.Keeping.Is
 use Rattle.mml_window.proofs.AnswerLemmas.{next_kept, present, halts_if_said}
 use Rattle.mml_window.proofs.desk.Desk.ask.Goals as goal
 
-pub keep-requires : goal.keep-requires
-keep-requires g c =
+pub keep-requires-clause-next : goal.keep-requires-clause-next
+keep-requires-clause-next g c =
     let lab = g.H.House.lab in
     let seen = c.read_until_board.new.self.seen in
-    let same : world_in lab seen ≡ world_in lab c.deref_mut.result.now.events = search rules in
-    let events : c.decide-answer.new.self.events ≡ c.press-2.result.now.desk.shown.value.events.items = search rules in
-    let few : length c.decide-answer.new.self.events ≤ lab.events = search rules in
-    subst (λ (l : List Event). IsNextPlace lab seen l c.decide-answer.result) events
-    (next_kept lab g.S.Sink.failures c.deref_mut.result.now c.decide-answer.new.self seen c.args.who c.args.command.now c.decide-answer.result
-    same c.decide-answer.ensures.decides few)
+    let same : world_in lab seen ≡ world_in lab c.deref_mut-2.result.now.events = search rules in
+    let events : c.decide_into-answer.new.self.events ≡ c.press-2.result.now.desk.shown.value.events.items = search rules in
+    let few : length c.decide_into-answer.new.self.events ≤ lab.events = search rules in
+    subst (λ (l : List Event). IsNextPlace lab seen l c.decide_into-answer.result) events
+    (next_kept lab g.S.Sink.failures c.deref_mut-2.result.now c.decide_into-answer.new.self seen c.args.who c.args.command.now c.decide_into-answer.result
+    same c.decide_into-answer.ensures.decides few)
 
 pub count_halt-requires : goal.count_halt-requires
 count_halt-requires g c =
-    let book : c.deref_mut-2.result.now ≡ c.decide-answer.new.self = search rules in
-    subst (λ (b : BookValue _). HaltsIfSaid c.decide-answer.result b.halted) (sym book)
-    (halts_if_said g.H.House.lab g.S.Sink.failures c.deref_mut.result.now c.decide-answer.new.self c.args.who c.args.command.now c.decide-answer.result
-    c.decide-answer.ensures.decides)
+    let book : c.deref_mut-3.result.now ≡ c.decide_into-answer.new.self = search rules in
+    subst (λ (b : BookValue _). HaltsIfSaid c.decide_into-answer.result b.halted) (sym book)
+    (halts_if_said g.H.House.lab g.S.Sink.failures c.deref_mut-2.result.now c.decide_into-answer.new.self c.args.who c.args.command.now c.decide_into-answer.result
+    c.decide_into-answer.ensures.decides)
 
 pub returns-clause-present : goal.returns-clause-present
 returns-clause-present g c =
     let lab = g.H.House.lab in
     let same : world_in lab c.read_until_board.new.self.seen ≡ world_in lab c.deref.result.now.events = c.read_until_board.ensures.world ∙ c.press.ensures.board in
-    let book : c.deref_mut.result.now ≡ c.deref.result.now = search rules in
-    let events : c.press-2.result.now.desk.shown.value.events.items ≡ c.decide-answer.new.self.events = search rules in
-    present lab g.S.Sink.contents g.S.Sink.failures c.deref.result.now c.decide-answer.new.self c.args.window.now c.read_until_board.new.self c.keep.new.self c.count_halt.new.window
-    c.args.who c.args.command.now c.press.ensures.book c.read_until_board.ensures.on same c.decide-answer.result
-    (subst (λ (b : BookValue _). Decides lab g.S.Sink.failures b c.args.who c.args.command.now c.decide-answer.result c.decide-answer.new.self)
-    book c.decide-answer.ensures.decides)
-    (subst (λ (l : List Event). Keeps l c.read_until_board.new.self c.decide-answer.result c.keep.new.self) events c.keep.ensures)
+    let book : c.deref_mut-2.result.now ≡ c.deref.result.now = search rules in
+    let events : c.press-2.result.now.desk.shown.value.events.items ≡ c.decide_into-answer.new.self.events = search rules in
+    present lab g.S.Sink.contents g.S.Sink.failures c.deref.result.now c.decide_into-answer.new.self c.args.window.now c.read_until_board.new.self c.keep.new.self c.count_halt.new.window
+    c.args.who c.args.command.now c.press.ensures.book c.read_until_board.ensures.on same c.decide_into-answer.result
+    (subst (λ (b : BookValue _). Decides lab g.S.Sink.failures b c.args.who c.args.command.now c.decide_into-answer.result c.decide_into-answer.new.self)
+    book c.decide_into-answer.ensures.decides)
+    (subst (λ (l : List Event). Keeps l c.read_until_board.new.self c.decide_into-answer.result c.keep.new.self) events c.keep.ensures)
     c.count_halt.ensures.window
 
 pub returns-clause-answers : goal.returns-clause-answers

@@ -1,4 +1,4 @@
-use Rattle.std.proofs.Common.{rules, ◌≡◌, ◌+◌, ◌++◌, ◌∷◌, [], List, length, ap, ◌∙◌, arith, subst, sym, None, take, ◌-◌}
+use Rattle.std.proofs.Common.{rules, ◌≡◌, ◌+◌, length-append, ◌++◌, ◌∷◌, [], List, length, ap, ◌∙◌, arith, subst, sym, None, take, ◌-◌}
 use mathlib.Core.List.{IsPrefix}
 use Rattle.mml_board.specs.{declared.event.Event.Event, Lists.is_legal_in}
 use Rattle.mml_window.specs.{Windows.window_with, inside.Keeping.Keeps, inside.Readers.view_by}
@@ -12,7 +12,8 @@ invariant_of-self-in-Some g c =
     let was = c.self.invariant.0 in
     let seen : (view_by c.look_for.new.reader).seen ≡ x.events.items = ap (λ v. v.seen) saw.view in
     let count : length x.events.items ≡ c.in-Granted.place = search rules in
-    let more : c.in-Granted.place ≡ length (view_by c.self.inside.reader).seen + 1 = search rules in (
+    let more : c.in-Granted.place ≡ length (view_by c.self.inside.reader).seen + 1 = search rules in
+    let counted : c.args.grant.amount ≡ 1 = search rules in (
       record {
         lawful = was.lawful;
         legal = ap (is_legal_in g.H.House.lab) seen ∙ saw.published.legal;
@@ -23,6 +24,8 @@ invariant_of-self-in-Some g c =
       search rules,
       search rules,
       search rules,
+      rw c.push_reserved.ensures.items
+          (omega (arith, c.merge.ensures.amount, c.self.invariant.4, counted, length-append c.self.inside.places.items (c.in-Granted.place ∷ []))),
     )
 
 pub returns-in-Some : goal.returns-in-Some
