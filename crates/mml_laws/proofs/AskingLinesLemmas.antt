@@ -1,7 +1,7 @@
 -- The lines that ask for grants and closes, with the bye and the hello before each, can be lines of a script.
 use Rattle.std.proofs.lemmas.Bool.Decides.{nat_tests}
 use Rattle.std.proofs.Common.{◌≡◌, ◌≢◌, ℕ, ◌<◌, ◌≤◌, ◌+◌, ◌*◌, ◌^◌, Bool, true, cond, List, [], ◌∷◌, ◌++◌, codes, decimal, length, refl, sym, subst, arith, length-append}
-use Rattle.std.proofs.Common.{get_or, rules}
+use Rattle.std.proofs.Common.{get_or}
 use Rattle.std.specs.{List.All}
 use Rattle.std.proofs.lemmas.{Bool.and_parts, Bool.cases_lt, Bool.false≢true, Fmt.length-decimal-le, Str.IsUtf8-from_ascii, List.get_or_default, List.get_or_past}
 use Rattle.json.specs.Print.{escape_byte, escape, quoted}
@@ -10,7 +10,7 @@ use Rattle.mml_lab.specs.{declared.who.Who.Who, Labs.LabValue, Labs.IsLab, Roste
 use Rattle.mml_lab.proofs.FormLemmas.{name-means, key-means}
 use Rattle.mml_rules.specs.declared.rule.Rule.{Rule}
 use Rattle.mml_board.specs.{declared.event.Event.Event, World.World}
-use Rattle.mml_policy.specs.Asking.{id_of, command_of}
+use Rattle.mml_policy.specs.{declared.command.Asked.Asked, Asking.id_of, Asking.asked_of, Asking.command_of}
 use Rattle.mml_journal.specs.EventLines.{IsEventOf}
 use Rattle.mml_journal.proofs.NameLemmas.{name_is_utf8}
 use Rattle.mml_convergence.specs.Rest.{is_grant_or_close}
@@ -18,7 +18,6 @@ use Rattle.mml_codec.specs.{declared.TheConstants.MAX_REQUEST, declared.request.
 use Rattle.mml_codec.proofs.CanonicalLemmas.{canonical_line}
 use Rattle.mml_hall.specs.ScriptLines.{IsScriptLine}
 use Rattle.mml_laws.specs.Finishes.{line_for, hello_of}
-use Rattle.mml_rules.specs.declared.rule.Rule.TheVariants as rules
 use Rattle.mml_board.specs.declared.event.Event.TheVariants as event
 use Rattle.mml_policy.specs.declared.command.Asked.TheVariants as asked
 use Rattle.mml_policy.specs.declared.command.Command.TheVariants as command
@@ -37,36 +36,23 @@ two_numbers : (a b c : List ℕ) (x y : ℕ) → x < 2 ^ 64 → y < 2 ^ 64 → l
     → length (a ++ (decimal x ++ (b ++ (decimal y ++ c)))) ≤ MAX_REQUEST
 two_numbers a b c x y small small' pieces = grind (arith, nat_tests, digits, length-append)
 
--- a text with three numbers in it is short enough for a request if its other parts are short
-three_numbers : (a b c d : List ℕ) (x y z : ℕ) → x < 2 ^ 64 → y < 2 ^ 64 → z < 2 ^ 64 → length a + length b + length c + length d ≤ 4036
-    → length (a ++ (decimal x ++ (b ++ (decimal y ++ (c ++ (decimal z ++ d)))))) ≤ MAX_REQUEST
-three_numbers a b c d x y z small small' small'' pieces = grind (arith, nat_tests, digits, length-append)
+-- the text of a move after its node
+abbrev ending : Asked → List ℕ
+ending asked.Update = codes ",\"rule\":\"update\"}"
+ending asked.Seduction = codes ",\"rule\":\"seduction\"}"
+ending asked.Abandonment = codes ",\"rule\":\"abandonment\"}"
+ending (asked.Marriage partner) = codes ",\"rule\":\"marriage\",\"with\":" ++ (decimal partner ++ codes "}")
 
-update_text : (n at : ℕ) → canonical (requests.Do (command.Move n asked.Update at))
-    ≡ codes "{\"at\":" ++ (decimal at ++ (codes ",\"do\":\"move\",\"node\":" ++ (decimal n ++ codes ",\"rule\":\"update\"}")))
+move_text : (n at : ℕ) (a : Asked) → canonical (requests.Do (command.Move n a at))
+    ≡ codes "{\"at\":" ++ (decimal at ++ (codes ",\"do\":\"move\",\"node\":" ++ (decimal n ++ ending a)))
 unfolding canonical escape_byte
-update_text n at = refl
-
-seduction_text : (n at : ℕ) → canonical (requests.Do (command.Move n asked.Seduction at))
-    ≡ codes "{\"at\":" ++ (decimal at ++ (codes ",\"do\":\"move\",\"node\":" ++ (decimal n ++ codes ",\"rule\":\"seduction\"}")))
-unfolding canonical escape_byte
-seduction_text n at = refl
-
-abandonment_text : (n at : ℕ) → canonical (requests.Do (command.Move n asked.Abandonment at))
-    ≡ codes "{\"at\":" ++ (decimal at ++ (codes ",\"do\":\"move\",\"node\":" ++ (decimal n ++ codes ",\"rule\":\"abandonment\"}")))
-unfolding canonical escape_byte
-abandonment_text n at = refl
-
-marriage_text : (n at partner : ℕ) → canonical (requests.Do (command.Move n (asked.Marriage partner) at))
-    ≡ codes "{\"at\":" ++ (decimal at ++ (codes ",\"do\":\"move\",\"node\":" ++ (decimal n ++ (codes ",\"rule\":\"marriage\",\"with\":" ++ (decimal partner ++ codes "}")))))
-unfolding canonical escape_byte
-marriage_text n at partner = refl
+move_text n at a = grind (arith, nat_tests)
 
 close_text : canonical (requests.Do command.Close) ≡ codes "{\"do\":\"close\"}"
 unfolding canonical escape_byte
 close_text = refl
 
-bye_text : canonical requests.Bye ≡ codes "{\"do\":\"bye\"}"
+pub bye_text : canonical requests.Bye ≡ codes "{\"do\":\"bye\"}"
 unfolding canonical escape_byte
 bye_text = refl
 
@@ -126,41 +112,26 @@ module _ (lab : LabValue) (is : IsLab lab) where
   short_by : (q : Request) (text : List ℕ) → canonical q ≡ text → length text ≤ MAX_REQUEST → IsShort q
   short_by q text is_text short = subst (λ (x : List ℕ). length x ≤ MAX_REQUEST) (sym is_text) short
 
-  grant_comes : (w : World) (s i : ℕ) (q : Rule) → w.number < 2 ^ 64 → IsEventOf lab.ids lab.roster (event.Grant s i q)
-      → IsWritable (requests.Do (command_of lab.ids w (event.Grant s i q))) × IsShort (requests.Do (command_of lab.ids w (event.Grant s i q)))
-  grant_comes w s i rules.Update number of =
-      let small = id_small i of.1 in (
-        (number, (tt, (small, (tt, tt)))),
-        short_by _ _ (update_text (id_of lab.ids i) w.number)
-            (two_numbers (codes "{\"at\":") (codes ",\"do\":\"move\",\"node\":") (codes ",\"rule\":\"update\"}") w.number (id_of lab.ids i) number small (omega arith)),
-      )
-  grant_comes w s i rules.Seduction number of =
-      let small = id_small i of.1 in (
-        (number, (tt, (small, (tt, tt)))),
-        short_by _ _ (seduction_text (id_of lab.ids i) w.number)
-            (two_numbers (codes "{\"at\":") (codes ",\"do\":\"move\",\"node\":") (codes ",\"rule\":\"seduction\"}") w.number (id_of lab.ids i) number small (omega arith)),
-      )
-  grant_comes w s i rules.Abandonment number of =
-      let small = id_small i of.1 in (
-        (number, (tt, (small, (tt, tt)))),
-        short_by _ _ (abandonment_text (id_of lab.ids i) w.number)
-            (two_numbers (codes "{\"at\":") (codes ",\"do\":\"move\",\"node\":") (codes ",\"rule\":\"abandonment\"}") w.number (id_of lab.ids i) number small (omega arith)),
-      )
-  grant_comes w s i (rules.Marriage j) number of =
-      let small = id_small i of.1 in
-      let partner = id_small j of.2 in (
-        (number, (tt, (small, (tt, (partner, tt))))),
-        short_by _ _ (marriage_text (id_of lab.ids i) w.number (id_of lab.ids j))
-            (three_numbers (codes "{\"at\":") (codes ",\"do\":\"move\",\"node\":") (codes ",\"rule\":\"marriage\",\"with\":") (codes "}")
-            w.number (id_of lab.ids i) (id_of lab.ids j) number small partner (omega arith)),
-      )
+  ending_short : (s i : ℕ) (q : Rule) → IsEventOf lab.ids lab.roster (event.Grant s i q) → length (ending (asked_of lab.ids q)) ≤ 50
+  ending_short s i q of = grind (arith, nat_tests, digits, id_small, length-append)
+
+  grant_can : (w : World) (s i : ℕ) (q : Rule) → w.number < 2 ^ 64 → IsEventOf lab.ids lab.roster (event.Grant s i q)
+      → IsWritable (requests.Do (command_of lab.ids w (event.Grant s i q)))
+  grant_can w s i q number of = grind (arith, nat_tests, id_small)
+
+  grant_short : (w : World) (s i : ℕ) (q : Rule) → w.number < 2 ^ 64 → IsEventOf lab.ids lab.roster (event.Grant s i q)
+      → IsShort (requests.Do (command_of lab.ids w (event.Grant s i q)))
+  grant_short w s i q number of =
+      short_by _ _ (move_text (id_of lab.ids i) w.number (asked_of lab.ids q))
+      (two_numbers (codes "{\"at\":") (codes ",\"do\":\"move\",\"node\":") (ending (asked_of lab.ids q)) w.number (id_of lab.ids i) number (id_small i of.1)
+      (omega (arith, ending_short s i q of)))
 
   -- the command that asks for a grant or a close can be written, and its line can be a line of a script
   pub command_comes : (w : World) (e : Event) → w.number < 2 ^ 64 → IsEventOf lab.ids lab.roster e → is_grant_or_close e ≡ true
       → IsWritable (requests.Do (command_of lab.ids w e)) × IsScriptLine lab.sessions (line_for (requests.Do (command_of lab.ids w e)))
   command_comes w (event.Grant s i q) number of forward =
-      let g = grant_comes w s i q number of in
-      (g.0, on_first lab.sessions (requests.Do (command_of lab.ids w (event.Grant s i q))) is.some_sessions g.0 g.1)
+      let can = grant_can w s i q number of in
+      (can, on_first lab.sessions (requests.Do (command_of lab.ids w (event.Grant s i q))) is.some_sessions can (grant_short w s i q number of))
   command_comes w event.Close number of forward =
       ((tt, tt), on_first lab.sessions (requests.Do command.Close) is.some_sessions (tt, tt) (short_by (requests.Do command.Close) _ close_text (omega arith)))
   command_comes w (event.Release i) number of forward = absurd (false≢true forward)

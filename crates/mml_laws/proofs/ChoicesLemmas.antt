@@ -1,5 +1,5 @@
 -- A move is chosen at a node exactly if it was granted there last.
-use Rattle.std.{proofs.lemmas.Grind.common_steps, proofs.lemmas.List.get_or-set_same, proofs.lemmas.List.get_or-set_other, specs.List.list_all}
+use Rattle.std.{proofs.lemmas.Grind.common_steps, proofs.lemmas.List.get_or-set_same, proofs.lemmas.List.get_or-set_other, proofs.lemmas.Option.same_Some, specs.List.list_all}
 use Rattle.std.proofs.Common.{◌≡◌, ◌≢◌, ◌↔◌, ◌⊎◌, ◌<◌, ℕ, true, List, [], ◌∷◌, ◌++◌, length, Option, None, Some, inl, inr, refl, sym, ap, subst, arith}
 use Rattle.std.proofs.lemmas.Bool.{and_parts, and_from, false≢true, ltb-true, cases_eq, eq-eqb, ne_eqb, Decides.nat_tests}
 use Rattle.mml_rules.specs.declared.rule.Rule.{Rule}
@@ -18,12 +18,9 @@ IsFrom w e i q = ((s : ℕ) × (e ≡ event.Grant s i q)) ⊎ ((chosen_at w.chos
 none_some : (o : Option Rule) (q : Rule) → o ≡ None → o ≢ Some q
 none_some o q e h = absurd cc
 
-some_same : (p q : Rule) → Some p ≡ Some q → p ≡ q
-some_same p q h = cc
-
 module _ (w : World) (is : IsWorld w) where
   by_grant : (s j i : ℕ) (p q : Rule) → j < size w → chosen_at (after w (event.Grant s j p)).chosen i ≡ Some q → IsFrom w (event.Grant s j p) i q
-  by_grant s j i p q lt h = grind (arith, nat_tests, cases_eq, get_or-set_same, some_same, get_or-set_other)
+  by_grant s j i p q lt h = grind (arith, nat_tests, cases_eq, get_or-set_same, same_Some, get_or-set_other)
 
   by_release : (j i : ℕ) (q : Rule) → j < size w → chosen_at (after w (event.Release j)).chosen i ≡ Some q → IsFrom w (event.Release j) i q
   by_release j i q lt h = grind (arith, nat_tests, cases_eq, get_or-set_same, none_some, get_or-set_other, ne_eqb)

@@ -1,65 +1,60 @@
--- The contract of a host, which serves a class, implies what the laws about houses and about records assume. A house is
--- one run of a lab that threads share.
+-- The contract of a host, which serves a class, implies what the laws about houses, about scripts and about records
+-- assume. A house is one run of a lab that threads share.
 use Rattle.std.proofs.lemmas.Bool.Decides.{nat_tests}
-use Rattle.std.proofs.Common.{◌≡◌, ◌<◌, ◌≤◌, ◌+◌, ◌&&◌, ℕ, zero, suc, cond, nat_lt, nat_le, List, [], ◌∷◌, ◌++◌, map, length, All, Option, Some, refl, sym, ap, ◌∙◌, subst, arith, inl, inr}
+use Rattle.std.proofs.Common.{◌≡◌, ◌<◌, ◌≤◌, ◌+◌, ◌&&◌, ℕ, zero, suc, false, cond, nat_lt, nat_le, List, [], ◌∷◌, ◌++◌, map, length, All, Option, Some, refl, sym, ap, ◌∙◌, subst, arith, inl, inr}
 use Rattle.std.proofs.lemmas.Bool.{cases_Bool, cases_eq, and_parts, and_from, ltb-true, leb-true, lt-ltb, le-leb, eq-eqb, ne_eqb}
-use Rattle.std.proofs.lemmas.List.{Sums.sum_by-cons, Elements.All-head, Elements.All-tail}
-use Rattle.std.specs.{List.AllByRecursion, List.AllZip, List.range_with_len, List.sum_by, Option.unwrap_or}
+use Rattle.std.proofs.lemmas.{List.length-map, List.FromFn.length-range_with_len, List.Sums.sum_by-cons, List.Elements.All-head, List.Elements.All-tail, Slice.Zip.AllZip-long}
+use Rattle.std.specs.{List.AllByRecursion, List.AllZip, List.range_with_len, List.sum_by}
 use mathlib.Core.List.{IsPrefix}
-use Rattle.mml_lab.specs.Labs.{LabValue}
+use Rattle.mml_lab.specs.Labs.{LabValue, IsLab}
 use Rattle.mml_board.specs.declared.event.Event.{Event}
-use Rattle.mml_lines.specs.Runs.{Chain}
+use Rattle.mml_lines.specs.Runs.{Runs, Chain}
 use Rattle.mml_codec.specs.declared.reply.Reply.{Reply}
 use Rattle.mml_window.specs.{Logs.IsLogFrom, Tallies.IsEachOnceFrom, Windows.WindowValue, Windows.window}
 use Rattle.mml_session.specs.Records.{Kept, Stand, stand, Adds, EndedRecorded}
+use Rattle.mml_serving.specs.Serving.{Each}
 use Rattle.mml_hosting.specs.declared.{hosted.Hosted.Hosted, seat.SeatRecord.SeatRecord, seat.ServedSession.ServedSession}
 use Rattle.mml_hosting.specs.{Hosting.HostsFrom, Ports.numbers_of, Seats.Led, Seats.Leads, Seats.Terms, Seats.terms, Seats.kept_from, Seats.sessions_of}
 use Rattle.mml_record.specs.RecordedSeats.{Held, RecordedSeat, IsResumedSeat, IsRecordText, fresh}
 use Rattle.mml_record.proofs.RecordLemmas.{is_record_from}
-use Rattle.mml_laws.specs.{Classes.seat_of, Classes.seats_of, Served.replies_in, Served.AreSessions, Served.AreServed, Served.named_by}
-use Rattle.mml_laws.proofs.ServedLemmas.{house_once}
-
-pub zip_append : {A B : Type 0} (P : A → B → Type 0) (xs us : List A) (ys vs : List B) → AllZip P xs ys → AllZip P us vs → AllZip P (xs ++ us) (ys ++ vs)
-zip_append P [] us [] vs p q = q
-zip_append P [] us (y ∷ ys) vs p q = absurd p
-zip_append P (x ∷ xs) us [] vs p q = absurd p
-zip_append P (x ∷ xs) us (y ∷ ys) vs p q = (p.0, zip_append P xs us ys vs p.1 q)
+use Rattle.mml_laws.specs.{Classes.seat_of, Classes.seats_of, ClassAnswers.HasAnswers, ClassAnswers.HaveAnswers, OneScript.IsOneScript}
+use Rattle.mml_laws.specs.Served.{Answered, answers_in, IsConversation, AreConversations, AreHeard, AreWritten, AreServed, replies_of, named_by}
+use Rattle.mml_laws.proofs.{ZipsLemmas.zip_append, ServedLemmas.house_once, ServedLemmas.house_written, OneScriptLemmas.one_script}
 
 module _ {K C R W : Type 0} (t : Terms K C R W) where
-  -- ---- the sessions of a house
+  -- ---- what the sessions of a house answered
 
-  talked : (n : ℕ) (ss : List (ServedSession R W)) (a b : Stand) → Chain (Leads t n) a ss b → (rs : List (List Reply)) × AreSessions t.lab a.window rs b.window
-  talked n [] a b led = ([], ap (λ (s : Stand). s.window) led)
-  talked n (s ∷ ss) a b led =
-      let next : Stand = led.0 in
-      let ended = led.1.0 in
-      let rest = talked n ss led.0 b led.2 in
-      let said = replies_in s.ending.end t.lab a.window led.0.window (t.remaining s.came.value.0) (t.remaining s.reader) (t.contents s.came.value.1) (t.contents s.writer) led.1.0 in (
-        replies_in s.ending.end t.lab a.window led.0.window (t.remaining s.came.value.0) (t.remaining s.reader) (t.contents s.came.value.1) (t.contents s.writer) led.1.0
-            ∷ rest.0,
-        (
-          led.0.window,
-          record {
-            end = s.ending.end;
-            input = t.remaining s.came.value.0;
-            left = t.remaining s.reader;
-            wrote = t.contents s.came.value.1;
-            wrote' = t.contents s.writer;
-            ended = led.1.0;
-            all = refl;
-          },
-          rest.1,
-        ),
-      )
+  session_heard : (n : ℕ) (s : ServedSession R W) (a b : Stand) → Leads t n s a b
+      → (said : List Answered) × HasAnswers t a.window s said b.window × IsConversation t.lab said a.window b.window
+  session_heard n s a b led = (
+    answers_in s.ending.end t.lab a.window b.window (t.remaining s.came.value.0) (t.remaining s.reader) (t.contents s.came.value.1) (t.contents s.writer) led.0,
+    record { ended = led.0; all = refl },
+    record {
+      end = s.ending.end;
+      input = t.remaining s.came.value.0;
+      left = t.remaining s.reader;
+      wrote = t.contents s.came.value.1;
+      wrote' = t.contents s.writer;
+      says = record { ended = led.0; all = refl };
+    },
+  )
 
-  served : (rs : List (SeatRecord K C)) (ws : List WindowValue) → AllZip (Led t) rs ws → (ss : List (List (List Reply))) × AreServed t.lab t.begun ss ws
-  served [] [] led = ([], tt)
-  served [] (w ∷ ws) led = absurd led
-  served (r ∷ rs) [] led = absurd led
-  served (r ∷ rs) (w ∷ ws) led =
-      let one = talked r.number (sessions_of t.shows r) (stand (window t.begun []) (t.given r.number)) (stand w (t.recorded r.observer)) led.0 in
-      let rest = served rs ws led.1 in
-      (one.0 ∷ rest.0, (one.1, rest.1))
+  seat_heard : (n : ℕ) (ss : List (ServedSession R W)) (a b : Stand) → Chain (Leads t n) a ss b
+      → (saids : List (List Answered)) × Runs (HasAnswers t) a.window ss saids b.window × AreConversations t.lab a.window saids b.window
+  seat_heard n [] a b led = ([], ap (λ (s : Stand). s.window) led, ap (λ (s : Stand). s.window) led)
+  seat_heard n (s ∷ ss) a b led =
+      let one = session_heard n s a led.0 led.1 in
+      let rest = seat_heard n ss led.0 b led.2 in
+      (one.0 ∷ rest.0, (led.0.window, one.1, rest.1), (led.0.window, one.2, rest.2))
+
+  house_heard : (rs : List (SeatRecord K C)) (ws : List WindowValue) → AllZip (Led t) rs ws
+      → (seats : List (List (List Answered))) × Each (HaveAnswers t) rs seats ws × AreHeard t.lab t.begun seats ws
+  house_heard [] [] led = ([], tt, tt)
+  house_heard (r ∷ rs) (w ∷ ws) led =
+      let one = seat_heard r.number (sessions_of t.shows r) (stand (window t.begun []) (t.given r.number)) (stand w (t.recorded r.observer)) led.0 in
+      let rest = house_heard rs ws led.1 in
+      (one.0 ∷ rest.0, (one.1, rest.1), (one.2, rest.2))
+  house_heard _ _ led = absurd led
 
   -- ---- the seats of a record
 
@@ -101,27 +96,22 @@ module _ {K C R W : Type 0} (t : Terms K C R W) where
   resumed_seat : (r : SeatRecord K C) (w : WindowValue) → t.given r.number ≡ Some fresh → Led t r w
       → IsResumedSeat t.lab t.begun (seat_of t.recorded t.shows r) w
   resumed_seat r w empty led =
-      let h = held r.number (sessions_of t.shows r) (stand (window t.begun []) (t.given r.number)) (stand w (t.recorded r.observer)) fresh empty led in
-      let kept : unwrap_or (t.recorded r.observer) fresh ≡ h.0 = ap (λ (o : Option Kept). unwrap_or o fresh) h.1 in
-      subst (λ (k : Kept). Chain (Held t.lab r.number) (stand (window t.begun []) (Some fresh)) (map (λ s. s.ending.end) (sessions_of t.shows r)) (stand w (Some k)))
-      (sym kept) h.2
+      grind (arith, nat_tests, held r.number (sessions_of t.shows r) (stand (window t.begun []) (t.given r.number)) (stand w (t.recorded r.observer)) fresh empty led)
 
   resumed_seats : (rs : List (SeatRecord K C)) (ws : List WindowValue) → AllByRecursion (λ r. t.given r.number ≡ Some fresh) rs → AllZip (Led t) rs ws
       → AllZip (IsResumedSeat t.lab t.begun) (map (seat_of t.recorded t.shows) rs) ws
   resumed_seats [] [] empty led = tt
-  resumed_seats [] (w ∷ ws) empty led = absurd led
-  resumed_seats (r ∷ rs) [] empty led = absurd led
   resumed_seats (r ∷ rs) (w ∷ ws) empty led = (resumed_seat r w empty.0 led.0, resumed_seats rs ws empty.1 led.1)
+  resumed_seats _ _ empty led = absurd led
 
 record_texts : (lab : LabValue) (l begun : List Event) (ps : List RecordedSeat) (ws : List WindowValue) → All (λ w. IsPrefix w.seen l) ws
     → AllZip (IsResumedSeat lab begun) ps ws → AllZip (λ p w. IsRecordText lab l p.number p.kept w.places) ps ws
 record_texts lab l begun [] [] seen held = tt
-record_texts lab l begun [] (w ∷ ws) seen held = absurd held
-record_texts lab l begun (p ∷ ps) [] seen held = absurd held
 record_texts lab l begun (p ∷ ps) (w ∷ ws) seen held = (
   is_record_from lab l begun p w held.0 (All-head (λ w. IsPrefix w.seen l) w ws seen),
   record_texts lab l begun ps ws (All-tail (λ w. IsPrefix w.seen l) w ws seen) held.1,
 )
+record_texts lab l begun _ _ seen held = absurd held
 
 -- ---- the numbers of the seats
 
@@ -155,6 +145,10 @@ module _ {K C : Type 0} (most : ℕ) (given : ℕ → Option Kept) (empty : (n :
       let here = none_within most r.number (omega (arith, sum, none)) in
       (empty r.number here.0 here.1, are_empty rs (omega (arith, sum, none)))
 
+sum_of_ones : {A : Type 0} (xs : List A) → sum_by (λ x. 1) xs ≡ length xs
+sum_of_ones [] = refl
+sum_of_ones (x ∷ xs) = omega (arith, sum_by-cons (λ y. 1) x xs, sum_of_ones xs)
+
 -- ---- classes
 
 module _ {S K C R W : Type 0} (begun : List Event) (given : ℕ → Option Kept) (lab : LabValue) (sink : S → Option (List ℕ)) (remaining : R → Option (List ℕ))
@@ -163,10 +157,37 @@ module _ {S K C R W : Type 0} (begun : List Event) (given : ℕ → Option Kept)
   all_led : AllZip (Led (terms lab begun given remaining contents recorded shows)) (house.at_desk.items ++ house.others.items) (h.desk_windows ++ h.windows)
   all_led = grind (arith, nat_tests, zip_append)
 
+  window_count : length (h.desk_windows ++ h.windows) ≡ lab.sessions
+  window_count =
+      AllZip-long (Led (terms lab begun given remaining contents recorded shows)) (house.at_desk.items ++ house.others.items) (h.desk_windows ++ h.windows) all_led
+      ∙ sym (length-map (house.at_desk.items ++ house.others.items) (λ r. r.number)) ∙ sym (sum_of_ones (numbers_of (house.at_desk.items ++ house.others.items)))
+      ∙ sym (h.numbers (λ n. 1)) ∙ sum_of_ones (range_with_len 1 lab.sessions) ∙ length-range_with_len 1 lab.sessions
+
+  class_heard : (seats : List (List (List Answered)))
+      × Each (HaveAnswers (terms lab begun given remaining contents recorded shows)) (house.at_desk.items ++ house.others.items) seats (h.desk_windows ++ h.windows)
+      × AreHeard lab begun seats (h.desk_windows ++ h.windows)
+  class_heard = grind (arith, nat_tests, house_heard, all_led)
+
   pub class_house : (sessions : List (List (List Reply))) × AreServed lab begun sessions (h.desk_windows ++ h.windows)
       × IsLogFrom (length begun) lab sink (h.desk_windows ++ h.windows) house.log
       × IsEachOnceFrom (length begun) (length house.log.events) (named_by sessions)
-  class_house = grind (arith, nat_tests, served, all_led, house_once)
+  class_house =
+      let sessions : List (List (List Reply)) = map replies_of class_heard.0 in
+      let served : AreServed lab begun sessions (h.desk_windows ++ h.windows) = (class_heard.0, class_heard.2, refl) in
+      (sessions, served, h.kept, house_once lab begun (length house.log.events) sessions (h.desk_windows ++ h.windows) served h.kept.places)
+
+  written_script : IsLab lab → AllByRecursion AreWritten class_heard.0 → IsOneScript lab begun house.log.events class_heard.0
+  written_script is_lab written = grind (arith, nat_tests, one_script, class_heard, window_count)
+
+  pub class_script : IsLab lab → (seats : List (List (List Answered)))
+      × Each (HaveAnswers (terms lab begun given remaining contents recorded shows)) (house.at_desk.items ++ house.others.items) seats (h.desk_windows ++ h.windows)
+      × (AllByRecursion AreWritten seats → IsOneScript lab begun house.log.events seats)
+  class_script is_lab = (class_heard.0, class_heard.1, written_script is_lab)
+
+  pub unhalted_class : IsLab lab → house.log.halted ≡ false → (seats : List (List (List Answered)))
+      × Each (HaveAnswers (terms lab begun given remaining contents recorded shows)) (house.at_desk.items ++ house.others.items) seats (h.desk_windows ++ h.windows)
+      × IsOneScript lab begun house.log.events seats
+  unhalted_class is_lab going = grind (arith, nat_tests, house_written, class_heard, written_script)
 
   pub class_seats : ((n : ℕ) → 0 < n → n ≤ lab.sessions → given n ≡ Some fresh)
       → AllZip (IsResumedSeat lab begun) (seats_of recorded shows house) (h.desk_windows ++ h.windows)

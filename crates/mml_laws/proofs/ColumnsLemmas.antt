@@ -3,7 +3,7 @@ use Rattle.std.proofs.Common.{ℕ, suc, true, None, List, [], ◌∷◌, ◌++�
 use Rattle.mml_lab.specs.Labs.{LabValue}
 use Rattle.mml_board.specs.declared.event.Event.{Event}
 use Rattle.mml_tally.specs.{declared.ask.Ask.Ask, AskMeaning.AreAsksOf, StudentDenials.AreNamed}
-use Rattle.mml_record.specs.{declared.kept_entry.Entry.Entry, Asks.asks_in}
+use Rattle.mml_record.specs.{declared.kept_entry.Entry.Entry, Asks.asks_in, Certified.IsRecordOf}
 use Rattle.mml_record.proofs.{AsksLemmas.asked_of_rules, AskersLemmas.are_asks_of, NamedAskersLemmas.record_named}
 use Rattle.mml_class.specs.{declared.class_record.ClassRecord.ClassRecord, Classes.AreRecordsOf, Classes.IsClassRecord, Classes.all_asks}
 use Rattle.mml_record.specs.declared.stage.Stage.TheVariants as stages
@@ -16,23 +16,24 @@ asks_after : (n : ℕ) (xs ys : List Ask) → AreAsksOf n xs → AreAsksOf n ys 
 asks_after n [] ys h k = k
 asks_after n (x ∷ xs) ys h k = (h.0, asks_after n xs ys h.1 k)
 
+-- what holds for the request lines of no seat, of two lists of lines together, and of each record, holds for those of a
+-- class
+module _ (lab : LabValue) (l : List Event) (texts : ℕ → List ℕ) (Are : List Ask → Type 0) (none : Are [])
+    (after : (xs ys : List Ask) → Are xs → Are ys → Are (xs ++ ys)) (each : (es : List Entry) (own : List ℕ) → IsRecordOf lab l es own → Are (asks_in lab.roster es))
+  where
+    all_are : (first : ℕ) (ess : List (List Entry)) (places : List ℕ) → AreRecordsOf lab l texts first ess places → Are (all_asks lab.roster ess)
+    all_are first [] places h = none
+    all_are first (es ∷ ess) places h = after (asks_in lab.roster es) (all_asks lab.roster ess) (each es h.0 h.3) (all_are (suc first) ess h.1 h.5)
+
+    class_are : (start : List ℕ) (c : ClassRecord) → IsClassRecord lab l true start texts c → Are c.asks.items
+    class_are start c is = subst Are (sym (is.asked refl)) (all_are 1 is.entries is.places is.records)
+
 module _ (lab : LabValue) (l : List Event) (texts : ℕ → List ℕ) where
-  all_named : (first : ℕ) (ess : List (List Entry)) (places : List ℕ) → AreRecordsOf lab l texts first ess places → AreNamed (all_asks lab.roster ess)
-  all_named first [] places h = tt
-  all_named first (es ∷ ess) places h =
-      named_after (asks_in lab.roster es) (all_asks lab.roster ess) (record_named lab l es h.0 h.3) (all_named (suc first) ess h.1 h.5)
-
-  all_of_students : (first : ℕ) (ess : List (List Entry)) (places : List ℕ) → AreRecordsOf lab l texts first ess places
-      → AreAsksOf (length lab.roster.students) (all_asks lab.roster ess)
-  all_of_students first [] places h = tt
-  all_of_students first (es ∷ ess) places h =
-      asks_after (length lab.roster.students) (asks_in lab.roster es) (all_asks lab.roster ess)
-      (are_asks_of lab l None tt es (asks_in lab.roster es) (asked_of_rules lab l None stages.Fresh 0 es h.0 h.3))
-      (all_of_students (suc first) ess h.1 h.5)
-
   -- each denied line of a class is counted under the clause of its denial
   pub class_named : (start : List ℕ) (c : ClassRecord) → IsClassRecord lab l true start texts c → AreNamed c.asks.items
-  class_named start c is = subst AreNamed (sym (is.asked refl)) (all_named 1 is.entries is.places is.records)
+  class_named = class_are lab l texts AreNamed tt named_after (record_named lab l)
 
   pub class_of_students : (start : List ℕ) (c : ClassRecord) → IsClassRecord lab l true start texts c → AreAsksOf (length lab.roster.students) c.asks.items
-  class_of_students start c is = subst (AreAsksOf (length lab.roster.students)) (sym (is.asked refl)) (all_of_students 1 is.entries is.places is.records)
+  class_of_students =
+      class_are lab l texts (AreAsksOf (length lab.roster.students)) tt (asks_after (length lab.roster.students))
+      (λ es own h. are_asks_of lab l None tt es (asks_in lab.roster es) (asked_of_rules lab l None stages.Fresh 0 es own h))

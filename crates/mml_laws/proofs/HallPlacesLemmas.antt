@@ -1,7 +1,7 @@
 -- The places (numbers of events) that the replies of a hall name. A world is the state of a run after some events: its
 -- network and its chosen moves.
 use Rattle.std.proofs.Common.{◌≡◌, ◌≤◌, ◌+◌, ℕ, suc, true, List, [], ◌∷◌, ◌++◌, length, flat_map, Some, Result, inl, inr, refl, sym, ap, ◌∙◌, subst, arith, length-append}
-use Rattle.std.{specs.List.range_with_len, proofs.lemmas.Bool.Decides.nat_tests}
+use Rattle.std.{specs.List.range_with_len, proofs.lemmas.Option.same_Some, proofs.lemmas.Bool.Decides.nat_tests}
 use mathlib.Core.List.{IsPrefix}
 use Rattle.mml_lab.specs.Labs.{LabValue, IsLab}
 use Rattle.mml_lines.proofs.RunsLemmas.{run_keeps, run_at_each}
@@ -68,9 +68,6 @@ module _ (lab : LabValue) (is : IsLab lab) where
 
   -- ---- the events that the replies name
 
-  place_same : (n p : ℕ) → Some n ≡ Some p → n ≡ p
-  place_same n p h = cc
-
   names_turn : (l : List Event) (st next : State) (line : RequestLine) (r : Reply) → is_legal_in lab l ≡ true → length l ≤ lab.events → IsOn lab st
       → TurnOf lab st line r next → IsPrefix next.events l → NamesItsEvent lab l (known_on st line.connection) line.request r
   names_turn l st next line r legal few on turn begins p named =
@@ -80,7 +77,7 @@ module _ (lab : LabValue) (is : IsLab lab) where
             let more = longer st.events g.event l (subst (λ (s : State). IsPrefix s.events l) g.state begins) in
             let there = on.world in
             let at : (after st.world g.event).place ≡ p =
-            place_same _ p (sym (place_of_done (after st.world g.event).number (after st.world g.event).place g.done) ∙ sym (ap place_in g.reply) ∙ named) in
+            same_Some _ p (sym (place_of_done (after st.world g.event).number (after st.world g.event).place g.done) ∙ sym (ap place_in g.reply) ∙ named) in
             let told =
             told_at lab is l st.events g.event more.0 g.done g.who g.command r st.halted more.1 legal few
             (subst (λ (w : World). ruling lab.ids lab.roster lab.events st.halted w g.who g.command ≡ Granted g.event g.done) there g.ruled)
@@ -107,8 +104,6 @@ module _ (lab : LabValue) (is : IsLab lab) where
   counted : (st end : State) (lines : List RequestLine) (rs : List Reply) → IsOn lab st → Run lab st lines rs end → Counted st end rs
   unfolding Counted
   counted st end [] [] on run = (0, ap (λ (s : State). length s.events) run ∙ (omega arith), refl)
-  counted st end [] (r ∷ rs) on run = absurd run
-  counted st end (line ∷ lines) [] on run = absurd run
   counted st end (line ∷ lines) (r ∷ rs) on run =
       let out : Outcome = record { reply = r; state = run.0 } in
       let rest = counted run.0 end lines rs (on_next st line.connection line.request out on run.1) run.2 in
@@ -131,6 +126,7 @@ module _ (lab : LabValue) (is : IsLab lab) where
               ap (λ o. as_list o ++ flat_map places_in rs) named ∙ ap (λ ps. (length st.events + 1) ∷ ps) (rest.2 ∙ ap (λ n. range_with_len (n + 1) rest.0) longer),
             )
       ]
+  counted st end _ _ on run = absurd run
 
   named_once : (st end : State) (lines : List RequestLine) (rs : List Reply) (more : ℕ) → IsOn lab st → Run lab st lines rs end
       → length end.events ≡ length st.events + more → flat_map places_in rs ≡ range_with_len (length st.events + 1) more

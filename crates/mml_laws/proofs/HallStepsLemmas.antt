@@ -1,6 +1,7 @@
 -- A turn of a session, as a turn of a hall, which answers requests in one thread. The hall's events are those that the
 -- session's reply takes into account, and the same participant is known on the connection. A window is what a session
 -- has seen of the events of a house. A participant is known on a connection from a granted hello to a bye.
+use Rattle.std.proofs.lemmas.Bool.Decides.{nat_tests}
 use Rattle.std.proofs.Common.{◌≡◌, ◌≢◌, ◌<◌, ◌≤◌, ◌+◌, ◌-◌, ℕ, Bool, false, List, [], ◌∷◌, ◌++◌, length, Option, None, Some, Result, Ok, Err, refl, sym, ap, ◌∙◌, inl, inr, arith, append-nil}
 use Rattle.std.proofs.lemmas.List.{length-set, get_or-set_same}
 use mathlib.Core.List.{IsPrefix}
@@ -17,8 +18,8 @@ use Rattle.mml_window.proofs.{PrefixLemmas.prefix_self, ListLemmas.place_in as p
 use Rattle.mml_hall.specs.Turns.{State, Outcome, TurnOf, known_on, with_known, with_event, outcome_of, settled, answer_to, plain_turn, replied, nothing, while_read}
 use Rattle.mml_hall.specs.ScriptLines.{request_on}
 use Rattle.mml_session.specs.Turns.{Standing, standing, entered, places_in, Told, Plainly, MayRefuse, Settles, Asked, Unread, Turn}
-use Rattle.mml_laws.specs.OneScript.{Answered, answered}
-use Rattle.mml_laws.proofs.GreetedLemmas.{plain_so}
+use Rattle.mml_laws.specs.Served.{Answered, answered}
+use Rattle.mml_laws.proofs.{GreetedLemmas.plain_so, WeavingLemmas.placed}
 use Rattle.mml_codec.specs.declared.reply.Refused.TheVariants as refused
 use Rattle.mml_codec.specs.declared.reply.Reply.TheVariants as reply
 
@@ -42,11 +43,6 @@ pub record Leads (lab : LabValue) (n : ℕ) (s : State) (k : ℕ) (a : Answered)
 abbrev pub HallStep : LabValue → ℕ → List Event → Option Who → Answered → Option Who → Option Event → Type 0
 HallStep lab n l known a known' caused =
     (s : State) (k : ℕ) → IsAfter lab n l s → known_on s k ≡ known → 0 < k → k ≤ n → Leads lab n s k a known' (entered l caused)
-
--- the place of an event after the events l, or none
-abbrev pub placed : List Event → Option Event → List ℕ
-placed l None = []
-placed l (Some e) = (length l + 1) ∷ []
 
 -- the turn of a session takes the events of a list into account, and is a turn of a hall after these events
 pub record Steps (lab : LabValue) (n : ℕ) (st next : Standing) (line : List ℕ) (r : Reply) : Type 0 where
@@ -195,12 +191,7 @@ module _ (lab : LabValue) (n : ℕ) (st next : Standing) (line : List ℕ) (r : 
 
     refuses_step : (ruled : Ruling) (why : Refused) → r ≡ reply.Refuse why → r ≢ reply.Refuse refused.Journal → MayRefuse ruled why next.window.refused
         → HasSeen l st.window.places next.window → Steps lab n st next line r
-    refuses_step ruled refused.Memory is_r not_journal may has = memory_step is_r has
-    refuses_step ruled refused.Journal is_r not_journal may has = absurd (not_journal is_r)
-    refuses_step (Looked x) _ is_r not_journal may has = absurd may
-    refuses_step Reported _ is_r not_journal may has = absurd may
-    refuses_step (Granted f d) _ is_r not_journal may has = absurd may
-    refuses_step _ _ is_r not_journal may has = absurd may
+    refuses_step ruled why is_r not_journal may has = grind (arith, nat_tests, memory_step)
 
   told_step : (q : Request) (who : Who) (c : Command) → request_in line ≡ Ok q → greeting lab.roster st.known q ≡ LeftToJudge who c → next.known ≡ st.known
       → r ≢ reply.Refuse refused.Journal → Told lab st.window who c r next.window → Steps lab n st next line r
@@ -223,5 +214,4 @@ module _ (lab : LabValue) (n : ℕ) (st next : Standing) (line : List ℕ) (r : 
 
   -- if the reply to a line isn't the refusal `journal`, the turn of a session is a turn of a hall
   pub turn_steps : Turn lab st line r next → r ≢ reply.Refuse refused.Journal → Steps lab n st next line r
-  turn_steps (inl h) not_journal = asked_step (request_in line) refl not_journal h
-  turn_steps (inr h) not_journal = unread_step h
+  turn_steps h0 not_journal = grind (arith, nat_tests, asked_step, unread_step)

@@ -23,12 +23,11 @@ module _ {S : Type 0} (lab : LabValue) (failures : S → ℕ) where
   pub all_stay : (old new : BookValue S) (acts : List Act) (answers : List Answer) → old.halted ≡ true → DecidesEach lab failures old acts answers new
       → (new ≡ old) × AllByRecursion IsNoGrant answers
   all_stay old new [] [] was each = (each, tt)
-  all_stay old new [] (a ∷ more) was each = absurd each
-  all_stay old new (act ∷ acts) [] was each = absurd each
   all_stay old new (act ∷ acts) (a ∷ more) was each =
       let one = one_stays old each.0 act.who act.command a was each.1 in
       let rest = all_stay each.0 new acts more (ap (λ (b : BookValue S). b.halted) one.0 ∙ was) each.2 in
       (rest.0 ∙ one.0, (one.1, rest.1))
+  all_stay old new _ _ was each = absurd each
 
   pub for_good : (old new last : BookValue S) (who : Who) (command : Command) (acts : List Act) (answers : List Answer)
       → Decides lab failures old who command (Refused Journal) new → DecidesEach lab failures new acts answers last

@@ -29,9 +29,6 @@ rises_push R (x ∷ xs) y h before = (
   rises_push R xs y h.1 (All-tail (λ z. R z y) x xs before),
 )
 
-in_one : {X : Type 0} (x y : X) → Contains (x ∷ []) y → x ≡ y
-in_one x y h = All-contains (λ z. x ≡ z) (x ∷ []) y (All-cons (λ z. x ≡ z) x [] refl (All-nil (λ z. x ≡ z))) h
-
 module _ (w : World) (i : ℕ) where
   abbrev Before : ℕ × Regs → ℕ × Regs → Type 0
   Before a b = a.0 < b.0

@@ -1,22 +1,16 @@
 -- A server is a house in which each connection has one session. What these sessions answered was said in a house.
-use Rattle.std.proofs.Common.{◌≡◌, ℕ, List, [], ◌∷◌, ◌++◌, length, replicate, All, false, Option, refl, sym, subst}
+use Rattle.std.proofs.lemmas.Bool.Decides.{nat_tests}
+use Rattle.std.proofs.Common.{◌≡◌, ℕ, List, [], ◌∷◌, length, replicate, All, false, Option, refl, arith}
 use Rattle.std.proofs.lemmas.List.{Elements.All-head, Elements.All-tail}
 use Rattle.std.specs.List.{AllByRecursion}
 use Rattle.mml_lab.specs.Labs.{LabValue, IsLab}
 use Rattle.mml_window.specs.{declared.log.Log.Log, Windows.WindowValue, Windows.window}
 use Rattle.mml_window.proofs.PrefixLemmas.{prefix_nil}
 use Rattle.mml_serving.specs.{declared.connection.Connection.Connection, declared.connection.EndedSession.EndedSession, Serving.Each, Serving.IsServed, Serving.ServesHouse}
-use Rattle.mml_laws.specs.{OneScript.Answered, OneScript.AreHeard, OneScript.AreWritten, OneScript.IsOneScript, ServedAnswers.answers_of, ServedAnswers.answers_in_house}
-use Rattle.mml_laws.proofs.{OneScriptLemmas.one_script, WrittenLemmas.house_written}
+use Rattle.mml_laws.specs.{Served.AreHeard, Served.AreWritten, OneScript.IsOneScript, ServedAnswers.answers_of, ServedAnswers.answers_in_house}
+use Rattle.mml_laws.proofs.{ZipsLemmas.zip_append, OneScriptLemmas.one_script, ServedLemmas.house_written}
 
 module _ (lab : LabValue) where
-  heard_append : (seats others : List (List (List Answered))) (ws us : List WindowValue) → AreHeard lab [] seats ws → AreHeard lab [] others us
-      → AreHeard lab [] (seats ++ others) (ws ++ us)
-  heard_append [] others [] us p q = q
-  heard_append [] others (w ∷ ws) us p q = absurd p
-  heard_append (seat ∷ seats) others [] us p q = absurd p
-  heard_append (seat ∷ seats) others (w ∷ ws) us p q = (p.0, heard_append seats others ws us p.1 q)
-
   silent_windows : (us : List WindowValue) → All (λ w. w ≡ window [] []) us → AreHeard lab [] (replicate (length us) []) us
   silent_windows [] idle = tt
   silent_windows (u ∷ us) idle = (All-head (λ w. w ≡ window [] []) u us idle, silent_windows us (All-tail (λ w. w ≡ window [] []) u us idle))
@@ -34,26 +28,18 @@ module _ (lab : LabValue) where
           left = remaining s.connection.reader;
           wrote = contents c.writer;
           wrote' = contents s.connection.writer;
-          ended = e.0.1;
-          all = refl;
+          says = record { ended = e.0.1; all = refl };
         },
         refl,
       ),
       heard_served cs ss ws e.1,
     )
-    heard_served [] [] (w ∷ ws) e = absurd e
-    heard_served [] (s ∷ ss) ws e = absurd e
-    heard_served (c ∷ cs) [] ws e = absurd e
-    heard_served (c ∷ cs) (s ∷ ss) [] e = absurd e
+    heard_served _ _ _ e = absurd e
 
     heard_house : {S : Type 0} (sink : S → Option (List ℕ)) (to_come : Option (List (R × W))) (count : ℕ) (sessions : List (EndedSession R W)) (log : Log S)
         (h : ServesHouse lab sink remaining contents to_come count sessions log)
         → AreHeard lab [] (answers_in_house lab sink remaining contents to_come count sessions log h) h.windows
-    heard_house sink to_come count sessions log h =
-        subst (AreHeard lab [] (answers_in_house lab sink remaining contents to_come count sessions log h)) (sym h.serves.parts)
-        (heard_append (answers_of lab remaining contents h.serves.each.connections sessions h.serves.used h.serves.each.served)
-        (replicate (length h.serves.unused) []) h.serves.used h.serves.unused
-        (heard_served h.serves.each.connections sessions h.serves.used h.serves.each.served) (silent_windows h.serves.unused h.serves.idle))
+    heard_house sink to_come count sessions log h = grind (arith, nat_tests, zip_append, heard_served, silent_windows)
 
     pub server_script : {S : Type 0} (sink : S → Option (List ℕ)) (to_come : Option (List (R × W))) (count : ℕ) (sessions : List (EndedSession R W)) (log : Log S)
         (h : ServesHouse lab sink remaining contents to_come count sessions log) → IsLab lab

@@ -1,8 +1,8 @@
 -- The number of grants and closes is at most twice the value of a potential. A potential is a number that each close
 -- reduces, at least by the number of moves that the close applies.
-use Rattle.std.proofs.lemmas.{Bool.Decides.nat_tests, Bool.and_parts, Bool.and_from, Bool.false≢true, Bool.ltb-true, Bool.cases_eq, List.get_or-set_same, List.get_or-set_other}
+use Rattle.std.proofs.lemmas.{Bool.Decides.nat_tests, Bool.and_parts, Bool.and_from, Bool.false≢true, Bool.ltb-true, Bool.cases_eq, List.get_or-set_same, List.get_or-set_other, List.Folds.list_all-append}
 use Rattle.std.proofs.Common.{◌≡◌, ◌≢◌, ◌⊎◌, ◌<◌, ◌≤◌, ◌+◌, ◌*◌, min, ℕ, zero, suc, Bool, true, false, cond, List, [], ◌∷◌, ◌++◌, length, Option, None, Some, Ok, is_some, is_none, inl, inr, refl, sym}
-use Rattle.std.proofs.Common.{ap, ◌∙◌, subst, arith}
+use Rattle.std.proofs.Common.{ap, ◌∙◌, subst, arith, length-append, ◌&&◌}
 use Rattle.std.specs.List.{list_all}
 use Rattle.mml_ids.specs.Search.{count_below, some_below}
 use Rattle.mml_ids.proofs.SearchLemmas.{some_below-find, some_below-none}
@@ -110,10 +110,7 @@ next_event : (r : RosterValue) (w : World) → IsWorld w → EachHasOwner r (siz
 next_event r w k owned = go (some_below (size w) (is_privileged (configuration w))) refl
   where
     at : (i : ℕ) → i < size w → is_privileged (configuration w) i ≡ true → (o : Option Rule) → chosen_at w.chosen i ≡ o → NextEvent r w
-    at i lt privileged None e =
-        let move = may_move r w i k lt privileged e in
-        let owner = first_owner r i (owned i lt) in
-        record { event = event.Grant owner.0 i move.0; legal = move.1 owner.0 owner.1; forward = refl }
+    at i lt privileged None e = grind (arith, nat_tests, may_move r w i k lt privileged e, first_owner r i (owned i lt))
     at i lt privileged (Some q) e = record { event = event.Close; legal = owned_legal r w event.Close refl (close_possible w (any_chosen w.chosen i (ap is_some e))); forward = refl }
 
     go : (b : Bool) → some_below (size w) (is_privileged (configuration w)) ≡ b → IsStable (configuration w) ⊎ NextEvent r w
@@ -124,16 +121,6 @@ pub size-world_of : (w : World) (es : List Event) → size (world_of w es) ≡ s
 size-world_of w [] = refl
 size-world_of w (e ∷ es) = size-world_of (after w e) es ∙ size-after w e
 
-all_more : (es : List Event) (e : Event) → list_all is_grant_or_close es ≡ true → is_grant_or_close e ≡ true → list_all is_grant_or_close (es ++ e ∷ []) ≡ true
-all_more [] e h g = and_from (is_grant_or_close e) true g refl
-all_more (f ∷ es) e h g =
-    let both = and_parts (is_grant_or_close f) (list_all is_grant_or_close es) h in
-    and_from (is_grant_or_close f) (list_all is_grant_or_close (es ++ e ∷ [])) both.0 (all_more es e both.1 g)
-
-length_more : (es : List Event) (e : Event) → length (es ++ e ∷ []) ≡ length es + 1
-length_more [] e = refl
-length_more (f ∷ es) e = let rest = length_more es e in omega (arith, rest)
-
 fewer : (r : RosterValue) (w : World) (es : List Event) → IsWorld w → EachHasOwner r (size w) → is_legal_list r w es ≡ true
     → list_all is_grant_or_close es ≡ true → ¬ IsStable (configuration (world_of w es)) → length es + 1 ≤ events_to_rest (size w) (link_count w.network)
 fewer r w es k owned legal forward restless =
@@ -141,8 +128,8 @@ fewer r w es k owned legal forward restless =
       | inl stable ↦ absurd (restless stable)
       | inr next ↦
           let longer = legal-one_more r w es next.event ∙ and_from (is_legal_list r w es) (is_legal r (world_of w es) next.event) legal next.legal in
-          let few = events_few r w (es ++ next.event ∷ []) k longer (all_more es next.event forward next.forward) in
-          let one = length_more es next.event in
+          let few = events_few r w (es ++ next.event ∷ []) k longer (list_all-append is_grant_or_close es (next.event ∷ []) ∙ and_from (list_all is_grant_or_close es) (is_grant_or_close next.event && true) forward (and_from (is_grant_or_close next.event) true next.forward refl)) in
+          let one = length-append es (next.event ∷ []) in
           omega (arith, few, one)
     ]
 

@@ -1,29 +1,18 @@
 -- If two labs agree in everything that a journal names, and allow the same number of events, each audit has the same
 -- result in both. A world is the state of a run after some events: its network and its chosen moves.
 use Rattle.std.proofs.lemmas.Bool.Decides.{nat_tests}
-use Rattle.std.proofs.Common.{◌≡◌, ◌∙◌, ℕ, ◌+◌, ◌≤◌, ◌==◌, ◌&&◌, nat_lt, Bool, false, List, [], ◌∷◌, length, Result, Ok, inl, inr, refl, ap, sym, arith}
+use Rattle.std.proofs.Common.{◌≡◌, ◌∙◌, ℕ, ◌≤◌, Bool, false, List, [], ◌∷◌, length, Result, Ok, inl, inr, refl, ap, sym, arith}
 use Rattle.std.{proofs.lemmas.Bool.cases_lt, proofs.lemmas.Bool.false_from_ne_true, specs.Result.is_ok}
-use Rattle.mml_ids.specs.Gives.{◌>>=◌, ◌>>◌, need}
+use Rattle.mml_ids.specs.Gives.{◌>>=◌, ◌>>◌}
 use Rattle.mml_lab.specs.{declared.who.Who.Who, Rosters.RosterValue, Rosters.IsRoster, Rosters.owns, Labs.LabValue, Labs.IsLab}
 use Rattle.mml_lab.proofs.RosterMeaningLemmas.{owner_there}
 use Rattle.mml_board.specs.{declared.event.Event.Event, World.World, Events.is_legal, Events.after, Clauses.check, Clauses.asker, Clauses.act_of}
-use Rattle.mml_journal.specs.{declared.journal_fault.JournalFault.JournalFault}
 use Rattle.mml_audit.specs.declared.auditing.AuditFault.{AuditFault}
-use Rattle.mml_audit.specs.Audit.{or_else, allowed, event_in, after_line, after_lines, audited}
+use Rattle.mml_audit.specs.Audit.{event_in, after_line, after_lines, audited}
 use Rattle.mml_record.proofs.RiseLemmas.{owned_within}
 use Rattle.mml_lab_file.specs.Sameness.{IsSameLab}
 use Rattle.mml_laws.proofs.SameLabsLemmas.{said_alike, networks_alike}
 use Rattle.mml_lab.specs.declared.who.Who.TheVariants as who
-use Rattle.mml_audit.specs.declared.auditing.AuditFault.TheVariants as fault
-
--- the event of a line, given a test of who owns which node
-abbrev event_by : Result (ℕ × ℕ × Event) JournalFault → (Who → ℕ → Bool) → ℕ → World → Result Event AuditFault
-event_by said owner limit w = do
-  said ← or_else said (fault.Shape (w.place + 1))
-  need (said.0 == w.place + 1 && said.1 == w.number) (fault.Place (w.place + 1))
-  allowed (w.place + 1) (check owner w (asker said.2) (act_of w said.2))
-  need (nat_lt w.place limit) (fault.Full (w.place + 1))
-  Ok said.2
 
 module _ (a b : LabValue) (la : IsLab a) (lb : IsLab b) (is : IsSameLab a b) where
   student_owns : (s i : ℕ) → owns a.roster (who.Student s) i ≡ owns b.roster (who.Student s) i

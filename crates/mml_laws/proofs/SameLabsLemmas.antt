@@ -1,7 +1,7 @@
 -- Two labs that agree in everything that a journal names. A world is the state of a run after some events: its network
 -- and its chosen moves.
 use Rattle.std.proofs.lemmas.Bool.Decides.{nat_tests}
-use Rattle.std.proofs.Common.{◌≡◌, ◌∙◌, ℕ, suc, ◌+◌, ◌<◌, ◌≤◌, cond, not, nat_lt, Bool, false, List, [], ◌∷◌, length, slice_index_or, Option, Some, None, Result, Ok, ok_or, inl, inr, refl, ap, sym}
+use Rattle.std.proofs.Common.{◌≡◌, ◌∙◌, ℕ, suc, ◌+◌, ◌<◌, ◌≤◌, cond, not, Bool, false, List, [], ◌∷◌, length, slice_index_or, Option, Result, Ok, ok_or, inl, inr, refl, ap, sym}
 use Rattle.std.proofs.Common.{arith, bytes_eq}
 use Rattle.std.{specs.List.prefix_len, proofs.lemmas.List.same_lists, proofs.lemmas.List.get_or_default, proofs.lemmas.Bool.cases_lt, proofs.lemmas.Bool.false_from_ne_true}
 use Rattle.mml_ids.specs.inside.WordsLemmas.{same_ranks}
@@ -36,10 +36,7 @@ names_alike name (x ∷ xs) (y ∷ ys) long same =
     (names_alike name xs ys (omega (arith, long)) (λ k below. same (suc k) (omega (arith, below))))
 
 students_alike : (a b : LabValue) → IsSameLab a b → (name : List ℕ) → student_named a.roster name ≡ student_named b.roster name
-students_alike a b is name =
-    let at = names_alike name a.roster.students b.roster.students is.names.1 is.names.2 in
-    ap (λ (m : ℕ). cond {A = Option ℕ} (nat_lt m (length a.roster.students)) (Some m) None) at
-    ∙ ap (λ (n : ℕ). cond {A = Option ℕ} (nat_lt (prefix_len (lacks name) b.roster.students) n) (Some (prefix_len (lacks name) b.roster.students)) None) is.names.1
+students_alike a b is name = grind (arith, nat_tests, names_alike name a.roster.students b.roster.students is.names.1 is.names.2)
 
 module _ (ids : List ℕ) (r q : RosterValue) (alike : (name : List ℕ) → student_named r name ≡ student_named q name) where
   -- if each name has the same index among the students of two rosters, the words of a line name the same event with

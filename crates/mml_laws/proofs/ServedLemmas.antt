@@ -1,57 +1,92 @@
--- The places (numbers of events) that the replies of a house name.
-use Rattle.std.proofs.lemmas.{Bool.Decides.nat_tests, List.Concat.flat_map-append}
-use Rattle.std.proofs.Common.{◌≡◌, ℕ, List, [], ◌∷◌, ◌++◌, length, flat_map, Option, refl, sym, ap, ◌∙◌, append_assoc, append-nil, arith}
+-- What the replies of a house say of its windows: the places (numbers of events) that a window was granted, and the
+-- refusals `journal` that it has counted. A window is what the sessions of a seat have seen of the house's list of
+-- events.
+use Rattle.std.proofs.lemmas.Bool.Decides.{nat_tests}
+use Rattle.std.proofs.lemmas.{List.Elements.All-head, List.Elements.All-tail}
+use Rattle.std.proofs.Common.{◌≡◌, ℕ, List, [], ◌∷◌, ◌++◌, length, map, flat_map, All, refl, sym, ap, ◌∙◌, subst, append_assoc, append-nil, arith}
+use Rattle.std.specs.List.{AllByRecursion}
 use Rattle.mml_lab.specs.Labs.{LabValue}
 use Rattle.mml_board.specs.declared.event.Event.{Event}
+use Rattle.mml_lines.specs.Runs.{Chain}
 use Rattle.mml_codec.specs.declared.reply.Reply.{Reply}
 use Rattle.mml_window.specs.{Tallies.told_of, Tallies.IsEachOnceFrom, Windows.WindowValue, Windows.window}
-use Rattle.mml_session.specs.{declared.session.SessionEnd.SessionEnd, Turns.Standing, Turns.places_in, Talks.Talk, Talks.LineTurn, Talks.nobody_known, Ends.Ended}
-use Rattle.mml_session.proofs.TalkLemmas.{talk_places, turn_places}
-use Rattle.mml_laws.specs.Served.{replies_in, IsSession, AreSessions, AreServed, named_in, named_by}
-use Rattle.mml_session.specs.declared.session.SessionEnd.TheVariants as end
+use Rattle.mml_session.specs.{Turns.Standing, Turns.places_in, Talks.nobody_known}
+use Rattle.mml_session.proofs.TalkLemmas.{turn_on, turn_halts}
+use Rattle.mml_laws.specs.Served.{Answered, IsConversation, AreHeard, AreServed, replies_of, IsUnhalted, NoneHaltedIn, AreWritten, named_in, named_by}
+use Rattle.mml_laws.proofs.AnswersLemmas.{TurnAt, conversation_says}
+
+-- ---- chains of steps, each of which has a value
+
+module _ {A X B : Type 0} (Step : X → A → A → Type 0) (value : X → B) where
+  -- if each step appends a list that its value has, a chain appends the lists of its values
+  chain_appends : {C : Type 0} (lists : A → List C) (of : B → List C) → ((x : X) (a b : A) → Step x a b → lists b ≡ lists a ++ of (value x))
+      → (a b : A) (xs : List X) → Chain Step a xs b → lists b ≡ lists a ++ flat_map of (map value xs)
+  chain_appends lists of each a b [] c = ap lists c ∙ sym (append-nil (lists a))
+  chain_appends lists of each a b (x ∷ xs) c =
+      chain_appends lists of each c.0 b xs c.2 ∙ ap (λ l. l ++ flat_map of (map value xs)) (each x a c.0 c.1)
+      ∙ append_assoc (lists a) (of (value x)) (flat_map of (map value xs))
+
+  -- if P holds before a step, and Q of its value, whenever P holds after it, the same is true of a chain
+  chain_back : (P : A → Type 0) (Q : B → Type 0) → ((x : X) (a b : A) → Step x a b → P b → P a × Q (value x))
+      → (a b : A) (xs : List X) → Chain Step a xs b → P b → P a × AllByRecursion Q (map value xs)
+  chain_back P Q each a b [] c p = (subst P c p, tt)
+  chain_back P Q each a b (x ∷ xs) c p = grind (arith, nat_tests, chain_back P Q each c.0 b xs c.2 p)
+
+-- ---- places
 
 module _ (lab : LabValue) where
-  talked : (old new : WindowValue) (t : Talk lab (nobody_known old)) → t.end.window ≡ new → new.places ≡ old.places ++ flat_map places_in t.replies
-  talked old new t is = ap (λ (w : WindowValue). w.places) (sym is) ∙ talk_places lab (nobody_known old) t
+  conversation_places : (said : List Answered) (old new : WindowValue) → IsConversation lab said old new
+      → new.places ≡ old.places ++ flat_map places_in (map (λ a. a.reply) said)
+  conversation_places said old new c =
+      let s = conversation_says lab old new said c in
+      ap (λ (w : WindowValue). w.places) (sym s.stands)
+      ∙ chain_appends (TurnAt lab) (λ a. a.reply) (λ (st : Standing). st.window.places) places_in
+      (λ a st next t. (turn_on lab st next a.line a.reply t.0).places) (nobody_known old) s.end said s.turns
 
-  talked_on : (old new : WindowValue) (t : Talk lab (nobody_known old)) (after : Standing) (last : LineTurn lab t.end after) → after.window ≡ new
-      → new.places ≡ old.places ++ flat_map places_in (t.replies ++ last.reply ∷ [])
-  talked_on old new t after last is =
-      let one : flat_map places_in (last.reply ∷ []) ≡ places_in last.reply = append-nil (places_in last.reply) in
-      let all : flat_map places_in (t.replies ++ last.reply ∷ []) ≡ flat_map places_in t.replies ++ places_in last.reply =
-      flat_map-append places_in t.replies (last.reply ∷ []) ∙ ap (λ (l : List ℕ). flat_map places_in t.replies ++ l) one in
-      ap (λ (w : WindowValue). w.places) (sym is) ∙ turn_places lab t.end after last
-      ∙ ap (λ (l : List ℕ). l ++ places_in last.reply) (talk_places lab (nobody_known old) t)
-      ∙ append_assoc old.places (flat_map places_in t.replies) (places_in last.reply)
-      ∙ ap (λ (l : List ℕ). old.places ++ l) (sym all)
-
-  ended_places : (end : SessionEnd) (old new : WindowValue) (input left wrote wrote' : Option (List ℕ)) (e : Ended end lab old new input left wrote wrote')
-      → new.places ≡ old.places ++ flat_map places_in (replies_in end lab old new input left wrote wrote' e)
-  ended_places end.Bye old new input left wrote wrote' e = talked_on old new e.1.talk e.1.after e.1.last e.1.stands
-  ended_places end.WriteFault old new input left wrote wrote' e = talked_on old new e.2.talk e.2.after e.2.last e.2.stands
-  ended_places end.Memory old new input left wrote wrote' e = ap (λ (w : WindowValue). w.places) e.0 ∙ sym (append-nil old.places)
-  ended_places _ old new input left wrote wrote' e = talked old new e.1.talk e.1.stands
-
-  session_places : (old new : WindowValue) (replies : List Reply) → IsSession lab old new replies → new.places ≡ old.places ++ flat_map places_in replies
-  session_places old new replies s = grind (arith, nat_tests, ended_places)
-
-  sessions_places : (old new : WindowValue) (sessions : List (List Reply)) → AreSessions lab old sessions new → new.places ≡ old.places ++ named_in sessions
-  sessions_places old new [] is = ap (λ (w : WindowValue). w.places) is ∙ sym (append-nil old.places)
-  sessions_places old new (replies ∷ later) s =
-      sessions_places s.0 new later s.2 ∙ ap (λ (l : List ℕ). l ++ named_in later) (session_places old s.0 replies s.1)
-      ∙ append_assoc old.places (flat_map places_in replies) (named_in later)
-
-  house_places : (begun : List Event) (sessions : List (List (List Reply))) (windows : List WindowValue) → AreServed lab begun sessions windows
-      → told_of windows ≡ named_by sessions
-  house_places begun [] [] served = refl
-  house_places begun [] (w ∷ ws) served = absurd served
-  house_places begun (one ∷ others) [] served = absurd served
-  house_places begun (one ∷ others) (w ∷ ws) served =
-      ap (λ (l : List ℕ). l ++ told_of ws) (sessions_places (window begun []) w one served.0)
-      ∙ ap (λ (l : List ℕ). named_in one ++ l) (house_places begun others ws served.1)
+  house_places : (begun : List Event) (seats : List (List (List Answered))) (windows : List WindowValue) → AreHeard lab begun seats windows
+      → told_of windows ≡ named_by (map replies_of seats)
+  house_places begun [] [] heard = refl
+  house_places begun (seat ∷ seats) (w ∷ ws) heard =
+      ap (λ (l : List ℕ). l ++ told_of ws)
+      (chain_appends (IsConversation lab) (map (λ a. a.reply)) (λ (w : WindowValue). w.places) (flat_map places_in) conversation_places
+      (window begun []) w seat heard.0)
+      ∙ ap (λ (l : List ℕ). named_in (replies_of seat) ++ l) (house_places begun seats ws heard.1)
+  house_places begun _ _ heard = absurd heard
 
 -- the places of windows are those that the replies of their sessions name
 pub house_once : (lab : LabValue) (begun : List Event) (most : ℕ) (sessions : List (List (List Reply))) (windows : List WindowValue)
     → AreServed lab begun sessions windows
     → IsEachOnceFrom (length begun) most (told_of windows) → IsEachOnceFrom (length begun) most (named_by sessions)
 house_once lab begun most sessions windows served once = grind (arith, nat_tests, house_places)
+
+-- ---- refusals `journal`
+
+all_mapped : {A B : Type 0} (P : B → Type 0) (f : A → B) (xs : List A) → AllByRecursion (λ x. P (f x)) xs → AllByRecursion P (map f xs)
+all_mapped P f [] all = tt
+all_mapped P f (x ∷ xs) all = (all.0, all_mapped P f xs all.1)
+
+module _ (lab : LabValue) where
+  turn_unhalted : (a : Answered) (st next : Standing) → TurnAt lab a st next → next.window.halts ≡ 0 → (st.window.halts ≡ 0) × IsUnhalted a.reply
+  turn_unhalted a st next t none = grind (arith, nat_tests, turn_halts)
+
+  conversation_unhalted : (said : List Answered) (old new : WindowValue) → IsConversation lab said old new → new.halts ≡ 0
+      → (old.halts ≡ 0) × AllByRecursion IsUnhalted (map (λ a. a.reply) said)
+  conversation_unhalted said old new c none =
+      let s = conversation_says lab old new said c in
+      chain_back (TurnAt lab) (λ a. a.reply) (λ (st : Standing). st.window.halts ≡ 0) IsUnhalted turn_unhalted (nobody_known old) s.end said s.turns
+      (ap (λ (w : WindowValue). w.halts) s.stands ∙ none)
+
+  -- if no window has counted a refusal `journal`, no reply of their sessions is one
+  pub house_written : (begun : List Event) (seats : List (List (List Answered))) (windows : List WindowValue) → AreHeard lab begun seats windows
+      → All (λ (w : WindowValue). w.halts ≡ 0) windows → AllByRecursion AreWritten seats
+  house_written begun [] [] heard none = tt
+  house_written begun (seat ∷ seats) (w ∷ ws) heard none = (
+    (chain_back (IsConversation lab) (map (λ a. a.reply)) (λ (w : WindowValue). w.halts ≡ 0) (AllByRecursion IsUnhalted) conversation_unhalted
+        (window begun []) w seat heard.0 (All-head (λ (w : WindowValue). w.halts ≡ 0) w ws none)).1,
+    house_written begun seats ws heard.1 (All-tail (λ (w : WindowValue). w.halts ≡ 0) w ws none),
+  )
+  house_written begun _ _ heard none = absurd heard
+
+  pub nobody_halted : (begun : List Event) (sessions : List (List (List Reply))) (windows : List WindowValue) → AreServed lab begun sessions windows
+      → All (λ (w : WindowValue). w.halts ≡ 0) windows → NoneHaltedIn sessions
+  nobody_halted begun sessions windows served none = grind (arith, nat_tests, all_mapped, house_written)

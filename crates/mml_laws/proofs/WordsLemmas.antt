@@ -1,6 +1,6 @@
 -- Which JSON is read as which request, what a program finds in the text of a reply, and which replies show registers.
 use Rattle.std.proofs.Common.{◌≡◌, ◌↔◌, ℕ, Bool, false, List, Option, Some, subst, arith}
-use Rattle.std.{specs.List.list_any, proofs.lemmas.Bool.false≢true, proofs.lemmas.Bool.Decides.nat_tests}
+use Rattle.std.{specs.List.list_any, proofs.lemmas.Option.same_Some, proofs.lemmas.Bool.false≢true, proofs.lemmas.Bool.Decides.nat_tests}
 use Rattle.serde_json.specs.{Data.Data, Find.get, Read.read}
 use Rattle.mml_ids.specs.Ids.{IsTable}
 use Rattle.mml_rules.specs.declared.rule.Kind.{Kind}
@@ -13,9 +13,6 @@ use Rattle.mml_codec.proofs.{RequestsLemmas.asked_there, RequestsLemmas.there_as
 use Rattle.mml_laws.specs.Words.{asked_fields, rule_field, register_field, found_fields, tells_registers, is_view}
 use Rattle.mml_codec.specs.declared.reply.Reply.TheVariants as reply
 use Rattle.mml_codec.specs.Replies as written
-
-some_same : {A : Type 0} (x y : A) → Some x ≡ Some y → x ≡ y
-some_same x y h = cc
 
 -- `asked_fields` lists the same keys and words with which the codec writes the request
 spelt : (r : Request) → fields_of r ≡ asked_fields r
@@ -51,7 +48,7 @@ module _ (ids : List ℕ) (roster : RosterValue) where
 
   pub read_has : (r : Reply) (d : Data) → IsTable ids → IsRoster roster → IsAbout ids roster r → AreWritableCounts roster r
       → read (written.text ids roster r) ≡ Some d → HasEach d (found_fields ids roster r)
-  read_has r d table is about counts h = grind (arith, nat_tests, some_same, read-reply, has_each)
+  read_has r d table is about counts h = grind (arith, nat_tests, same_Some, read-reply, has_each)
 
 silent_denial : (roster : RosterValue) (d : Denial) → list_any (λ f. tells_registers f.1) (written.fields_of roster (reply.Deny d)) ≡ false
 silent_denial roster d = grind (arith, nat_tests)

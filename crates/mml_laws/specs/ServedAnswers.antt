@@ -5,7 +5,7 @@ use Rattle.std.specs.Prelude.{ℕ, List, [], ◌∷◌, ◌++◌, length, replic
 use Rattle.mml_lab.specs.Labs.{LabValue}
 use Rattle.mml_window.specs.{declared.log.Log.Log, Windows.WindowValue, Windows.window}
 use Rattle.mml_serving.specs.{declared.connection.Connection.Connection, declared.connection.EndedSession.EndedSession, Serving.Each, Serving.IsServed, Serving.ServesHouse}
-use Rattle.mml_laws.specs.OneScript.{Answered, answers_in}
+use Rattle.mml_laws.specs.Served.{Answered, answers_in}
 
 -- the answered lines of each connection's session
 abbrev pub answers_of : {R W : Type 0} (lab : LabValue) (remaining : R → Option (List ℕ)) (contents : W → Option (List ℕ))

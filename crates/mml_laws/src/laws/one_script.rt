@@ -19,7 +19,8 @@ ghost use Rattle.mml_hosting.specs.Hosting.{HostsFrom};
 ghost use Rattle.mml_hosting.specs.Seats.{terms};
 ghost use Rattle.mml_resuming.specs.Resuming.{Resumes};
 ghost use Rattle.mml_hall.specs.Transcripts.{Transcript};
-ghost use Rattle.mml_laws.specs.OneScript.{Answered, AreHeard, AreWritten, IsOneScript};
+ghost use Rattle.mml_laws.specs.Served.{Answered, AreHeard, AreWritten};
+ghost use Rattle.mml_laws.specs.OneScript.{IsOneScript};
 ghost use Rattle.mml_laws.specs.ClassAnswers.{HaveAnswers};
 ghost use Rattle.mml_laws.specs.ServedAnswers.{answers_in_house};
 

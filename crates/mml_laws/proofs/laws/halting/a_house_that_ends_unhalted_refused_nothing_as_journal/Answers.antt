@@ -1,4 +1,4 @@
-use Rattle.mml_laws.proofs.UnhaltedLemmas.{nobody_halted}
+use Rattle.mml_laws.proofs.ServedLemmas.{nobody_halted}
 use Rattle.mml_laws.proofs.laws.halting.a_house_that_ends_unhalted_refused_nothing_as_journal.Goals as goal
 
 pub returns : goal.returns

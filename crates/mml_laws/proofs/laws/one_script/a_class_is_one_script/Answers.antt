@@ -1,4 +1,4 @@
-use Rattle.mml_laws.proofs.{OneScriptLemmas.one_script, OneScriptServedLemmas.server_script, OneScriptClassesLemmas.class_script, OneScriptClassesLemmas.as_transcript}
+use Rattle.mml_laws.proofs.{OneScriptLemmas.one_script, OneScriptLemmas.as_transcript, OneScriptServedLemmas.server_script, ClassesLemmas.class_script}
 use Rattle.mml_laws.proofs.laws.one_script.a_class_is_one_script.Goals as goal
 
 pub returns : goal.returns

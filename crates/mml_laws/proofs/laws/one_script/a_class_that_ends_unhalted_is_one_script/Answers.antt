@@ -1,4 +1,4 @@
-use Rattle.mml_laws.proofs.{WrittenLemmas.house_written, OneScriptLemmas.one_script, OneScriptServedLemmas.unhalted_server, OneScriptClassesLemmas.unhalted_class}
+use Rattle.mml_laws.proofs.{ServedLemmas.house_written, OneScriptLemmas.one_script, OneScriptServedLemmas.unhalted_server, ClassesLemmas.unhalted_class}
 use Rattle.mml_laws.proofs.laws.one_script.a_class_that_ends_unhalted_is_one_script.Goals as goal
 
 pub returns : goal.returns
