@@ -6,13 +6,11 @@ use Rattle.std.proofs.Common.{◌≡◌, ℕ, Bool, true, false, List, [], ◌�
 use Rattle.std.{proofs.lemmas.Bool.false≢true, proofs.lemmas.Bool.Decides.nat_tests, specs.Prelude.decimal}
 use Rattle.mml_lab.specs.{declared.who.Who.Who, Labs.LabValue}
 use Rattle.mml_codec.specs.{Replies.reply_line}
-use Rattle.mml_hall.specs.{Turns.State, Turns.Mishap, Turns.turn, Turns.known_on}
-use Rattle.mml_hall.specs.{Turns.opening, Transcripts.Transcript, Transcripts.output_line}
-use Rattle.mml_hidden.specs.{Twins.AreTwins, Twins.StatesAlike, Twins.is_hers, Scripted.written_on_any}
-use Rattle.mml_hidden.specs.Mishaps.{BefallenLine, turn_with, lines_in, replies_with, end_with}
-use Rattle.mml_hidden.specs.Coalitions.{AlikeFor, is_theirs, StatesAlikeFor, StayAlikeFor, AreTheirsThroughout, BeginAlikeFor, RunAlikeFor}
-use Rattle.mml_hidden.proofs.{ScriptedLemmas.if_same, ScriptedLemmas.openings_alike}
-use Rattle.mml_hidden.proofs.TwinsLemmas.{alike_here, twin_turn, twin_others}
+use Rattle.mml_hall.specs.{Turns.State, Turns.Mishap, Turns.turn, Turns.known_on, Transcripts.Transcript, Transcripts.output_line}
+use Rattle.mml_hidden.specs.{Twins.AreTwins, Twins.StatesAlike, Twins.is_hers, Scripted.written_on_any, Mishaps.BefallenLine, Mishaps.turn_with, Mishaps.lines_in, Mishaps.replies_with}
+use Rattle.mml_hidden.specs.{Mishaps.end_with, Coalitions.AlikeFor, Coalitions.is_theirs, Coalitions.StatesAlikeFor, Coalitions.StayAlikeFor, Coalitions.AreTheirsThroughout, Coalitions.RunAlikeFor}
+use Rattle.mml_audit.proofs.AuditMeaningLemmas.{reached_first}
+use Rattle.mml_hidden.proofs.{ScriptedLemmas.if_same, TwinsLemmas.alike_here, TwinsLemmas.twin_turn, TwinsLemmas.twin_others}
 
 -- ---- a turn in two labs
 
@@ -21,9 +19,6 @@ record Speaks (members : ℕ → Bool) (known : Option Who) : Type 0 where
   student : ℕ
   member : members student ≡ true
   hers : is_hers student known ≡ true
-
-speaker : (members : ℕ → Bool) (one : ℕ) → members one ≡ true → (known : Option Who) → is_theirs members known ≡ true → Speaks members known
-speaker members one is known h = grind (arith, nat_tests, false≢true)
 
 module _ (lab other : LabValue) (twins : AreTwins lab other) (members : ℕ → Bool) (one : ℕ) (is : members one ≡ true) (st su : State)
     (a : StatesAlikeFor lab members st su) (m : Mishap) (k : ℕ) (line : List ℕ) where
@@ -54,7 +49,7 @@ module _ (lab other : LabValue) (twins : AreTwins lab other) (members : ℕ → 
   pub their_turn : is_theirs members (known_on st k) ≡ true
       → ((turn m lab st k line).reply ≡ (turn m other su k line).reply)
       × StatesAlikeFor lab members (turn m lab st k line).state (turn m other su k line).state
-  their_turn h = spoken (speaker members one is (known_on st k) h)
+  their_turn h = spoken (grind (arith, nat_tests, false≢true))
 
   pub their_line : is_theirs members (known_on st k) ≡ true
       → reply_line lab.ids lab.roster (turn m lab st k line).reply ≡ reply_line other.ids other.roster (turn m other su k line).reply
@@ -100,19 +95,7 @@ module _ (lab other : LabValue) (twins : AreTwins lab other) (members : ℕ → 
       let rest = same_written_for (turn_with lab st b).state (turn_with other su b).state some bs (next_for st su a b stay.0) stay.1 theirs.1 in
       λ z. first z ++ rest z
 
-  -- if two labs begin alike for each member, the first states of their runs are alike for each member
-  pub openings_for : BeginAlikeFor lab other members → StatesAlikeFor lab members (opening lab) (opening other)
-  openings_for labs =
-      let single = openings_alike lab other one (record { twins = labs.twins; first = labs.first; second = labs.second; worlds = labs.worlds one is }) in
-      record {
-        first = single.first;
-        second = single.second;
-        worlds = λ s h. (openings_alike lab other s (record { twins = labs.twins; first = labs.first; second = labs.second; worlds = labs.worlds s h })).worlds;
-        greeted = single.greeted;
-        halted = single.halted;
-      }
-
   pub same_transcripts_for : (some : ℕ → Bool) (t : Transcript lab) (u : Transcript other) (bs : List BefallenLine)
       → RunAlikeFor lab other members some t u bs
       → written_on_any lab some t.lines t.replies ≡ written_on_any other some u.lines u.replies
-  same_transcripts_for some t u bs alike = grind (arith, nat_tests, same_written_for, openings_for)
+  same_transcripts_for some t u bs alike = grind (arith, nat_tests, same_written_for, reached_first)

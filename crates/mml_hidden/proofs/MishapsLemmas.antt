@@ -1,7 +1,7 @@
 -- Two runs of one script with the same mishaps. A mishap is what goes wrong in a turn: memory runs out, or a write
 -- fails. A world is the state of a run after some events: its network and its chosen moves. Two worlds are alike for a
 -- student if everything that the student may see is the same in both.
-use Rattle.std.proofs.Common.{◌≡◌, ℕ, Bool, true, false, List, [], ◌∷◌, ◌++◌, refl, sym, ap, ◌∙◌, arith}
+use Rattle.std.proofs.Common.{◌≡◌, ℕ, Bool, false, List, [], ◌∷◌, ◌++◌, refl, sym, ap, ◌∙◌, arith}
 use Rattle.mml_lab.specs.Labs.{LabValue}
 use Rattle.mml_policy.specs.Alike.{Alike}
 use Rattle.mml_codec.specs.declared.reply.Reply.{Reply}
@@ -21,10 +21,6 @@ module _ (lab other : LabValue) (t : AreTwins lab other) (s : ℕ) where
       → StatesAlike lab s (turn_with lab st b).state (turn_with other su b).state
   next_with st su a b stay = twin_next lab other t s st su a b.mishap b.line.connection b.line.request stay
 
-  output_with : (st su : State) → StatesAlike lab s st su → (b : BefallenLine) → is_hers s (known_on st b.line.connection) ≡ true
-      → output_line lab b.line.connection (turn_with lab st b).reply ≡ output_line other b.line.connection (turn_with other su b).reply
-  output_with st su a b h = grind (arith, nat_tests, twin_line)
-
   pub same_end_with : (st su : State) (bs : List BefallenLine) → StatesAlike lab s st su → StayAlikeWith lab other s st su bs
       → StatesAlike lab s (end_with lab st bs) (end_with other su bs)
   same_end_with st su [] a stay = a
@@ -38,7 +34,7 @@ module _ (lab other : LabValue) (t : AreTwins lab other) (s : ℕ) where
       let first =
       if_same (some b.line.connection)
       (output_line lab b.line.connection (turn_with lab st b).reply ∷ []) (output_line other b.line.connection (turn_with other su b).reply ∷ [])
-      (λ h. ap (λ (x : List ℕ). x ∷ []) (output_with st su a b (hers.0 h))) in
+      (λ h. ap (λ (x : List ℕ). x ∷ []) (grind (arith, nat_tests, twin_line, hers.0 h))) in
       let rest = same_written_with (turn_with lab st b).state (turn_with other su b).state some bs (next_with st su a b stay.0) stay.1 hers.1 in
       λ z. first z ++ rest z
 
@@ -48,8 +44,6 @@ module _ (lab other : LabValue) (t : AreTwins lab other) (s : ℕ) where
 pub run_befalls : (lab : LabValue) (st : State) (lines : List RequestLine) (rs : List Reply) (end : State) → Run lab st lines rs end
     → Befalls lab st lines rs end
 run_befalls lab st [] [] end run = record { befallen = []; lines_are = refl; replies_are = refl; end_is = run }
-run_befalls lab st [] (r ∷ rs) end run = absurd run
-run_befalls lab st (line ∷ lines) [] end run = absurd run
 run_befalls lab st (line ∷ lines) (r ∷ rs) end (next, (m, e), run) =
     let rest : Befalls lab next lines rs end = run_befalls lab next lines rs end run in
     let first : BefallenLine = record { line = line; mishap = m } in
@@ -60,6 +54,7 @@ run_befalls lab st (line ∷ lines) (r ∷ rs) end (next, (m, e), run) =
       replies_are = λ z. (e z).reply ∷ (rest.replies_are ∙ ap (λ (x : State). replies_with lab x rest.befallen) state) z;
       end_is = rest.end_is ∙ ap (λ (x : State). end_with lab x rest.befallen) state;
     }
+run_befalls lab st _ _ end run = absurd run
 
 -- if the same lines have the same mishaps in both runs, and the worlds stay alike, the output on the student's
 -- connections is the same

@@ -1,14 +1,13 @@
 -- Scripts that are run in two labs that look the same to a student. A world is the state of a run after some events:
 -- its network and its chosen moves. Two worlds are alike for a student if everything that the student may see is the
 -- same in both. A participant is known on a connection from a granted hello to a bye.
-use Rattle.std.proofs.Common.{◌≡◌, ◌≢◌, ℕ, ◌-◌, ◌==◌, Bool, true, false, cond, List, [], ◌∷◌, ◌++◌, Option, None, Result, Ok, All, refl, sym, ap, ◌∙◌, arith}
+use Rattle.std.proofs.Common.{◌≡◌, ◌≢◌, ℕ, ◌-◌, ◌==◌, Bool, true, false, cond, List, [], ◌∷◌, ◌++◌, Option, None, Ok, refl, sym, ap, ◌∙◌, arith}
 use Rattle.std.specs.{List.concat, Prelude.slice_index_or, Prelude.decimal}
 use Rattle.std.proofs.lemmas.{Bool.cases_lt, Bool.Decides.nat_tests, List.Elements.All-set, List.Elements.All-replicate, List.get_or_past}
 use Rattle.mml_lab.specs.{declared.who.Who.Who, Labs.LabValue, Rosters.principal}
 use Rattle.mml_policy.specs.Alike.{Alike}
-use Rattle.mml_codec.specs.declared.{request.LineFault.LineFault, request.Request.Request, reply.Reply.Reply, reply.Reply.TheVariants.Refuse}
-use Rattle.mml_codec.specs.{Greetings.greeting, Greetings.admitted, Lines.request_in}
-use Rattle.mml_hall.specs.Turns.{State, Outcome, Turn, Run, RequestLine, nothing, plain_turn, known_on, with_known, settled, answer_to, opening}
+use Rattle.mml_codec.specs.{declared.reply.Reply.Reply, declared.reply.Reply.TheVariants.Refuse, Lines.request_in}
+use Rattle.mml_hall.specs.Turns.{State, Outcome, Turn, Run, RequestLine, nothing, plain_turn, known_on, with_known, opening}
 use Rattle.mml_hall.proofs.TurnsLemmas.{by_turn}
 use Rattle.mml_hall.specs.Transcripts.{Transcript, output_line, output_lines, bytes_written}
 use Rattle.mml_audit.proofs.AuditMeaningLemmas.{reached_first}
@@ -62,51 +61,30 @@ module _ (lab other : LabValue) (t : AreTwins lab other) (s : ℕ) where
 
 -- ---- scripts in which only this student greets
 
-none_known : (xs : List (Option Who)) (s i : ℕ) → All (λ known. is_hers s known ≡ true) xs → is_hers s (slice_index_or xs i None) ≡ true
-none_known xs s i all = grind (arith, nat_tests, cases_lt, get_or_past)
-
 module _ (lab : LabValue) (s : ℕ) where
-  hers_known : (st : State) (k : ℕ) → OnlySheIsKnown s st → is_hers s (known_on st k) ≡ true
-  hers_known st k all = none_known st.greeted s (k - 1) all
-
   hers_with : (st : State) (k : ℕ) (x : Option Who) → OnlySheIsKnown s st → is_hers s x ≡ true → OnlySheIsKnown s (with_known st k x)
   hers_with st k x all h = All-set (λ (known : Option Who). is_hers s known ≡ true) st.greeted (k - 1) x h all
-
-  hers_admitted : (st : State) (k : ℕ) (found : Option Who) → OnlySheIsKnown s st → is_hers s found ≡ true
-      → OnlySheIsKnown s (settled lab st k (admitted found)).state
-  hers_admitted st k found all h = grind (arith, nat_tests, hers_with)
-
-  hers_greeted : (st : State) (k : ℕ) (known : Option Who) (q : Request) → OnlySheIsKnown s st → is_hers s known ≡ true
-      → ((name key : List ℕ) → q ≡ requests.Hello name key → is_hers s (principal lab.roster name key) ≡ true)
-      → OnlySheIsKnown s (settled lab st k (greeting lab.roster known q)).state
-  hers_greeted st k known q all h greets = grind (arith, nat_tests, hers_admitted, hers_with, entered_is)
-
-  hers_answer : (st : State) (k : ℕ) (asked : Result Request LineFault) → OnlySheIsKnown s st
-      → ((name key : List ℕ) → asked ≡ Ok (requests.Hello name key) → is_hers s (principal lab.roster name key) ≡ true)
-      → OnlySheIsKnown s (answer_to lab st k asked).state
-  hers_answer st k asked all greets = grind (arith, nat_tests, hers_greeted, hers_known)
 
   pub hers_plain : (st : State) (k : ℕ) (line : List ℕ) → OnlySheIsKnown s st
       → ((name key : List ℕ) → request_in line ≡ Ok (requests.Hello name key) → is_hers s (principal lab.roster name key) ≡ true)
       → OnlySheIsKnown s (plain_turn lab st k line).state
   unfolding plain_turn
-  hers_plain st k line all greets = hers_answer st k (request_in line) all greets
+  hers_plain st k line all greets = grind (arith, nat_tests, hers_with, entered_is, cases_lt, get_or_past, request_in line)
 
 module _ (lab other : LabValue) (t : AreTwins lab other) (s : ℕ) where
   pub same_replies : (st su : State) (lines : List RequestLine) → StatesAlike lab s st su → OnlySheIsKnown s st → OnlySheGreets lab s lines
       → replies_to lab st lines ≡ replies_to other su lines
   same_replies st su [] a all greets = refl
   same_replies st su (line ∷ lines) a all greets =
-      let both = twin_turn lab other t s st su a nothing line.connection line.request (hers_known lab s st line.connection all) in
+      let both = twin_turn lab other t s st su a nothing line.connection line.request (grind (arith, nat_tests, cases_lt, get_or_past)) in
       let rest =
       same_replies (turn_of lab st line).state (turn_of other su line).state lines both.1
       (hers_plain lab s st line.connection line.request all greets.0) greets.1 in
       λ z. both.0 z ∷ rest z
 
   same_outputs : (lines : List RequestLine) (rs : List Reply) → output_lines lab lines rs ≡ output_lines other lines rs
-  same_outputs [] rs = refl
-  same_outputs (line ∷ lines) [] = refl
   same_outputs (line ∷ lines) (r ∷ rs) = grind (arith, nat_tests, (same_outputs lines rs))
+  same_outputs _ _ = refl
 
   pub same_bytes : (st su : State) (lines : List RequestLine) → StatesAlike lab s st su → OnlySheIsKnown s st → OnlySheGreets lab s lines
       → concat (output_lines lab lines (replies_to lab st lines)) ≡ concat (output_lines other lines (replies_to other su lines))
@@ -133,9 +111,8 @@ plain_there lab st k line = grind (arith, nat_tests, by_turn)
 pub plain_run : (lab : LabValue) (st : State) (lines : List RequestLine) (rs : List Reply) (end : State) → Run lab st lines rs end → AreUnhindered rs
     → (rs ≡ replies_to lab st lines) × (end ≡ end_of lab st lines)
 plain_run lab st [] [] end run free = (refl, run)
-plain_run lab st [] (r ∷ rs) end run free = absurd run
-plain_run lab st (line ∷ lines) [] end run free = absurd run
 plain_run lab st (line ∷ lines) (r ∷ rs) end (next, here, run) (now, free) = grind (arith, nat_tests, plain_there, (plain_run lab next lines rs end run free))
+plain_run lab st _ _ end run free = absurd run
 
 -- if only the student greets, the same lines get replies with the same bytes in both labs
 pub same_transcripts : (lab other : LabValue) (s : ℕ) (t : Transcript lab) (u : Transcript other) → BeginAlike lab other s → u.lines ≡ t.lines

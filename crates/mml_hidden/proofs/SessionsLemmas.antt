@@ -4,13 +4,12 @@ use Rattle.std.proofs.Common.{◌≡◌, ℕ, ◌-◌, true, false, List, [], �
 use Rattle.std.proofs.{Math.Seq.take-length, Math.Seq.take-append_seam, lemmas.Bool.false≢true, lemmas.Bool.eqb-true, lemmas.Bool.Decides.nat_tests}
 use Rattle.mml_lab.specs.{declared.who.Who.Who, Labs.LabValue, Labs.IsLab, Rosters.RosterValue}
 use Rattle.mml_board.specs.{declared.event.Event.Event, World.World, Lists.is_legal_in, Lists.world_in}
-use Rattle.mml_policy.specs.{declared.command.Command.Command, declared.refusal.Refusal.Refusal, declared.ruling.Ruling.Ruling, Rulings.event_of, Alike.Alike, Alike.IsWorldOf}
-use Rattle.mml_codec.specs.declared.{request.LineFault.LineFault, request.Request.Request, reply.Refused.Refused, reply.Reply.Reply}
-use Rattle.mml_codec.specs.{Greetings.greeting, Replies.reply_line, Rulings.reply_of}
+use Rattle.mml_policy.specs.{declared.command.Command.Command, declared.ruling.Ruling.Ruling, Rulings.event_of, Alike.Alike, Alike.IsWorldOf}
+use Rattle.mml_codec.specs.{declared.request.LineFault.LineFault, declared.request.Request.Request, declared.reply.Reply.Reply, Greetings.greeting, Replies.reply_line, Rulings.reply_of}
 use Rattle.mml_engine.proofs.TurnsLemmas.{by_greeting}
 use Rattle.mml_window.specs.{Rulings.ruling_at, Windows.WindowValue}
 use Rattle.mml_window.proofs.{ListLemmas.nodes_in, AboutLemmas.world_is}
-use Rattle.mml_session.specs.Turns.{Standing, standing, entered, places_in, MayRefuse, Plainly, Told, Settles, Asked, Turn, Run}
+use Rattle.mml_session.specs.Turns.{Standing, standing, entered, places_in, Plainly, Told, Settles, Asked, Turn, Run}
 use Rattle.mml_hidden.specs.{CommandReplies.reply_to, Twins.AreTwins, Twins.is_hers, Sessions.seen_at, Sessions.IsUnhindered, Sessions.IsToldAlike, Sessions.AreToldAlike}
 use Rattle.mml_hidden.proofs.ToldLemmas.{same_reply_to}
 use Rattle.mml_lab.specs.declared.who.Who.TheVariants as who
@@ -30,10 +29,6 @@ seen_plainly : (w : World) (l : List Event) (g : Ruling)
     → take (length (entered l (event_of g)) - length (places_in (reply_of w g))) (entered l (event_of g)) ≡ l
 seen_plainly w l g = grind (arith, nat_tests, but_last, all_of)
 
--- a refusal that replaces a ruling is the refusal `memory` or `journal`
-hindered : (g : Ruling) (why : Refused) (kept : Option Refusal) → MayRefuse g why kept → IsUnhindered (reply.Refuse why) → ⊥
-hindered g why kept may free = grind (arith, nat_tests)
-
 -- the events that the reply takes into account are legal, and the reply is that of the ruling after them
 record IsPlain (lab : LabValue) (x : Who) (c : Command) (r : Reply) (new : WindowValue) : Type 0 where
   legal : is_legal_in lab (seen_at r new) ≡ true
@@ -46,7 +41,7 @@ plain_from lab ps l x c r new legal h = grind (arith, nat_tests, seen_plainly)
 plain_told : (lab : LabValue) (old new : WindowValue) (x : Who) (c : Command) (r : Reply) → IsUnhindered r → Told lab old x c r new → IsPlain lab x c r new
 plain_told lab old new x c r free t = elim t.says [
   | inl plain ↦ plain_from lab old.places t.list x c r new t.legal plain
-  | inr why ↦ absurd (hindered (ruling_at lab (world_in lab t.list) x c) why.0 new.refused why.2 (subst IsUnhindered why.1 free))
+  | inr why ↦ absurd (grind (arith, nat_tests, subst IsUnhindered why.1 free))
 ]
 
 -- ---- one line in both sessions
@@ -67,9 +62,6 @@ module _ (lab other : LabValue) (is : IsLab lab) (too : IsLab other) (t : AreTwi
       ∙ (λ z. reply_to (t.ids z) (t.roster z) (t.events z) false v x c)
       ∙ sym k.says
 
-  she_is : (x : Who) → is_hers s (Some x) ≡ true → x ≡ who.Student s
-  she_is x h = grind (arith, nat_tests, false≢true, eqb-true)
-
   -- the replies are the same, and the same participant (or nobody) is known afterwards
   abbrev IsSame : Reply → Reply → Standing → Standing → Type 0
   IsSame r q next last = (r ≡ q) × (next.known ≡ last.known)
@@ -84,7 +76,7 @@ module _ (lab other : LabValue) (is : IsLab lab) (too : IsLab other) (t : AreTwi
         by_greeting (λ g. Settles lab st g r next → Settles other su g q last → IsSame r q next last)
         (λ x. answered (reply.Hello x) (Some x)) (answered reply.Bye None) lab.roster st.known asked (λ d. answered (reply.Deny d) st.known)
         (λ x c known is h k. (
-          same_told x c r q next.window last.window (she_is x (subst (λ (o : Option Who). is_hers s o ≡ true) known a.hers))
+          same_told x c r q next.window last.window (grind (arith, nat_tests, false≢true, eqb-true, subst (λ (o : Option Who). is_hers s o ≡ true) known a.hers))
               (plain_told lab st.window next.window x c r a.first h.1) (plain_told other su.window last.window x c q a.second k.1) a.worlds,
           h.0 ∙ sym e ∙ sym k.0,
         ))
@@ -107,14 +99,11 @@ module _ (lab other : LabValue) (is : IsLab lab) (too : IsLab other) (t : AreTwi
       → st.known ≡ su.known
       → AreToldAlike lab other s st su lines rs qs end fin one two → (rs ≡ qs) × (end.known ≡ fin.known)
   session_both st su [] [] [] end fin one two e a = (refl, ap (λ n. n.known) one ∙ e ∙ sym (ap (λ n. n.known) two))
-  session_both st su [] [] (q ∷ qs) end fin one two e a = absurd two
-  session_both st su [] (r ∷ rs) qs end fin one two e a = absurd one
-  session_both st su (line ∷ lines) [] qs end fin one two e a = absurd one
-  session_both st su (line ∷ lines) (r ∷ rs) [] end fin one two e a = absurd two
   session_both st su (line ∷ lines) (r ∷ rs) (q ∷ qs) end fin one two e a =
       let here = turn_both st su r q one.0 two.0 line e a.0 one.1 two.1 in
       let rest = session_both one.0 two.0 lines rs qs end fin one.2 two.2 here.1 a.1 in
       ((λ z. here.0 z ∷ rest.0 z), rest.1)
+  session_both st su _ _ _ end fin one two e a = grind arith
 
   pub session_bytes : (rs qs : List Reply) → rs ≡ qs → map (reply_line lab.ids lab.roster) rs ≡ map (reply_line other.ids other.roster) qs
   session_bytes rs qs e = λ z. map (reply_line (t.ids z) (t.roster z)) (e z)

@@ -1,18 +1,18 @@
 -- In worlds that are alike for a student, each command of the student has the same reply. A world is the state of a run
 -- after some events: its network and its chosen moves. Two worlds are alike for a student if everything that the
 -- student may see is the same in both.
-use Rattle.std.proofs.Common.{◌≡◌, ℕ, Bool, true, false, cond, List, Option, None, Some, Result, refl, ap, subst, arith}
+use Rattle.std.proofs.Common.{◌≡◌, ℕ, Bool, true, false, List, Option, None, Some, Result, refl, ap, subst, arith}
 use Rattle.std.{proofs.lemmas.Bool.false≢true, proofs.lemmas.Bool.Decides.nat_tests, specs.Result.IfOk, specs.Option.option_map_or}
 use Rattle.mml_ids.proofs.GivesLemmas.{bind-if, need-if}
 use Rattle.mml_lab.specs.Rosters.{RosterValue}
-use Rattle.mml_board.specs.{declared.event.Event.Event, declared.done.Done.Done, declared.denial.Denial.Denial, World.World, Events.after, Events.is_possible}
+use Rattle.mml_board.specs.{declared.event.Event.Event, declared.denial.Denial.Denial, World.World, Events.after, Events.is_possible}
 use Rattle.mml_board.proofs.ClausesLemmas.{legal_possible}
 use Rattle.mml_policy.specs.declared.{command.Command.Command, verdict.Leave.Leave, verdict.Leave.TheVariants.Report, verdict.Leave.TheVariants.Grant}
-use Rattle.mml_policy.specs.declared.ruling.Ruling.{Ruling, TheVariants.Reported, TheVariants.Full, TheVariants.Journal, TheVariants.Granted}
+use Rattle.mml_policy.specs.declared.ruling.Ruling.{Ruling, TheVariants.Reported}
 use Rattle.mml_policy.specs.{Verdicts.clauses, Verdicts.granted, Rulings.ruled, Rulings.ruling, Rulings.event_of, Rulings.after_ruling, Alike.Alike, Alike.IsWorldOf}
 use Rattle.mml_policy.proofs.{AlikeLemmas.same_ruling, AlikeLemmas.alike_afterwards, RulingsLemmas.legal_event}
 use Rattle.mml_codec.specs.{declared.reply.Reply.Reply, Replies.reply_line, Rulings.reply_of}
-use Rattle.mml_hidden.specs.{CommandReplies.reply_to, CommandReplies.line_to, Sight.ShowsTheSame}
+use Rattle.mml_hidden.specs.{CommandReplies.reply_to, CommandReplies.line_to}
 use Rattle.mml_hidden.proofs.SightLemmas.{event_alike}
 use Rattle.mml_lab.specs.declared.who.Who.TheVariants as who
 use Rattle.mml_board.specs.declared.event.Event.TheVariants as event
@@ -34,11 +34,8 @@ abbrev is_report : Ruling → Bool
 is_report Reported = true
 is_report _ = false
 
-unless_full : (b h : Bool) (e : Event) (d : Done) → is_report (cond b Full (cond h Journal (Granted e d))) ≡ false
-unless_full b h e d = grind (arith, nat_tests)
-
 unreported : (limit : ℕ) (h : Bool) (w : World) (p : Result Leave Denial) → IfOk p NoReport → is_report (ruled limit h w p) ≡ false
-unreported limit h w p n = grind (arith, nat_tests, unless_full)
+unreported limit h w p n = grind (arith, nat_tests)
 
 -- no command of a student has the ruling that shows a report
 student_unreported : (ids : List ℕ) (r : RosterValue) (limit : ℕ) (h : Bool) (w : World) (s : ℕ) (k : Command)
@@ -80,10 +77,6 @@ moves_at_most ids r w s k = grind (arith, nat_tests, bind-if, need-if)
 ruled_move : (limit : ℕ) (h : Bool) (w : World) (p : Result Leave Denial) → IfOk p MovesAtMost → IsMove (event_of (ruled limit h w p))
 ruled_move limit h w p is = grind (arith, nat_tests)
 
--- a granted move shows the same to each student in both worlds
-shows_no_one : (r : RosterValue) (t : ℕ) (w v : World) (e : Event) → IsMove (Some e) → ShowsTheSame r t w v e
-shows_no_one r t w v e is = grind (arith, nat_tests)
-
 -- ---- after a student's command, the worlds stay alike for other students too
 
 module _ (ids : List ℕ) (r : RosterValue) (limit : ℕ) (h : Bool) (w v : World) (in_w : IsWorldOf ids w) (in_v : IsWorldOf ids v) where
@@ -91,7 +84,7 @@ module _ (ids : List ℕ) (r : RosterValue) (limit : ℕ) (h : Bool) (w v : Worl
   after_move : (t : ℕ) → Alike r t w v → (o : Option Event) → IsMove o → ((e : Event) → o ≡ Some e → is_possible w e ≡ true)
       → Alike r t (option_map_or (after w) o w) (option_map_or (after v) o v)
   after_move t a None is possible = a
-  after_move t a (Some e) is possible = (event_alike ids r t w v in_w in_v a e (possible e refl)).1 (shows_no_one r t w v e is)
+  after_move t a (Some e) is possible = (event_alike ids r t w v in_w in_v a e (possible e refl)).1 (grind (arith, nat_tests))
 
   -- if two worlds are alike for students s and t, they are alike for t after a command of s
   pub others_afterwards : (s t : ℕ) (k : Command) → Alike r s w v → Alike r t w v

@@ -70,9 +70,6 @@ module _ (lab : LabValue) (s t : ℕ) (st : State) (v : World) (es : List Event)
   abbrev told_su : Who → Command → Outcome
   told_su x c = outcome_of su (ruling lab.ids lab.roster lab.events st.halted v x c)
 
-  told_alike : (c : Command) → TurnsAlike lab t (told_st (who.Student s) c) (told_su (who.Student s) c)
-  told_alike c = grind (arith, nat_tests, entered_is, same_reply_to, others_afterwards lab.ids lab.roster lab.events st.halted st.world v first second s t c a b)
-
   -- a request that is answered without a ruling has the same reply in both states: a hello, a bye, or a command before
   -- the hello
   answered_alike : (k : ℕ) (r : Reply) (x : Option Who) → TurnsAlike lab t (settled lab st k (Answered r x)) (settled lab su k (Answered r x))
@@ -81,17 +78,16 @@ module _ (lab : LabValue) (s t : ℕ) (st : State) (v : World) (es : List Event)
   admitted_alike : (k : ℕ) (found : Option Who) → TurnsAlike lab t (settled lab st k (admitted found)) (settled lab su k (admitted found))
   admitted_alike k found = grind (arith, nat_tests, answered_alike)
 
+  told_alike : (c : Command) → TurnsAlike lab t (told_st (who.Student s) c) (told_su (who.Student s) c)
+  told_alike c = grind (arith, nat_tests, entered_is, same_reply_to, others_afterwards lab.ids lab.roster lab.events st.halted st.world v first second s t c a b)
+
   greeted_alike : (k : ℕ) (known : Option Who) (q : Request) → is_hers s known ≡ true
       → TurnsAlike lab t (settled lab st k (greeting lab.roster known q)) (settled lab su k (greeting lab.roster known q))
   greeted_alike k known q h = grind (arith, nat_tests, admitted_alike, answered_alike, false≢true, eqb-true, told_alike)
 
-  answer_alike : (k : ℕ) (asked : Result Request LineFault) → is_hers s (known_on st k) ≡ true
-      → TurnsAlike lab t (answer_to lab st k asked) (answer_to lab su k asked)
-  answer_alike k asked h = grind (arith, nat_tests, greeted_alike)
-
   pub plain_alike : (k : ℕ) (line : List ℕ) → is_hers s (known_on st k) ≡ true → TurnsAlike lab t (plain_turn lab st k line) (plain_turn lab su k line)
   unfolding plain_turn
-  plain_alike k line h = answer_alike k (request_in line) h
+  plain_alike k line h = grind (arith, nat_tests, greeted_alike, request_in line)
 
   -- on a connection of student s, the turns of a line in both states are alike for student t, if the same mishap occurs
   -- in both turns
@@ -105,23 +101,15 @@ module _ (lab : LabValue) (s t : ℕ) (st : State) (v : World) (es : List Event)
   KnownAlike one two =
       ((one.reply ≡ two.reply) × (one.state.greeted ≡ two.state.greeted)) ⊎ ((one.state.greeted ≡ st.greeted) × (two.state.greeted ≡ st.greeted))
 
-  settled_known : (k : ℕ) (known : Option Who) (q : Request)
-      → KnownAlike (settled lab st k (greeting lab.roster known q)) (settled lab su k (greeting lab.roster known q))
-  settled_known k known q = grind (arith, nat_tests, greeted_alike, entered_is)
-
   answer_known : (k : ℕ) (asked : Result Request LineFault) → KnownAlike (answer_to lab st k asked) (answer_to lab su k asked)
-  answer_known k asked = grind (arith, nat_tests, settled_known)
+  answer_known k asked = grind (arith, nat_tests, admitted_alike, answered_alike, false≢true, eqb-true, same_reply_to, others_afterwards, entered_is)
 
   plain_known : (k : ℕ) (line : List ℕ) → KnownAlike (plain_turn lab st k line) (plain_turn lab su k line)
   unfolding plain_turn
   plain_known k line = answer_known k (request_in line)
 
-  either_known : (f : Reply → Bool) (p q one two : Outcome) → p.state.greeted ≡ st.greeted → q.state.greeted ≡ st.greeted → KnownAlike one two
-      → (cond (f one.reply) p one).state.greeted ≡ (cond (f two.reply) q two).state.greeted
-  either_known f p q one two x y alike = grind (arith, nat_tests, either_both, either_of)
-
   turn_known : (m : Mishap) (k : ℕ) (line : List ℕ) → (turn m lab st k line).state.greeted ≡ (turn m lab su k line).state.greeted
-  turn_known m k line = grind (arith, nat_tests, plain_known, either_known)
+  turn_known m k line = grind (arith, nat_tests, plain_known, false≢true, either_of)
 
 -- ---- turns in two labs
 
