@@ -167,7 +167,7 @@ def run_class(desk: "subprocess.Popen[str]", room: Path, slips: list[tuple[int, 
     `desk` is the process of the class's desk, the folder `room` has the class, and each slip has the number of its
     student."""
     begun = time.monotonic()
-    while "\nwords: " not in (room / "prints").read_text(encoding="utf-8"):
+    while "\ncommands: " not in (room / "prints").read_text(encoding="utf-8"):
         if desk.poll() is not None:
             refuse((room / "prints").read_text(encoding="utf-8"))
         time.sleep(0.1)

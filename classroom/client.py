@@ -5,12 +5,12 @@
         look = me.look(4)
         print(me.move(look) if look.rule and not look.chosen else look.at)
 
-By hand each line that you type is sent, and the line that answers it is shown:
-    python3 client.py SLIP [--log FILE]         greets as the slip says, which is a file, or - for the environment's CENDUWA_SLIP
-    python3 client.py PORT NAME KEYFILE         the same by port, name and key; KEYFILE - is the environment's CENDUWA_KEY
-    python3 client.py PORT                      greets as nobody: type the hello
+By hand: each line that you type is sent, and the reply is printed.
+    python3 client.py SLIP [--log FILE]         says hello by the slip in a file; - is the slip in the environment variable CENDUWA_SLIP
+    python3 client.py PORT NAME KEYFILE         the same by port, name and key; KEYFILE - is the key in the environment variable CENDUWA_KEY
+    python3 client.py PORT                      says no hello: type it yourself
     python3 client.py --tunnel SLIP [PORT]      opens a port of this machine that leads through the slip's door, for any program
-Exit status: 0 the class is over, 1 wrong command line, 2 wrong name or key, 3 wrong node or line, 4 no server, 5 no seat, 6 nothing is granted, 7 lost
+Exit status: 0 class over, 1 wrong command line, 2 wrong name or key, 3 wrong node or line, 4 no server, 5 no seat, 6 nothing granted, 7 connection lost
 """
 from __future__ import annotations
 
@@ -29,10 +29,10 @@ from typing import Any, Literal
 
 Rule = Literal["update", "marriage", "seduction", "abandonment"]
 KEY, SLIP = "CENDUWA_KEY", "CENDUWA_SLIP"  # environment variables; other users can't read them
-MOST, DEEPEST, DEEP, GREETING, NEXT_LINE = 4096, 127, "nested deeper than 127", 10, 600  # a line's bytes and nesting; seconds to a hello, and to a next line
+MOST, DEEPEST, DEEP, GREETING, NEXT_LINE = 4096, 127, "values are nested deeper than 127 levels", 10, 600  # of a line; seconds to a hello, and to a next line
 LAST = {  # what a class's server says last when it ends a connection, in words
-    "late": "a hello has to be granted within ten seconds, and each next line has to come within ten minutes",
-    "long": f"a line has at most {MOST} bytes",
+    "late": "no hello was granted within ten seconds, or no line came within ten minutes",
+    "long": f"a line had more than {MOST} bytes",
     "over": "the class is over",
 }
 LOST, LOST_SO = 7, "the connection was lost: start again"
@@ -190,10 +190,11 @@ class Slip:
         lines = [line.split(None, 1) for line in text_of(path, SLIP).splitlines() if not line.startswith("#")]
         it = {words[0]: words[1].strip() for words in lines if len(words) == 2}
         if missing := [word for word in ("port", "name", "key") if word not in it]:
-            raise NoSlip(f"{path}: no line `{missing[0]} ..`, so this isn't a slip")
+            raise NoSlip(f"{path}: there is no line `{missing[0]} ..`, so this isn't a slip")
         door, network, fingerprint = (it.get(word, "") for word in ("door", "network", "fingerprint"))
         if door and not (door_of(door) and network and re.fullmatch("[0-9a-f]{64}", fingerprint)):
-            raise NoSlip(f"{path}: a slip with a door also needs a line `network ..`, and a line `fingerprint ..` with 64 digits")
+            raise NoSlip(f"{path}: a slip with a door also needs a line `network ..`, and a line `fingerprint ..` with 64 hexadecimal digits "
+                         "(0-9, a-f, without colons). Copy the slip from your teacher again")
         return Slip(port_of(it["port"]), it["name"], it["key"], nodes_of(it.get("nodes", "")), door, network, fingerprint)
 
     @staticmethod
@@ -202,7 +203,7 @@ class Slip:
         if words and not words[0].isdecimal():
             return Slip.read(words[0]), words[1:]
         if len(words) < 3:
-            raise NoSlip(f"SLIP, or PORT NAME KEYFILE NODE,..{TOLD}")
+            raise NoSlip(f"write the arguments SLIP, or PORT NAME KEYFILE NODE,..{TOLD}")
         nodes = words[3:4] if words[3:4] and re.fullmatch(r"[\d,]*", words[3]) else []
         return Slip(port_of(words[0]), words[1], key_of(words[2]), nodes_of(*nodes)), words[3 + len(nodes):]
 
@@ -258,7 +259,6 @@ def require_certificate(certificate: bytes | None, slip: Slip) -> None:
 def tls() -> Any:
     """Returns the TLS settings for a door. Only the fingerprint identifies it, so no authority is asked."""
     import ssl
-
     it = ssl.SSLContext(ssl.PROTOCOL_TLS_CLIENT)
     it.check_hostname, it.verify_mode = False, ssl.CERT_NONE
     return it
@@ -336,7 +336,7 @@ class Client:
                 more = self._socket.recv(65536)
             except OSError as error:
                 self._socket.close()
-                raise Silent(f"no answer in {self.limit} seconds" if isinstance(error, TimeoutError) else str(error)) from None
+                raise Silent(f"no answer in {self.limit:g} seconds" if isinstance(error, TimeoutError) else str(error)) from None
             if not more:
                 raise Silent("the server has closed the connection")
             self._rest += more
@@ -380,12 +380,12 @@ class Client:
             looks = {node: self.look(node) for node in wanted}
             if len({look.at for look in looks.values()}) <= 1:
                 return looks
-        raise Moving(f"{tries} times a step was closed between two looks: try again")
+        raise Moving(f"in {tries} attempts the configuration changed between two looks: try again")
 
     def move(self, look: Look, rule: Rule | None = None, partner: int | None = None) -> Move:
         """Asks for a move by the look's enabled rule, or by `rule`. A marriage is with `partner`, or the highest suitor. Raises Malformed if there is none."""
         if rule is None and look.rule is None:
-            raise Malformed(f"by this look no rule is enabled at node {look.node}: there is nothing to ask for")
+            raise Malformed(f"the look at node {look.node} shows no rule: ask for no move there, or name a rule")
         request: dict[str, object] = {"do": "move", "node": look.node, "at": look.at, "rule": rule or look.rule}
         if request["rule"] == "marriage":
             suitors = [near.node for near in look.near if near.p == look.node]
@@ -541,13 +541,13 @@ def said(value: object) -> str:
 def wrong(line: str) -> str | None:
     """Returns what is wrong with a line as a request, or None if nothing is. A key that occurs twice is wrong too."""
     if len(sent(line)) >= MOST:
-        return f"more than {MOST} bytes: the server ends the connection"
+        return f"the line has more than {MOST} bytes: the server closes the connection"
     if line.startswith("\ufeff"):
-        return "the line begins with a byte order mark"
+        return "the line begins with a byte order mark: leave it out"
     if "\n" in line or "\r" in line:
-        return "several lines: a request is one line"
+        return "there are several lines: a request is one line"
     if foreign := re.search("[\ud800-\udfff]", line):
-        return f"not UTF-8 at byte {len(sent(line[:foreign.start()])) + 1}"
+        return f"the line isn't UTF-8 at byte {len(sent(line[:foreign.start()])) + 1}"
     doubled, strange = list[str](), list[str]()
 
     def noting_doubled(pairs: list[tuple[str, Any]]) -> dict[str, Any]:
@@ -560,13 +560,13 @@ def wrong(line: str) -> str | None:
         asked = json.loads(line, object_pairs_hook=noting_doubled, parse_int=whole, parse_constant=strange.append)
     except json.JSONDecodeError as error:
         if error.pos >= len(line.rstrip()) and line.strip():
-            return "not JSON: the object isn't closed at its end, and a request is one line"
-        return f"not JSON at byte {len(sent(line[:error.pos])) + 1}{hint_for_json(line, error)}"
+            return "the line isn't JSON: the object isn't closed by } at the end of the line"
+        return f"the line isn't JSON at byte {len(sent(line[:error.pos])) + 1}{hint_for_json(line, error)}"
     except RecursionError:
         return DEEP
     if strange:
-        return f"not JSON: {strange[0]} is no number"
-    return wrong_value(asked) or wrong_keys(asked) or (f"the key {doubled[0]} is there twice, and the last one counts" if doubled else None)
+        return f"the line isn't JSON: JSON has no number {strange[0]}"
+    return wrong_value(asked) or wrong_keys(asked) or (f"the key {doubled[0]} occurs twice, and only the last value counts" if doubled else None)
 
 
 def hint_for_json(line: str, error: json.JSONDecodeError) -> str:
@@ -574,23 +574,23 @@ def hint_for_json(line: str, error: json.JSONDecodeError) -> str:
     rest, before = line[error.pos:], line[:error.pos].rstrip()
     word = (re.match(r"\w*", rest) or [""])[0]
     rows = (
-        (not before and rest[:1] != "'", 'a request is an object: {"do":"bye"}'),
-        (rest[:1] == "'", "JSON wants double quotes"),
-        (rest[:1] in tuple("\u201c\u201d\u201e\u00ab\u00bb"), "JSON wants straight double quotes"),
+        (not before and rest[:1] != "'", 'a request is an object, such as {"do":"bye"}'),
+        (rest[:1] == "'", "write double quotes"),
+        (rest[:1] in tuple("\u201c\u201d\u201e\u00ab\u00bb"), "write straight double quotes"),
         (rest[:1] in ("#", "/"), "JSON has no comments"),
-        (before.endswith(",") and rest[:1] in ("}", ",", "]"), "there is a comma too many"),
-        (error.msg.startswith("Unterminated"), "this text has no closing double quote"),
-        (error.msg.startswith("Extra"), "nothing may follow the object"),
+        (before.endswith(",") and rest[:1] in ("}", ",", "]"), "leave out the comma before this byte"),
+        (error.msg.startswith("Unterminated"), "the text that begins there has no closing double quote"),
+        (error.msg.startswith("Extra"), "leave out what follows the object"),
         (word.lower() in INSTEAD and before.endswith(":"), f"write {INSTEAD.get(word.lower())}"),
         (before.endswith("0") and word[:1].isdecimal(), f"write {word.lstrip('0') or '0'}, without a zero before it"),
         (before.endswith("0") and word[:1] == "x", "write the number in decimal digits"),
         (rest[:1] == "+", f"write {rest[1:].rstrip('} ')}, without a sign"),
-        (before.endswith('"') and word[:1].isalpha(), "a double quote is missing before this"),
+        (before.endswith('"') and word[:1].isalpha(), "a double quote is missing before this byte"),
         (word[:1].isalpha(), f'write "{word}", in double quotes'),
         (rest[:1] == "=", "write : between key and value"),
-        ("':' delimiter" in error.msg, "a : is missing after the key"),
-        ("',' delimiter" in error.msg, "a comma is missing before this"),
-        ("control character" in error.msg, "a tab in a text is written \\t"),
+        ("':' delimiter" in error.msg, "write : after the key"),
+        ("',' delimiter" in error.msg, "write a comma before this byte"),
+        ("control character" in error.msg, "a text has no control characters: write \\t for a tab"),
     )
     return next((f" ({text})" for holds, text in rows if holds), "")
 
@@ -623,7 +623,7 @@ def hint_for_key(key: str, asked: dict[str, Any]) -> str:
     if key == "do" and (word := next((each for each in asked if each in KEYS), None)):
         return f' (write {{"do":"{word}"}} for {word})'
     near = next((each for each in asked if each not in ("do", key) and (each.lower() == key or meant(each, [key]))), None)
-    return f" (you wrote {near})" if near else " (the neighbour that points at the node)" if key == "with" else ""
+    return f" (you wrote {near})" if near else " (it names the neighbour that points at the node)" if key == "with" else ""
 
 
 def sent(line: str) -> bytes:
@@ -639,9 +639,9 @@ def whole(text: str) -> int | float:
 def wrong_value(value: object, deep: int = 1) -> str | None:
     """Returns what is wrong with a value under any key, at most DEEPEST levels deep, or None if nothing is. `deep` is the level of the value itself."""
     if isinstance(value, str) and any("\ud800" <= char <= "\udfff" for char in value):
-        return "half of a surrogate pair"
+        return "a text has only half of a surrogate pair"
     if isinstance(value, float) and abs(value) == float("inf"):
-        return "a number that is too large"
+        return "a number is too large"
     if not isinstance(value, dict | list):
         return None
     if deep > DEEPEST:
@@ -653,16 +653,16 @@ def wrong_value(value: object, deep: int = 1) -> str | None:
 def wrong_keys(asked: object) -> str | None:
     """Returns what is wrong with the keys of a request, or None if nothing is."""
     if not isinstance(asked, dict):
-        return f"{said(asked)}, not an object"
+        return f"the line is {said(asked)}, not an object"
     if "do" not in asked:
-        return f'missing "do"{hint_for_key("do", asked)}'
+        return f'the key "do" is missing{hint_for_key("do", asked)}'
     word = asked["do"]
     if not isinstance(word, str) or word not in KEYS:
-        return f"unknown do: {word}{meant(word, KEYS) if isinstance(word, str) else ''}"
+        return f"there is no request {json.dumps(word)}{meant(word, KEYS) if isinstance(word, str) else ''}"
     keys = KEYS[word] | ({"with": NODE} if asked.get("rule") == "marriage" and word == "move" else {})
     for key, kind in keys.items():
         if key not in asked:
-            return f'missing "{key}"{hint_for_key(key, asked)}'
+            return f'the key "{key}" is missing{hint_for_key(key, asked)}'
         if not is_a(kind, asked[key]):
             it = f'"{asked[key]}"' if kind == "a rule" and isinstance(asked[key], str) else said(asked[key])
             return f"{key} is {it}, not {'one of ' + ', '.join(RULES) if kind == 'a rule' else kind}{hint_for_value(kind, asked[key])}"
@@ -688,7 +688,7 @@ class ByHand:
                 with self.log.open("a", encoding="utf-8", errors="surrogateescape") as it:
                     it.write(f"{time.strftime('%H:%M:%S')} {line}\n")
         except OSError as error:
-            self.note(f"{self.log}: {error.strerror}: no more lines are logged")
+            self.note(f"{self.log}: {error.strerror}, so no more lines are logged")
             self.log = None
 
     def note(self, text: str) -> None:
@@ -721,14 +721,15 @@ class ByHand:
             if answer:
                 return LAST.get(reply_of(answer.encode()).get("refuse", ""))
         except NotReply as error:
-            raise (no_server(self.port, error) if not self.greeted else None) or error from None
+            other = None if self.greeted else no_server(self.port, error)
+            raise other or error from None
         if len(sent(line)) >= MOST:
             return LAST["long"]
         if not self.greeted and waited < GREETING:
             raise NoServer(f"no server at port {self.port} answers a hello")
         if not self.greeted:
-            return "the first line came after more than ten seconds"
-        return "no line came for ten minutes" if waited >= NEXT_LINE else "the class is over, or the connection was cut off"
+            return "no hello was granted within ten seconds"
+        return "no line came for ten minutes" if waited >= NEXT_LINE else "the class is over, or the connection was lost"
 
 
 async def carry(reader: Any, writer: Any) -> None:
@@ -760,8 +761,8 @@ async def tunnel(slip: Slip, port: int) -> None:
     try:
         server = await asyncio.start_server(lead, "127.0.0.1", port)
     except OSError as error:
-        raise NoServer(f"port {port} of this machine: {error.strerror}; --tunnel SLIP PORT uses another port") from None
-    print(f"port {port} of this machine leads through the door at {slip.door} to {slip.network}; Ctrl-C closes the tunnel", flush=True)
+        raise NoServer(f"port {port} of this machine can't be used: {error.strerror}; --tunnel SLIP PORT uses another port") from None
+    print(f"port {port} of this machine leads through the door at {slip.door} to the network {slip.network}; Ctrl-C closes the tunnel", flush=True)
     await server.serve_forever()
 
 
@@ -772,8 +773,7 @@ def by_hand(words: list[str]) -> None:
     if words[0] == "--tunnel":
         import asyncio
         far, rest = Slip.of(words[1:])
-        problem = "this slip names no door" if not far.door else "there are too many arguments" if len(rest) > 1 else ""
-        if problem:
+        if problem := "this slip has no line `door ..`" if not far.door else "there are too many arguments" if len(rest) > 1 else "":
             raise NoSlip(f"--tunnel SLIP [PORT]: {problem}{TOLD}")
         return asyncio.run(tunnel(far, port_of(rest[0]) if rest else far.port))
     log = None

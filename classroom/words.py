@@ -26,10 +26,10 @@ class Parser(argparse.ArgumentParser):
 
 
 def version() -> str:
-    """Returns a text with version, commit and toolchain, as `mml --version` prints them, or `of no known version` if it
-    prints nothing."""
+    """Returns a text with version, commit and toolchain, as `mml --version` prints them, or `of an unknown version` if
+    it prints nothing."""
     said = subprocess.run([TOP / "mml", "--version"], stdin=subprocess.DEVNULL, capture_output=True, text=True, check=False)
-    return said.stdout.strip().removeprefix("Cenduwa ") or "of no known version"
+    return said.stdout.strip().removeprefix("Cenduwa ") or "of an unknown version"
 
 
 def add_new(words: argparse.ArgumentParser) -> None:
@@ -61,7 +61,7 @@ def add_new(words: argparse.ArgumentParser) -> None:
 
 
 # An example of each subcommand, and the commands that can be typed while `run` or `attach` runs.
-TYPED = f"Typed there: {HELP}."
+TYPED = f"Commands that you can type while it runs: {HELP}."
 EXAMPLES = {
     "new": "Example: class new maths.toml --students names.csv --family grid:4x3 --start hurt --stand-in",
     "check": "Example: class check maths.toml",
@@ -138,18 +138,18 @@ def options_of(module: str) -> Callable[[argparse.ArgumentParser], None]:
 
 # The description of each subcommand, and the function that adds its options.
 EACH: dict[str, tuple[str, Callable[[argparse.ArgumentParser], None]]] = {
-    "new": ("make a lab from a class list, and slips to print", add_new),
-    "check": ("check a lab: where it is wrong, and what a teacher should know about it", add_check),
+    "new": ("make a lab from a list of students, and slips to print", add_new),
+    "check": ("find mistakes in a lab, and print warnings about it", add_check),
     "run": ("run a class, or resume one; each run has a folder of its own", options_of("run.run")),
     "attach": ("control a class again after `run` was killed or its terminal was closed", options_of("run.attach")),
-    "slips": ("make the slips of labs again, with another address", options_of("setup.handing")),
-    "key": ("give a student another key and slip, between classes", options_of("setup.rekey")),
-    "mark": ("count the marks of each student from journals", add_mark),
+    "slips": ("make the slips of labs again, for example for another address of the door", options_of("setup.handing")),
+    "key": ("give a student a new key and slip while no class is running", options_of("setup.rekey")),
+    "mark": ("count the marks of each student from the journals of runs", add_mark),
     "history": ("show each line that a student sent, its reply, and the steps in between", options_of("marks.history")),
-    "play": ("make a page that plays a run, or a picture of a configuration", add_play),
+    "play": ("make a page that replays a run, or a picture of configurations", add_play),
     "practise": ("try a bot, or play by hand: built-in bots play the other nodes, and each denial is explained", options_of("bots.practise")),
-    "grade": ("test bots in many labs, with several daemons and seeds, within limits", options_of("bots.grade")),
-    "experiment": ("measure how many moves, closes and rounds runs take: a table and a chart", options_of("bots.experiment")),
+    "grade": ("test bots in many cases, with limits on their time and memory", options_of("bots.grade")),
+    "experiment": ("make many runs, and a table and a chart of their moves, closes and rounds", options_of("bots.experiment")),
     "demo": ("run a small class with four bots, and count its marks", add_demo),
 }
 

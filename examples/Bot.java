@@ -72,8 +72,8 @@ public class Bot {
         if (!isSlip) text = "port " + words[0] + "\nname " + words[1] + "\nnodes " + words[3] + "\n" + text + "\nkey " + text.strip();
         String slip = text.replace("\\", "\\\\").replace("\"", "\\\""), port = find("^port\\s+(\\d{1,5})\\s*$", slip);
         String name = find("^name\\s+(\\S+)", slip), key = find("^key\\s+(\\S+)", slip), nodes = find("^nodes\\s+(\\d+(?:,\\d+)*)\\s*$", slip);
-        String lacking = port.isEmpty() || Integer.parseInt(port) > 65535 ? "port" : name.isEmpty() || key.isEmpty() ? "name or key" : nodes.isEmpty() ? "nodes" : "";
-        if (!lacking.isEmpty()) stop(1, "no " + lacking + " in " + (isSlip ? file : "the arguments"));
+        String lacking = port.isEmpty() || Integer.parseInt(port) > 65535 ? "is no port" : name.isEmpty() || key.isEmpty() ? "is no name or key" : nodes.isEmpty() ? "are no nodes" : "";
+        if (!lacking.isEmpty()) stop(1, "there " + lacking + " in " + (isSlip ? file : "the arguments"));
         play(port, name, key, nodes.split(","));
     }
 }

@@ -71,8 +71,8 @@ int main(int count, char **words) {
     for EACH(line, text, '\n')
         sscanf(line, "port %15s", port), sscanf(line, "name %63s", name), sscanf(line, "key %127s", key), sscanf(line, "nodes %2047s", nodes);
     if (count == 5) snprintf(port, 16, "%s", words[1]), snprintf(name, 64, "%s", words[2]), snprintf(nodes, 2048, "%s", words[4]);
-    if (!*port || strspn(port, "0123456789") != strlen(port)) STOP(1, "no port in %s", place);
-    if (!*nodes || strspn(nodes, "0123456789,") != strlen(nodes)) STOP(1, "no nodes in %s", place);
+    if (!*port || strspn(port, "0123456789") != strlen(port)) STOP(1, "there is no port in %s", place);
+    if (!*nodes || strspn(nodes, "0123456789,") != strlen(nodes)) STOP(1, "there are no nodes in %s", place);
     signal(SIGPIPE, SIG_IGN);
     play(port, name, key, nodes);
 }

@@ -73,6 +73,6 @@ const text = file === "-" ? process.env[variable] : fs.existsSync(file) ? fs.rea
 if (text === undefined) stop(1, file === "-" ? `the environment variable ${variable} isn't set` : `${file} can't be read`);
 const after = (word) => new RegExp(`^${word}\\s+(\\S+)\\s*$`, "m").exec(text)?.[1];
 const [port, name, nodes] = isSlip ? ["port", "name", "nodes"].map(after) : [words[0], words[1], words[3]];
-if (!/^\d{1,5}$/.test(port)) stop(1, `no port in ${isSlip ? file : "the arguments"}`);
-if (!/^\d+(,\d+)*$/.test(nodes)) stop(1, `no nodes in ${isSlip ? file : "the arguments"}`);
+if (!/^\d{1,5}$/.test(port)) stop(1, `there is no port in ${isSlip ? file : "the arguments"}`);
+if (!/^\d+(,\d+)*$/.test(nodes)) stop(1, `there are no nodes in ${isSlip ? file : "the arguments"}`);
 play(Number(port), name ?? "", after("key") ?? text.trim(), nodes.split(",").map(Number));

@@ -37,7 +37,7 @@ def seconds_of(words: list[str]) -> float:
     except ValueError:
         seconds = -1.0
     if len(words) > 1 or not seconds >= 0:
-        raise NoSlip(f"{' '.join(words)}: write a number of seconds")
+        raise NoSlip(f"after the slip only a number of seconds may follow, not {' '.join(words)}")
     return seconds
 
 
@@ -46,7 +46,7 @@ def play(words: list[str]) -> None:
     Raises `NoSlip` if the arguments don't name a slip with nodes."""
     slip, rest = Slip.of(words)
     if not slip.nodes:
-        raise NoSlip(f"no nodes in {words[0]}")
+        raise NoSlip(f"there are no nodes in {words[0]}")
     patience = seconds_of(rest)
     me = enter(slip, min(60.0, patience))
     while True:

@@ -68,9 +68,9 @@ fn main() {
     let text = text.unwrap_or_else(|| stop(1, &if file == "-" { format!("the environment variable {variable} isn't set") } else { format!("{file} can't be read") }));
     let after = |word: &str| text.lines().find_map(|line| line.strip_prefix(word)?.strip_prefix(' ')).map(str::trim);
     let said = |word, place: usize| if is_slip { after(word).unwrap_or("") } else { &words[place] };
-    let port = said("port", 0).parse().unwrap_or_else(|_| stop(1, &format!("no port in {place}")));
+    let port = said("port", 0).parse().unwrap_or_else(|_| stop(1, &format!("there is no port in {place}")));
     let nodes: Vec<&str> = said("nodes", 3).split(',').collect();
-    if nodes.iter().any(|it| it.parse::<u16>().is_err()) { stop(1, &format!("no nodes in {place}")) }
+    if nodes.iter().any(|it| it.parse::<u16>().is_err()) { stop(1, &format!("there are no nodes in {place}")) }
     let key = after("key").unwrap_or(text.trim()).replace('\\', r"\\").replace('"', r#"\""#);
     for is_lost in iter::once(false).chain(iter::repeat(true)) {
         let mut server = enter(port, said("name", 1), &key, is_lost);

@@ -46,7 +46,7 @@ def main(words: list[str]) -> None:
         sys.exit(__doc__)
     family, least = FAMILIES[words[0]]
     if not least <= int(words[1]) <= 256:
-        sys.exit(f"families.py: {words[0]} has {least} to 256 nodes")
+        sys.exit(f"families.py: the number of nodes of {words[0]} has to be from {least} to 256")
     print(lab(*family(int(words[1]))), end="")
 
 

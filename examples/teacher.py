@@ -24,6 +24,11 @@ def owners_of(lab: list[str]) -> dict[int, list[str]]:
         raise NoSlip(f"{lab[0]}: this isn't the file of a lab") from None
 
 
+def owned(names: list[str] | None) -> str:
+    """Returns the owners of a node in parentheses, or an empty text if they aren't known."""
+    return f" ({' and '.join(names)})" if names else ""
+
+
 def close_steps(me: Client, owners: dict[int, list[str]]) -> None:
     """Closes a step every PAUSE seconds until no node is privileged. Prints for whom each step waits: the privileged
     nodes without a chosen move, with their owners."""
@@ -31,18 +36,19 @@ def close_steps(me: Client, owners: dict[int, list[str]]) -> None:
     while not report.stable:
         time.sleep(PAUSE)
         waits = [(node, rule) for node, rule in report.privileged if me.look(node).chosen is None]
-        said = ", ".join(f"{node} ({' and '.join(owners.get(node, ['?']))}): {rule}" for node, rule in waits)
+        said = ", ".join(f"node {node}{owned(owners.get(node))}: {rule}" for node, rule in waits)
         if said and said != told:
             print(f"{me.name}: waiting for {said}", flush=True)
         told = said
         try:
             close = me.close()
-            print(f"{me.name}: configuration {close.at}: moved {list(close.moved)}", flush=True)
+            print(f"{me.name}: configuration {close.at}; nodes that moved: {', '.join(map(str, close.moved))}", flush=True)
         except Denied as denied:
             if denied.name != "empty":
                 raise
         report = me.report()
-    print(f"{me.name}: configuration {report.at} is stable, pairs {list(report.pairs)}, free {list(report.free)}", flush=True)
+    pairs, free = ", ".join(f"{a}-{b}" for a, b in report.pairs), ", ".join(map(str, report.free))
+    print(f"{me.name}: configuration {report.at} is stable; pairs: {pairs or 'none'}; free nodes: {free or 'none'}", flush=True)
 
 
 def teach(words: list[str]) -> None:

@@ -24,41 +24,41 @@ def pointer_text(value: int | None) -> str:
 
 def no_update(world: World, i: int) -> str:
     """Returns why Update isn't enabled at node i: m agrees with whether the node is married."""
-    return f"m of {i} is {'true and it is' if world.m[i] else 'false and it is not'} married, so there is nothing to update"
+    return f"m of node {i} is {str(world.m[i]).lower()} and node {i} is {'' if world.m[i] else 'not '}married, so there is nothing to update"
 
 
 def no_marriage(world: World, i: int, k: int | None) -> str:
     """Returns the part of the guard of Marriage with node k that fails at node i. The part that all guards have, about m of i, must hold."""
     if world.p[i] is not None:
-        return f"p of {i} isn't null, it is {world.p[i]}"
+        return f"p of node {i} isn't null, but {world.p[i]}"
     if k not in world.links[i]:
-        return f"{k} is no neighbour of {i}"
-    return f"p of {k} isn't {i}, it is {pointer_text(world.p[k])}"
+        return f"node {k} is no neighbour of node {i}"
+    return f"p of node {k} isn't {i}, but {pointer_text(world.p[k])}"
 
 
 def no_seduction(world: World, i: int) -> str:
     """Returns the part of the guard of Seduction that fails at node i. The part that all guards have, about m of i, must hold."""
     if world.p[i] is not None:
-        return f"p of {i} isn't null, it is {world.p[i]}"
+        return f"p of node {i} isn't null, but {world.p[i]}"
     suitors = [k for k in world.near(i) if world.p[k] == i]
     if suitors:
-        return f"p of {suitors[0]} is {i}, so {i} may marry and not seduce"
+        return f"p of node {suitors[0]} is {i}, so node {i} may marry, but not seduce"
     higher = [j for j in world.near(i) if j > i]
     if not higher:
-        return f"no neighbour of {i} is greater than {i}"
+        return f"no neighbour of node {i} has a greater number"
     j = higher[-1]
-    return (f"no neighbour greater than {i} has p null and m false: "
-            + (f"p of {j} is {world.p[j]}" if world.p[j] is not None else f"m of {j} is true"))
+    return (f"no neighbour of node {i} with a greater number has p null and m false: "
+            + (f"p of node {j} is {world.p[j]}" if world.p[j] is not None else f"m of node {j} is true"))
 
 
 def no_abandonment(world: World, i: int) -> str:
     """Returns the part of the guard of Abandonment that fails at node i. The part that all guards have, about m of i, must hold."""
     j = world.p[i]
     if j is None:
-        return f"p of {i} is null, so there is nobody to abandon"
+        return f"p of node {i} is null, so there is nobody to abandon"
     if world.p[j] == i:
-        return f"p of {j} is {i}, so they are a pair"
-    return f"m of {j} is false and {j} is not less than {i}, so {i} waits for {j}"
+        return f"p of node {j} is {i}, so nodes {i} and {j} are a pair"
+    return f"m of node {j} is false and {j} is not less than {i}, so node {i} has to wait for node {j}"
 
 
 def failing(world: World, i: int, move: Move) -> str:
@@ -68,7 +68,7 @@ def failing(world: World, i: int, move: Move) -> str:
     if move.rule == "update":
         return no_update(world, i)
     if world.m[i] != world.married(i):
-        return f"m of {i} is {str(world.m[i]).lower()} and {i} is {'' if world.married(i) else 'not '}married, so the update comes first"
+        return f"m of node {i} is {str(world.m[i]).lower()} and node {i} is {'' if world.married(i) else 'not '}married, so the update comes first"
     if move.rule == "marriage":
         return no_marriage(world, i, move.partner)
     return (no_seduction if move.rule == "seduction" else no_abandonment)(world, i)
@@ -77,10 +77,10 @@ def failing(world: World, i: int, move: Move) -> str:
 def right_line(world: World, i: int) -> str:
     """Returns a text with the line that a correct bot would send for node i now."""
     if i in world.chosen:
-        return f"a right bot would send nothing for {i}: its move waits for the step to close"
+        return f"a right bot would send nothing for node {i}, because its granted move waits for the end of the step"
     moves = world.moves(i)
     if not moves:
-        return f"a right bot would send nothing for {i}: no guard holds there"
+        return f"a right bot would send nothing for node {i}, because no guard holds there"
     asked = {"do": "move", "node": i, "rule": moves[-1].rule, "at": world.number}
     more = {} if moves[-1].partner is None else {"with": moves[-1].partner}
     others = f", or with {' or '.join(str(move.partner) for move in moves[:-1])}" if len(moves) > 1 else ""

@@ -36,10 +36,10 @@ def write_all() -> int:
     for script in scripts:
         run, bad_line = play(read_lab(lab_of(script).read_bytes()), script.read_bytes())
         if bad_line is not None:
-            print(f"{script.relative_to(TOP)}: line {bad_line}: bad line")
+            print(f"{script.relative_to(TOP)}: line {bad_line} isn't a line of a script")
         others += renew(script.with_suffix(".out"), run.printed())
         # A journal is stored for some scripts only.
         if script.with_suffix(".journal").exists():
             others += renew(script.with_suffix(".journal"), run.written())
-    print(f"{len(scripts)} scripts, {others} outputs differ" + "; the new ones are beside them, as FILE.new" * bool(others))
+    print(f"{len(scripts)} scripts were played; {others} outputs differ from the stored files" + ". The new outputs are in FILE.new" * bool(others))
     return 1 if others else 0

@@ -17,7 +17,7 @@ from typing import IO
 
 from classroom.bots import explaining
 from classroom.bots.apart import World
-from classroom.bots.bots import Bot, RunningBot, last_line
+from classroom.bots.bots import Bot, RunningBot, end_in_words, last_line
 from classroom.bots.conduct import FLOODS, MINUTE, most_connections, most_open, most_quits
 from classroom.bots.playing import NotGranted, Playing
 from classroom.bots.suites import Case
@@ -26,15 +26,15 @@ from classroom.setup import slips
 
 ALLOWED = ("stale", "chosen", "memory")
 HINTS = {
-    "not-greeted": "each connection begins with a hello, even if an earlier one had a hello",
-    "greeted": "one hello on each connection is enough",
-    "unknown": "take name and key from the bot's slip",
+    "not-greeted": "a bot says hello on each new connection, even if it said hello on an earlier one",
+    "greeted": "a bot says hello only once on each connection",
+    "unknown": "a bot takes its name and key from its slip",
     "not-owner": "a bot looks at and moves only its own nodes, which are on its slip",
     "hidden": "a bot sees only its own nodes and their neighbours",
 }
-IN_PIECES = "; replies are long here and arrive in pieces: a bot reads until the newline"
+IN_PIECES = "; in this case replies are long and arrive in pieces: a bot reads each reply up to its newline"
 ON = "; a bot keeps running until the class is over"
-AGAIN = "a bot connects again, says hello and looks again; if no server listens, it tries again for a minute"
+AGAIN = "a bot connects again, says hello and looks at its nodes again; if no server listens at the port, it keeps trying for a minute"
 LATEST = 120.0  # the most seconds that making a bot's namespaces may take
 MOST_KEPT = 1 << 20  # bytes of a bot's output that are kept
 Seen = tuple[tuple[tuple[str, str], ...], tuple[str, ...]]  # what a bot sees: its paths, each with the path on this machine, and those that are hidden
@@ -130,7 +130,7 @@ class Attempt:
             if self.stop.is_set():
                 raise Stopped
             if time.monotonic() > end:
-                raise Fails(f"it can't be started: making the namespaces that keep it apart took more than {LATEST:g} seconds")
+                raise Fails(f"the bot can't be started: the system took more than {LATEST:g} seconds to make the namespaces that isolate it")
 
     def turn(self) -> None:
         """Runs the class for a few milliseconds, and checks what the bot did. Raises `Fails` if the bot has ended or
@@ -152,13 +152,13 @@ class Attempt:
         nodes = len(self.nodes())
         relay, most = self.playing.relay, most_connections(nodes)
         if len(relay.callers) > most_open(nodes):
-            return (f"it has {len(relay.callers)} connections open at once, and others need the seats: a bot needs only one, and closes those "
-                    "that it doesn't use")
+            return (f"the bot has {len(relay.callers)} connections open at once, and each takes a seat: a bot needs only one, and closes those that it "
+                    "doesn't use")
         if relay.quits > most_quits(nodes):
-            return (f"it ended {relay.quits} connections by itself, and connected again: a bot keeps its connection until the class is over"
+            return (f"the bot closed {relay.quits} connections and connected again: a bot keeps its connection open until the class is over"
                     f"{IN_PIECES * bool(self.case.piece)}")
         if relay.connections(MINUTE) > most:
-            return f"it connected more than {most} times in a minute: a bot keeps its connection, and after `busy` waits a second"
+            return f"the bot connected more than {most} times in a minute: a bot keeps its connection open, and after the reply `busy` it waits a second"
         return ""
 
     def end_reason(self, how: str) -> str:
@@ -166,19 +166,19 @@ class Attempt:
         output. `how` is `ended STATUS` or `killed REASON`. Raises `NotStarted` if the bot's command couldn't be run."""
         kind, _, what = how.partition(" ")
         if kind == "killed" and what.startswith(f"{self.bot.words[0]}: "):
-            raise NotStarted(f"it can't be started: {what}")
-        text = f"it ended by itself, status {what}" if kind == "ended" else f"it was ended: {what}"
-        text += self.doing if kind == "ended" else ""
+            raise NotStarted(f"the bot can't be started: {what}")
+        text = f"the bot {end_in_words(how, self.limits.seconds)}" + (self.doing if kind == "ended" else "")
         last = last_line(self.room.output.fileno())
-        return f"{text}; it printed last: {last}" if last else text
+        return f"{text}; the last line of its output is: {last}" if last else text
 
-    def until_stable(self, what: str) -> None:
-        """Runs the class until no node is privileged. Raises `Fails` after the time limit, with a text that begins with
-        `what`."""
+    def until_stable(self, after: str = "") -> None:
+        """Runs the class until no node is privileged. Raises `Fails` after the time limit. `after` names, for the error,
+        what was done to the class before, unless it is empty."""
         end = time.monotonic() + self.limits.seconds
         while not self.playing.is_stable():
             if time.monotonic() > end:
-                raise Fails(f"{what} after {self.limits.seconds:g} seconds: waiting for {self.playing.waiting() or 'a close'}"
+                begun = f"after {after}, the network" if after else "the network"
+                raise Fails(f"{begun} didn't become stable within {self.limits.seconds:g} seconds: it waits for {self.playing.waiting()}"
                             f"{self.playing.explain_silence(self.case.who)}{IN_PIECES * bool(self.case.piece)}"
                             f"{explaining.of_waiting(self.playing, self.case.who)}")
             self.turn()
@@ -188,8 +188,12 @@ class Attempt:
         end = time.monotonic() + self.limits.seconds
         while not self.heard.greeted:
             if time.monotonic() > end:
-                raise Fails(f"it said no hello in {self.limits.seconds:g} seconds{self.playing.explain_silence(self.case.who)}")
+                raise self.no_hello()
             self.turn()
+
+    def no_hello(self) -> Fails:
+        """Returns the error to raise if no hello of the bot was granted within the time limit."""
+        return Fails(f"no hello of the bot was granted within {self.limits.seconds:g} seconds{self.playing.explain_silence(self.case.who)}")
 
     def run_for(self, seconds: float) -> None:
         """Runs the class for `seconds` seconds."""
@@ -198,13 +202,13 @@ class Attempt:
             self.turn()
 
     def until_greeted_again(self, before: int, what: str) -> None:
-        """Runs the class until the bot has said hello more than `before` times. `what` names, for the error, why the
-        bot's connection was lost. Raises `Fails` after the time limit."""
-        self.doing = f", after {what} ({AGAIN})"
+        """Runs the class until the bot has said hello more than `before` times. `what` says for the error, after the
+        words `the bot's`, why the connection was lost. Raises `Fails` after the time limit."""
+        self.doing = f", after its {what} ({AGAIN})"
         end = time.monotonic() + self.limits.seconds
         while self.heard.greeted == before:
             if time.monotonic() > end:
-                raise Fails(f"{what}, and in {self.limits.seconds:g} seconds it didn't connect again ({AGAIN})")
+                raise Fails(f"the bot's {what}, and within {self.limits.seconds:g} seconds the bot didn't connect again and say hello ({AGAIN})")
             self.turn()
         self.doing = ON
 

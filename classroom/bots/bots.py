@@ -22,6 +22,7 @@ from pathlib import Path
 
 from classroom.bots import seen
 from classroom.bots.apart import World
+from classroom.bots.keeper import FILE_BYTES, NO_NAMESPACES
 from classroom.core.processes import begin, end_below, end_strays, is_halted
 from classroom.core.program import TOP, Fault
 
@@ -49,9 +50,9 @@ class Bot:
         try:
             words = shlex.split(word)
         except ValueError as error:
-            return Bot(word, (), f"{word}: {error}")
+            return Bot(word, (), f"{word}: this command can't be split into words: {error}")
         if not words:
-            return Bot(word, (), "a BOT is empty: name a program or a command")
+            return Bot(word, (), "a BOT on the command line is empty: name a program or a command, such as 'python3 bot.py'")
         name = " ".join(Path(each).name for each in words)
         is_file = Path(words[0]).is_file()
         if len(words) == 1 and is_file and not runs_itself(Path(words[0])):
@@ -70,7 +71,7 @@ def cant_run(word: str) -> str:
     """Returns why a command that begins with `word` can't be run, and what a BOT is."""
     if Path(word).is_file():
         return f"{word}: this file can't be run; make it executable, or name the command that runs it, such as 'python3 bot.py'"
-    return f"{word}: there is no such program; a BOT is a command, as a shell takes it, such as 'python3 bot.py'"
+    return f"{word}: there is no such program; a BOT is a command as you type it in a terminal, such as 'python3 bot.py'"
 
 
 def runs_itself(file: Path) -> bool:
@@ -195,7 +196,33 @@ def namespaces_refusal() -> str:
             kept.stop()
     except OSError as error:
         return f"{error.filename or tempfile.gettempdir()}: {error.strerror}"
-    return "" if how == "ended 0" else how.removeprefix("killed no namespaces of its own: ")
+    return "" if how == "ended 0" else how.removeprefix(f"killed {NO_NAMESPACES}")
+
+
+def end_in_words(how: str, seconds: float | None) -> str:
+    """Returns a text for people, to follow the words `the bot`, about how a bot has ended. `how` is `ended STATUS` or
+    `killed REASON`, and `seconds` the limit of its processor time, or None if it has no such limit. A negative status
+    is a signal, which the system sends, for example, to a bot that exceeds a limit."""
+    kind, _, what = how.partition(" ")
+    if kind == "killed":
+        return f"was ended: {what}"
+    status = int(what)
+    if status >= 0:
+        return f"ended by itself, with status {status}"
+    limits = {} if seconds is None else {
+        int(signal.SIGXCPU): f"used more than {seconds:g} seconds of processor time, the limit of --timeout, and was ended",
+        int(signal.SIGXFSZ): f"made a file of more than {FILE_BYTES >> 20} megabytes, and was ended",
+        int(signal.SIGKILL): "was ended by the signal SIGKILL, which the system sends if a program uses far too much processor time or memory",
+    }
+    return limits.get(-status, f"was ended by the signal {signal_name(-status)}")
+
+
+def signal_name(number: int) -> str:
+    """Returns the name of a signal, such as `SIGKILL`, or its number if it has no name."""
+    try:
+        return signal.Signals(number).name
+    except ValueError:
+        return str(number)
 
 
 def last_line(output: int) -> str:

@@ -14,10 +14,10 @@ from classroom.core import bounds
 from classroom.core.bounds import MOVES
 from classroom.pages import colours
 
-WIDE, HIGH = 360, 346  # the width and height of a panel
-LEFT, RIGHT, ABOVE, BELOW = 48, 14, 78, 38
+WIDE, HIGH = 360, 362  # the width and height of a panel
+LEFT, RIGHT, ABOVE, BELOW = 48, 14, 94, 38
 LINE = 16  # the distance of two lines of text
-KEY = 86
+KEY = 118
 MEASURES: list[tuple[str, str, Callable[[Row], int]]] = [
     ("moves", "--point", lambda row: row.moves),
     ("closes", "--can", lambda row: row.closes),
@@ -111,7 +111,8 @@ def panel(title: str, rows: list[Row], theme: str) -> str:
         parts.append(line([(scale.x(size), scale.y(max(by_size[size]))) for size in sizes], f"most {name}", colour, theme))
         parts.append(line([(scale.x(size), scale.y(statistics.median(by_size[size]))) for size in sizes], f"median {name}", colour, theme))
     for name, row, count, bound in closest_to_bounds(rows):
-        parts.append(f'<circle class="worst" cx="{scale.x(row.nodes):.1f}" cy="{scale.y(count):.1f}" r="5"><title>{count} of {bound} {name}</title></circle>')
+        told = f"<title>{count} of at most {bound} {name}</title>"
+        parts.append(f'<circle class="worst" cx="{scale.x(row.nodes):.1f}" cy="{scale.y(count):.1f}" r="5">{told}</circle>')
     last = sizes[-1]
     for count, name in ((most[last].moves, "moves"), (most[last].rounds, "rounds")):
         parts.append(f'<text class="end over" x="{WIDE - RIGHT}" y="{scale.y(count) - 5:.1f}">at most {count} {name}</text>')
@@ -128,8 +129,8 @@ def closest_to_bounds(rows: list[Row]) -> list[tuple[str, Row, int, int]]:
 
 def closest_lines(rows: list[Row]) -> list[str]:
     """Returns the text lines below a panel's title: which runs came closest to their bounds."""
-    texts = [f"{count} of {bound} {name} (n {row.nodes}, seed {row.seed})" for name, row, count, bound in closest_to_bounds(rows)]
-    return [f'<text x="{WIDE / 2}" y="{18 + LINE * number}">{text}</text>' for number, text in enumerate([f"closest: {texts[0]}", *texts[1:]], 1)]
+    texts = [f"{count} of at most {bound} {name} ({row.nodes} nodes, seed {row.seed})" for name, row, count, bound in closest_to_bounds(rows)]
+    return [f'<text x="{WIDE / 2}" y="{18 + LINE * number}">{text}</text>' for number, text in enumerate(["the runs closest to their bounds:", *texts], 1)]
 
 
 def key(runs: int, theme: str) -> str:
@@ -140,10 +141,12 @@ def key(runs: int, theme: str) -> str:
         x = 12 + 84 * column
         parts.append(line([(x, 14), (x + 22, 14)], "median", colour, theme) + f'<text class="left" x="{x + 28}" y="18">{name}</text>')
     parts.append(f'<text class="left" x="270" y="18">{runs} runs</text>')
-    parts.append('<text class="left" x="12" y="36">points: runs; thick line: median; thin line: greatest; ring: the run closest to its bound</text>')
-    parts.append(line([(12, 46), (34, 46)], "bound") + '<text class="left" x="40" y="50">' + f"{MOVES} moves: proved</text>")
-    parts.append(line([(12, 62), (34, 62)], "bound loose") + '<text class="left" x="40" y="66">3n + 2L moves: proved</text>')
-    parts.append(line([(12, 78), (34, 78)], "bound least") + '<text class="left" x="40" y="82">2n rounds (2n - 1, n odd): proved</text>')
+    for y, text in ((36, "point: a run; thick line: median; thin line: greatest"), (52, "ring: the run that came closest to its bound"),
+                    (68, "proved bounds, for n nodes and L links:")):
+        parts.append(f'<text class="left" x="12" y="{y}">{text}</text>')
+    for y, kind, text in ((84, "bound", f"{MOVES} moves"), (100, "bound loose", "3n + 2L moves"),
+                          (116, "bound least", "2n rounds, or 2n - 1 if n is odd")):
+        parts.append(line([(12, y - 4), (34, y - 4)], kind) + f'<text class="left" x="40" y="{y}">{text}</text>')
     return "".join(parts)
 
 

@@ -23,7 +23,7 @@ FLOOD = 200  # the number of last lines among which pauses are counted
 RATE = 50  # while nothing changes, a bot of n nodes may send n + 1 times this number of lines a second
 QUITS = 4  # connections that a bot may end by itself, in addition to one for each node
 MINUTE = 60.0
-FLOODS = "it floods the server: it sends line after line without a pause; a bot waits when it has looked at its nodes"
+FLOODS = "the bot floods the server: it sends line after line without a pause; a bot waits a tenth of a second when it has looked at all its nodes"
 
 
 def number_of(value: object) -> int:
@@ -47,7 +47,8 @@ def polling_fault(lines: int, seconds: float, nodes: int) -> str:
     changed, or an empty text."""
     if lines <= RATE * (nodes + 1) * seconds:
         return ""
-    return f"it sent {lines / seconds:.0f} lines a second while nothing changed: a bot waits a tenth of a second when it has looked at its nodes"
+    return (f"the bot sent {lines / seconds:.0f} lines a second while nothing changed: a bot waits a tenth of a second when it has looked at all its "
+            "nodes")
 
 
 def most_connections(nodes: int) -> int:
@@ -105,25 +106,26 @@ class Conduct:
         if (node, at) not in self.looked and (node, at) in self.before:
             self.across += 1
             if (node, at) in self.unanswered or self.across > MOST_ACROSS:
-                self.note_fault(f"on a new connection it asks for a move of node {node} with the `at` of a look on the lost connection: after the hello, "
+                self.note_fault(f"on a new connection the bot asks for a move of node {node} with the `at` of a look on the lost connection: after the hello, "
                                 f"look at node {node} again")
         elif (node, at) not in self.looked:
-            self.note_fault(f"it asks for a move of node {node} with `at` {at}, and no look at node {node} had that number: look first, and ask "
-                            "with the `at` of that look")
+            self.note_fault(f"the bot asks for a move of node {node} with `at` {at}, but none of its looks at node {node} had this `at`: look at the node "
+                            "first, and ask with the `at` of that look")
         self.asked += 1
         self.behind += at != self.newest.get(node, at)
         if self.behind > MOST_BEHIND and SHARE * self.behind > self.asked:
-            self.note_fault("it asks again and again with a number that isn't that of its last look, for instance for "
+            self.note_fault("the bot asks again and again with an `at` that isn't the one of its last look at the node, for instance for "
                             f"node {node} with `at` {at}: ask with the `at` of your last look at node {node}, which is {self.newest[node]}")
         if self.chosen.get(node) == at:
             self.in_vain += 1
             if self.in_vain > MOST_AGAIN:
-                self.note_fault("it asks again and again for nodes that have a chosen move, though a reply said so, for instance for "
-                                f"node {node} with `at` {at}: after a grant look again a little later, and ask only if `chosen` is null")
+                self.note_fault("the bot asks again and again for moves of nodes that have a granted move already, as replies said, for instance "
+                                f"of node {node} with `at` {at}: after a grant look again a little later, and ask only if `chosen` is null")
         if told.get("deny") == "stale":
             self.stale[node, at] += 1
             if self.stale[node, at] > MOST_AGAIN:
-                self.note_fault(f"it asks again and again for node {node} with `at` {at}, which is stale: after `stale` look again")
+                self.note_fault(f"the bot asks again and again for a move of node {node} with `at` {at}, which was denied as `stale`: after `stale` look at "
+                                "the node again")
         elif told.get("ok") == "move" or told.get("deny") == "chosen":
             self.chosen[node] = at
 

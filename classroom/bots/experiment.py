@@ -29,8 +29,7 @@ from classroom.bots import chart, parts
 from classroom.bots.measuring import SIZED, Row, Setting, drawn, runs
 from classroom.core import lab as labs
 from classroom.core import bounds, limits, networks
-from classroom.core.bounds import MOVES
-from classroom.core.counts import positive
+from classroom.core.counts import plural, positive
 from classroom.core.program import Fault, host
 from classroom.core.statuses import FAILED, WARNED
 from classroom.pages import colours
@@ -38,7 +37,7 @@ from classroom.run.daemons import Daemon, daemons
 
 COLUMNS = [each.name for each in fields(Row)]
 CHUNK = 20  # the most runs of a task
-CONTINUES, ANOTHER_TABLE = ", which continues this table", "name another file by --csv, which begins a new table"
+CONTINUES, ANOTHER_TABLE = " to continue this table", "name another file by --csv to begin a new table"
 FULL = (errno.ENOSPC, errno.EDQUOT)  # the errors of a full disk
 DIES = 1  # prctl's PR_SET_PDEATHSIG
 Key = tuple[str, int, str, str, int]  # what identifies a run: its family, nodes, daemon, start and seed
@@ -51,7 +50,7 @@ def sizes(word: str) -> range:
     found, known = re.fullmatch(r"(\d+)(?:\.\.(\d+))?(?:/(\d+))?", word), limits.known()
     least, most = (int(found[1]), int(found[2] or found[1])) if found else (0, 0)
     if not found or not 1 <= least <= most <= (known.nodes if known else most) or found[3] == "0":
-        raise argparse.ArgumentTypeError(f"{word} isn't A..B or A..B/STEP with numbers from 1{f' to {known.nodes}' if known else ' on'}")
+        raise argparse.ArgumentTypeError(f"{word} isn't a number of nodes, A..B or A..B/STEP, with numbers from 1{f' to {known.nodes}' if known else ' on'}")
     return range(least, most + 1, int(found[3] or 1))
 
 
@@ -81,7 +80,7 @@ def settings(words: argparse.Namespace) -> list[Setting]:
     network. Raises `Fault` if no setting is left, or if a family or daemon can't be used."""
     for how in words.daemon:
         if how.kind == "by-hand":
-            raise Fault("--daemon by-hand: an experiment has nobody to close steps; name another daemon")
+            raise Fault("--daemon by-hand: in an experiment nobody closes steps by hand; name another daemon")
     networks.within(words.nodes[-1])
     found = []
     for family in words.family.split(","):
@@ -89,13 +88,15 @@ def settings(words: argparse.Namespace) -> list[Setting]:
             spelled = f"random:{nodes}:{links_of(nodes)}" if family == "random" else family
             try:
                 network = drawn(Setting(spelled, nodes, words.daemon[0], words.start), words.seed)
-            except Fault as fault:
-                if family.startswith(SIZED) or "no family" in str(fault):
+            except networks.UnknownFamily:
+                raise
+            except Fault:
+                if family.startswith(SIZED):
                     raise
                 continue  # The family has no network of this size.
             found += [Setting(spelled, len(network.nodes), how, words.start) for how in words.daemon]
     if not found:
-        raise Fault("none of the families has a network of a size in --nodes")
+        raise Fault("--family and --nodes: none of these families has a network of one of these sizes; name other families or sizes")
     return found
 
 
@@ -121,11 +122,11 @@ def read_rows(path: Path) -> list[Row]:
     whole = text[:text.rfind("\n") + 1]
     reader = csv.DictReader(io.StringIO(whole))
     if whole and reader.fieldnames != COLUMNS:
-        raise Fault(f"{path} isn't the table of an experiment, so it isn't overwritten: name another file by --csv")
+        raise Fault(f"{path}: this file isn't a table of class experiment, and stays as it is: name another file")
     try:
         rows = [row_of(each) for each in reader]
     except (ValueError, TypeError, KeyError):
-        raise Fault(f"{path}: line {reader.line_num} isn't a row of an experiment: delete the line, so that its run is measured again") from None
+        raise Fault(f"{path}: line {reader.line_num} isn't a row of a table of class experiment: delete the line, so that its run is measured again") from None
     if whole != text:
         path.write_text(whole, encoding="utf-8")
     return rows
@@ -192,7 +193,7 @@ class Progress:
         if self.shown and (now >= self.due or self.done == self.of):
             self.due = now + 0.5
             rate = self.done / max(now - self.begun, 0.01)
-            print(f"\r{self.done} of {self.of} runs, {rate:.0f} a second  ", end="\n" if self.done == self.of else "", file=sys.stderr, flush=True)
+            print(f"\r{self.done} of {self.of} runs done, {rate:.0f} a second  ", end="\n" if self.done == self.of else "", file=sys.stderr, flush=True)
 
 
 def table(rows: list[Row]) -> str:
@@ -222,8 +223,8 @@ def closest(family: str, daemon: str, own: list[Row]) -> str:
     """Returns the line about the runs that came closest to the bounds of their networks, among the runs `own` of one
     family under one daemon."""
     (_, by_moves, moves, most_moves), (_, by_rounds, rounds, most_rounds) = chart.closest_to_bounds(own)
-    return (f"{family:10} {daemon:14} closest to the bound {MOVES}: {moves} of {most_moves} moves (n {by_moves.nodes}, seed {by_moves.seed}); "
-            f"to the bound of rounds: {rounds} of {most_rounds} (n {by_rounds.nodes}, seed {by_rounds.seed})")
+    return (f"{family:10} {daemon:14} closest to the bounds: {moves} of at most {most_moves} moves ({by_moves.nodes} nodes, seed {by_moves.seed}); "
+            f"{rounds} of at most {most_rounds} rounds ({by_rounds.nodes} nodes, seed {by_rounds.seed})")
 
 
 def make_table(path: Path) -> None:
@@ -251,11 +252,12 @@ def merge(words: argparse.Namespace, asked: set[Key]) -> int:
     rows: dict[Key, Row] = {key(row): row for row in read_rows(Path(words.csv))}
     for file in map(Path, words.merge):
         if not file.exists():
-            raise Fault(f"{file}: no such file", FAILED)
+            raise Fault(f"{file}: there is no such file; --merge needs the tables of all parts", FAILED)
         for row in read_rows(file):
             if rows.setdefault(key(row), row) != row:
-                raise Fault(f"{file}: this run is in another table with different numbers: {line_of(row).strip()}", FAILED)
-    with naming_file(words.csv, "", "name another file by --csv, and this one by --merge"):
+                raise Fault(f"{file}: another table has different numbers for the same run; delete the wrong row there, or this one: "
+                            f"{line_of(row).strip()}", FAILED)
+    with naming_file(words.csv, "", "name another file by --csv, and if this one has rows already, name it by --merge"):
         write_sorted(Path(words.csv), list(rows.values()))
     broken = [row for row in rows.values() if row.exceeds_bounds()]
     own = sorted((row for row in rows.values() if key(row) in asked), key=key)
@@ -279,9 +281,9 @@ def print_results(own: list[Row], asked: int, words: argparse.Namespace, broken:
     folder, or after a merge its line of the table. Raises `Fault` if the chart can't be written."""
     if own:
         print(table(own))
-    print(f"WARNING: {len(broken)} runs exceed a proved bound, which is an error of the program: please report it. "
-          f"Their folders are: {', '.join(map(str, broken))}" if broken else
-          f"{len(own)} of {asked} runs, all within the proved bounds; table: {words.csv}")
+    print(f"WARNING: {plural(len(broken), 'run')} exceeded a proved bound, which is an error of the program: please report it, with "
+          f"{', '.join(map(str, broken))}" if broken else
+          f"{len(own)} of {asked} runs are done, all within the proved bounds; table: {words.csv}")
     if own and words.plot:
         with naming_file(words.plot, "", "name another file by --plot"):
             Path(words.plot).write_text(chart.chart(own, colours.DARK if words.dark else colours.LIGHT), encoding="utf-8")
@@ -295,7 +297,7 @@ def naming_file(file: str, effect: str, remedy: str) -> Iterator[None]:
     try:
         yield
     except OSError as error:
-        room = f"make room and run the same command again{effect}, or " if error.errno in FULL else ""
+        room = f"make room on the disk and run the same command again{effect}, or " if error.errno in FULL else ""
         raise Fault(f"{file}: {error.strerror}; {room}{remedy}", 4) from None
 
 
@@ -315,7 +317,7 @@ def experiment(words: argparse.Namespace) -> int:
     with naming_file(words.csv, CONTINUES, ANOTHER_TABLE):
         make_table(path)
     if asked & done:
-        print(f"{len(asked & done)} runs are in {path} already")
+        print(f"already in {path}, and not repeated: {plural(len(asked & done), 'run')}")
     tasks = missing(every, seeds, done | (set(order) - asked))
     progress = Progress(sum(len(task[1]) for task in tasks))
     broken: list[Path] = []
@@ -335,6 +337,6 @@ def experiment(words: argparse.Namespace) -> int:
         write_sorted(path, rows)
     print_results(sorted((row for row in rows if key(row) in asked), key=key), len(asked), words, broken)
     if interrupted:
-        print("interrupted; run the same command again to continue")
+        print("interrupted: run the same command again to continue")
         return FAILED
     return WARNED if broken else 0

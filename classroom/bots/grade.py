@@ -27,7 +27,7 @@ from classroom.core.counts import positive, seconds
 from classroom.core.folders import new_folder
 from classroom.core.printable import printable
 from classroom.core.processes import end_at_once, end_strays, reap_orphans, run
-from classroom.core.program import Fault, host, program
+from classroom.core.program import Fault, require_built
 from classroom.core.statuses import FAILED, WARNED
 from classroom.run.daemons import daemons
 
@@ -100,14 +100,14 @@ def results_of(bots: list[Bot], cases: list[Case], words: argparse.Namespace, to
         a failure with the reason."""
         if stop.is_set():
             return None
-        why = "not tried: "
+        why = "this case wasn't tried: "
         try:
             with own_room() as room:
                 return try_bot(bot, case, limits, room, folder_of(top, bot, case), stop, seen_by[bot.name] if seen_by else None)
         except OSError as error:
-            why += f"{error.filename or tempfile.gettempdir()}: {error.strerror}; name another folder by the environment variable TMPDIR"
+            why += f"{error.filename or tempfile.gettempdir()}: {error.strerror}; name another folder for temporary files by the environment variable TMPDIR"
         except Exception as error:  # An error in one case must not lose the results of others.
-            why += f"{type(error).__name__}: {error}"
+            why += f"error of the program, {type(error).__name__}: {error}"
         return Result(bot.name, case.lab, case.daemon.spelled(), case.seed, False, why)
 
     for group in [bots] if seen_by else [[bot] for bot in bots]:
@@ -125,8 +125,8 @@ def kept_apart(bots: list[Bot], words: argparse.Namespace, top: Path) -> dict[st
     `--show` names a folder that can't be shown."""
     why = "--not-apart" if words.not_apart else namespaces_refusal()
     if why:
-        print(f"class: bots aren't kept apart ({printable(why)}): they run one after another, with your rights, and see your files "
-              "(docs/COURSE.md)", flush=True)
+        print(f"class: bots aren't isolated ({printable(why)}): they run one after another, with your rights, and can read your files "
+              "(see docs/COURSE.md)", flush=True)
         return None
     into = Path(words.into).resolve()
     more, temporary = [Path(each).resolve() for each in words.show], Path(tempfile.gettempdir())
@@ -134,7 +134,8 @@ def kept_apart(bots: list[Bot], words: argparse.Namespace, top: Path) -> dict[st
         if not folder.exists():
             raise Fault(f"--show {folder}: there is no such folder")
         if seen.contains_any(folder, [temporary]):
-            raise Fault(f"--show {folder}: this folder contains {temporary}, which has the folders of all bots; name a folder that doesn't contain it")
+            raise Fault(f"--show {folder}: this folder contains {temporary}, in which all bots have their folders; name a folder that doesn't contain "
+                        f"{temporary}")
     found = {}
     for bot in bots:
         others = [other.words for other in bots if other is not bot]
@@ -172,7 +173,7 @@ class Written:
             try:
                 graded.write(form, file, self.results)
             except Fault as fault:
-                faults.append(f"{fault}; the old file is unchanged: make room, or name another file")
+                faults.append(f"{fault}; nothing was written to this file: make room on the disk, or name another file")
         return faults
 
 
@@ -218,9 +219,9 @@ def numbered(bots: list[Bot]) -> list[Bot]:
 
 def grade(words: argparse.Namespace) -> int:
     """Tries each bot in each case, prints the results, and writes them to the files that the options name. With
-    `--merge` tries nothing, and joins the results of parts. Returns the exit status. Raises `Fault` if the options
-    can't be used."""
-    program(), host()
+    `--merge` tries nothing, and joins the results of parts. Returns the exit status. Raises `Fault` if the proved
+    program isn't built or the options can't be used."""
+    require_built()
     bots = numbered([Bot.of(word) for word in words.bots])
     faults: list[str] = []
     if words.labs:
@@ -250,11 +251,11 @@ def grade(words: argparse.Namespace) -> int:
     end_strays()
     print(graded.table(results))
     if runnable:
-        print(f"records and pages: {top}")
+        print(f"records and pages of the cases: {top}")
     for fault in unwritten:
         print(f"class: {printable(fault)}")
     if len(results) < len(bots) * len(cases):
-        print(f"interrupted: {len(results)} of {len(bots) * len(cases)} cases were tried")
+        print(f"interrupted: only {len(results)} of {len(bots) * len(cases)} cases were tried to their end")
         return FAILED
     if unwritten:
         return FAILED

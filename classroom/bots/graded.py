@@ -10,10 +10,11 @@ from typing import Any
 from xml.etree import ElementTree
 
 from classroom.bots.trial import Result
+from classroom.core.counts import plural
 from classroom.core.printable import printable
 from classroom.core.program import Fault
 
-NEVER = "not tried: it can't be started"
+NEVER = "not tried: the bot can't be started"
 ABOUT = ("bot", "lab", "daemon", "seed", "passed", "why", "moves", "denied")
 
 
@@ -71,8 +72,8 @@ def write(form: str, path: Path, results: list[Result]) -> None:
 def result_line(result: Result) -> str:
     """Returns a result as a line for people. If the case isn't passed, the reason follows on a second line."""
     denied = ", ".join(f"{count} {word}" for word, count in result.denied.items())
-    tail = "".join(f"; {it}" for it in (f"{result.moves} moves", denied) if it)
-    return printable(f"{'passed' if result.passed else 'FAILED'}  {result.bot}: {case_name(result)}{tail}"
+    tail = f"; {plural(result.moves, 'move')}" + (f"; not granted: {denied}" if denied else "")
+    return printable(f"{'passed' if result.passed else 'FAILED'}  {result.bot}: {result.lab}, daemon {result.daemon}, seed {result.seed}{tail}"
                      + (f"\n        {result.why}" if result.why else ""))
 
 

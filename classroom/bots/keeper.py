@@ -32,6 +32,7 @@ MOST_PROCESSES = 64
 FILE_BYTES = 16 << 20  # the size of one file
 FOLDER_MEGABYTES = 64
 LEAST = 1 << 12  # the least bytes that a file counts as, even if it is empty
+NO_NAMESPACES = "the system refused the namespaces that isolate it: "
 Identity = tuple[int, int]  # what identifies a file: the numbers of its device and of its inode
 
 
@@ -215,7 +216,7 @@ def keep(plan: Plan) -> str:
         try:
             apart.enter(plan.world, plan.folder, FOLDER_MEGABYTES, plan.channel)
         except OSError as error:
-            return f"killed no namespaces of its own: {error.filename}: {error.strerror}"
+            return f"killed {NO_NAMESPACES}{error.filename}: {error.strerror}"
     reap_orphans()
     try:
         process = subprocess.Popen(plan.words, stdin=subprocess.DEVNULL, preexec_fn=lambda: apply_limits(plan))

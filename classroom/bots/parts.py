@@ -55,7 +55,7 @@ def results_in(file: Path) -> list[Result]:
         cases = json.loads(plain.read(file, MOST))
         return [Result(**each) for each in cases]
     except (ValueError, TypeError, RecursionError):
-        raise Fault(f"{file}: this file has no results of grade --json", FAILED) from None
+        raise Fault(f"{file}: this file doesn't have the results of a part, which grade --json writes", FAILED) from None
 
 
 def joined(files: Iterable[Path], order: Sequence[Case]) -> tuple[list[Result], list[Case]]:
@@ -66,9 +66,9 @@ def joined(files: Iterable[Path], order: Sequence[Case]) -> tuple[list[Result], 
         for result in results_in(file):
             case = result.bot, graded.case_name(result)
             if case not in order:
-                raise Fault(f"{file}: {' '.join(case)} isn't a case of this command: name the same bots and options as for the parts", FAILED)
+                raise Fault(f"{file}: the case {' '.join(case)} isn't a case of this command: name the same bots and options as for the parts", FAILED)
             if found.setdefault(case, result) != result:
-                raise Fault(f"{file}: {' '.join(case)} is also in another part, with a different result", FAILED)
+                raise Fault(f"{file}: the case {' '.join(case)} has a different result in another file: leave out one of the two files", FAILED)
     return [found[case] for case in order if case in found], [case for case in order if case not in found]
 
 
@@ -85,5 +85,6 @@ def merged(words: argparse.Namespace, order: Sequence[Case]) -> int:
     print(graded.table(results))
     if missing:
         some = ", ".join(" ".join(case) for case in missing[:MOST_NAMED])
-        print(printable(f"class: no part has a result of {plural(len(missing), 'case')}: {some}{' ..' if len(missing) > MOST_NAMED else ''}"))
+        print(printable(f"class: no file has a result of {plural(len(missing), 'case')} (bot, lab, daemon and seed): {some}"
+                        f"{' ..' if len(missing) > MOST_NAMED else ''}"))
     return WARNED if missing or not all(result.passed for result in results) else 0

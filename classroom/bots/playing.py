@@ -36,7 +36,7 @@ SHARED = 0.05  # the probability that at such a look the house asks for a node t
 KEPT_LINES = 20_000  # lines of a conversation that are kept
 KEPT_ROWS = 2_000  # rows of all programs' own pages that are kept
 SHOWN, SHOWN_LINE = 40, 120  # characters of a word and of a line that are shown in explanations
-OWN_RULE = "with --own-rule no look shows the rule whose guard holds: a program has to find it from p, m and near (docs/STUDENT.md)"
+OWN_RULE = "with --own-rule the replies to looks don't name the rule whose guard holds: a bot has to find it from p, m and near (see docs/STUDENT.md)"
 MEMORY = b'{"refuse":"memory"}'
 RULE = re.compile(rb',"rule":"[a-z]+"}$')  # the enabled rule at the end of a reply to a look
 PATIENCE = 0.5  # seconds without a grant after which the random daemon closes a step
@@ -91,8 +91,16 @@ def request_of(line: bytes) -> dict[str, Any]:
 def kind_of(asked: dict[str, Any], told: dict[str, Any]) -> str:
     """Returns a text for the kind of a denial, without its numbers: the request, the clause that denied it, and for a
     guard also the rule. Denials of one kind are explained once."""
-    what = " ".join(str(asked[key])[:SHOWN] for key in ("do", "rule")[: 2 if told["deny"] == "guard" else 1] if key in asked)
+    what = str(asked.get("do"))[:SHOWN] + (f" by {asked.get('rule')}" if told["deny"] == "guard" else "")
     return f"{what} is denied as {told['deny']}, clause {told['clause']}"
+
+
+def request_in_words(asked: dict[str, Any]) -> str:
+    """Returns a text for a request that the server has understood, such as `move at node 1 by marriage with 2`."""
+    text = str(asked.get("do")) + (f" at node {asked['node']}" if "node" in asked else "")
+    if asked.get("do") == "move":
+        text += f" by {asked.get('rule')}" + (f" with {asked.get('with')}" if asked.get("rule") == "marriage" else "")
+    return text
 
 
 class Playing:
@@ -225,9 +233,9 @@ class Playing:
         elif "refuse" in told:
             heard.denied[told["refuse"]] += 1
             note = wrong(line.decode(errors="surrogateescape").replace("\r", " ")) if told["refuse"] == "malformed" else None
-            text = f"{told['refuse']}: {note}" if note else told["refuse"]
+            text = f"a line is refused as {told['refuse']}" + (f": {note}" if note else "")
             kind = text.partition(" (")[0]  # The correction in parentheses may contain a number.
-            self.on_no(NotGranted(who, told["refuse"], f"{text}: {line[:SHOWN_LINE].decode(errors='backslashreplace')}", kind, sent))
+            self.on_no(NotGranted(who, told["refuse"], f"{text}; the line is {line[:SHOWN_LINE].decode(errors='backslashreplace')}", kind, sent))
 
     def note_row(self, who: str, sent: bytes, told: dict[str, Any]) -> None:
         """Appends a row about a line to `rows` if a move was granted to it, or if it was denied or refused. Appends
@@ -249,29 +257,28 @@ class Playing:
         """Returns a text about a denial: its clause, the node's registers, and the rule that would be granted there.
         After the denials `not-owner`, `hidden` and `stale`, and if there is no such node, it has only the clause and
         the numbers of configurations."""
-        what = " ".join(str(asked[key]) for key in ("do", "node", "rule", "with") if key in asked)
-        text = f"{what} is denied as {told['deny']}, clause {told['clause']}: {told['text']}"
+        text = f"{request_in_words(asked)} is denied as {told['deny']}, clause {told['clause']}: {told['text']}"
         if "at" in told:
-            text += f"; its `at` is {asked.get('at')}, and the current configuration has the number {told['at']}"
+            text += f"; the request has `at` {asked.get('at')}, but the current configuration has the number {told['at']}"
         node = number_of(asked.get("node"))
         if told["deny"] in ("not-owner", "hidden", "stale") or node not in {each.id for each in self.lab.nodes}:
             return text
         look = self.program.ask(TEACHER, do="look", node=node)
         near = ", ".join(f"{each['node']} (p {each['p'] or 'null'}, m {str(each['m']).lower()})" for each in look["near"])
-        text += f"; node {node} has p {look['p'] or 'null'}, m {str(look['m']).lower()}, its neighbours are {near or 'none'}"
+        text += f"; node {node} has p {look['p'] or 'null'} and m {str(look['m']).lower()}; its neighbours: {near or 'none'}"
         if look["chosen"]:
-            return f"{text}; its move {look['chosen']} waits for the step to close"
-        return f"{text}; {look['rule'] or 'nothing'} would be granted there"
+            return f"{text}; its move by {look['chosen']} is granted already, and waits for the end of the step"
+        return f"{text}; {look['rule'] or 'no move'} would be granted there now"
 
     def explain_silence(self, who: str) -> str:
         """Returns a semicolon and the reason why the program of the student `who` sends no line, as far as its
         connections and earlier lines show the reason."""
         if self.relay.has_partial_line():
-            return "; it sent a line without a newline at the end"
+            return "; the bot sent a line without a newline at its end, so that the server waits for the rest of the line"
         if self.heard[who].greeted:
             return self.last_words(who)
         strangers = self.relay.came > sum(heard.greeted for heard in self.heard.values())
-        return "; it connected, but no hello was granted" if strangers else f"; it never connected to port {self.relay.port}"
+        return "; the bot connected, but sent no correct hello" if strangers else f"; the bot never connected to port {self.relay.port}"
 
     def last_words(self, who: str) -> str:
         """Returns a semicolon and a text about the program of the student `who`, which no longer sends lines. The text
@@ -279,9 +286,10 @@ class Playing:
         heard = self.heard[who]
         ago = time.monotonic() - heard.last_at
         never = [f"node {node}" for node in self.lab.nodes_of(who) if node not in heard.conduct.seen]
-        text = f"; its last line came {ago:.1f} seconds earlier: {heard.last}"
-        text += f"; it never looked at {' and '.join(never)}" * bool(never)
-        return text + "; with --own-rule no look shows the rule: the bot has to decide by p, m and near" * bool(heard.conduct.rules_hidden)
+        text = f"; the bot sent its last line {ago:.1f} seconds ago: {heard.last}"
+        text += f"; the bot never looked at {' and '.join(never)}" * bool(never)
+        hint = "; with --own-rule the key `rule` is null in each look: the bot has to find the rule from p, m and near"
+        return text + hint * bool(heard.conduct.rules_hidden)
 
     def say_bye(self, connection: int) -> None:
         """Says bye to the proved program for a connection that has ended."""
@@ -425,9 +433,10 @@ class Playing:
         return bool(self.report["stable"])
 
     def waiting(self) -> str:
-        """Returns the privileged nodes without a chosen move, with their owners and rules."""
-        return ", ".join(f"{node} ({' and '.join(self.lab.owners(node))}): {rule}"
-                         for node, rule in self.report["privileged"] if node not in self.chosen)
+        """Returns a text about what the class waits for: the moves that can be granted, each with its rule, node and
+        owners, or if there are none the end of the step."""
+        return ", ".join(f"{rule} at node {node} ({' and '.join(self.lab.owners(node))})"
+                         for node, rule in self.report["privileged"] if node not in self.chosen) or "the step to be closed"
 
     def write(self, folder: Path) -> None:
         """Writes the lab, the script that repeats the run, and the conversation into the files `lab.toml`, `script` and

@@ -17,7 +17,7 @@ from dataclasses import dataclass, field
 from pathlib import Path
 
 from classroom.bots import explaining
-from classroom.bots.bots import Bot, RunningBot
+from classroom.bots.bots import Bot, RunningBot, end_in_words
 from classroom.bots.conduct import FLOODS
 from classroom.bots.playing import OWN_RULE, NotGranted, Playing, Step
 from classroom.bots.suites import HOUSE, TEACHER, key
@@ -27,7 +27,7 @@ from classroom.core import bounds, limits, networks
 from classroom.core.counts import plural, positive, seconds
 from classroom.core.folders import new_folder
 from classroom.core.processes import reap_orphans
-from classroom.core.program import TOP, Fault, call, first_free, host, program
+from classroom.core.program import TOP, Fault, call, first_free, require_built
 from classroom.core.rounds import Recovery
 from classroom.core.statuses import WARNED
 from classroom.pages import by_hand
@@ -72,10 +72,10 @@ def own_nodes(word: str | None, identifiers: list[int], bots: int, chance: rando
     try:
         nodes = [int(each) for each in word.replace(",", " ").split()]
     except ValueError:
-        raise Fault(f"--node {word}: write the numbers with commas between them, such as 5,6") from None
+        raise Fault(f"--node {word}: write the numbers of your nodes with commas between them, such as 5,6") from None
     wrong = [node for node in nodes if node not in identifiers]
     if wrong or not nodes:
-        raise Fault(f"--node {word}: the nodes are {identifiers[0]} to {identifiers[-1]}")
+        raise Fault(f"--node {word}: this network has only the nodes {identifiers[0]} to {identifiers[-1]}, so name some of these")
     return list(dict.fromkeys(nodes))
 
 
@@ -88,7 +88,7 @@ def made(words: argparse.Namespace, names: list[str]) -> labs.Lab:
     identifiers = list(range(1, nodes + 1))
     own = own_nodes(words.node, identifiers, len(names), chance)
     if len(own) < len(names):
-        raise Fault(f"{len(own)} nodes for {len(names)} BOTs: name more nodes by --node")
+        raise Fault(f"{len(names)} BOTs need at least {len(names)} nodes: name more nodes by --node, or make the network larger by --nodes")
     owner = {node: names[index % len(names)] for index, node in enumerate(own)}
     keys = {name: key() for name in [*names, HOUSE]}
     dealt = [labs.Node(node, [owner.get(node, HOUSE)]) for node in identifiers]
@@ -142,15 +142,15 @@ class Practice:
         if times == 1:
             self.tell(f"{no.who}: {no.text}{explaining.of_denial(self.playing, no.line) if no.word == 'guard' else ''}")
         elif str(times).strip("0") == "1":
-            self.tell(f"{no.who}: {times} times so far: {no.kind}")
+            self.tell(f"{no.who}: this has happened {times} times so far: {no.kind}")
 
     def print_step(self, step: Step) -> None:
         """Prints a closed step as a line."""
         privileged = [node for node, _ in step.report["privileged"]]
         self.recovery.step([node for node, _, _ in step.moved], privileged)
-        moved = ", ".join(f"{node} ({who}) {rule}" for node, who, rule in step.moved)
-        left = f"{len(privileged)} privileged" if privileged else "stable"
-        self.tell(f"configuration {step.at}: {moved}; {left}, {self.recovery.moves} of at most {self.most} moves")
+        moved = ", ".join(f"{rule} at node {node} ({who})" for node, who, rule in step.moved)
+        left = f"{plural(len(privileged), 'privileged node')}" if privileged else "the network is stable"
+        self.tell(f"configuration {step.at}: {moved}; {left}; {self.recovery.moves} of at most {self.most} moves so far")
         self.told = ""
 
     def turn(self) -> None:
@@ -163,13 +163,13 @@ class Practice:
         heard = self.playing.heard[name]
         moves = ", ".join(rule for rule in RULES if heard.rules[rule])
         denied = {word: times for word, times in sorted(heard.denied.items()) if word != MALFORMED}
-        text = f"{name}: {plural(heard.granted, 'move')}" + f" ({moves})" * bool(moves)
+        text = f"{name}: {plural(heard.granted, 'granted move')}" + f" ({moves})" * bool(moves)
         text += f", {plural(sum(denied.values()), 'denial')}"
         text += f" ({', '.join(f'{times} {word}' for word, times in denied.items())})" * bool(denied)
         if heard.denied[MALFORMED]:
             text += f", {plural(heard.denied[MALFORMED], 'malformed line')}"
         never = ", ".join(rule for rule in RULES if rule not in heard.wanted)
-        text += f"; it never asked for: {never}" * bool(never) + f"; {FLOODS}" * (name in self.floods)
+        text += f"; rules that were never asked for: {never}" * bool(never) + f"; {FLOODS}" * (name in self.floods)
         return text + f"; {heard.conduct.wrong}" * bool(heard.conduct.wrong)
 
     def explain_silence(self) -> str:
@@ -188,14 +188,14 @@ class Practice:
             for name, kept in list(self.kept):
                 how = kept.ended()
                 if how:
-                    kind, _, what = how.partition(" ")
-                    self.tell(f"{name}: the program " + (f"has ended, status {what}" if kind == "ended" else f"was ended: {what}"))
+                    self.tell(f"{name}: the bot {end_in_words(how, None)}")
                     self.kept.remove((name, kept))
-            waiting = (playing.waiting() or "a close") + self.explain_silence()
+            waiting = playing.waiting() + self.explain_silence()
             gone = not self.kept and self.timeout is not None
             if self.timeout is not None and (idle > self.timeout or gone and idle > REST):
                 adds = "".join(explaining.of_waiting(playing, name) for name in playing.programs)
-                self.tell(f"the run hangs: {'no program is left, and ' if gone else ''}the class waits for {waiting}{adds}")
+                why = "no bot is running any longer" if gone else f"nothing has happened for {self.timeout:g} seconds"
+                self.tell(f"the run is given up, since {why}; it waits for {waiting}{adds}")
                 return False
             if idle > QUIET and self.told != waiting and time.monotonic() - self.told_at > QUIET:
                 self.tell(f"waiting for {waiting}")
@@ -212,7 +212,7 @@ def write_run(playing: Playing, folder: Path, tell: Callable[[str], None]) -> No
     playing.write(folder)
     answer = call("script", folder / "lab.toml", folder / "script", folder / "journal")
     if answer.status != 0:
-        raise Fault(f"{folder}: no page can be made from this run: {answer.error}", 4)
+        raise Fault(f"{folder}: the page of this run can't be made, since the program answers its script with an error: {answer.error}", 4)
     names = playing.programs
     for name, file in zip(names, [folder / "run.html", *(folder / f"{name}.html" for name in names[1:])]):
         file.write_text(playing.own_page(folder, name), encoding="utf-8")
@@ -221,8 +221,9 @@ def write_run(playing: Playing, folder: Path, tell: Callable[[str], None]) -> No
 
 def practise(words: argparse.Namespace) -> int:
     """Runs a class in which the student's bots, or the student's own program or page, play some nodes. Returns the exit
-    status. Raises `Fault` if the arguments can't be used or a file can't be written."""
-    program(), host()
+    status. Raises `Fault` if the proved program isn't built, the arguments can't be used, or a file can't be
+    written."""
+    require_built()
     if words.page and words.bots:
         raise Fault("--page is for playing by hand: leave the BOT out")
     reap_orphans()
@@ -257,13 +258,13 @@ def play(it: ClassWithPrograms, bots: list[Bot], words: argparse.Namespace, fold
     for name, file in zip(names, files):
         with open(file, "x", encoding="utf-8", opener=open_private) as slip_file:
             slip_file.write("".join(f"{line}\n" for line in slips.slip(lab, name, it.playing.relay.port)))
-    size = f"{words.family} of {len(lab.nodes)} nodes, {words.start}, daemon {words.daemon.spelled()}"
-    tell(f"{size}; " + "; ".join(f"{name}: {', '.join(map(str, lab.nodes_of(name)))}" for name in names))
+    tell(f"network: {words.family}, {plural(len(lab.nodes), 'node')}; start: {words.start}; daemon: {words.daemon.spelled()}; " + "; ".join(
+        f"{f'nodes of {name}' if len(names) > 1 else 'your nodes'}: {', '.join(map(str, lab.nodes_of(name)))}" for name in names))
     if words.own_rule:
         tell(OWN_RULE)
     if not bots:
-        by_hand = f"python3 {os.path.relpath(TOP / 'classroom/client.py')} SLIP"
-        tell(f"port {it.playing.relay.port}; play by hand ({by_hand}), or start your program, with the slip {files[0]}")
+        client = os.path.relpath(TOP / "classroom/client.py")
+        tell(f"the class is at port {it.playing.relay.port}; start your bot with the slip {files[0]}, or type requests by hand: python3 {client} {files[0]}")
     for name, bot, slip in zip(names, bots, files):
         it.kept.append(RunningBot(bot, slip.resolve(), Path.cwd(), None, MEGABYTES))
         practice.kept.append((name, it.kept[-1]))
@@ -272,7 +273,7 @@ def play(it: ClassWithPrograms, bots: list[Bot], words: argparse.Namespace, fold
     it.stop_programs()  # From now on nobody answers them.
     if stable:
         pairs = ", ".join(f"{a}-{b}" for a, b in it.playing.report["pairs"])
-        tell(f"stable: pairs {pairs or 'none'}; {practice.recovery.told(len(lab.nodes), len(lab.links))}")
+        tell(f"the network is stable; pairs: {pairs or 'none'}; {practice.recovery.told(len(lab.nodes), len(lab.links))}")
     write_run(it.playing, folder, tell)
     for name in names:
         tell(practice.summary(name))
@@ -288,7 +289,7 @@ def served(practice: Practice, lab: labs.Lab, name: str, is_asked: bool) -> Iter
         return
     hands = by_hand.open_play_page(PAGE_PORT, f"practise, {len(lab.nodes)} nodes", lab)
     hands.show(practice.playing.relay.port, practice.tell)
-    practice.tell(f"page to play {hands.address}#name={name}&key={lab.students[name]}")
+    practice.tell(f"page to play on: {hands.address}#name={name}&key={lab.students[name]}")
     try:
         yield
     finally:

@@ -179,7 +179,7 @@ def of_folder(folder: Path, how: list[Daemon] | None, seeds: int) -> tuple[list[
     try:
         files = sorted(each for each in folder.iterdir() if each.suffix == ".toml")
     except OSError as error:
-        raise Fault(f"{folder}: {error.strerror}; --labs names a folder with labs, which are files NAME.toml", 4) from None
+        raise Fault(f"{folder}: {error.strerror}; --labs has to name a folder with labs, which are files NAME.toml", 4) from None
     cases: list[Case] = []
     faults: list[str] = []
     for file in files:

@@ -53,7 +53,7 @@ def run_attempt(attempt: Attempt, folder: Path) -> Result | None:
     except Fails as fails:
         result.why, result.started = str(fails), not isinstance(fails, NotStarted)
     except Fault as fault:
-        result.why = f"the class ended: {fault}"
+        result.why = f"the class of this case ended with an error: {fault}"
     except Stopped:
         return None
     finally:

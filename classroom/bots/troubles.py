@@ -42,7 +42,7 @@ def run(attempt: Attempt) -> None:
         turned_away(attempt)
     attempt.until_greeted()
     attempt.doing = ON
-    attempt.until_stable("the class isn't stable")
+    attempt.until_stable()
     check_rest(attempt, QUIET)
     for trouble in troubles:
         if trouble in EACH:
@@ -63,7 +63,7 @@ def check_rest(attempt: Attempt, seconds: float) -> None:
         raise Fails(wrong)
     asked = attempt.heard.asked - before
     if asked > len(attempt.nodes()):
-        raise Fails(f"it asked for {asked} moves though no guard held at any node: ask only if a guard holds")
+        raise Fails(f"the bot asked for {asked} moves although no guard held at any node: ask only if a guard holds")
 
 
 def hurt(attempt: Attempt, of: list[int] | None = None) -> int:
@@ -77,7 +77,7 @@ def hurt(attempt: Attempt, of: list[int] | None = None) -> int:
             playing.fault(node, p, m)
             if node in privileged(attempt):
                 return node
-    raise Fails("no fault makes a node of the bot privileged")
+    raise Fails("no values of the registers make a node of the bot privileged, so this lab can't test the bot: give it other nodes")
 
 
 def privileged(attempt: Attempt) -> dict[int, str]:
@@ -91,7 +91,7 @@ def until_granted(attempt: Attempt, node: int, what: str) -> None:
     end = time.monotonic() + attempt.limits.seconds
     while node not in attempt.playing.chosen:
         if time.monotonic() > end:
-            raise Fails(f"{what} in {attempt.limits.seconds:g} seconds{attempt.playing.explain_silence(attempt.case.who)}"
+            raise Fails(f"{what} within {attempt.limits.seconds:g} seconds{attempt.playing.explain_silence(attempt.case.who)}"
                         f"{explaining.of_waiting(attempt.playing, attempt.case.who)}")
         attempt.turn()
 
@@ -100,7 +100,7 @@ def fault(attempt: Attempt) -> None:
     """Hurts several nodes of the bot, one after another."""
     for each in attempt.chance.sample(attempt.nodes_owned_alone(), min(MOST_FAULTS, len(attempt.nodes_owned_alone()))):
         node = hurt(attempt, [each])
-        attempt.until_stable(f"a fault at node {node} isn't handled")
+        attempt.until_stable(f"a fault at node {node}")
 
 
 def cut(attempt: Attempt) -> None:
@@ -110,26 +110,26 @@ def cut(attempt: Attempt) -> None:
     while attempt.case.piece and not any(caller.held for caller in port.callers) and time.monotonic() < end:
         attempt.turn()
     port.hang_up_all()
-    attempt.until_greeted_again(before, "its connection was closed")
+    attempt.until_greeted_again(before, "connection was closed")
     if attempt.case.piece:
-        attempt.doing = f", after its connection was closed in the middle of a reply (a part of a reply doesn't count){ON}"
+        attempt.doing = f", after its connection was closed in the middle of a reply (a bot ignores a reply without its end){ON}"
     node = hurt(attempt)
-    attempt.until_stable(f"a fault at node {node}, after the bot's connection was closed, isn't handled")
+    attempt.until_stable(f"the loss of the bot's connection and a fault at node {node}")
     attempt.doing = ON
 
 
 def rest(attempt: Attempt, seconds: float = RESTING) -> None:
     """Lets the class rest for `seconds` seconds, and hurts a node. Raises `Fails` if the bot didn't
     look at all its nodes meanwhile."""
-    attempt.doing = f", after the class was at rest for some seconds{ON}"
+    attempt.doing = f", after the network was stable for some seconds{ON}"
     recent = attempt.heard.conduct.recent
     recent.clear()
     check_rest(attempt, seconds)
     if missed := [f"node {node}" for node in attempt.nodes() if node not in recent]:
-        raise Fails(f"the class was at rest for {seconds:g} seconds, and the bot didn't look at {' and '.join(missed)}: look at all nodes again and again, "
+        raise Fails(f"the network was stable for {seconds:g} seconds, and the bot didn't look at {' and '.join(missed)}: look at all nodes again and again, "
                     "since a fault may come at any time")
     node = hurt(attempt)
-    attempt.until_stable(f"a fault at node {node}, after {seconds:g} seconds at rest, isn't handled")
+    attempt.until_stable(f"{seconds:g} seconds in which the network was stable, and a fault at node {node}")
     attempt.doing = ON
 
 
@@ -142,11 +142,11 @@ def open_step(attempt: Attempt) -> None:
     """Hurts a node, and leaves the step open for LONG_OPEN seconds after the bot's move of this node was granted."""
     attempt.playing.is_held = True
     node = hurt(attempt)
-    until_granted(attempt, node, f"it didn't ask for a move of node {node}, which a fault made privileged,")
-    attempt.doing = f", while the step stayed open after a grant (the teacher closes it, maybe much later){ON}"
+    until_granted(attempt, node, f"the bot didn't ask for a move of node {node}, which a fault made privileged,")
+    attempt.doing = f", while the step stayed open after its move was granted (the teacher may close the step much later){ON}"
     attempt.run_for(LONG_OPEN)
     attempt.playing.is_held, attempt.doing = False, ON
-    attempt.until_stable(f"a fault at node {node}, after which the step stayed open for long, isn't handled")
+    attempt.until_stable(f"a fault at node {node} and a step that stayed open for {LONG_OPEN:g} seconds")
 
 
 def release(attempt: Attempt) -> None:
@@ -154,13 +154,13 @@ def release(attempt: Attempt) -> None:
     playing = attempt.playing
     playing.is_held = True
     node = hurt(attempt)
-    until_granted(attempt, node, f"it didn't ask for a move of node {node}, which a fault made privileged,")
+    until_granted(attempt, node, f"the bot didn't ask for a move of node {node}, which a fault made privileged,")
     attempt.run_for(LATE)
     playing.release(node)
-    until_granted(attempt, node, f"the teacher took the bot's move of node {node} back in configuration {playing.report['at']}, and the bot didn't ask again "
-                                 "(after a grant look again a little later: the number stays the same)")
+    until_granted(attempt, node, f"the teacher released the bot's granted move of node {node} in configuration {playing.report['at']}, and the bot didn't ask "
+                                 "again (look again a little later after a grant: `at` stays the same, but `chosen` is null)")
     playing.is_held = False
-    attempt.until_stable(f"a fault at node {node}, after which the teacher took a move back, isn't handled")
+    attempt.until_stable(f"a fault at node {node} and the release of a granted move")
 
 
 def overtake(attempt: Attempt) -> None:
@@ -170,7 +170,7 @@ def overtake(attempt: Attempt) -> None:
     attempt.playing.overtakes = OVERTAKES
     for _ in range(ROUNDS):
         node = hurt(attempt)
-        attempt.until_stable(f"a fault at node {node}, with a step closed between look and move, isn't handled")
+        attempt.until_stable(f"a fault at node {node} and a step that was closed between look and move")
         if not attempt.playing.overtakes:
             break
     attempt.playing.overtakes, attempt.doing = 0, ON
@@ -183,7 +183,7 @@ def turn(attempt: Attempt) -> None:
     for _ in range(TURNS):
         attempt.playing.turns = 1
         node = hurt(attempt)
-        attempt.until_stable(f"a fault at node {node}, with another fault between look and move, isn't handled")
+        attempt.until_stable(f"a fault at node {node} and another fault there between look and move")
     attempt.playing.turns, attempt.doing = 0, ON
 
 
@@ -193,15 +193,15 @@ def drop(attempt: Attempt) -> None:
     playing = attempt.playing
     playing.is_held = True
     node = hurt(attempt)
-    until_granted(attempt, node, f"it didn't ask for a move of node {node}, which a fault made privileged,")
+    until_granted(attempt, node, f"the bot didn't ask for a move of node {node}, which a fault made privileged,")
     attempt.run_for(LATE)
     other = next(each.id for each in reversed(attempt.case.made.nodes) if each.id != node)
     it = playing.program.ask(TEACHER, do="see", node=other)
     playing.fault(other, it["p"], it["m"])
-    until_granted(attempt, node, f"a fault at node {other} dropped the bot's granted move of node {node}, and the bot didn't ask again (a grant is "
-                         "no step: look again, and ask if `chosen` is null)")
+    until_granted(attempt, node, f"a fault at node {other} dropped the bot's granted move of node {node}, and the bot didn't ask again (a granted "
+                         "move isn't applied yet: look again, and ask again if `chosen` is null)")
     playing.is_held = False
-    attempt.until_stable(f"a fault at node {node}, whose granted move was dropped, isn't handled")
+    attempt.until_stable(f"a fault at node {node} and another fault, which dropped the granted move")
 
 
 def link_nodes(attempt: Attempt, node: int, other: int) -> None:
@@ -216,7 +216,7 @@ def link_nodes(attempt: Attempt, node: int, other: int) -> None:
     until_granted(attempt, node, f"the teacher linked node {node} with node {other}, which points at node {node}, and the bot didn't ask for the "
                          "marriage (neighbours change in a run: take them from your last look)")
     playing.is_held = False
-    attempt.until_stable(f"a new link between nodes {node} and {other} isn't handled")
+    attempt.until_stable(f"the teacher linked nodes {node} and {other}")
 
 
 def cut_pair(attempt: Attempt, node: int, other: int) -> None:
@@ -229,10 +229,10 @@ def cut_pair(attempt: Attempt, node: int, other: int) -> None:
     playing.fault(node, other, True)
     until_looked(attempt, node)
     playing.relink("cut", node, other)
-    until_granted(attempt, node, f"the teacher cut the link between nodes {node} and {other}, which were married, and the bot "
-                         f"didn't ask for a move of node {node}")
+    until_granted(attempt, node, f"the teacher removed the link between the married nodes {node} and {other}, and the bot didn't ask for a move of node "
+                         f"{node} (neighbours change in a run: take them from your last look)")
     playing.is_held = False
-    attempt.until_stable(f"a cut between nodes {node} and {other} isn't handled (neighbours change in a run: take them from your last look)")
+    attempt.until_stable(f"the teacher removed the link between nodes {node} and {other}")
 
 
 def relink(attempt: Attempt) -> None:
@@ -251,7 +251,7 @@ def memory(attempt: Attempt) -> None:
     attempt.doing = f", after the refusal `memory`, which means: ask again a little later{ON}"
     attempt.playing.short.update({"look": 2, "move": 1})
     node = hurt(attempt)
-    attempt.until_stable(f"a fault at node {node}, after the refusal `memory`, isn't handled")
+    attempt.until_stable(f"a fault at node {node} and some lines that were refused as `memory`")
     attempt.playing.short.clear()
     attempt.doing = ON
 
@@ -261,24 +261,24 @@ def seat(attempt: Attempt) -> None:
     again, and hurts a node."""
     before = attempt.heard.greeted
     attempt.playing.relay.end_all(relay.BUSY)
-    attempt.until_greeted_again(before, "its seat went to a newcomer, so that its last line was `busy`")
+    attempt.until_greeted_again(before, "seat was given to a new connection, with the last line `busy`")
     node = hurt(attempt)
-    attempt.until_stable(f"a fault at node {node}, after the bot's seat went to a newcomer, isn't handled")
+    attempt.until_stable(f"the loss of the bot's seat and a fault at node {node}")
 
 
 def taken(attempt: Attempt) -> None:
     """Lets another owner of a shared node ask for its move first: once before the bot looks, and then between the bot's
     look and its move."""
     playing, shared = attempt.playing, [node for node in attempt.nodes() if node not in attempt.nodes_owned_alone()]
-    attempt.doing = f", after somebody else moved a node that it shares (`chosen` is no error: look again a little later){ON}"
+    attempt.doing = f", after another owner asked first for the move of a shared node (`chosen` is no error: look again a little later){ON}"
     playing.is_held = True
     playing.house_move(hurt(attempt, shared))
     attempt.run_for(3 * LATE)
     playing.is_held = False
-    attempt.until_stable("after another owner moved a node, the class isn't stable")
+    attempt.until_stable("another owner asked first for the move of a shared node")
     playing.forestalls = True
     node = hurt(attempt, shared)
-    attempt.until_stable(f"a fault at node {node}, which another owner moved first, isn't handled")
+    attempt.until_stable(f"a fault at node {node}, for whose move another owner asked first")
     playing.forestalls, attempt.doing = False, ON
 
 
@@ -291,11 +291,11 @@ def lost(attempt: Attempt) -> None:
     end = time.monotonic() + attempt.limits.seconds
     while not playing.has_lost:
         if time.monotonic() > end:
-            raise Fails(f"it didn't ask for a move of node {node}, which a fault made privileged, in {attempt.limits.seconds:g} seconds"
+            raise Fails(f"the bot didn't ask for a move of node {node}, which a fault made privileged, within {attempt.limits.seconds:g} seconds"
                         f"{playing.explain_silence(attempt.case.who)}{explaining.of_waiting(playing, attempt.case.who)}")
         attempt.turn()
-    what = f"its server was gone for {GONE:g} seconds, and came back"
-    attempt.doing = f", after {what} ({AGAIN})"
+    what = f"server was stopped for {GONE:g} seconds"
+    attempt.doing = f", after its {what} ({AGAIN})"
     playing.relay.hang_up_all()
     playing.relay.pause()
     end = time.monotonic() + GONE
@@ -307,7 +307,7 @@ def lost(attempt: Attempt) -> None:
         raise Fault(f"port {playing.relay.port} can't be opened again: {error.strerror}", 4) from None
     attempt.until_greeted_again(before, what)
     playing.is_held = playing.loses = playing.has_lost = False
-    attempt.until_stable(f"a fault at node {node}, after the server was gone for a moment, isn't handled")
+    attempt.until_stable(f"a fault at node {node} and {GONE:g} seconds without a server")
 
 
 def turned_away(attempt: Attempt) -> None:
@@ -316,14 +316,14 @@ def turned_away(attempt: Attempt) -> None:
     port, end = attempt.playing.relay, time.monotonic() + attempt.limits.seconds
     while not port.calls:
         if time.monotonic() > end:
-            raise Fails(f"it said no hello in {attempt.limits.seconds:g} seconds{attempt.playing.explain_silence(attempt.case.who)}")
+            raise attempt.no_hello()
         attempt.turn()
     attempt.doing = ", after the reply `busy`: all seats are taken, so a bot connects again a second later"
     came, since = len(port.calls), time.monotonic()
     attempt.run_for(TURNED_AWAY)
     most = len(attempt.nodes()) * (time.monotonic() - since + 2)
     if len(port.calls) - came > most:
-        raise Fails(f"it connected {len(port.calls) - came} times in {TURNED_AWAY:g} seconds in which the reply was `busy`: connect again a second later")
+        raise Fails(f"the bot connected {len(port.calls) - came} times in {TURNED_AWAY:g} seconds in which the reply was `busy`: connect again a second later")
     port.busy, attempt.doing = False, ""
     attempt.until_greeted()
 
@@ -335,7 +335,7 @@ def over(attempt: Attempt) -> None:
     end = time.monotonic() + attempt.limits.seconds
     while not (how := attempt.kept.ended()):
         if time.monotonic() > end:
-            raise Fails(f"it got the line that says that the class is over, and is still running after {attempt.limits.seconds:g} seconds: a bot ends then")
+            raise Fails(f"the bot is still running {attempt.limits.seconds:g} seconds after it got the line `over`: a bot ends when the class is over")
         if attempt.stop.is_set():
             raise Stopped
         attempt.playing.turn()
@@ -354,7 +354,8 @@ def until_looked(attempt: Attempt, node: int) -> None:
     at, end = attempt.playing.report["at"], time.monotonic() + attempt.limits.seconds
     while (node, at) not in attempt.heard.conduct.looked:
         if time.monotonic() > end:
-            raise Fails(f"it didn't look at node {node} again in {attempt.limits.seconds:g} seconds{attempt.playing.explain_silence(attempt.case.who)}")
+            raise Fails(f"the bot didn't look at node {node} again within {attempt.limits.seconds:g} seconds"
+                        f"{attempt.playing.explain_silence(attempt.case.who)}")
         attempt.turn()
 
 
@@ -384,12 +385,12 @@ def rules(attempt: Attempt) -> None:
         draw_registers(attempt, node, known)
         rule = privileged(attempt).get(node)
         if rule is not None:
-            until_granted(attempt, node, f"it didn't ask for {rule} at node {node}, which is privileged,")
+            until_granted(attempt, node, f"the bot didn't ask for {rule} at node {node}, which is privileged,")
             continue
         until_looked(attempt, node)
         attempt.run_for(LOOKED)
     playing.is_held = False
-    attempt.until_stable(f"faults at node {node} and its neighbours aren't handled")
+    attempt.until_stable(f"faults at node {node} and its neighbours")
 
 
 EACH: dict[str, Callable[[Attempt], None]] = {

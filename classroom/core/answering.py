@@ -15,6 +15,7 @@ from classroom.client import Denied, Refused, reply_of
 from classroom.core import lab as labs
 from classroom.core.processes import begin
 from classroom.core.program import Fault, host
+from classroom.core.statuses import how_ended
 
 AT_ONCE = 16_000  # the most bytes of lines that are sent before their replies are read; a pipe has room for more
 MOST_SCRIPT = 1_000_000  # the most bytes of a script that is kept; `mml` accepts a larger script
@@ -45,7 +46,8 @@ def all_of(lab: labs.Lab, script: list[str]) -> str:
     replies, said = out.decode("ascii"), error.decode(errors="replace").strip()
     count = replies.count("\n")
     if process.returncode != 0 or count != len(script):
-        raise Fault(said or f"the program printed {count} replies to {len(script)} lines", process.returncode or 4)
+        raise Fault(said or f"`mml answer` printed {count} replies to {len(script)} requests. This is an error of the program: report it to its developers",
+                    process.returncode or 4)
     return replies
 
 
@@ -92,7 +94,7 @@ class Answering:
         self.process.kill()
         said = self.process.stderr.read().decode(errors="replace").strip()
         status = self.process.wait()
-        return Fault(f"the program has ended, status {status}: {said}", 4)
+        return Fault(f"`mml answer` has ended unexpectedly, {how_ended(status)}. It printed: {said or 'nothing'}", 4)
 
     def answer(self, connection: int, line: bytes) -> dict[str, Any]:
         """Sends a line on a connection, and returns the values of the JSON reply. Adds the line to the script of

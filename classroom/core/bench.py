@@ -56,7 +56,7 @@ class Bench:
         replies: list[dict[str, Any]] = [json.loads(reply) for reply in self.program.answers(lines)]
         for (_, request), reply in zip(requests, replies):
             if "ok" not in reply:
-                raise Fault(f"{request} is answered by {reply}", 4)
+                raise Fault(f"`mml answer` didn't grant the request {json.dumps(request)}. Its reply is {json.dumps(reply)}", 4)
             self.events += "place" in reply
         self.requests += requests
         return replies

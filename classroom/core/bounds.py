@@ -20,7 +20,7 @@ def of(nodes: int, links: int) -> Bounds:
     Raises `Fault` if the program isn't built or prints no bounds."""
     found = tally.of_texts(labs.text(some(nodes, links)), "").bounds
     if not found.moves:
-        raise Fault("mml is of an older version, which prints no bounds: `./mml build` builds it again", 4)
+        raise Fault("the program mml is of an older version, which prints no bounds. Type `./mml build` to build the present version", 4)
     return found
 
 

@@ -65,4 +65,4 @@ def build() -> int:
 def set_up() -> None:
     """Builds the program if this is a clone that lacks it. Raises `Fault` if the build fails."""
     if lacks_program() and build() != 0:
-        raise Fault("the build of the program failed, so nothing was done")
+        raise Fault("this command needs the program mml, and building it failed. The lines above say why")

@@ -61,7 +61,7 @@ class Class:
         except (ValueError, KeyError, TypeError, RecursionError, AttributeError):
             sound = False
         if not sound:
-            raise Fault(f"{folder / FILE}: this file doesn't name the networks of a class", FAILED)
+            raise Fault(f"{folder / FILE}: this file is damaged, so the networks of the class aren't known. Name the folder of each network instead", FAILED)
         return made
 
     def is_valid(self) -> bool:
@@ -125,7 +125,7 @@ def runs_of(folder: Path) -> list[Path]:
         return [folder]
     there = [folder / network.name for network in found.networks if (folder / network.name).is_dir()]
     if not there:
-        raise Fault(f"{folder}: no network of this class was started", FAILED)
+        raise Fault(f"{folder}: no network of this class was started, so the class has no run", FAILED)
     return there
 
 
@@ -138,9 +138,9 @@ def run_of(folder: Path, name: str) -> Path:
     runs = [(run, labs.read(of_folder(run)[0])) for run in runs_of(folder)]
     found = [run for run, lab in runs if name in lab.students or name == lab.teacher[0]]
     if not found:
-        raise Fault(f"{folder}: no network of this class has a student {name}")
+        raise Fault(f"{folder}: no network of this class has a student called {name}. The students' slips have their names")
     if len(found) > 1:
-        raise Fault(f"{folder}: {name} is in several networks; name one: {', '.join(map(str, found))}")
+        raise Fault(f"{folder}: several networks of this class have a student called {name}. Name the folder of one network: {' or '.join(map(str, found))}")
     return found[0]
 
 
@@ -152,5 +152,5 @@ def given(words: list[str]) -> list[tuple[Path, Path]]:
     if first.is_dir():
         return [of_folder(run) for word in words for run in runs_of(Path(word))]
     if len(words) == 1:
-        raise Fault(f"{first} isn't the folder of a run; if it is a lab, name its journals after it")
+        raise Fault(f"{first} isn't the folder of a run or of a class. If it is the file of a lab, name one of its journals after it")
     return [(first, Path(word)) for word in words[1:]]

@@ -74,41 +74,41 @@ class Word:
 
 
 WORDS = {
-    "close": Word("", "close the step: all chosen moves are applied at once", Action.ASK, (
-        Button("close", "Close the step", "close", "applies all chosen moves at once"),
+    "close": Word("", "close the step: all granted moves are applied together", Action.ASK, (
+        Button("close", "Close the step", "close", "closes the step: all granted moves are applied together"),
     )),
-    "fault": Word("NODE NEIGHBOUR|null true|false", "set a node's p and m", Action.ASK, (
-        Button("set", "Set them", "fault #picked #p #m", "a fault: gives the node these registers"),
+    "fault": Word("NODE NEIGHBOUR|null true|false", "make a fault: set the registers p and m of a node", Action.ASK, (
+        Button("set", "Set them", "fault #picked #p #m", "makes a fault: sets the registers of this node to these values"),
     ), is_edit=True),
-    "shake": Word("K|all [SEED]", "set the registers of K nodes, or of all, to random values", Action.SHAKE, (
-        Button("shake", "Shake", "shake #count", "sets the registers of this number of random nodes to random values"),
-        Button("shake-all", "Shake all", "shake all", "sets all registers to random values"),
+    "shake": Word("K|all [SEED]", "set the registers of K random nodes, or of all, to random values; the same SEED makes the same choices", Action.SHAKE, (
+        Button("shake", "Shake", "shake #count", "sets the registers of some random nodes to random values; the number beside this button says of how many"),
+        Button("shake-all", "Shake all", "shake all", "sets the registers of all nodes to random values"),
     )),
-    "break": Word("", "set all registers to a start from which a run takes long", Action.BREAK,
-                  (Button("break", "Longest start", "break", "sets all registers to a start from which a run takes long"),)),
-    "link": Word("NODE NODE", "add a link", Action.ASK, is_edit=True, links=1),
-    "cut": Word("NODE NODE", "remove a link", Action.ASK, is_edit=True, links=-1),
-    "release": Word("NODE", "take back the chosen move of a node", Action.ASK, (
-        Button("release", "Release its move", "release #picked", "takes back the chosen move of this node", kind="button"),
+    "break": Word("", "set all registers to values from which the run takes many moves", Action.BREAK,
+                  (Button("break", "Longest start", "break", "sets all registers to values from which the run takes many moves"),)),
+    "link": Word("NODE NODE", "link two nodes", Action.ASK, is_edit=True, links=1),
+    "cut": Word("NODE NODE", "remove the link between two nodes", Action.ASK, is_edit=True, links=-1),
+    "release": Word("NODE", "drop the granted move of a node", Action.ASK, (
+        Button("release", "Release its move", "release #picked", "drops the granted move of this node", kind="button"),
     )),
     "report": Word("", "print the matching, and how many events are left", Action.REPORT),
-    "wait": Word("", "print for whom the class waits", Action.WAIT),
-    "who": Word("", "print who is connected, and who hasn't moved yet", Action.WHO),
-    "play": Word("NAME", "let the house play a student's nodes", Action.PLAY),
-    "stop": Word("NAME", "let the student play these nodes again", Action.STOP),
-    "every": Word("SECONDS", "close a step at intervals of this length", Action.CLOSE_BY,
-                  (Button("every", "by the clock", "every #seconds", "closes a step at intervals of this many seconds"),)),
-    "when-idle": Word("SECONDS", "close a step when no move came for this time", Action.CLOSE_BY,
-                      (Button("when-idle", "when idle", "when-idle #seconds", "closes a step when no move came for this many seconds"),)),
-    "by-hand": Word("", "close a step only when you type `close`", Action.CLOSE_BY, (
-        Button("by-hand", "by hand", "by-hand", "closes a step only when you press Close the step, or type `close`"),
+    "wait": Word("", "print the nodes that the class waits for, with their students", Action.WAIT),
+    "who": Word("", "print which students are connected, and which haven't had a granted move yet", Action.WHO),
+    "play": Word("NAME", "let the house play the nodes of the student NAME", Action.PLAY),
+    "stop": Word("NAME", "stop the house from playing for the student NAME", Action.STOP),
+    "every": Word("SECONDS", "from now on close a step each time this number of seconds has passed", Action.CLOSE_BY,
+                  (Button("every", "by the clock", "every #seconds", "from now on closes a step each time this number of seconds has passed"),)),
+    "when-idle": Word("SECONDS", "from now on close a step when no move was granted for this number of seconds", Action.CLOSE_BY,
+                      (Button("when-idle", "when idle", "when-idle #seconds", "from now on closes a step when no move was granted for so many seconds"),)),
+    "by-hand": Word("", "from now on close a step only when you type `close`", Action.CLOSE_BY, (
+        Button("by-hand", "by hand", "by-hand", "from now on closes a step only when you press Close the step, or type `close`"),
     )),
-    "daemon": Word("WORD", "close steps by one of the daemons central, synchronous, random:P, schedule, adversary, when-idle:SECONDS, every:SECONDS, by-hand",
-                   Action.DAEMON),
-    "page": Word("", "move the page on which you act to a new address; its old address no longer works", Action.PAGE),
-    "key": Word("NAME", "give a student a new key, while the class continues", Action.KEY),
-    "help": Word("", "list these words", Action.HELP),
-    "end": Word("", "end the run", Action.END, (Button("end", "End the run …", "end", "asks before it ends the run", kind="button"),)),
+    "daemon": Word("WORD", "from now on close steps by this daemon: central, synchronous, random:P, schedule, adversary, when-idle:SECONDS, "
+                           "every:SECONDS or by-hand", Action.DAEMON),
+    "page": Word("", "give the page on which you can act a new address; the old address no longer works", Action.PAGE),
+    "key": Word("NAME", "give the student NAME a new key; the server restarts, and the class continues", Action.KEY),
+    "help": Word("", "print this list of commands", Action.HELP),
+    "end": Word("", "end the run", Action.END, (Button("end", "End the run …", "end", "ends the run, after it has asked you again", kind="button"),)),
 }
 EDITS = tuple(word for word, it in WORDS.items() if it.is_edit)
 BUTTONS = {button.name: button for it in WORDS.values() for button in it.buttons}

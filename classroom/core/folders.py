@@ -38,8 +38,8 @@ def new_folder(into: Path, lab: Path) -> Path:
         except FileExistsError:
             continue
         except OSError as error:
-            raise Fault(f"{folder}: {error.strerror}; name another folder by --into FOLDER", 4) from None
-    raise Fault(f"{into}: no name for a new folder is free there; name another folder by --into FOLDER", 4)
+            raise Fault(f"{folder}: this folder can't be made: {error.strerror}. Name another place for it by --into FOLDER", 4) from None
+    raise Fault(f"{into}: in this folder the names {stamp} to {stamp}-999 are all taken. Name another folder by --into FOLDER", 4)
 
 
 def of_folder(folder: Path) -> Run:
@@ -47,8 +47,9 @@ def of_folder(folder: Path) -> Run:
     if a file that a run reads or writes isn't a plain file."""
     for name in FILES:
         plain.require_plain(folder / name)
-    if not (folder / "lab.toml").is_file() or not (folder / "journal").is_file():
-        raise Fault(f"{folder}: this isn't the folder of a run, which has lab.toml and journal")
+    missing = [name for name in ("lab.toml", "journal") if not (folder / name).is_file()]
+    if missing:
+        raise Fault(f"{folder}: this isn't the folder of a run, since it has no file {' and no file '.join(missing)}")
     return folder / "lab.toml", folder / "journal"
 
 
@@ -138,9 +139,10 @@ class Record:
 
     @staticmethod
     def lacking(folder: Path, port: int) -> Record:
-        """Returns a record for the folder of a run that has none, as the first version 0.9.0 left them. The record's
-        port for students is `port`, and its other values are those with which a run begins by default."""
-        return Record(str(folder / "lab.toml"), port, 0, None, "when-idle:2", None, Process(0, ""), Process(0, ""))
+        """Returns a record for a run's folder without `run.json`; the first runs of version 0.9.0 left such folders. The
+        record's port for students is `port`, and its other values are those with which a run begins by default."""
+        nobody = Process(number=0, start="")
+        return Record(lab=str(folder / "lab.toml"), port=port, desk=0, page=None, close="when-idle:2", until=None, run=nobody, server=nobody)
 
     def write(self, folder: Path) -> None:
         """Writes the record into the folder. If the record can't be written, as on a full disk, the old file stays, and

@@ -53,6 +53,18 @@ class Event:
         return tuple(int(word) for word in self.words[first : first + count])
 
 
+def in_words(event: Event) -> str:
+    """Returns an event as a text for people. The page's script has the same texts (`toldEvent` in `picture.js`)."""
+    kind, *rest = event.words
+    if kind == "grant":
+        return f"node {rest[1]} ({rest[0]}): {' with '.join(rest[2:])}"
+    if kind == "fault":
+        return f"⚡ fault at node {rest[0]}: p {'null' if rest[1] == '-' else rest[1]}, m {rest[2]}"
+    if kind in EDITS:
+        return f"⚡ link {'–'.join(rest)} {'removed' if event.links < 0 else 'added'}"
+    return "the step is closed" if kind == "close" else f"node {rest[0]}: its move is dropped"
+
+
 def split(text: str) -> list[list[str]]:
     """Returns the words of each complete line of a journal: the event's place, the number of the configuration before
     it, and the words of the event."""

@@ -95,9 +95,9 @@ def document(path: Path) -> dict[str, Any]:
     except OSError as error:
         raise Fault(f"{path}: {error.strerror}", 4) from None
     except UnicodeDecodeError:
-        raise Fault(f"{path}: this file isn't text in UTF-8: save it as UTF-8", 2) from None
+        raise Fault(f"{path}: this file isn't a text in UTF-8. Save it as UTF-8", 2) from None
     except tomllib.TOMLDecodeError as error:
-        raise Fault(f"{path}: Python's TOML reader refuses this file: {error}", 2) from None
+        raise Fault(f"{path}: Python can't read this file as TOML: {error}", 2) from None
 
 
 def unread(path: Path, error: str) -> str:
@@ -117,7 +117,7 @@ def read(path: Path) -> Lab:
     if answer.status == 4:
         raise Fault(unread(path, answer.error), 4)
     if answer.status != 0:
-        raise Fault(f"{path}: {answer.error}; `{CLASS} check {path}` says more", answer.status)
+        raise Fault(f"{path}: the lab is refused ({answer.error}). Type `{CLASS} check {path}` to see where the mistake is", answer.status)
     it = document(path)
     nodes = [
         Node(each["id"], [each["owner"]] if "owner" in each else each["owners"], each.get("p"), each.get("m", False))
@@ -179,6 +179,6 @@ def write_new(path: Path, content: str) -> None:
             path.unlink()
             raise
     except FileExistsError:
-        raise Fault(f"{path} is there already, and isn't overwritten: name another file, or move this one away") from None
+        raise Fault(f"{path} exists already, and isn't overwritten. Name another file, or move this one away") from None
     except OSError as error:
         raise Fault(f"{path}: {error.strerror}", 4) from None

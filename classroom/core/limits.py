@@ -57,17 +57,17 @@ def parsed(text: str) -> Limits:
     for line in text.split("\n")[:-1]:
         it = LINE.fullmatch(line)
         if it is None or it["name"] in found or it["unit"] != UNIT_OF.get(it["name"], it["unit"]):
-            raise another(f"the limit {line!r}")
+            raise another(f"the unknown line {line!r}")
         found[it["name"]] = int(it["most"])
     for name in UNIT_OF:
         if name not in found:
-            raise another(f"no limit {name}")
+            raise another(f"no line {name}")
     return Limits(**{name.replace("-", "_"): found[name] for name in UNIT_OF})
 
 
 def another(what: str) -> Fault:
     """Returns the fault to raise if the program is of another version. `what` is what that version prints."""
-    return Fault(f"mml is of another version, which prints {what}: `./mml build` builds it again", FAILED)
+    return Fault(f"the program mml is of another version than ./class: `mml limits` prints {what}. Type `./mml build` to build the present version", FAILED)
 
 
 @cache
@@ -76,7 +76,7 @@ def allowed() -> Limits:
     prints something else."""
     answer = host_call("limits")
     if answer.status != 0:
-        raise another("no limits")
+        raise another("nothing")
     return parsed(answer.output)
 
 

@@ -78,8 +78,8 @@ def read(path: Path, words: argparse.Namespace) -> People:
     try:
         content = path.read_bytes()
         if path.suffix.lower() in SHEETS or content.startswith(b"PK\x03\x04"):
-            raise Fault(f"{path}: this is a spreadsheet's own file, not a table as text: open it there, save it as CSV (UTF-8), "
-                        "and name that file")
+            raise Fault(f"{path}: this file is in the format of a spreadsheet program. Open it in this program, save it as CSV (UTF-8), "
+                        "and name the new file instead")
         text = decoded(content)
     except OSError as error:
         raise Fault(f"{path}: {error.strerror}", 4) from None
@@ -93,7 +93,7 @@ def read(path: Path, words: argparse.Namespace) -> People:
     else:
         found = People([([], Person(line.strip())) for line in text.splitlines() if line.strip()])
     if not found.people:
-        raise Fault(f"{path}: this list has no names")
+        raise Fault(f"{path}: there are no names in this file. Write one name on each line")
     return found
 
 
@@ -106,7 +106,7 @@ def table(path: Path, text: str, words: argparse.Namespace) -> People:
     try:
         lines = [row for row in reader if any(map(str.strip, row))]
     except csv.Error as error:
-        raise Fault(f"{path}: line {reader.line_num}: {error}") from None
+        raise Fault(f"{path}: line {reader.line_num} isn't CSV: {error}") from None
     heads = [head.strip() for head in lines[0]] if lines else []
     first, last = column(path, heads, words.first_name, FIRST), column(path, heads, words.last_name, LAST)
     whole = column(path, heads, words.column, () if words.first_name or words.last_name else NAMES)
@@ -121,8 +121,8 @@ def table(path: Path, text: str, words: argparse.Namespace) -> People:
 
     parts = [whole] if whole is not None else [index for index in (first, last) if index is not None]
     if not parts:
-        there = ", ".join(heads)
-        raise Fault(f"{path}: no column is called name; there are: {there}. Name one by --column NAME, or two by --first-name and --last-name")
+        raise Fault(f"{path}: {columns_told(heads)}, and none of them is called name. Name the column with the names by --column COL, "
+                    "or two columns by --first-name COL and --last-name COL")
     rows: list[tuple[list[str], Person | None]] = []
     for row in lines[1:]:
         row += [""] * (len(heads) - len(row))
@@ -132,11 +132,16 @@ def table(path: Path, text: str, words: argparse.Namespace) -> People:
     return People(rows, heads, delimiter)
 
 
+def columns_told(heads: list[str]) -> str:
+    """Returns a text that lists the columns of a table with these heads."""
+    return f"the columns of this table are: {', '.join(heads)}" if any(heads) else "this table has no columns with heads"
+
+
 def column(path: Path, heads: list[str], asked: str | None, known: Iterable[str]) -> int | None:
     """Returns the index of the column whose head is `asked`, or if that is None of the first column with one of the
     `known` heads. Returns None if no head is known. Raises `Fault` if `asked` names a missing column. `path` is the
     table's file, for the message."""
     lower = [head.lower() for head in heads]
     if asked is not None and asked.lower() not in lower:
-        raise Fault(f"{path}: no column {asked}; there are: {', '.join(heads)}. Name one by --column NAME")
+        raise Fault(f"{path}: {columns_told(heads)}, and none of them is called {asked}. Name one of these columns in the command")
     return next((lower.index(word) for word in ([asked.lower()] if asked is not None else known) if word in lower), None)

@@ -3,6 +3,7 @@ networks of one form and different sizes."""
 from __future__ import annotations
 
 import itertools
+import math
 import random
 import re
 from collections import deque
@@ -14,8 +15,13 @@ from classroom.core.program import Fault
 
 Links = list[tuple[int, int]]
 STARTS = ("clean", "random", "hurt", "worst")
-STARTED = "registers at the beginning: clean is null and false, hurt is random at one node in three, worst makes runs long"
+STARTED = ("the registers at the beginning: with clean, p is null and m is false at each node; with random, all are random; "
+           "with hurt, those of one node in three are random; with worst, a run takes many moves")
 NAMED = "path, cycle, star, complete, tree, crowd, halves, grid:WxH, random:N:LINKS"
+
+
+class UnknownFamily(Fault):
+    """The reason why a name isn't that of a family of networks."""
 
 
 def neighbours(nodes: Iterable[int], links: Iterable[tuple[int, int]]) -> dict[int, list[int]]:
@@ -46,7 +52,8 @@ def random_links(count: int, links: int, chance: random.Random) -> Links:
     `links`. `chance` makes the random choices. Raises `Fault` if no connected network has this number of links."""
     every = count * (count - 1) // 2
     if not count - 1 <= links <= every:
-        raise Fault(f"random:{count}: write a number of links from {count - 1} to {every}")
+        raise Fault(f"--family random:{count}:{links}: a connected network of {count} nodes can't have {links} links. "
+                    f"Write a number of links from {count - 1} to {every}")
     tree = [(chance.randint(1, node - 1), node) for node in range(2, count + 1)]
     rest = sorted(set(itertools.combinations(range(1, count + 1), 2)) - set(tree))
     return sorted(tree + chance.sample(rest, links - len(tree)))
@@ -56,21 +63,21 @@ def family(word: str, count: int | None, students: int, chance: random.Random) -
     """Returns the number of nodes and the links of the network that the argument `word` names, such as `cycle` or
     `grid:3x2`. The network's nodes are numbered from 1. If the argument has no size, there are `count` nodes, or as
     many as `students` if `count` is None. `chance` makes random choices. Raises `Fault` if there is no such network."""
-    sized = re.fullmatch(r"grid:(\d{1,3})x(\d{1,3})|random:(\d{1,3}):(\d{1,5})", word)
-    if sized and sized[1]:
-        width, height = int(sized[1]), int(sized[2])
+    sized = re.fullmatch(r"grid:(?P<width>\d{1,3})x(?P<height>\d{1,3})|random:(?P<nodes>\d{1,3}):(?P<links>\d{1,5})", word)
+    if sized and sized["width"]:
+        width, height = int(sized["width"]), int(sized["height"])
         nodes, links = width * height, []
         for node in range(1, nodes + 1):
             links += [(node, node + 1)] if node % width else []
             links += [(node, node + width)] if node + width <= nodes else []
     elif sized:
-        nodes = within(int(sized[3]))
-        links = random_links(nodes, int(sized[4]), chance)
+        nodes = within(int(sized["nodes"]))
+        links = random_links(nodes, int(sized["links"]), chance)
     else:
         nodes = within(count if count is not None else students)
         links = plain(word, nodes)
     if sized and count not in (None, nodes):
-        raise Fault(f"{word} has {nodes} nodes, and --nodes says {count}")
+        raise Fault(f"--family {word} has {nodes} nodes, but --nodes says {count}. Leave out --nodes")
     return within(nodes), links
 
 
@@ -78,19 +85,19 @@ def within(nodes: int) -> int:
     """Returns the same number of nodes. Raises `Fault` if a lab can't have this number of nodes."""
     most = limits.allowed().nodes
     if not 1 <= nodes <= most:
-        raise Fault(f"a lab has 1 to {most} nodes, not {nodes}")
+        raise Fault(f"this network would have {nodes} nodes, but a lab has 1 to {most}")
     return nodes
 
 
 def plain(word: str, nodes: int) -> Links:
     """Returns the links of the network of a family without a size in its name, such as `path`, with this number of
-    nodes. Raises `Fault` for any other family, or if a cycle would have fewer than three nodes."""
+    nodes. Raises `UnknownFamily` for any other family, and `Fault` if a cycle would have fewer than three nodes."""
     row = [(node, node + 1) for node in range(1, nodes)]
     if word == "path":
         return row
     if word == "cycle":
         if nodes < 3:
-            raise Fault("a cycle has at least three nodes: name their number by --nodes N")
+            raise Fault(f"this cycle would have {nodes} nodes, but a cycle has at least three. Write --nodes 3 or more, or choose another network by --family")
         return [*row, (nodes, 1)]
     if word == "star":
         return [(1, node) for node in range(2, nodes + 1)]
@@ -102,7 +109,7 @@ def plain(word: str, nodes: int) -> Links:
         return [(a, b) for a, b in itertools.combinations(range(1, nodes + 1), 2) if a + b > nodes]
     if word == "halves":
         return [(a, b) for a, b in plain("crowd", nodes) if 2 * a <= nodes + 1 < 2 * b]
-    raise Fault(f"no family {word}; the families are {NAMED}")
+    raise UnknownFamily(f"--family {word}: there is no such family of networks. The families are: {NAMED}")
 
 
 def from_file(path: Path, count: int | None) -> tuple[list[int], Links]:
@@ -116,19 +123,19 @@ def from_file(path: Path, count: int | None) -> tuple[list[int], Links]:
     except OSError as error:
         raise Fault(f"{path}: {error.strerror}", 4) from None
     except UnicodeDecodeError:
-        raise Fault(f"{path}: this file isn't text in UTF-8: save it as UTF-8") from None
+        raise Fault(f"{path}: this file isn't a text in UTF-8. Save it as UTF-8") from None
     for number, line in enumerate(lines, 1):
         words = line.partition("#")[0].replace(",", " ").replace("-", " ").split()
         if not words:
             continue
         what = wrong_link(words, seen)
         if what:
-            raise Fault(f"{path}: line {number}: {what}: {line.strip()}")
+            raise Fault(f"{path}: line {number} is wrong: {line.strip()} ({what})")
         links.append((int(words[0]), int(words[1])))
         seen[frozenset(links[-1])] = number
     identifiers = sorted({end for link in links for end in link} | set(range(1, (count or 0) + 1)))
     if not identifiers:
-        raise Fault(f"{path}: no links; write each link on a line of its own, such as 1 2")
+        raise Fault(f"{path}: there are no links in this file. Write each link on a line of its own, such as 1 2")
     within(len(identifiers))
     return identifiers, links
 
@@ -137,21 +144,22 @@ def wrong_link(words: list[str], seen: dict[frozenset[int], int]) -> str | None:
     """Returns what is wrong with the words of a line with a link, or None if nothing is. `seen` has the links of
     earlier lines, with the numbers of these lines."""
     if len(words) != 2 or not all(word.isascii() and word.isdecimal() for word in words):
-        return "a link is two numbers"
+        return "a link is written as the numbers of two nodes, such as 1 2"
     (a, b), most = map(int, words), limits.allowed().identifier
     if not (1 <= a <= most and 1 <= b <= most):
-        return f"the number of a node is 1 to {most}"
+        return f"the number of a node has to be from 1 to {most}"
     if a == b:
         return "a node can't be linked to itself"
-    return f"these nodes are linked in line {seen[frozenset((a, b))]} already" if frozenset((a, b)) in seen else None
+    return f"line {seen[frozenset((a, b))]} has the same link already" if frozenset((a, b)) in seen else None
 
 
-def enough(word: str, nodes: int) -> str:
-    """Returns the option of `new` for a network of the family `word` that has at least this number of nodes."""
-    sized = re.fullmatch(r"grid:(\d+)x(\d+)|random:(\d+):(\d+)", word)
-    if sized and sized[1]:
-        width = int(sized[1])
-        return f"--family grid:{width}x{-(-nodes // width)}"
-    if sized:
-        return f"--family random:{nodes}:{int(sized[4]) + nodes - int(sized[3])}"
+def option_for(word: str, nodes: int) -> str:
+    """Returns the option of `new` for a network of the family `word` that has at least this number of nodes. A grid
+    keeps its width, and a random network gets one more link for each node that is added."""
+    if grid := re.fullmatch(r"grid:(?P<width>\d+)x\d+", word):
+        width = int(grid["width"])
+        return f"--family grid:{width}x{math.ceil(nodes / width)}"
+    if drawn := re.fullmatch(r"random:(?P<nodes>\d+):(?P<links>\d+)", word):
+        added = nodes - int(drawn["nodes"])
+        return f"--family random:{nodes}:{int(drawn['links']) + added}"
     return f"--nodes {nodes}"

@@ -29,7 +29,7 @@ def opened(path: Path) -> BinaryIO:
 
 def not_plain(path: Path) -> Fault:
     """Returns the fault to raise if a path isn't that of a plain file."""
-    return Fault(f"{path}: this isn't a regular file", FAILED)
+    return Fault(f"{path}: this isn't a plain file, but a folder, a pipe or a device", FAILED)
 
 
 def read(path: Path, most: int) -> bytes:
@@ -38,7 +38,7 @@ def read(path: Path, most: int) -> bytes:
         is_large = os.fstat(it.fileno()).st_size > most
         content = b"" if is_large else it.read(most + 1) or b""
     if is_large or len(content) > most:
-        raise Fault(f"{path}: this file has more than {most} bytes", FAILED)
+        raise Fault(f"{path}: this file is too large: it has more than {most} bytes", FAILED)
     return content
 
 

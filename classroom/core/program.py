@@ -67,7 +67,8 @@ def old_library() -> str:
     here = library() if wanted else ""
     if wanted is None or numbers(here) >= numbers(wanted[1]):
         return ""
-    return f"this release needs the GNU C library {wanted[1]} or later, and this machine has {here or 'another'}: Debian 12 has 2.36"
+    return (f"this release needs the GNU C library {wanted[1]} or later, and this machine has {here or 'another one'}. "
+            "Use a newer system; Debian 12, for example, has 2.36")
 
 
 def library() -> str:
@@ -89,8 +90,8 @@ def program(variable: str = "MML_PROGRAM") -> Path:
     built, or if a release needs a newer C library."""
     path = Path(os.environ.get(variable) or built())
     if not os.access(path, os.X_OK) or path.is_dir():
-        raise Fault("mml isn't built: `./mml build` builds it (with the toolchain's rt on the path)" if is_clone() else
-                    "this release has no bin/mml, or it isn't executable: unpack the archive again")
+        raise Fault("the program mml isn't built. Type `./mml build` to build it; this needs `rt`, the command of the Rattle toolchain" if is_clone() else
+                    "the program bin/mml of this release is missing, or isn't executable. Unpack the archive of the release again")
     return path
 
 
@@ -100,16 +101,23 @@ def host() -> Path:
     return program("MML_HOST")
 
 
+def require_built() -> None:
+    """Raises `Fault` if one of the programs that `program` and `host` return isn't built, or if a release needs a newer
+    C library."""
+    program()
+    host()
+
+
 def first_free(port: int, opened: Callable[[int], Opened | None], what: str = "") -> Opened:
     """Returns the result of `opened` for the first free port, from `port` on. `opened` is called with one port after
     another, and returns None if that port is taken. Raises `Fault` if none of the first PORTS ports is free, with
-    `what` in its text between `no port is free` and the ports."""
+    `what` in its text between `all ports` and their numbers."""
     last = min(port + PORTS - 1, LAST_PORT)
     for number in range(port, last + 1):
         it = opened(number)
         if it is not None:
             return it
-    raise Fault(f"no port is free {what}from {port} to {last}", 4)
+    raise Fault(f"all ports {what}from {port} to {last} are in use. Name another port", 4)
 
 
 def call(*words: str | Path) -> Answer:

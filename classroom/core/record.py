@@ -98,7 +98,7 @@ def begun(folder: Path) -> int:
     with this number is missing or wrong."""
     number = plain.number(plain.read(folder / "begun", plain.MOST_KEPT).rstrip(b"\n"))
     if number is None:
-        raise Fault(f"{folder / 'begun'}: this file has no number of events", 4)
+        raise Fault(f"{folder / 'begun'}: this file is damaged. It should contain the number of events that came before the record", 4)
     return number
 
 

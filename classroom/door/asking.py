@@ -56,36 +56,36 @@ class RequestHead:
         first, *rest = head.decode("latin-1").removesuffix("\r\n\r\n").split("\r\n")
         words = first.split(" ")
         if len(words) != 3 or not words[2].startswith("HTTP/1.") or not re.fullmatch(r"/[!-~]*", words[1]):
-            raise BadRequest("400 Bad Request", "this request isn't well-formed HTTP")
+            raise BadRequest("400 Bad Request", "this isn't a well-formed HTTP request")
         pairs = [line.partition(":") for line in rest]
         if any(not colon or not re.fullmatch(r"[!#$%&'*+.^_`|~0-9A-Za-z-]+", name) for name, colon, _ in pairs):
-            raise BadRequest("400 Bad Request", "this request isn't well-formed HTTP")
+            raise BadRequest("400 Bad Request", "this isn't a well-formed HTTP request")
         heads = {name.lower(): value.strip() for name, _, value in pairs}
         if len(heads) != len(pairs) or "transfer-encoding" in heads:
-            raise BadRequest("400 Bad Request", "this request isn't well-formed HTTP")
+            raise BadRequest("400 Bad Request", "this isn't a well-formed HTTP request")
         if words[0] not in METHODS:
-            raise BadRequest("405 Method Not Allowed", "the method of a request has to be GET or POST")
+            raise BadRequest("405 Method Not Allowed", "the door accepts only requests by GET and POST")
         return RequestHead(words[0], words[1], heads)
 
     def body_size(self) -> int:
         """Returns the number of bytes that follow the head. Raises `BadRequest` if they are more than MOST_BODY."""
         size = self.heads.get("content-length", "0")
         if not re.fullmatch(r"\d{1,6}", size) or int(size) > MOST_BODY:
-            raise BadRequest("413 Content Too Large", "the request is too large")
+            raise BadRequest("413 Content Too Large", "this request is too large for the door")
         return int(size)
 
     def require_host(self, hosts: set[str], port: int) -> None:
         """Raises `BadRequest` unless the head names one of these hosts, with this port."""
         host = self.heads.get("host", "").lower()
         if host not in {f"{each.lower()}:{port}" for each in hosts}:
-            raise BadRequest("421 Misdirected Request", f"{host!r} isn't an address of this door: open the address on your slip")
+            raise BadRequest("421 Misdirected Request", f"this door doesn't have the address {host!r}. Open the address on your slip")
 
     def network(self) -> tuple[str, str]:
         """Returns the network's name, which is the first part of the path, and the path below it. Raises `BadRequest`
         if there is no such name, and `Redirect` if the slash after the name is missing."""
         found = re.fullmatch(r"/([a-z][a-z0-9-]*)(/.*)?", self.path)
         if found is None:
-            raise BadRequest("404 Not Found", "this address names no network: open the address on your slip")
+            raise BadRequest("404 Not Found", "this address doesn't name a network of the class. Open the address on your slip")
         if found[2] is None:
             raise Redirect(f"/{found[1]}/")
         return found[1], found[2]
@@ -107,10 +107,10 @@ def page_of(asked: RequestHead, path: str, record: Record) -> tuple[int, str]:
     if looks is not None:
         is_known = record.page is not None and record.looks and looks[1].split("/")[1] == record.looks
         if not is_known or asked.method != "GET" or record.page is None:
-            raise BadRequest("404 Not Found", "there is no such page: open the address on your slip")
+            raise BadRequest("404 Not Found", "there is no page at this address. Open the address on your slip")
         return record.page, looks[1]
     if record.play is None:
-        raise BadRequest("404 Not Found", "this class has no page to play on")
+        raise BadRequest("404 Not Found", "this class has no page for playing by hand. Ask your teacher")
     if re.fullmatch(r"/[A-Za-z0-9._-]*", path) is None:
-        raise BadRequest("404 Not Found", "there is no such page: open the address on your slip")
+        raise BadRequest("404 Not Found", "there is no page at this address. Open the address on your slip")
     return record.play, path

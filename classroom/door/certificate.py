@@ -34,6 +34,15 @@ def subject(name: str) -> str:
         return f"DNS:{name}"
 
 
+def refusal_of(name: str) -> str:
+    """Returns why a certificate can't have the name of this machine, or an empty text if it can. Only this machine's
+    own name can be refused, since a name or an address in an argument is checked when the argument is read."""
+    if re.fullmatch(r"[A-Za-z0-9.:-]+", name):
+        return ""
+    return (f"this machine calls itself {name!r}, but a certificate's name may contain only letters, digits, dots and hyphens. "
+            "Write another name or the address of this machine: --door ADDRESS:PORT")
+
+
 def make_if_missing(file: Path, name: str) -> str:
     """Makes a certificate for a host's name if the file doesn't exist. Returns the fingerprint of the file's
     certificate. Raises `Fault` if that isn't possible."""
@@ -46,16 +55,16 @@ def make(file: Path, name: str) -> None:
     """Makes a file with a new key and a certificate for a host's name. Only its owner can read the file. Raises `Fault`
     if that isn't possible."""
     if shutil.which("openssl") is None:
-        raise Fault(f"{file}: there is no certificate, and no `openssl` to make one: install it, or --certificate FILE names "
-                    "a file with a key and its certificate", FAILED)
-    if not re.fullmatch(r"[A-Za-z0-9.:-]+", name):
-        raise Fault(f"{name} isn't the name or address of a host")
+        raise Fault(f"{file}: the door has no certificate yet, and the program openssl, which makes one, isn't installed. Install it, or name a file with "
+                    "a key and its certificate by --certificate FILE", FAILED)
+    if why := refusal_of(name):
+        raise Fault(why)
     with tempfile.TemporaryDirectory() as room:
         key, made = Path(room, "key"), Path(room, "certificate")
         done = run(["openssl", "req", "-x509", "-newkey", "ec", "-pkeyopt", "ec_paramgen_curve:prime256v1", "-nodes", "-days", str(DAYS),
                     "-subj", "/CN=Cenduwa", "-addext", f"subjectAltName={subject(name)}", "-keyout", key, "-out", made])
         if done.returncode != 0:
-            raise Fault(f"{file}: openssl can't make a certificate: {done.stderr.decode(errors='replace').strip()}", FAILED)
+            raise Fault(f"{file}: openssl couldn't make a certificate. It printed: {done.stderr.decode(errors='replace').strip() or 'nothing'}", FAILED)
         write_new(file, key.read_text(encoding="ascii") + made.read_text(encoding="ascii"))
 
 
@@ -67,7 +76,7 @@ def fingerprint(file: Path) -> str:
     except OSError as error:
         raise Fault(f"{file}: {error.strerror}", FAILED) from None
     if found is None:
-        raise Fault(f"{file}: this file has no certificate", FAILED)
+        raise Fault(f"{file}: there is no certificate in this file. Name a file with a key and its certificate by --certificate FILE", FAILED)
     try:
         return hashlib.sha256(ssl.PEM_cert_to_DER_cert(found[0])).hexdigest()
     except ValueError as error:
@@ -84,5 +93,5 @@ def context(file: Path) -> ssl.SSLContext:
     try:
         it.load_cert_chain(file)
     except (OSError, ValueError) as error:
-        raise Fault(f"{file}: this file has no key that fits its certificate: {error}", FAILED) from None
+        raise Fault(f"{file}: this file has no key, or one that doesn't fit its certificate: {error}", FAILED) from None
     return it

@@ -16,7 +16,7 @@ from pathlib import Path
 from classroom.client import NoSlip, Slip, door_of
 from classroom.core.folders import Process
 from classroom.core.program import TOP, Fault
-from classroom.core.statuses import FAILED
+from classroom.core.statuses import FAILED, how_ended
 from classroom.door import certificate
 from classroom.door.routes import DoorData, announce, forget, network
 
@@ -41,7 +41,8 @@ class Place:
         try:
             return Place(*door_of(word)) if address else Place("", door_of(f"any:{port}")[1])
         except NoSlip:
-            raise argparse.ArgumentTypeError(f"{word} isn't the address of a door: write [ADDRESS:]PORT") from None
+            raise argparse.ArgumentTypeError(f"{word!r} isn't the address of a door. Write a port, such as 4700, or an address with a port, "
+                                             "such as 192.0.2.7:4700") from None
 
     def told(self) -> str:
         """Returns the address as it is written in arguments and on slips."""
@@ -62,8 +63,8 @@ def listen(place: Place) -> socket.socket:
         family = socket.getaddrinfo(place.address or "0.0.0.0", place.port, type=socket.SOCK_STREAM)[0][0]
         return socket.create_server((place.address, place.port), family=family, backlog=BACKLOG)
     except OSError as error:
-        raise Fault(f"the door can't listen at {place.told().removeprefix(':')}: {error.strerror or error}; "
-                    "name another address by --door [ADDRESS:]PORT", FAILED) from None
+        at = place.told() if place.address else f"port {place.port}"
+        raise Fault(f"the door can't be opened at {at}: {error.strerror or error}. Name another address by --door [ADDRESS:]PORT", FAILED) from None
 
 
 class OpenDoor:
@@ -92,10 +93,11 @@ class OpenDoor:
         for _ in range(TIMES):
             if self.child.wait() == 0 or self.closes.is_set():
                 return self.listener.close()
-            self.tell(f"the door's process has ended, status {self.child.returncode}: the door is opened again")
+            self.tell(f"the process of the door has ended unexpectedly, {how_ended(self.child.returncode)}. The door is opened again")
             self.child = self.start_process()
         self.child.wait()
-        self.tell(f"the door stays closed, since its process has ended several times; the reason is in {self.folder / 'door.txt'}")
+        self.tell(f"the process of the door has ended too often, so the door stays closed. Students on other machines can't connect. "
+                  f"The file {self.folder / 'door.txt'} has the reason")
 
     def close(self) -> None:
         """Closes the door once the runs of all its networks have ended. Doesn't wait for that."""
@@ -126,7 +128,7 @@ def reopen(folder: Path, tell: Callable[[str], None]) -> OpenDoor | None:
     still open. Raises `Fault` if the folder has no door, or its certificate or address can't be used."""
     kept = DoorData.read(folder)
     if kept is None:
-        raise Fault(f"{folder}: this run had no door: open one by --door [ADDRESS:]PORT", FAILED)
+        raise Fault(f"{folder}: the data of the door in this folder are missing or damaged. Open a door by --door [ADDRESS:]PORT", FAILED)
     if kept.process.lives():
         return None
     certificate.context(Path(kept.certificate))

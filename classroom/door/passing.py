@@ -102,7 +102,7 @@ class Passing:
             except BadRequest as bad:
                 await self.it.send(bad.answer())
             return
-        record = self.door.routes.record(self.door.routes.named(self.it.network))
+        record = self.door.routes.running(self.door.routes.named(self.it.network))
         if record is not None:
             await self.forward(record.port, first)
 
@@ -115,9 +115,9 @@ class Passing:
             self.door.routes.reload()
             asked.require_host(self.door.hosts | self.door.routes.hosts() | {self.it.address}, self.door.port)
             name, path = asked.network()
-            record = self.door.routes.record(name)
+            record = self.door.routes.running(name)
             if record is None:
-                raise BadRequest("404 Not Found", f"no network {name} is served now")
+                raise BadRequest("404 Not Found", f"the network {name} isn't running now. Ask your teacher, or open the address on your slip")
             port, below = page_of(asked, path, record)
             body = await self.body(rest, asked.body_size())
         await self.forward(port, asked.head_for_page(port, below) + body, is_one=True)
@@ -129,7 +129,7 @@ class Passing:
             first += await self.more()
         head, end, rest = first.partition(b"\r\n\r\n")
         if not end or len(head) > MOST_HEAD:
-            raise BadRequest("431 Request Header Fields Too Large", "the request is too large")
+            raise BadRequest("431 Request Header Fields Too Large", "this request is too large for the door")
         return head + end, rest
 
     async def body(self, rest: bytes, size: int) -> bytes:

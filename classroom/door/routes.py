@@ -122,24 +122,30 @@ class Routes:
         found = [Route.read(file) for file in sorted(self.folder.glob(f"*{NETWORK}"))]
         self.networks = {it.name: it for it in found if it is not None and NAME.fullmatch(it.name)}
 
-    def record(self, name: str) -> Record | None:
-        """Returns the record of a network's run, with its ports, or that of the page for all networks. Returns None if
-        there is none, or if the run has ended."""
+    def running(self, name: str) -> Record | None:
+        """Returns the content of the file `run.json` of the network `name`, which has the ports of the network's server
+        and pages. For the name ALL, returns a record with the port of the page for all networks. Returns None if there
+        is no such network or page, or if the run has ended."""
         if name not in self.networks:
             self.reload()
         network = self.networks.get(name)
         if network is None:
             return page_for_all(self.folder) if name == ALL else None
+        record = self.run_json(network)
+        return record if record is not None and not record.ended and record.goes_on() else None
+
+    def run_json(self, network: Route) -> Record | None:
+        """Returns the content of the file `run.json` in the folder of a network's run, or None if it can't be read.
+        Reads the file only if it has changed since the last call for this network."""
         try:
             stat = os.stat(network.folder / RECORD)
         except OSError:
             return None
-        stamp = stat.st_mtime_ns, stat.st_ino
-        known = self.records.get(name)
-        if known is None or known[0] != stamp:
-            known = self.records[name] = stamp, Record.read(network.folder)
-        record = known[1]
-        return record if record is not None and not record.ended and record.goes_on() else None
+        version = stat.st_mtime_ns, stat.st_ino
+        read_before = self.records.get(network.name)
+        if read_before is None or read_before[0] != version:
+            read_before = self.records[network.name] = version, Record.read(network.folder)
+        return read_before[1]
 
     def named(self, name: str | None) -> str:
         """Returns the name of the network that a client asks for by `name`, the host name in its handshake. If `name`
@@ -167,4 +173,4 @@ class Routes:
     def has_networks(self) -> bool:
         """Returns whether the run of any network continues or is about to begin."""
         self.reload()
-        return any(self.record(name) is not None or self.is_about_to_begin(it) for name, it in self.networks.items())
+        return any(self.running(name) is not None or self.is_about_to_begin(it) for name, it in self.networks.items())

@@ -98,7 +98,7 @@ def serve(folder: Path, listener: socket.socket) -> None:
     into the folder. Exits with an error line if the folder has no door."""
     kept = DoorData.read(folder)
     if kept is None:
-        raise SystemExit(f"{folder / DOOR}: this file names no door")
+        raise SystemExit(f"{folder / DOOR}: this file is missing or damaged, so the door can't be opened")
     soft, hard = resource.getrlimit(resource.RLIMIT_NOFILE)
     most = FILES if hard == resource.RLIM_INFINITY else min(FILES, hard)
     resource.setrlimit(resource.RLIMIT_NOFILE, (max(soft, most), hard))

@@ -14,30 +14,31 @@ from classroom.marks.rule import Value
 CLAUSES = {"clause1": "access_denials", "clause2": "stale_denials", "clause3": "chosen_denials", "clause4": "guard_denials"}
 MORE = ("nodes", "network")  # the columns after those of earlier versions
 COLUMNS = {
-    "journal": "the journal that the row is read from",
+    "journal": "the journal from which the row was counted",
     "student": "the student's name in the lab",
     "id": "the student's id in the class list (only with --total)",
-    "granted": "moves that were granted",
-    "applied": "moves that a close applied; a fault, a link, a cut or a release drops some that were granted",
-    **{rule: f"applied moves by the rule {rule}" for rule in RULES},
-    "steps": "closes that applied a move of the student",
-    "first": "the place in the journal of the first granted move",
-    "last": "the place of the last granted move",
-    "shared": "applied moves at nodes that have several owners",
-    "clause1": "lines that clause 1 denied: the node isn't the student's own or isn't visible, or only the teacher may ask for this",
-    "clause2": "lines that clause 2 denied: the move was asked for in an older configuration, or a key was wrong",
-    "clause3": "lines that clause 3 denied: the node had a chosen move already",
-    "clause4": "lines that clause 4 denied: the guard of the rule didn't hold",
-    "malformed": "lines that were no request",
-    "nodes": "nodes that the student owns, alone or with others",
-    "network": "the network: the lab's name",
-    "runs": "runs whose lab has the student (with --total and --roster)",
-    "recorded": "runs whose record is whole (with --total and --roster)",
+    "granted": "how many moves were granted",
+    "applied": "how many moves were applied when a step was closed; a fault, a change of the links or the command release drops some granted moves",
+    **{rule: f"how many moves by the rule {rule} were applied" for rule in RULES},
+    "steps": "how many steps applied a move of the student",
+    "first": "the number of the event that was the first granted move; 5 is the fifth event of the journal",
+    "last": "the number of the event that was the last granted move",
+    "shared": "how many moves were applied at nodes that have a second owner",
+    "clause1": "how many requests clause 1 denied: the node isn't the student's own or isn't visible, or only the teacher may ask for this",
+    "clause2": "how many requests clause 2 denied: the move was asked for in an older configuration, or a key was wrong",
+    "clause3": "how many requests clause 3 denied: the node had a granted move already",
+    "clause4": "how many requests clause 4 denied: the guard of the rule didn't hold",
+    "malformed": "how many lines of the student weren't requests",
+    "nodes": "how many nodes the student owns, alone or with others",
+    "network": "the name of the network, which is that of its lab",
+    "runs": "how many runs have a lab with this student (only with --total and --roster)",
+    "recorded": "in how many of these runs the student's record is complete (only with --total and --roster)",
 }
 FOR_RULES = {
     "access_denials": "another name of clause1", "stale_denials": "another name of clause2", "chosen_denials": "another name of clause3",
-    "guard_denials": "another name of clause4", "denials": "clause1 to clause4 together",
-    "granted_per_node": "granted divided by nodes, or 0 without a node", "applied_per_node": "applied divided by nodes, or 0 without a node",
+    "guard_denials": "another name of clause4", "denials": "the sum of clause1 to clause4",
+    "granted_per_node": "granted divided by nodes, or 0 if the student has no node",
+    "applied_per_node": "applied divided by nodes, or 0 if the student has no node",
     "whole": "yes if the record has all lines of the student, so that denials are known",
 }
 ONLY_RUNS = ("first", "last")  # the columns that only the table of one run has
@@ -48,7 +49,7 @@ def listing() -> str:
     """Returns the text of `mark --columns`: one line for each column, and for each other name that rules can use."""
     wide = max(map(len, [*COLUMNS, *FOR_RULES]))
     columns = "\n".join(f"{name:{wide}}  {what}" for name, what in COLUMNS.items())
-    return f"{columns}\nIn rules (mark --rule FILE) also:\n" + "\n".join(f"{name:{wide}}  {what}" for name, what in FOR_RULES.items()) + "\n"
+    return f"{columns}\nA rule (mark --rule FILE) can also use these names:\n" + "\n".join(f"{name:{wide}}  {what}" for name, what in FOR_RULES.items()) + "\n"
 
 
 def for_rules(is_total: bool) -> list[str]:

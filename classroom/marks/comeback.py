@@ -52,7 +52,7 @@ class Comeback:
             return ""
         told = f"after {self.recovery.told(self.nodes, len(self.links))}"
         if self.missed:
-            told = "after several closes in quick succession: the marks say how many moves and rounds it took"
+            told = "after several steps in quick succession; how many moves and rounds this took is printed with the marks"
         self.recovery, self.missed = None, False
         return f"{'stable again' if self.hurt else 'stable'} {told}"
 
@@ -81,14 +81,15 @@ class Recount(Replay):
     def report_taker(self, event: Event | None) -> Callable[[dict[str, Any]], None]:
         """Returns the function that handles the report after an event, or at the beginning if it is None."""
         def takes(report: dict[str, Any]) -> None:
-            """Notes the privileged nodes in a report, and counts the event before it."""
+            """Notes the privileged nodes in a report. Counts the edit or close before it, if there is one. If no node
+            is privileged after a close, appends its place to `rests`."""
             before, self.before = self.before, {node for node, _ in report["privileged"]}
-            if event is None or event.is_edit:
-                if event is not None:
-                    self.counted.edit(event)
+            if event is None:
                 return
-            came_back = self.counted.close(self.moved, before, self.before)
-            self.rests += [event.place] if came_back else []
+            if event.is_edit:
+                self.counted.edit(event)
+            elif self.counted.close(self.moved, before, self.before):
+                self.rests.append(event.place)
 
         return takes
 
@@ -107,7 +108,7 @@ def told(lab: labs.Lab, events: list[Event]) -> str:
     journal = "".join(f"{event.place} {event.at} {' '.join(event.words)}\n" for event in events)
     found = tallies.of_texts(labs.text(lab), journal)
     if found.rounds is None:
-        raise Fault("mml is of an older version, which counts no rounds: `./mml build` builds it again", 4)
+        raise Fault("the program mml is of an older version, which counts no rounds. Type `./mml build` to build the present version", 4)
     again = " again" if found.faults or found.links or found.cuts else ""
     return f"stable{again} after {counts_told(*found.since, found.rounds, found.bounds)}"
 
@@ -117,5 +118,5 @@ def recoveries(lab: labs.Lab, events: list[Event]) -> list[str]:
     which the recovery ended. If the run has more than MOST_COUNTED edits, returns a single line that says so."""
     edits = sum(event.is_edit for event in events)
     if edits > MOST_COUNTED:
-        return [f"{edits} faults, links and cuts: how the class came back is printed only for at most {MOST_COUNTED}"]
-    return [f"place {place}: {told(lab, events[:place])}" for place in Recount(lab, events, Comeback(lab)).counts()]
+        return [f"there were {edits} faults and changes of links. How the class became stable again is printed only if there are at most {MOST_COUNTED}"]
+    return [f"event {place}: {told(lab, events[:place])}" for place in Recount(lab, events, Comeback(lab)).counts()]

@@ -37,13 +37,13 @@ class Hider:
         for found in TEXT.finditer(text):
             between = text[at:found.start()]
             if hides and between.strip() != ":":  # The value under `key` isn't a text.
-                return f"{''.join(pieces)}:***, and more"
+                return f"{''.join(pieces)}:*** (the rest is hidden)"
             word = json.loads(found[0], strict=False)
             names = text[found.end():].lstrip().startswith(":")
             pieces += [between, HIDDEN if hides or self.has_key(word) else found[0]]
             hides = not hides and names and word.lower() == "key"
             at = found.end()
-        return "".join(pieces) + (":***, and more" if hides else text[at:])
+        return "".join(pieces) + (":*** (the rest is hidden)" if hides else text[at:])
 
     def has_key(self, word: str) -> bool:
         """Returns whether a text contains somebody's key. A key that is also a word of the protocol or a name doesn't
@@ -63,7 +63,7 @@ class Hider:
         found = re.search(r"key|\\u", text, re.IGNORECASE)
         shown = text[:found.start()] if found else text
         shown = shown[:self.first_key(shown)]
-        return shown if len(shown) == len(text) else f"{shown}.. ({len(text) - len(shown)} more characters, which may contain a key)"
+        return shown if len(shown) == len(text) else f"{shown}.. ({len(text) - len(shown)} more characters are hidden, since they may contain a key)"
 
 
 def unescaped(text: str) -> str:

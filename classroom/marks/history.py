@@ -17,6 +17,7 @@ from pathlib import Path
 
 from classroom.core import lab as labs
 from classroom.core import classes, folders
+from classroom.core.counts import plural
 from classroom.core.journal import Event, events
 from classroom.core.present import Book
 from classroom.core.printable import guarded, printable
@@ -32,9 +33,9 @@ from classroom.pages.page import Played
 HEADS = ["place", "seat", "session", "asked", "reply", "denied", "event"]
 MARKS = {
     CUT: "the rest of this connection isn't recorded", ENDED: "this connection ended",
-    PAUSED: "from here on lines aren't recorded", RESUMED: "lines that weren't recorded: {}",
+    PAUSED: "from here on the lines of this connection aren't recorded", RESUMED: "recording begins again; number of lines that weren't recorded: {}",
 }
-GOES_ON = "this connection goes on"
+GOES_ON = "this connection is still open"
 GUARD = "guard"  # the denial of a move by its rule's guard
 Session = list[Entry]
 Said = tuple[Vouched, Session, set[str]]  # a session with its record, and the names under which it greeted or tried to
@@ -62,7 +63,7 @@ class Row:
     def after(self) -> str:
         """Returns a text with the number of events before the row. If the record doesn't have the exact number, the
         text has the least and the greatest possible one."""
-        return f"after {self.place}" + f" to {self.latest}" * (self.latest > self.place)
+        return f"after {self.place} to {self.latest} events" if self.latest > self.place else f"after {plural(self.place, 'event')}"
 
 
 def add_words(words: argparse.ArgumentParser) -> None:
@@ -154,7 +155,7 @@ def steps(lab: labs.Lab, journal: list[Event], name: str, own: set[int]) -> Iter
         if event.place in own:
             continue
         if event.kind == "close":
-            nodes_moved = ", ".join(f"{node} ({who}) {rule}" for node, who, rule in moved)
+            nodes_moved = ", ".join(f"node {node} ({who}): {rule}" for node, who, rule in moved)
             what = f"configuration {event.at + 1}: {nodes_moved}"
         elif event.makes_configuration:
             what = f"configuration {event.at + 1}: {' '.join(event.words)}"
@@ -262,10 +263,10 @@ def history(words: argparse.Namespace) -> int:
     lab_file, journal = folders.of_folder(run)
     lab = labs.read(lab_file)
     if name not in lab.students and name != lab.teacher[0]:
-        raise Fault(f"{run}: no student {name}; there are: {', '.join(lab.students)}")
+        raise Fault(f"{run}: this run has no student called {name}. Its students are: {', '.join(lab.students)}")
     with vouched(run) as parts:
         if not parts:
-            raise Fault(f"{run}: this run has no record of the lines that were sent")
+            raise Fault(f"{run}: this run has no record, so what the students sent isn't known")
         refused = [part for part in parts if part.status]
         if refused:
             raise Fault(refused[0].told(), refused[0].status)
@@ -274,7 +275,7 @@ def history(words: argparse.Namespace) -> int:
         if words.output:
             page = own_page(f"{name}: {folders.title(lab_file, journal)}", name, lab_file, parts[-1].journal, told, lines)
             Path(words.output).write_text(page, encoding="utf-8")
-            print(f"{words.output}: {len(page.encode())} bytes")
+            print(f"the page is written to {words.output} ({len(page.encode())} bytes)")
             return 0
         rows = with_steps(lab, events(parts[-1].journal.read_text(encoding="ascii")), name, lines)
         if words.csv:

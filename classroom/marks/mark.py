@@ -17,6 +17,7 @@ from typing import Any
 
 from classroom.core import lab as labs
 from classroom.core import classes, folders, lists, record, tally
+from classroom.core.counts import plural
 from classroom.core.journal import RULES, events, split
 from classroom.core.printable import guarded, printable
 from classroom.core.program import Fault
@@ -33,7 +34,7 @@ from classroom.pages import replay
 NETWORK = 9 + len(RULES) + len(DENIED)  # the column that the table for people leaves out
 UNTOLD = (
     "A journal doesn't say when a line was written, nor who used a name. Denials are counted from the record.",
-    "A granted move is applied by the next close; a release takes it back, and a fault, link or cut drops it.",
+    "A granted move is applied when the step is closed. Before that, the command release, a fault or a change of the links may drop it.",
 )
 
 
@@ -50,7 +51,7 @@ class Recorded:
         return self.asked is None and self != NONE
 
 
-NONE = Recorded("no record, so requests and denials aren't known")
+NONE = Recorded("this run has no record, so requests and denials aren't known")
 
 
 @dataclass(frozen=True)
@@ -139,15 +140,15 @@ def marked(lab_file: Path, journal: Path) -> Run:
         told = tally.of(lab_file, journal)
     except Fault as fault:
         if fault.status == LAB:
-            raise Fault(f"{lab_file}: {fault}" + "; name a lab before its journals" * (journal.name != "journal"), LAB) from None
+            raise Fault(f"{lab_file}: {fault}" + ". Name the lab before its journals" * (journal.name != "journal"), LAB) from None
         raise Fault(refusal(journal, str(fault)), fault.status) from None
     lab = labs.read(lab_file)
     found = split(journal.read_text(encoding="ascii"))
     if len(found) != told.events:
-        raise Fault(f"{journal}: this run is still going on: end the run first", 4)
+        raise Fault(f"{journal}: this run is still going on, and its journal has just grown. End the run before you mark it", 4)
     report = replay.report(lab, found)
     if report["stable"] != told.stable:
-        raise Fault(f"{journal}: the program's `tally` and `report` disagree, which is an error of the program: don't use these marks, "
+        raise Fault(f"{journal}: two counts of mml, `tally` and `report`, disagree, which is an error of the program. Don't use these marks, "
                     "and report this error to its developers", 4)
     return Run(lab_file, journal, lab, report["pairs"], told, recorded(journal))
 
@@ -198,17 +199,17 @@ def sentence(run: Run) -> str:
     """Returns the line with the counts of a run."""
     told = run.tally
     pairs = " ".join(f"{a}-{b}" for a, b in run.pairs) or "none"
-    return (f"{run.journal}: {told.events} events, configuration {told.configuration}, "
-            f"{'stable' if told.stable else 'not stable'}; {told.closes} closes, {told.faults} faults, {told.links} links, "
-            f"{told.cuts} cuts; pairs: {pairs}")
+    return (f"{run.journal}: {plural(told.events, 'event')}, among them {plural(told.closes, 'closed step')}, {plural(told.faults, 'fault')}, "
+            f"{plural(told.links, 'added link')} and {plural(told.cuts, 'removed link')}; last configuration: {told.configuration}, "
+            f"{'stable' if told.stable else 'not stable'}; pairs: {pairs}")
 
 
 def of_owner(name: str, granted: Counter[str], asked: Counter[str] | None) -> str:
     """Returns the text about one owner of a shared node: `granted` has the owner's granted moves there, and `asked` the
     requested ones, or None if they aren't known."""
     rules = ", ".join(f"{number} {rule}" for rule, number in granted.items() if number)
-    of_asked = "" if asked is None else f" of {asked.total()} asked for"
-    return f"{name} {granted.total()} granted{of_asked}" + (f" ({rules})" if rules else "")
+    asked_for = "" if asked is None else f" asked for {plural(asked.total(), 'move')}, and"
+    return f"{name}{asked_for} got {plural(granted.total(), 'granted move')}" + (f" ({rules})" if rules else "")
 
 
 def shared(run: Run) -> list[str]:
@@ -247,7 +248,7 @@ def mark(words: argparse.Namespace) -> int:
         print(columns.listing(), end="")
         return 0
     if not words.runs:
-        raise Fault("mark: name folders of runs or of classes, or a lab and its journals")
+        raise Fault("mark: name the folders of runs or of classes, or a lab and its journals")
     is_total = words.total or words.roster is not None
     rule = read_rule(Path(words.rule), columns.for_rules(is_total)) if words.rule else None
     roster = lists.read(Path(words.roster), words) if words.roster else None
@@ -262,7 +263,7 @@ def mark(words: argparse.Namespace) -> int:
         rows_of, left = totals.by_roster(students, roster, rule)
         totals.write(rows_of, roster.delimiter)
         for name in left:
-            print(printable(f"class: {words.roster} has no student {name}"), file=sys.stderr)
+            print(printable(f"class: {words.roster} has no row for the student {name}, so the table lacks these marks"), file=sys.stderr)
         return WARNED if left or refused or differ else 0
     if words.total:
         totals.write(totals.by_labs(students, rule))

@@ -42,7 +42,8 @@ def write_pages(folder: Path, tell: Callable[[str], None]) -> None:
     happened = events(journal.read_text(encoding="ascii"))
     played = Played(*frames_of(lab_file, journal))
     if len(played.data) * len(every) > MOST:
-        return tell(f"the students' own pages aren't kept, since they are large: {CLASS} history {folder} NAME -o NAME.html makes one")
+        return tell(f"the pages with the requests of each student aren't made, since together they would be too large. To make the page of the student "
+                    f"NAME, type: {CLASS} history {folder} NAME -o NAME.html")
     why = reasons(lab, happened, [each for rows in every.values() for each in guarded_rows(rows)])
     (folder / FOLDER).mkdir(0o700, exist_ok=True)
     for name, lines in every.items():

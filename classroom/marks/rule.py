@@ -62,7 +62,7 @@ class Rule:
             try:
                 known[line.name] = line.expression(known)
             except Wrong as wrong:
-                raise Fault(f"{self.path}: line {line.number}: {wrong}") from None
+                raise Fault(f"{self.path}: line {line.number} can't be computed for the student {shown(row.get('student'))}: {wrong}") from None
             found.append(shown(known[line.name]))
         return found
 
@@ -89,7 +89,7 @@ def read(path: Path, columns: Sequence[str]) -> Rule:
     try:
         lines = plain.read(path, MOST_BYTES).decode("utf-8-sig").splitlines()
     except UnicodeDecodeError:
-        raise Fault(f"{path}: this file isn't text in UTF-8: save it as UTF-8") from None
+        raise Fault(f"{path}: this file isn't a text in UTF-8. Save it as UTF-8") from None
     return parsed(path, lines, columns)
 
 
@@ -104,11 +104,11 @@ def parsed(path: Path, lines: Sequence[str], columns: Sequence[str]) -> Rule:
                 continue
             line = line_of(tokens, number, known)
         except Wrong as wrong:
-            raise Fault(f"{path}: line {number}: {wrong}: {text.strip()}") from None
+            raise Fault(f"{path}: line {number} is wrong: {text.strip()} ({wrong})") from None
         known.append(line.name)
         found.append(line)
     if not 1 <= len(found) <= MOST_LINES:
-        raise Fault(f"{path}: a rule has 1 to {MOST_LINES} lines, such as pass = applied >= 3")
+        raise Fault(f"{path}: this file has {len(found)} lines of a rule, but it must have 1 to {MOST_LINES}, such as pass = applied >= 3")
     return Rule(path, found)
 
 
@@ -116,14 +116,14 @@ def line_of(tokens: list[tuple[str, str]], number: int, known: Sequence[str]) ->
     """Returns the line of a rule that consists of these tokens. The line's expression may use the names in `known`.
     Raises `Wrong` if there is an error in it."""
     if len(tokens) < 3 or tokens[0][0] != "name" or tokens[1] != ("sign", "="):
-        raise Wrong("write NAME = EXPRESSION")
+        raise Wrong("each line has the form NAME = EXPRESSION")
     name = tokens[0][1]
     if name in known or name in KEYWORDS or name in FUNCTIONS:
-        raise Wrong(f"{name} is already the name of a column, of an earlier line or of a word of rules: take another name")
+        raise Wrong(f"{name} is already the name of a column, of an earlier line or of a word of rules; choose another name")
     parser = Parser(tokens[2:], known)
     expression = parser.choice()
     if parser.tokens:
-        raise Wrong(f"{parser.tokens[0][1]} isn't expected here")
+        raise Wrong(f"{parser.tokens[0][1]!r} isn't expected in this place")
     return Line(name, number, expression)
 
 
@@ -134,10 +134,10 @@ def tokens_of(text: str) -> list[tuple[str, str]]:
     while text[at:].strip() and not text[at:].lstrip().startswith("#"):
         token = TOKEN.match(text, at)
         if token is None:
-            raise Wrong(f"{text[at:].lstrip()[0]} can't be used in a rule")
+            raise Wrong(f"the character {text[at:].lstrip()[0]!r} can't be used in a rule")
         kind = str(token.lastgroup)
         if kind == "number" and len(token[kind]) > MOST_DIGITS:
-            raise Wrong(f"{token[kind]} has more than {MOST_DIGITS} digits")
+            raise Wrong(f"the number {token[kind]} has more than {MOST_DIGITS} digits")
         found.append((kind, token[kind]))
         at = token.end()
     return found
@@ -161,13 +161,13 @@ class Parser:
     def expect(self, text: str) -> None:
         """Removes the next token. Raises `Wrong` if its text isn't this one."""
         if not self.take(text):
-            raise Wrong(f"{text} is expected {f'before {self.tokens[0][1]}' if self.tokens else 'at the end'}")
+            raise Wrong(f"{text!r} is missing {f'before {self.tokens[0][1]!r}' if self.tokens else 'at the end'}")
 
     def choice(self) -> Expression:
         """Reads `A if CONDITION else B`, or an expression without `if`."""
         self.depth += 1
         if self.depth > MOST_DEPTH:
-            raise Wrong(f"the line is nested more than {MOST_DEPTH} deep")
+            raise Wrong(f"there are more than {MOST_DEPTH} parentheses or conditions inside each other")
         first = self.joined("or")
         if self.take("if"):
             condition = self.joined("or")
@@ -202,7 +202,7 @@ class Parser:
         sign = self.take("<", "<=", ">", ">=", "==", "!=")
         found = comparison(sign, left, self.summed()) if sign else left
         if sign and self.take("<", "<=", ">", ">=", "==", "!="):
-            raise Wrong("a < b < c can't be written: write a < b and b < c")
+            raise Wrong("two comparisons can't be joined as in a < b < c; write a < b and b < c")
         return found
 
     def summed(self) -> Expression:
@@ -230,7 +230,7 @@ class Parser:
     def single(self) -> Expression:
         """Reads a number, a text, a name, a call, or an expression in parentheses."""
         if not self.tokens:
-            raise Wrong("the line ends too early")
+            raise Wrong("the expression isn't complete")
         if self.take("("):
             found = self.choice()
             self.expect(")")
@@ -243,7 +243,7 @@ class Parser:
         if text in ("true", "false"):
             return constant(text == "true")
         if kind != "name" or text in KEYWORDS:
-            raise Wrong(f"{text} isn't expected here")
+            raise Wrong(f"{text!r} isn't expected in this place")
         return self.call_of(text) if text in FUNCTIONS else self.named(text)
 
     def call_of(self, name: str) -> Expression:
@@ -254,13 +254,13 @@ class Parser:
             given.append(self.choice())
         self.expect(")")
         if name == "round" and len(given) > 1:
-            raise Wrong("round takes one number")
+            raise Wrong("write one number in the parentheses of round")
         return called(name, given)
 
     def named(self, name: str) -> Expression:
         """Returns the expression for the column or earlier line with that name."""
         if name not in self.names:
-            raise Wrong(f"no column {name}; mark --columns prints the columns")
+            raise Wrong(f"there is no column or earlier line called {name}; `class mark --columns` lists the columns")
         return lambda row: row[name]
 
 
@@ -272,14 +272,14 @@ def constant(value: Value) -> Expression:
 def number(value: Value) -> Fraction:
     """Returns a value as a number. Raises `Wrong` if it isn't one."""
     if isinstance(value, (bool, str)) or value is None:
-        raise Wrong(f"{shown(value)} is no number")
+        raise Wrong(f"the value {shown(value)!r} isn't a number")
     return value
 
 
 def truth(value: Value) -> bool | None:
     """Returns a value as true, false or, if it is unknown, None. Raises `Wrong` for a number or a text."""
     if value is not None and not isinstance(value, bool):
-        raise Wrong(f"{shown(value)} is neither yes nor no; write a comparison, such as applied >= 1")
+        raise Wrong(f"the value {shown(value)!r} is neither yes nor no; write a comparison, such as applied >= 1")
     return value
 
 
@@ -334,7 +334,7 @@ def comparison(sign: str, left: Expression, right: Expression) -> Expression:
         so."""
         if sign in ("==", "!="):
             if isinstance(one, bool) != isinstance(other, bool) or isinstance(one, str) != isinstance(other, str):
-                raise Wrong(f"{shown(one)} and {shown(other)} can't be compared")
+                raise Wrong(f"the values {shown(one)!r} and {shown(other)!r} are of different kinds, and can't be compared")
             return (one == other) == (sign == "==")
         a, b = number(one), number(other)
         return {"<": a < b, "<=": a <= b, ">": a > b, ">=": a >= b}[sign]
@@ -349,7 +349,7 @@ def arithmetic(sign: str, left: Expression, right: Expression) -> Expression:
         a division by 0."""
         a, b = number(one), number(other)
         if sign == "/" and b == 0:
-            raise Wrong("a division by 0")
+            raise Wrong("it divides by 0")
         return a + b if sign == "+" else a - b if sign == "-" else a * b if sign == "*" else a / b
 
     return of_two(left, right, result)

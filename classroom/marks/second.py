@@ -27,9 +27,10 @@ def difference(word: str, *files: Path) -> str:
     proved, plain = host_call(word, *files), model_call(word, *files)
     if proved == plain:
         return ""
-    lines = zip_longest((proved.output + proved.error).splitlines(), (plain.output + plain.error).splitlines(), fillvalue="nothing")
+    lines = zip_longest((proved.output + proved.error).splitlines(), (plain.output + plain.error).splitlines())
     first, second = next((pair for pair in lines if pair[0] != pair[1]), (f"status {proved.status}", f"status {plain.status}"))
-    return f"{word}: the program prints {first!r}, the plain model {second!r}"
+    return (f"the two programs disagree about `{word}`: mml prints {'nothing' if first is None else repr(first)}, and the plain model prints "
+            f"{'nothing' if second is None else repr(second)}")
 
 
 def differences(lab: Path, journal: Path) -> list[str]:
@@ -52,6 +53,6 @@ def compare(runs: list[tuple[Path, Path]]) -> bool:
     """Prints on standard error whether the proved program and the model agree about these runs, each a lab and a
     journal. Returns whether they differ."""
     lines = [line for lab, journal in runs for line in differences(lab, journal)]
-    for line in lines or ["the plain model agrees about all that is marked"]:
+    for line in lines or ["the plain model gets the same counts"]:
         print(printable(f"class: {line}"), file=sys.stderr)
     return bool(lines)

@@ -23,7 +23,7 @@ from classroom.core.statuses import LAB
 
 LAST_BYTES = 1 << 20  # how many of the last bytes of a server's output are read
 BEGUN_AFTER = "begun after "  # how the last line of `verify` begins, before the number of events
-UNENDED = "its server is running or was killed, so its last entries may be missing, through no fault of a student"
+UNENDED = "the server is still running or was killed, so the last entries of this record may be missing; no student caused this"
 
 
 @dataclass(frozen=True)
@@ -147,7 +147,7 @@ def vouch(record: Path, into: Path, journal: bytes, is_whole: bool, lives: bool)
     try:
         copy_record(record, into, journal)
         if not has_lab_of(record.parent, into):
-            return Vouched(record, into, LAB, "its lab isn't the same as the run's lab.toml", is_whole)
+            return Vouched(record, into, LAB, "this record was made with another lab than the file lab.toml of this run", is_whole)
     except Fault as fault:
         return Vouched(record, into, fault.status, str(fault), is_whole)
     answer = verified(into)

@@ -18,9 +18,15 @@ const HOLDS = "can be applied now";
 // For some denials, the reason why a move was denied, as text. For any other denial, the server's own text is shown.
 const WHY = {
   guard: (rule) => `the guard of ${rule} doesn't hold at this node now`,
-  stale: () => "the step was closed meanwhile: choose again",
+  stale: () => "the configuration has changed meanwhile: choose again",
   chosen: () => "a move of this node is chosen already, and is applied when the step closes",
   "not-owner": () => "this node isn't yours",
+};
+// What each refusal means, and what to do.
+const REFUSED = {
+  memory: "the server is out of memory: try again a little later",
+  full: "the server grants no more moves: ask your teacher",
+  journal: "the server grants no more moves: ask your teacher",
 };
 
 // Shows the registers and the rules of one node.
@@ -67,7 +73,7 @@ class Card {
     const before = [...this.root.querySelectorAll(".act")].map((button) => button.textContent);
     if (before.join() !== texts.map(([, text]) => text).join()) this.root.querySelector(".doing").replaceChildren(...texts.map(([partner, text]) => this.button(look.rule, partner, text)));
     const idle = look.chosen !== null ? `${look.chosen} is chosen: it is applied when the step closes` : look.rule === null ? "nothing to do now: wait for the next step" : "";
-    this.say(".idle", isQuiz && look.chosen === null ? "which rule can be applied now? maybe none" : idle);
+    this.say(".idle", isQuiz && look.chosen === null ? "which rule can be applied now, if any?" : idle);
   }
 
   button(rule, partner, text) {
@@ -122,7 +128,7 @@ class Hand {
 
   async enter() {
     this.find("come").disabled = true;
-    this.say("connection", "Saying hello ..");
+    this.say("connection", "Connecting to the server …");
     this.leaves = new AbortController();
     let ended = "";
     try {
@@ -131,10 +137,10 @@ class Hand {
       if (answer.ok) for await (const line of linesOf(answer.body)) ended = this.take(JSON.parse(line)) || ended;
       else ended = (await answer.json()).told;
     } catch {
-      ended = this.leaves.signal.aborted ? "you left" : "";
+      ended = this.leaves.signal.aborted ? "you clicked Leave" : "";
     }
     this.play(false);
-    this.say("connection", `The connection has ended: ${ended || "the page's server went away"}. You can come in again.`);
+    this.say("connection", `The connection has ended: ${ended || "the page's server doesn't answer"}. To connect again, enter your name and key.`);
   }
 
   // Handles a line from the page's server. Returns the reason of the end if the line is the last one.
@@ -167,7 +173,7 @@ class Hand {
   // Shows in a line whether there is anything to do.
   showState(looks, isQuiz) {
     const open = looks.filter((look) => look.rule !== null && look.chosen === null).length;
-    const text = isQuiz ? "Which rule can be applied?" : open > 0 ? `${open} of your ${looks.length === 1 ? "node" : "nodes"} can move` : "Nothing to do now: wait for the next step";
+    const text = isQuiz ? "Which rule can be applied?" : open > 0 ? (looks.length === 1 ? "Your node can move" : `${open} of your ${looks.length} nodes can move`) : "Nothing to do now: wait for the next step";
     if (this.find("told").textContent !== text) this.say("told", text);
     this.find("state").classList.toggle("wait", open === 0 || isQuiz);
   }
@@ -194,9 +200,9 @@ class Hand {
   }
 
   told(answer, rule) {
-    if (answer.ok) return `granted, at place ${answer.place}; it is applied when the step closes`;
+    if (answer.ok) return `granted, as event ${answer.place}; the move is applied when the step closes`;
     if (answer.deny) return `denied, since ${(WHY[answer.deny] || (() => answer.text))(rule)} (clause ${answer.clause}, ${answer.deny})`;
-    return answer.refuse ? `refused: ${answer.refuse}` : answer.told;
+    return answer.refuse ? `refused (${answer.refuse}): ${REFUSED[answer.refuse] || "ask your teacher"}` : answer.told;
   }
 }
 

@@ -27,7 +27,7 @@ STILL_HERE = 10.0  # seconds without news after which a page gets a line that th
 LAST_WORD = 5.0  # seconds that pages have to receive the news that the run is over
 MOST_BYTES = 1000  # the most bytes of a page's request
 LINES = "application/x-ndjson"
-LEFT = "the server of this page was ended: ask your teacher where you can play again"
+LEFT = "the page's server was ended: ask your teacher where you can play again"
 ASKS = ("node", "at", "rule", "with")  # the keys of a request for a move
 
 
@@ -131,13 +131,13 @@ class PlayRequest(PageRequest):
         try:
             client = Client(self.server.students, name, key)
         except Denied as denied:
-            return self.answer_json(403, told=f"denied by clause {denied.clause}, {denied.name}: {denied.text}")
+            return self.answer_json(403, told=f"the hello was denied, since {denied.text} (clause {denied.clause}, {denied.name})")
         except (Refused, Closed) as error:
             return self.answer_json(503, told=str(error))
         with client:
             seat = Seat(client, name, self.server.lab.nodes_of(name))
             if not seat.nodes:
-                return self.answer_json(403, told=f"{name} owns no node: there is nothing to play")
+                return self.answer_json(403, told=f"{name} has no node in this network, so there is nothing to play")
             self.send_head(200, LINES, None)
             with self.server.keeping_seat(seat) as token:
                 self.send_row({"who": name, "token": token})
@@ -164,7 +164,7 @@ class PlayRequest(PageRequest):
         such seat or `asked` isn't a request for a move, answers with the reason."""
         seat = self.server.seat(asked.get("token"))
         if seat is None:
-            return self.answer_json(404, told="this page has lost its seat: come in again")
+            return self.answer_json(404, told="this page is no longer connected: reload it, and enter your name and key again")
         request = {"do": "move"} | {key: asked[key] for key in ASKS if key in asked}
         wrong = wrong_keys(request)
         if wrong is not None:

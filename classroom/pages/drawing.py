@@ -149,7 +149,7 @@ class Drawing:
             f'<g class="node{hit}" data-node="{node}" data-p="{"" if pointer is None else pointer}" data-m="{m}"'
             f' data-married="{true_or_false(married(node, state))}" data-rule="{rule}" data-chosen="{chosen}"'
             f' transform="translate({x:g} {y:g})" role="img" aria-label="{escape(self.node_in_words(node, owners, state))}">',
-            f"<title>node {node}, {escape(' and '.join(owners))}</title>",
+            f"<title>node {node}, {escape(owners_in_words(owners))}</title>",
             f'<circle class="ring" r="{sizes["ring"]:g}" stroke-width="{sizes["ringLine"]:g}"/>',
             f'<circle class="disc" r="{sizes["radius"]:g}" stroke-width="{sizes["discLine"]:g}"/>',
             f'<text class="identifier" y="{0.36 * sizes["identifier"]:.3g}" font-size="{sizes["identifier"]:g}">{node}</text>',
@@ -229,10 +229,15 @@ def describe_node(node: int, owners: list[str], pointer: int | None, m: bool, pa
     """Returns the description of a node with these values, in words. `rule` is its enabled rule and `chosen` the rule
     of its chosen move, or empty if there is none. The page's script produces the same text."""
     return ", ".join([
-        f"node {node} of {' and '.join(owners)}", f"p {'null' if pointer is None else pointer}", f"m {true_or_false(m)}",
+        f"node {node} of {owners_in_words(owners)}", f"p {'null' if pointer is None else pointer}", f"m {true_or_false(m)}",
         *([f"married to {partner}"] if partner is not None else []), *([f"privileged: {rule}"] if rule else []),
         *([f"chosen: {chosen}"] if chosen else []),
     ])
+
+
+def owners_in_words(owners: list[str]) -> str:
+    """Returns the names of a node's owners as a text. Without the house, its nodes have no owner."""
+    return " and ".join(owners) or "the house"
 
 
 def true_or_false(value: bool) -> str:

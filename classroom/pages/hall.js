@@ -44,7 +44,7 @@ function buttons(to, isDown) {
     const button = made("button", `${word} ${to === "all" ? "everywhere" : ""}`.trim());
     button.dataset.line = `${to}: ${word}`;
     button.addEventListener("click", () => {
-      if (word !== "end" || confirm(`End ${to === "all" ? "all networks" : `network ${to}`}?`)) order(button.dataset.line);
+      if (word !== "end" || confirm(`End the run${to === "all" ? "s of all networks" : ` of network ${to}`}? Nobody can move any more then.`)) order(button.dataset.line);
     });
     row.append(button);
   }
@@ -242,4 +242,4 @@ news.onmessage = (event) => {
   show(state);
   if (state.ended) news.close();
 };
-news.onerror = () => say(document.getElementById("connection"), "no connection");
+news.onerror = () => say(document.getElementById("connection"), "no connection: this page may show an old state");

@@ -266,7 +266,8 @@ def candidates(node: int, layout: Layout, form: Form, text: str, others: list[in
 
 def widest_gap(layout: Layout, node: int, others: list[int]) -> float:
     """Returns the angle of the middle of the widest gap between a node's links to `others`. Gaps to the left and right
-    count a little more, since texts are wide."""
+    count a little more, since texts are wide. Of two gaps that are otherwise equal the lower one is taken, and at the
+    same height the one with the larger angle. Without links, returns the angle straight down."""
     x, y = layout.points[node]
     angles = sorted(math.atan2(layout.points[other][1] - y, layout.points[other][0] - x) for other in others)
     gaps = []

@@ -20,7 +20,7 @@ class Live {
     this.listen();
     this.source = new EventSource("events");
     this.source.onmessage = (event) => this.take(JSON.parse(event.data));
-    this.source.onerror = () => this.aside.say("connection", "(no connection)");
+    this.source.onerror = () => this.aside.say("connection", "(no connection: this page may show an old state)");
   }
 
   take(row) {
@@ -65,7 +65,7 @@ class Live {
     const { row } = this;
     this.drawing.show(this.state, row, moves);
     this.aside.tell(this.state, row);
-    this.aside.say("event", this.event || "the beginning");
+    this.aside.say("event", this.event || "the beginning of the run");
     this.showClosing(row.closing);
     this.showWaits();
     this.list("lines", this.lines);
@@ -86,7 +86,7 @@ class Live {
   showWaits() {
     const { state, data } = this, nodes = [...data.nodes.keys()].filter((node) => state.rule[node] > 0 && state.chosen[node] === 0);
     const chosen = state.chosen.reduce((sum, rule) => sum + (rule > 0), 0);
-    this.aside.say("waiting", nodes.length > 0 ? `Waiting for ${nodes.length}` : chosen > 0 ? "All that can move are chosen" : "Waiting for nobody");
+    this.aside.say("waiting", nodes.length > 0 ? `Waiting for ${counted(nodes.length, "node")}` : chosen > 0 ? "Waiting for the step to be closed" : "No node can move");
     this.aside.say("close", `Close the step · ${chosen} of ${nodes.length + chosen}`);
     const rows = nodes.slice(0, WAITED).map((node) => this.waited(node));
     if (nodes.length > WAITED) rows.push(Object.assign(this.document.createElement("li"), { textContent: `and ${nodes.length - WAITED} more` }));
@@ -110,7 +110,7 @@ class Live {
 
   async act(line) {
     const answer = await fetch("act", { method: "POST", body: line }).catch(() => null);
-    if (answer === null || !answer.ok) this.aside.say("connection", "(not sent)");
+    if (answer === null || !answer.ok) this.aside.say("connection", "(the command wasn't sent)");
   }
 
   listen() {

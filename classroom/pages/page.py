@@ -174,7 +174,7 @@ def constant_data(drawing: Drawing, state: State) -> dict[str, Any]:
 def network_in_words(drawing: Drawing) -> str:
     """Returns the kind and the size of the network in words."""
     kind = drawing.view.layout.kind
-    kind = {"general": "network", "ellipse": "network", "complete": "complete graph"}.get(kind, kind)
+    kind = {"general": "network", "ellipse": "network", "complete": "complete network"}.get(kind, kind)
     return f"{kind} of {plural(len(drawing.lab.nodes), 'node')}, {plural(len(drawing.lab.students), 'student')}"
 
 

@@ -266,7 +266,7 @@ class Drawing {
   // Returns the description of a node for people who don't see the drawing.
   describe(node, state) {
     const { nodes, rules } = this.data, id = (other) => (other < 0 ? "null" : String(nodes[other].id));
-    const words = [`node ${id(node)} of ${nodes[node].owners.join(" and ")}`, "p " + id(state.pointer[node]), "m " + (state.m[node] > 0)];
+    const words = [`node ${id(node)} of ${nodes[node].owners.join(" and ") || "the house"}`, "p " + id(state.pointer[node]), "m " + (state.m[node] > 0)];
     if (state.married[node] >= 0) words.push("married to " + id(state.married[node]));
     if (state.rule[node] > 0) words.push("privileged: " + rules[state.rule[node]]);
     if (state.chosen[node] > 0) words.push("chosen: " + rules[state.chosen[node]]);
@@ -377,7 +377,7 @@ class Aside {
     const told = row.stable ? "At rest" : `${counted(state.privileged, "node")} can move`, pairs = counted(state.paired / 2, "pair");
     this.say("told", told);
     this.find("state").classList.toggle("rest", row.stable);
-    this.find("state").title = `${row.stable ? "stable" : "not stable"}: ${state.privileged} privileged`;
+    this.find("state").title = `${row.stable ? "stable" : "not stable"}: ${counted(state.privileged, "privileged node")}`;
     this.say("pairs", pairs);
     this.say("number", String(row.number));
     this.say("since", String(row.since));
@@ -385,7 +385,7 @@ class Aside {
     this.find("most").hidden = row.bound === null;
     this.say("bound", String(row.bound));
     this.find("fill").style.width = row.bound === null ? "0" : 100 * row.since / row.bound + "%";
-    this.find("counts").title = `event ${row.place}: ${counted(row.moves, "move")} in all, ${counted(state.open, "open link")}`;
+    this.find("counts").title = `after event ${row.place}: ${counted(row.moves, "move")} in the whole run, ${counted(state.open, "open link")} now`;
     this.announce(`step ${row.number}: ${told}, ${pairs}`);
   }
 
@@ -429,15 +429,15 @@ function nodeButtons(drawing, act) {
   });
 }
 
-// Returns the text of an event for people.
+// Returns the text of an event for people, as `in_words` of `classroom/core/journal.py` does.
 function toldEvent(data, row) {
-  if (!row.kind) return "the beginning";
+  if (!row.kind) return "the beginning of the run";
   const words = row.text.split(" ");
-  if (row.kind === "grant") return `${words[2]} ${words[1]}: ${words.slice(3).join(" with ")}`;
-  if (row.kind === "close") return "the step is applied";
-  if (row.kind === "fault") return `⚡ fault at ${words[1]}: p ${words[2]}, m ${words[3]}`;
-  if (data.edits.includes(row.kind)) return `⚡ ${row.kind} ${words.slice(1).join("–")}`;
-  return row.text;
+  if (row.kind === "grant") return `node ${words[2]} (${words[1]}): ${words.slice(3).join(" with ")}`;
+  if (row.kind === "close") return "the step is closed";
+  if (row.kind === "fault") return `⚡ fault at node ${words[1]}: p ${words[2] === "-" ? "null" : words[2]}, m ${words[3]}`;
+  if (data.edits.includes(row.kind)) return `⚡ link ${words.slice(1).join("–")} ${row.kind === "cut" ? "removed" : "added"}`;
+  return `node ${words[1]}: its move is dropped`;
 }
 
 async function dataOf(document) {

@@ -29,7 +29,7 @@ def places(word: str) -> list[int]:
     """Returns the places in an argument, which are separated by commas. Raises `ArgumentTypeError` for any other
     text."""
     if not re.fullmatch(r"\d+(,\d+)*", word):
-        raise argparse.ArgumentTypeError(f"{word}: write places of the journal with commas between them, such as 0,4,24; 0 is the beginning")
+        raise argparse.ArgumentTypeError(f"{word}: write numbers of events with commas between them, such as 0,4,24; 0 is the beginning")
     return [int(place) for place in word.split(",")]
 
 
@@ -42,12 +42,14 @@ def picture(lab_file: Path, journal: Path, asked: list[int], theme: str = LIGHT)
     first = next(frames)
     drawing = drawing_of(lab.without_house(), first.state.links, CELL if len(asked) > 1 else WIDE)
     found: dict[int, Frame] = {}
+    last = 0
     for frame in chain([first], takewhile(lambda frame: frame.state.place <= max(asked), frames)):
+        last = frame.state.place
         if frame.state.place in asked:
             found[frame.state.place] = Frame(frame.event, frame.state.copy())  # The next state is made by changing this one, so a copy is kept.
     for place in asked:
         if place not in found:
-            raise Fault(f"{journal}: there is no place {place}", 3)
+            raise Fault(f"{journal}: there is no event {place}; the last event has the number {last}", 3)
     if len(asked) > 1:
         return sheet(drawing, [found[place] for place in asked], theme)
     return standalone(drawing, found[asked[0]].state, found[asked[0]].event, theme)
@@ -58,10 +60,10 @@ def play(words: argparse.Namespace) -> int:
     arguments don't name one run."""
     runs = classes.given(words.run)
     if len(runs) != 1:
-        raise Fault("play: name the folder of a run, or a lab and a journal")
+        raise Fault("play: name the folder of one run, or one lab and one journal")
     lab_file, journal = runs[0]
     output = Path(words.output or ("run.html" if words.svg is None else f"{'-'.join(map(str, words.svg))}.svg"))
     text = page(lab_file, journal) if words.svg is None else picture(lab_file, journal, words.svg, DARK if words.dark else LIGHT)
     output.write_text(text, encoding="utf-8")
-    print(f"{output}: {len(text.encode())} bytes")
+    print(f"written: {output} ({len(text.encode())} bytes)")
     return 0

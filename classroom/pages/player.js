@@ -146,7 +146,7 @@ class Player {
     if (this.picked !== null) this.tellStory();
   }
 
-  line(frame) { return frame.kind ? frame.place + ": " + frame.text : "the beginning"; }
+  line(frame) { return frame.kind ? `event ${frame.place}: ${toldEvent(this.data, frame)}` : "the beginning of the run"; }
 
   // Lists the events around the current one, which is in the middle, and marks those of its step.
   list() {
@@ -177,7 +177,7 @@ class Player {
     const number = this.document.createElement("b"), text = this.document.createElement("span");
     const isFirst = this.configurations[this.configurationOf[at]].first === at;
     number.textContent = isFirst ? frame.number : "";
-    text.textContent = toldEvent(this.data, frame);
+    text.textContent = toldEvent(this.data, frame).replace(/^node /, ""); // so that most events fit into a line
     link.href = "#p=" + at;
     link.title = this.line(frame);
     link.append(number, text);

@@ -12,6 +12,7 @@ from collections.abc import Callable
 from typing import Any
 
 from classroom.core.desk_words import WORDS
+from classroom.core.journal import in_words
 from classroom.core.lab import Lab
 from classroom.pages.drawing import drawing_of
 from classroom.pages.frames import Frame
@@ -103,7 +104,7 @@ def message(rows: Frames, present: Present, before: Now | None, now: Now) -> dic
     return rows.rows.pop() | {
         "begin": before is None, "closing": now.closing, "ended": now.ended,
         "new": rows.drawn_links(links), "bars": present.bars.rows[max(before.bars - 1, 0) if before else 0:now.bars],
-        "events": [f"{each.place}: {' '.join(each.words)}" for each in events], "lines": lines,
+        "events": [f"event {each.place}: {in_words(each)}" for each in events], "lines": lines,
     }
 
 

@@ -114,7 +114,7 @@ class Replay:
             if script.size <= SCRIPT_LIMIT:
                 return script, []
         if fits == 0:
-            raise Fault(f"too many events without a new configuration after place {self.place}", 3)
+            raise Fault(f"this run can't be replayed: after event {self.place} there are too many events before the next configuration", 3)
         script.cut(kept)
         for node in self.lab.nodes:
             script.ask(f'1 {{"do":"see","node":{node.id}}}', self.take_registers)
@@ -129,7 +129,7 @@ class Replay:
         place and the configuration's number after the event. Raises `Fault` if the place is wrong."""
         place = reply["place"] + self.place
         if place != event.place:
-            raise Fault(f"the program's reply to event {event.place} of the journal names event {place}", 4)
+            raise wrong_place(event.place, place)
         if event.links:
             change = self.links.add if event.links > 0 else self.links.remove
             change(labs.ordered((event.nodes[0], event.nodes[1])))
@@ -151,7 +151,8 @@ class Replay:
             done = call("script", lab, lines)
         replies = done.output.splitlines()
         if done.status != 0 or len(replies) != len(script.lines):
-            raise Fault(done.error or f"the program printed {len(replies)} replies to {len(script.lines)} lines", done.status or 4)
+            raise Fault(f"the journal can't be replayed: {done.error or f'the program printed {len(replies)} replies to {len(script.lines)} lines'}",
+                        done.status or 4)
         for line, reply, take in zip(script.lines, replies, script.takes):
             told = values_of(reply)
             if "ok" not in told:
@@ -174,7 +175,13 @@ def values_of(reply: str) -> dict[str, Any]:
 
 def another(line: str, reply: str) -> Fault:
     """Returns the fault to raise if a line gets another reply than in the run."""
-    return Fault(f"{line[2:]} is answered {reply[2:]}", 4)
+    return Fault(f"the journal can't be replayed: the program answered the line {line[2:]} by {reply[2:]}", 4)
+
+
+def wrong_place(expected: int, place: int) -> Fault:
+    """Returns the fault to raise if the program gives the number `place` to the event of the journal with the number
+    `expected`."""
+    return Fault(f"the journal can't be replayed: the program counted its event {expected} as event {place}", 4)
 
 
 def report(lab: labs.Lab, lines: list[list[str]]) -> dict[str, Any]:
@@ -188,5 +195,5 @@ def report(lab: labs.Lab, lines: list[list[str]]) -> dict[str, Any]:
     last, told = replies.rsplit("\n", 3)[-3:-1]
     place: int = values_of(last).get("place", 0)
     if place != len(lines):
-        raise Fault(f"the program's reply to event {len(lines)} of the journal names event {place}", 4)
+        raise wrong_place(len(lines), place)
     return values_of(told)

@@ -31,6 +31,10 @@ class Seen(Drawing):
         """Returns the path element for a node's pointer, or an empty text for a node beyond the part."""
         return "" if node in self.beyond else super().pointer(node, state)
 
+    def node_in_words(self, node: int, owners: list[str], state: State) -> str:
+        """Returns the description of a node for people who don't see the drawing. A neighbour's owners aren't known."""
+        return super().node_in_words(node, owners, state).replace(f" of {NEIGHBOUR},", f", {NEIGHBOUR},", 1)
+
     def node(self, node: int, owners: list[str], state: State, event: Event | None) -> str:
         """Returns the SVG element of a node. A node beyond the part is only a number, and a neighbour has a thin
         rim."""

@@ -140,8 +140,9 @@ def distances(nodes: Sequence[int], links: Iterable[tuple[int, int]]) -> Rows:
 
 
 def classical_scaling(far: Rows, axes: Rows) -> Rows:
-    """Returns two coordinates of each node, a row each, that explain most of the distances: the classical scaling in
-    two dimensions. The scaling is computed by power iteration, which begins at these axes."""
+    """Returns two rows, the first and the second coordinate of all nodes: the classical scaling of the distances in two
+    dimensions. Each row is an eigenvector of the centred squares times the root of its eigenvalue. It is found by power
+    iteration, which begins at one of `axes` and in each turn removes the parts along the rows already found."""
     squares = [[each * each for each in row] for row in far]
     means = [sum(row) / len(row) for row in squares]
     mean = sum(means) / len(means)

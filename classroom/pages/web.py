@@ -81,7 +81,7 @@ class Web(ThreadingHTTPServer):
         kind = type(error).__name__, f"{last.filename}:{last.lineno}"
         if kind not in self.faults:
             self.faults.add(kind)
-            self.tell(f"the page: {type(error).__name__}: {error}"[:LONGEST])
+            self.tell(f"error in the server of a page: {type(error).__name__}: {error}"[:LONGEST])
 
 
 class DeadlineReader(io.RawIOBase):
@@ -125,7 +125,7 @@ class PageRequest(BaseHTTPRequestHandler):
         port = self.connection.getsockname()[1]
         if self.headers.get("Host") in (f"127.0.0.1:{port}", f"localhost:{port}"):
             return False
-        text = (f"This page is served as http://127.0.0.1:{port}/.. only: open the address that the run printed. On another "
+        text = (f"The address of this page has to begin with http://127.0.0.1:{port}/. Open the address that the run printed. To open it on another "
                 f"machine, first leave this command running there: ssh -N -L {port}:127.0.0.1:{port} NAME@HOST\n").encode()
         self.answer(421, "text/plain; charset=utf-8", text)
         return True

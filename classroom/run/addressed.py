@@ -11,14 +11,14 @@ from classroom.core.desk_words import WORDS
 EVERY = "all"
 NETWORKS, RESUME, END, HELP = "networks", "resume", "end", "help"
 OWN = {
-    NETWORKS: "the table of all networks, with the state of each",
-    f"{RESUME} NETWORK": "go on with a network whose server or desk is gone",
-    f"{END} NETWORK": "end a network, or give it up if it is down",
+    NETWORKS: "print the table of all networks, with the state of each",
+    f"{RESUME} NETWORK": "continue a network that is down, so that its server runs and takes commands again",
+    f"{END} NETWORK": "end the run of a network; if the network is down, give it up",
 }
 BARE = {word for word, it in WORDS.items() if not it.form} | {RESUME}  # the commands after which the name of a network may stand
 NAMING = {word for word, it in WORDS.items() if it.form == "NAME"}  # the words for one student
-HOW = "put a network's number or name before a command (`2 shake 3`, `maths-2: close`), or after a command without values (`close 2`); " \
-      "with `all`, or without a network, the command is for every network"
+HOW = "write a network's number or name before a command (`2 shake 3`, `maths-2: close`), or after a command that needs no further words " \
+      "(`close 2`); with `all`, or without a network, the command is for every network"
 
 
 def listed(names: Sequence[str]) -> str:
@@ -55,5 +55,5 @@ def wanted(word: str, names: Sequence[str]) -> list[int]:
     """Returns the indices of the networks that a word names. Raises `ValueError` if the word names none."""
     found = target(word, names)
     if found is None:
-        raise ValueError(f"there is no network {word}; there are {listed(names)}")
+        raise ValueError(f"this class has no network {word}. Its networks are: {listed(names)}")
     return found

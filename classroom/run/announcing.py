@@ -30,12 +30,12 @@ def report_line(report: Report) -> str:
     """Returns a report as a line for people."""
     lists = {
         "pairs": [f"{a}-{b}" for a, b in report.pairs],
-        "free": [str(node) for node in report.free],
-        "privileged": [f"{node} ({rule})" for node, rule in report.privileged],
-        "open": [f"{a}-{b} ({node} {rule})" for a, b, node, rule in report.open],
+        "free nodes": [str(node) for node in report.free],
+        "privileged nodes": [f"{node} ({rule})" for node, rule in report.privileged],
+        "open links": [f"{a}-{b} (node {node} can move by {rule})" for a, b, node, rule in report.open],
     }
-    told = "; ".join(f"{name} {', '.join(them)}" for name, them in lists.items() if them)
-    return f"configuration {report.at}, {'' if report.stable else 'not '}stable: {told}"
+    told = "".join(f"; {name}: {', '.join(them)}" for name, them in lists.items() if them)
+    return f"configuration {report.at} is {'' if report.stable else 'not '}stable{told}"
 
 
 class Announcer:
@@ -58,7 +58,7 @@ class Announcer:
         continues. Ends the run if all events of the lab are used."""
         self.recount()
         self.known.ask_report()
-        self.tell(f"the class goes on at configuration {self.known.report.at}, {self.events_used()}")
+        self.tell(f"the class continues at configuration {self.known.report.at}; {self.events_used()}")
         if self.known.count >= self.lab.events:
             self.end_by("full")
 
@@ -69,7 +69,7 @@ class Announcer:
         try:
             Recount(self.lab, past, self.comeback).counts()
         except Fault as fault:
-            self.tell(f"the events of this run before now aren't counted: {fault}")
+            self.tell(f"the moves and rounds of this run so far can't be counted, since mml gave an error: {fault}")
             for event in past:
                 if event.is_edit:
                     self.comeback.edit(event)
@@ -105,14 +105,14 @@ class Announcer:
         """Prints a line if the lab has few events left, and ends the run after the last one."""
         if self.known.count == int(MOST_TOLD * self.lab.events) > 0:
             self.tell_edits()
-            self.tell(f"{self.events_used()}: after the last event nothing more is granted")
+            self.tell(f"the lab allows {self.lab.events} events, and {self.known.count} of them are used. After the last one the server grants nothing more")
         if self.known.count >= self.lab.events:
             self.tell_edits()
             self.end_by("full")
 
     def events_used(self) -> str:
         """Returns the number of events and their limit, as a text."""
-        return f"events {self.known.count} of {self.lab.events}"
+        return f"events: {self.known.count} of {self.lab.events}"
 
     def tell_event(self, at: int, what: str) -> None:
         """Prints the line of an event. `at` is the number of the configuration after it, and `what` says what happened.
@@ -121,9 +121,9 @@ class Announcer:
         known = self.known
         most = bounds.told(len(self.lab.nodes), len(self.lab.links) + known.book.links)
         limit = f" of at most {most.moves}" if most else ""
-        state = "stable" if known.report.stable else f"{len(known.report.privileged)} privileged"
-        now = f"{state}, " if known.report.at == at else ""
-        self.tell(f"configuration {at}: {what}; {now}{known.book.since}{limit} moves; {self.events_used()}")
+        state = "stable" if known.report.stable else f"privileged nodes: {len(known.report.privileged)}"
+        now = f"{state}; " if known.report.at == at else ""
+        self.tell(f"configuration {at}: {what}; {now}moves: {known.book.since}{limit}; {self.events_used()}")
 
     def count_close(self, event: Event, moved: list[int], before: Report) -> None:
         """Counts a close in the recovery. `moved` are the nodes that moved, and `before` is the report before the
@@ -140,7 +140,7 @@ class Announcer:
 
     def waiting(self) -> list[str]:
         """Returns a text for each node that the class waits for, with its owners and its rule."""
-        return [f"{node} ({' and '.join(self.shown.owners(node))}): {rule}" for node, rule in self.known.waiting()]
+        return [f"node {node} ({' and '.join(self.shown.owners(node))}): {rule}" for node, rule in self.known.waiting()]
 
     def tell_waiting(self) -> None:
         """Prints the nodes that the class waits for if they have changed since the last time. If there are many, prints
@@ -153,7 +153,7 @@ class Announcer:
     def wait(self) -> None:
         """Prints all nodes that the class waits for, or that it waits for none."""
         self.told_waiting = self.waiting()
-        self.tell(f"waiting for {', '.join(self.told_waiting) or 'nobody'}")
+        self.tell(f"waiting for {', '.join(self.told_waiting) or 'no node'}")
 
     def end_by(self, word: str) -> None:
         """Ends the run because nothing is granted any longer. `word` is the server's refusal, `full` or `journal`.
@@ -162,9 +162,9 @@ class Announcer:
             return
         self.over = word
         if word == "journal":
-            what = f"{self.why_journal()}, then {self.go_on}"
+            what = f"{self.why_journal()}, and then continue the run by {self.go_on}"
         else:
-            what = f"the journal is full, {self.events_used()}{self.why_full()}"
+            what = f"all {self.lab.events} events that the lab allows are used{self.why_full()}"
         self.tell(f"nothing more is granted: {what}")
 
     def why_full(self) -> str:
@@ -172,9 +172,9 @@ class Announcer:
         text doesn't say how many a lab may have."""
         known = limits.known()
         if known and self.lab.events >= known.events:
-            return ", the most that a lab may have; continue with a new lab"
-        most = f", to at most {known.events}" if known else ""
-        return f"; raise `events` in {self.folder}/lab.toml{most}, then {self.go_on} --again"
+            return ". No lab can allow more, so continue with a new lab"
+        most = f" (to at most {known.events})" if known else ""
+        return f". Raise `events` in {self.folder}/lab.toml{most}, and then continue the run by {self.go_on} --again"
 
     def why_journal(self) -> str:
         """Returns why the journal takes no more lines, and the remedy. Waits a few seconds for the server to report
@@ -182,6 +182,6 @@ class Announcer:
         for _ in range(LOOKS):
             lost = self.lost_journal()
             if lost:
-                return f"the journal's file {lost}; put the old file back"
+                return f"the journal's file {lost}. Put the old file back"
             time.sleep(PAUSE)
-        return "no line can be written to the journal; make room on the disk"
+        return "no line can be written to the journal. Make room on the disk"

@@ -36,13 +36,14 @@ def wait_for_desk(folder: Path, record: Record) -> None:
     after a minute, or if the process that holds the desk hasn't lost its terminal."""
     holder = record.run
     if holder.lives() and not record.left:
-        raise Fault(f"{folder}: process {holder.number} controls this run already")
+        raise Fault(f"{folder}: another process (number {holder.number}) controls this run. Type your commands in its terminal. "
+                    "Or close that terminal (don't type `end` there: that ends the run), and then type this command again")
     if holder.lives():
         os.kill(holder.number, signal.SIGUSR1)
         end = time.monotonic() + PATIENCE
         while holder.lives():
             if time.monotonic() > end:
-                raise Fault(f"{folder}: process {holder.number} was asked to leave the desk of this run, but hasn't: end that process")
+                raise Fault(f"{folder}: process {holder.number} was asked to leave the desk of this run, but hasn't left it. End this process, and try again")
             time.sleep(0.05)
 
 
@@ -56,7 +57,7 @@ def attach(words: argparse.Namespace) -> int:
     lab_file, _ = of_folder(folder)
     record = Record.read(folder)
     if record is None or not record.server.lives():
-        raise Fault(f"{folder}: the server of this run has ended: {CLASS} run --resume {folder} continues the run")
+        raise Fault(f"{folder}: the server of this run has ended. To continue the run, type: {CLASS} run --resume {folder}")
     lab = labs.read(lab_file)
     check_stand_in(words, lab, lab_file)
     wait_for_desk(folder, record)
@@ -66,5 +67,5 @@ def attach(words: argparse.Namespace) -> int:
                   ends=end_of(words.ends, record.ends), anonymous=words.anonymous or record.anonymous,
                   door=record.door)
     it = Server(record.server, record.port, record.desk, True, folder / "server.txt")
-    run.tell(f"port {it.port}, desk {it.desk}; folder {folder}")
+    run.tell(f"port {it.port}, and port {it.desk} for the desk; folder {folder}")
     return to_the_end(run, lambda: it)

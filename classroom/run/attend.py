@@ -40,18 +40,18 @@ def pause(how: Closing) -> float:
     return min(TICK, max(how.value / 4, 0.01)) if how.kind in ("every", "when-idle") else TICK
 
 
-AGAIN_ROOM = ("the disk has room again. If a line couldn't be written, the journal is halted and moves are refused as `journal`: "
-              f"then end the run, and continue with {CLASS} run --resume")
+AGAIN_ROOM = ("the disk has room again. If a line of the journal couldn't be written meanwhile, the server refuses all moves with `journal`. "
+              f"In this case end the run, and continue it by {CLASS} run --resume FOLDER")
 
 
 def disk_line(left: int, why: str) -> tuple[str, str]:
     """Returns the state of a disk with `left` free bytes (`little`, `full` or an empty text), and the line to print
     about it. `why` is the reason if nothing can be written, and empty otherwise."""
     if left > 0 and not why:
-        return ("little", f"the disk has little room: {left} bytes are left") if left < LITTLE else ("", "")
+        return ("little", f"the disk is nearly full: {left} bytes are left. Make room, so that the journal can be written") if left < LITTLE else ("", "")
     what = f"can't be written ({why})" if why else "is full"
-    return "full", (f"the disk {what}: the next line of the journal can't be written, and after this failure nothing "
-                    "is granted any longer; make room")
+    return "full", (f"the disk {what}. Make room now: if a line of the journal can't be written, "
+                    "the server grants nothing more")
 
 
 def limit_of(process: int) -> int | None:
@@ -67,12 +67,12 @@ def limit_of(process: int) -> int | None:
 def limit_line(left: int, folder: Path) -> tuple[str, str]:
     """Returns the state of a journal that may grow by `left` bytes (`little`, `full` or an empty text), and the line to
     print about it. `folder` is that of the run."""
-    how = f"(ulimit -f): end the run, and continue with {CLASS} run --resume {folder} without such a limit"
+    how = f"(ulimit -f). End the run, remove this limit, and continue by {CLASS} run --resume {folder}"
     if left >= LITTLE:
         return "", ""
     if left >= LINE:
-        return "little", f"the journal may only grow by {left} more bytes, since there is a limit on the server's files {how}"
-    return "full", f"the journal has reached the limit on the server's files, so nothing more is granted {how}"
+        return "little", f"the journal can only grow by {left} more bytes, because of a limit on the size of files {how}"
+    return "full", f"the journal has reached the limit on the size of files, so the server grants nothing more {how}"
 
 
 def unlinked_file(folder: Path) -> IO[bytes] | None:
@@ -199,7 +199,7 @@ def run_typed(desk: Desk, line: str | None, hung: Callable[[], None]) -> str:
     if line == NOW or desk.lost and line.split() == ["end"]:
         return "end"
     if desk.lost:
-        desk.tell(f"no: the desk has no connection to the server: {desk.lost}")
+        desk.tell(f"not done, because the desk has no connection to the server now: {desk.lost}")
         return ""
     return "" if desk.command(line) else "end"
 

@@ -11,7 +11,7 @@ from pathlib import Path
 from classroom.core.class_state import DOWN, ENDED
 from classroom.core.classes import Class
 from classroom.core.folders import Record
-from classroom.core.program import Fault
+from classroom.core.program import CLASS, Fault
 from classroom.run.member import Member, News
 from classroom.run.several import Several, members_of, run_desk
 
@@ -25,12 +25,14 @@ def wait_for_desks(folder: Path, kept: Class) -> None:
     if not kept.desk.lives():
         return
     if not kept.left:
-        raise Fault(f"{folder}: process {kept.desk.number} controls this class already")
+        raise Fault(f"{folder}: another process (number {kept.desk.number}) controls this class. Type your commands in its terminal. "
+                    "Or close that terminal (don't type `end` there: that ends the class), and then type this command again")
     os.kill(kept.desk.number, signal.SIGUSR1)
     end = time.monotonic() + PATIENCE
     while kept.desk.lives():
         if time.monotonic() > end:
-            raise Fault(f"{folder}: process {kept.desk.number} was asked to leave the desks of this class, but hasn't: end that process")
+            raise Fault(f"{folder}: process {kept.desk.number} was asked to leave the desks of this class, but hasn't left them. "
+                        "End this process, and try again")
         time.sleep(0.05)
 
 
@@ -45,7 +47,7 @@ def begin(member: Member, several: Several, again: bool, starts: bool) -> None:
         member.start(several.hear, several.note_end)
     else:
         member.status, member.has_desk = DOWN, record is not None
-        member.alarm = f"its server has ended; resume {member.number} goes on with it, end {member.number} gives it up"
+        member.alarm = f"its server has ended; {member.remedy()}"
         several.say(several.alarm(member))
 
 
@@ -59,7 +61,7 @@ def hold_again(words: argparse.Namespace, folder: Path) -> int:
     starts, again = hasattr(words, "resume"), getattr(words, "again", False)
     records = [Record.read(folder / network.name) for network in kept.networks]
     if all(record is not None and record.ended and not record.goes_on() for record in records) and not again:
-        raise Fault(f"{folder}: each run of this class was ended; run --resume FOLDER --again opens them again")
+        raise Fault(f"{folder}: all runs of this class were ended. To continue them, type: {CLASS} run --resume {folder} --again")
     if words.page is None and kept.page:
         words.page = kept.page
     news = News()

@@ -16,7 +16,7 @@ def time_of_day(word: str) -> str:
     """Returns the time of day in an argument such as `10:45`. Raises `ArgumentTypeError` for any other text."""
     found = re.fullmatch(r"(\d{1,2}):(\d\d)", word, re.ASCII)
     if not found or int(found[1]) > 23 or int(found[2]) > 59:
-        raise argparse.ArgumentTypeError(f"{word} isn't a time of day: write it as 10:45")
+        raise argparse.ArgumentTypeError(f"{word!r} isn't a time of day. Write it in the form 10:45")
     return f"{int(found[1]):02}:{found[2]}"
 
 
@@ -27,7 +27,7 @@ def next_time(word: str, now: datetime) -> datetime:
     end = now.replace(hour=hours, minute=minutes, second=0, microsecond=0)
     end = end if end > now else end + timedelta(days=1)
     if end - now > LATEST:
-        raise ValueError(f"--ends {word}: it is {now:%H:%M} already")
+        raise ValueError(f"--ends {word}: it is {now:%H:%M} already. Name a later time")
     return end
 
 
@@ -77,4 +77,4 @@ class Clock:
 
     def over(self) -> str:
         """Returns the line that is printed at the end of the lesson."""
-        return f"it is {self.end:%H:%M}: the lesson is over"
+        return f"it is {self.end:%H:%M}: the lesson is over, so the run ends"

@@ -10,7 +10,7 @@ from pathlib import Path
 
 PROC = Path("/proc")
 ESTABLISHED, LISTENING = "01", "0A"
-ELSEWHERE = "someone from elsewhere"
+ELSEWHERE = "a program of another user"
 PAUSE = 1.0  # seconds between two looks
 AGAIN = 0.02  # seconds between two readings of one look
 READINGS = 5
@@ -102,12 +102,12 @@ class Connected:
         gone = [self.known.pop(port) for port in sorted(self.known.keys() - here)]
         come = sorted(here - self.known.keys())
         self.known |= {port: self.names.get(port) or self.process(ends.get(port)) for port in come}
-        lines = [f"connected: {self.known[port]}" for port in come] + [f"gone: {who}" for who in gone] if self.tells else []
+        lines = [f"connected: {self.known[port]}" for port in come] + [f"disconnected: {who}" for who in gone] if self.tells else []
         listens = any(own == self.port and state == LISTENING for own, _, state, _ in found)
         if not self.full and (len(here) >= self.seats or not listens):
             self.full = True
-            lines.append("all seats are taken: newcomers are turned away; type who to see which students have them" if listens else
-                         "this server has accepted all connections that `sessions` in the lab allows: nobody else can connect in this run")
+            lines.append("all seats are taken, so newcomers are turned away; type `who` to see which students have the seats" if listens else
+                         "this server has accepted as many connections as `sessions` in the lab allows, so nobody else can connect in this run")
         return lines
 
     def process(self, number: str | None) -> str:
@@ -125,4 +125,4 @@ class Connected:
     def who(self) -> str:
         """Returns a text with the number of seats that are taken, and their holders in the order in which they came."""
         names = [self.names.get(port, who) for port, who in self.known.items()]
-        return f"{len(self.known)} of {self.seats} seats: {', '.join(names) or 'nobody'}"
+        return f"{', '.join(names) or 'nobody'} ({len(self.known)} of {self.seats} seats are taken)"

@@ -30,7 +30,7 @@ class Daemon:
         if word in PLAIN:
             return Daemon(word)
         if not found or found[1] == "random" and found[2] and not 0 < float(found[2]) <= 1:
-            raise ValueError(f"{word} isn't one of {FORMS}; P is above 0 and at most 1")
+            raise ValueError(f"{word!r} isn't a daemon. The daemons are: {FORMS}. P is a number above 0 and at most 1")
         return Daemon(found[1], float(found[2]) if found[2] else 0.5 if found[1] == "random" else seconds)
 
     def spelled(self) -> str:

@@ -35,11 +35,11 @@ def demo(words: argparse.Namespace) -> int:
     """Calls `run` over the cycle of `examples/`, with a bot for each of its four students, until it is stable. Returns
     the exit status of `run`. Raises `Fault` if there are no `examples/`, or if the server isn't built."""
     if not LAB.exists():
-        raise Fault("this is the archive for students: it has no finished bots to show; ./class practise bot.py tries yours")
+        raise Fault("the archive for students has no finished bots, so there is nothing to show. To try your own bot, type: ./class practise 'python3 bot.py'")
     server.require_built(False)
     lab = labs.read(LAB)
     bots: list[subprocess.Popen[bytes]] = []
-    print(f"a cycle of {len(lab.nodes)} nodes after a fault, and the bots of {len(lab.students)} students", flush=True)
+    print(f"this demo runs a cycle of {len(lab.nodes)} nodes after a fault, with the bots of {len(lab.students)} students", flush=True)
     run = subprocess.Popen(
         [sys.executable, TOP / "class", "run", LAB, *WORDS, words.into], stdin=subprocess.DEVNULL, stdout=subprocess.PIPE,
         text=True, start_new_session=True,

@@ -14,6 +14,7 @@ from pathlib import Path
 from classroom.client import Client, Closed, Denied, Refused
 from classroom.core import lab as labs
 from classroom.core.bench import network
+from classroom.core.counts import plural
 from classroom.core.desk_words import WORDS, Action, request
 from classroom.core.program import Fault
 from classroom.core.shown_names import ShownNames
@@ -79,7 +80,7 @@ class Desk:
         except (Closed, Refused) as error:
             self.lost = str(error)
             return False
-        self.tell("the desk is connected again")
+        self.tell("the desk is connected to the server again")
         return True
 
     def use_connection(self, client: Client) -> None:
@@ -96,7 +97,7 @@ class Desk:
         `reconnect` makes another one."""
         self.lost = str(error)
         self.client.hang_up()
-        self.tell(f"the desk has lost its connection: {error}; saying hello again")
+        self.tell(f"the desk has lost its connection to the server, and tries to connect again: {error}")
 
     def catch_up(self) -> None:
         """Counts the events that the journal has already. Prints only the configuration from which the class
@@ -173,7 +174,7 @@ class Desk:
             self.read()
             self.actions[WORDS[word].action](word, rest)
         except (Denied, Refused) as no:
-            self.tell(f"no: {no}")
+            self.tell(f"the server {'denied' if isinstance(no, Denied) else 'refused'} this command: {no}")
             if isinstance(no, Refused) and no.word in ("full", "journal"):
                 self.read()
                 self.announcer.end_by(no.word)
@@ -188,7 +189,7 @@ class Desk:
         if asked or self.known.report.stable:
             return True
         self.asked_to_end = True
-        self.tell(f"not stable, {len(self.known.report.privileged)} privileged: type `end` once more to end the run anyway")
+        self.tell(f"the network isn't stable yet (privileged nodes: {len(self.known.report.privileged)}). Type `end` once more to end the run anyway")
         return False
 
     def ask(self, word: str, rest: list[str]) -> None:
@@ -214,7 +215,7 @@ class Desk:
         elif self.connected:
             self.tell(f"connected: {self.connected.who()}")
         idle = ", ".join(self.known.book.idle)
-        self.tell(f"without a granted move so far: {idle}" if idle else "each student has had a move granted")
+        self.tell(f"students without a granted move so far: {idle}" if idle else "each student has had a granted move")
         if self.house:
             self.tell(self.house.told())
 
@@ -222,9 +223,9 @@ class Desk:
         """Returns the house, which is to play the nodes of the student `name`. Raises `ValueError` with the reason if
         it can't."""
         if self.house is None and self.lab.held():
-            raise ValueError("the house can't play in a run with --serve")
+            raise ValueError("the house can't play, because this run was started with --serve")
         if self.house is None:
-            raise ValueError(f"no node has a second owner who could play for {name}: {HOW}")
+            raise ValueError(f"the house can't play for {name}, because it owns no node in this lab. {HOW}")
         return self.house
 
     def nodes(self) -> list[int]:
@@ -240,19 +241,19 @@ class Desk:
         """Moves the page on which the teacher acts to another address. Requests at the old one are refused from then
         on. Raises `ValueError` if the run has no page."""
         if self.another_page is None:
-            raise ValueError("there is no page: start the run with --page")
+            raise ValueError("this run has no page. Start a run with --page if you want one")
         self.another_page()
 
     def renew_key(self, name: str) -> None:
         """Gives the student `name` another key. Raises `ValueError` if that isn't possible."""
         if self.another_key is None:
-            raise ValueError("a key can't be changed in a run with --serve")
+            raise ValueError("the key can't be changed, because this run was started with --serve")
         self.another_key(name)
 
     def close_by(self, word: str) -> None:
         """Lets steps be closed by the daemon that a word names from now on. Raises `ValueError` if it names none."""
         self.closing = closing(word)
-        self.tell(f"steps are closed {spelled(self.closing)}")
+        self.tell(f"from now on steps are closed by the daemon {spelled(self.closing)}")
         if self.watch:
             self.watch.present.put(closing=spelled(self.closing))
 
@@ -266,4 +267,4 @@ class Desk:
         """Sets the registers of several nodes, by one fault after another."""
         for node, p, m in registers:
             self.client.fault(node, p, m)
-        self.tell(f"the registers of {len(registers)} nodes were set")
+        self.tell(f"the registers of {plural(len(registers), 'node')} were set")

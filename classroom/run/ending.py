@@ -21,15 +21,16 @@ def put_back(journal: IO[bytes], path: Path, tell: Callable[[str], None]) -> Non
         if os.path.samestat(os.fstat(journal.fileno()), path.stat()):
             return
         path = path.with_name(f"{path.name}.saved")
+        what = "another file is in the journal's place"
     except FileNotFoundError:
-        pass
+        what = "the journal's file was missing"
     journal.seek(0)
     try:
         path.touch(0o600)
         path.write_bytes(journal.read())
-        tell(f"the journal's old content is saved in {path}")
+        tell(f"{what}, so the journal's old lines are saved in {path}")
     except OSError as error:
-        tell(f"the journal's old content can't be saved in {path}: {error.strerror}")
+        tell(f"{what}, and the journal's old lines can't be saved in {path}: {error.strerror}")
 
 
 def cut_torn_end(journal: Path) -> None:
@@ -58,7 +59,7 @@ def finish(folder: Path, tell: Callable[[str], None], brief: bool = False) -> in
         kept_layout.save(folder, labs.read(folder / "lab.toml"))
         run = mark.marked(folder / "lab.toml", folder / "journal")
         text = mark.text([run])
-        tell(f"marks: {folder / 'marks.txt'}" if brief else text.rstrip())
+        tell(f"the marks are in {folder / 'marks.txt'}" if brief else text.rstrip())
         (folder / "marks.txt").write_text(text, encoding="utf-8")
         (folder / "marks.json").write_text(mark.as_json([run]), encoding="utf-8")
         own_pages.write_pages(folder, tell)
@@ -66,7 +67,7 @@ def finish(folder: Path, tell: Callable[[str], None], brief: bool = False) -> in
         tell(f"class: {fault}")
         return fault.status
     except OSError as error:
-        tell(f"class: {error.filename or folder}: {error.strerror}; the journal is {folder / 'journal'}")
+        tell(f"class: not all files of the run could be made: {error.filename or folder}: {error.strerror}. The journal is {folder / 'journal'}")
         return 4
     if not brief:
         tell(f"all files of the run are in {folder}")

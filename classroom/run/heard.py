@@ -23,7 +23,7 @@ MOST = 1 << 20  # the most bytes of a seat's file that are read at one look
 VAIN = 10  # how many denials of a kind a student gets in a step before a line about them is printed
 FLOOD = 100.0  # how many lines a second of a student count as a flood
 FEW = 4  # the most students who came or went since the last look that get a line each
-NOBODY = "someone without a name"
+NOBODY = "a connection without a hello"
 OTHERS = "names that aren't in the lab"
 MALFORMED = "malformed"
 OVER = ("full", "journal")
@@ -52,12 +52,12 @@ class Seat:
 
 
 def denial_words(word: str) -> str:
-    """Returns a text for the word of a denial or refusal, such as `denied guard`."""
-    return f"refused {word}" if word == MALFORMED else f"denied {word}"
+    """Returns a text for the word of a denial or refusal, such as "denied as `guard`"."""
+    return f"refused as `{word}`" if word == MALFORMED else f"denied as `{word}`"
 
 
 def together(what: str, who: list[str]) -> list[str]:
-    """Returns the lines that say `what` (`connected` or `gone`) of the names in `who`. There is one line for each name,
+    """Returns the lines that say `what` (`connected` or `disconnected`) of the names in `who`. There is one line for each name,
     or one for all if they are more than FEW."""
     if len(who) <= FEW:
         return [f"{what}: {each}" for each in who]
@@ -177,7 +177,7 @@ class Heard:
                 for name in sorted(now) if now[name] > before[name]]
         gone = [name + (f", {plural(now[name], 'connection')} left" if now[name] else "")
                 for name in sorted(before) if now[name] < before[name]]
-        return together("connected", come) + together("gone", gone)
+        return together("connected", come) + together("disconnected", gone)
 
     def note_if_news(self, key: tuple[str, str], count: int, least: int) -> bool:
         """Returns whether the line `key` with a count is to be printed. The count has to be at least `least`, and at
@@ -189,7 +189,7 @@ class Heard:
 
     def wrong_keys(self) -> list[str]:
         """Returns a line about the wrong keys for each name, whenever their number has doubled."""
-        return [f"{plural(count, 'wrong key')} for {name}" for name, count in self.wrong.items()
+        return [f"{plural(count, 'hello')} with a wrong key for {name}" for name, count in self.wrong.items()
                 if self.note_if_news(("wrong", name), count, 1)]
 
     def denied(self) -> list[tuple[str, str, int]]:
@@ -200,7 +200,7 @@ class Heard:
     def in_vain(self) -> list[str]:
         """Returns lines about students who were denied since the last step. A student gets a line after VAIN denials of
         one kind, and whenever their number has doubled."""
-        return [f"{name}: {denial_words(word)} {plural(count, 'time')} since the last step"
+        return [f"{plural(count, 'request')} of {name} since the last step {'was' if count == 1 else 'were'} {denial_words(word)}"
                 for name, word, count in self.denied() if self.note_if_news((name, word), count, VAIN)]
 
     def flooding(self, seconds: float) -> list[str]:
@@ -208,16 +208,21 @@ class Heard:
         last call."""
         rates = {name: round(count / seconds) for name, count in self.lines.items() if count / seconds >= FLOOD}
         self.lines.clear()
-        begun = [f"a flood: {rate} lines a second from {name}" for name, rate in rates.items() if name not in self.floods]
-        over = [f"no flood any longer from {name}" for name in self.floods if name not in rates]
+        begun = [f"{name} sends too much: {rate} lines a second" for name, rate in rates.items() if name not in self.floods]
+        over = [f"{name} no longer sends too much" for name in self.floods if name not in rates]
         self.floods = rates
         return begun + over
 
     def cut_short(self) -> list[str]:
         """Returns lines about the students whose lines have ceased to be recorded since the last call."""
         names, self.cut = self.cut, []
-        why = "its share of the record is used up, or the disk is full"
-        return [f"the rest of what {name} sends isn't recorded: {why}" for name in dict.fromkeys(names)]
+        lines = []
+        for name in dict.fromkeys(names):
+            whose, counted = (name, "connections without a hello") if name == NOBODY else (f"this connection of {name}", f"the lines of {name}")
+            lines.append(f"the further lines of {whose} aren't recorded: the limit for {counted} is reached, or the record can't be written, for example "
+                         "because the disk is full. `mark` doesn't count these lines, and `history` doesn't show them, but granted moves are still in "
+                         "the journal. If the disk is full, make room now")
+        return lines
 
     def who(self, count: int, all_seats: int, otherwise: Iterable[str] = ()) -> str:
         """Returns a text about who is connected, and how many of all seats are taken. `count` is the number of
@@ -226,17 +231,17 @@ class Heard:
         known, every = self.connected(), self.connected().total()
         how = [text for text in otherwise if known[text.partition(",")[0]]]
         known.subtract(text.partition(",")[0] for text in how)
-        names = [name if times == 1 else f"{name} {times} times" for name, times in sorted(known.items()) if times > 0] + how
+        names = [name if times == 1 else f"{name} by {times} connections" for name, times in sorted(known.items()) if times > 0] + how
         others = max(count - every, 0)
-        names += [f"{others} without a name"] if others else []
-        return f"{max(count, every)} of {all_seats} seats: {', '.join(names) or 'nobody'}"
+        names += [f"{plural(others, 'connection')} without a hello"] if others else []
+        return f"{', '.join(names) or 'nobody'} ({max(count, every)} of {all_seats} seats are taken)"
 
     def amiss(self) -> list[str]:
         """Returns lines about wrong keys, floods, and students who were denied since the last step, for the command
         `who`."""
         wrong = ", ".join(f"{count} for {name}" for name, count in self.wrong.items())
-        vain = [f"{name}: {denial_words(word)} {plural(count, 'time')}" for name, word, count in self.denied()]
-        floods = ", ".join(f"{name}, {rate} lines a second" for name, rate in self.floods.items())
-        told = (f"wrong keys: {wrong}" if wrong else "", f"since the last step {'; '.join(vain)}" if vain else "",
-                f"a flood of {floods}" if floods else "")
+        vain = [f"{plural(count, 'request')} of {name} {denial_words(word)}" for name, word, count in self.denied()]
+        floods = ", ".join(f"{name} ({rate} lines a second)" for name, rate in self.floods.items())
+        told = (f"hellos with wrong keys: {wrong}" if wrong else "", f"since the last step: {'; '.join(vain)}" if vain else "",
+                f"sending too much: {floods}" if floods else "")
         return [line for line in told if line]

@@ -40,7 +40,7 @@ from classroom.run.heard import Heard
 from classroom.run.house import WAITS, House
 from classroom.run.state_file import StateFile
 from classroom.run.taking import Left, take_desk
-from classroom.run.teller import Teller, is_private
+from classroom.run.teller import READY, TO_ACT, TO_CONTINUE, TO_LOOK, TO_PLAY, Teller, is_private
 from classroom.run.typed import HELP, HUNG, LEAVE, NOW, Terminal, Typed, read_lines
 
 LATE = 10.0  # seconds after which a line says that `run` waits for the server's end
@@ -106,7 +106,7 @@ class Running:
         """Notes in the record that the terminal is closed, so that the run continues without one."""
         self.update_record(left=True)
         self.tell.around = str
-        self.tell(f"the terminal was closed, and the run goes on: {CLASS} attach {self.folder} controls it again")
+        self.tell(f"the terminal was closed, and the run continues. To control it again, type: {CLASS} attach {self.folder}")
 
 
 def open_desk(it: server.Server, run: Running) -> Desk:
@@ -148,9 +148,9 @@ def renew(run: Running, it: server.Server, desk: Desk, name: str) -> None:
         run.hands.students = it.port
     run.update_record(server=it.process, port=it.port, desk=it.desk)
     desk.use_connection(take_desk(it, run.lab.teacher, run.typed, run.tell, run.hung))
-    run.tell(f"the class goes on at port {it.port}; all programs have to connect again")
+    run.tell(f"the class continues at port {it.port}; all programs have to connect again")
     if is_private(run.takes_lines):
-        run.tell.alone(f"the key of {name}: {run.lab.students[name]}")
+        run.tell.alone(f"the new key of {name} is {run.lab.students[name]}")
 
 
 def show(pages: projector.Pages, desk: Desk, tell: Teller, typed: bool) -> None:
@@ -162,9 +162,9 @@ def show(pages: projector.Pages, desk: Desk, tell: Teller, typed: bool) -> None:
         """Prints the address to act at if only the teacher can read what is printed. Otherwise prints that it isn't
         shown."""
         if is_private(typed):
-            tell.alone(f"page to act {pages.address_to_act}")
+            tell.alone(f"{TO_ACT} {pages.address_to_act}")
         else:
-            tell("page to act: its address is printed only at a terminal")
+            tell(f"{TO_ACT}: its address is secret, and is printed only in a terminal")
 
     def renew() -> None:
         """Changes the address to act at, and prints it."""
@@ -172,7 +172,7 @@ def show(pages: projector.Pages, desk: Desk, tell: Teller, typed: bool) -> None:
         act()
 
     desk.another_page = renew
-    tell(f"page {pages.address}")
+    tell(f"{TO_LOOK} {pages.address}")
     act()
     tell.also.append(lambda line: watch.present.put(line=desk.names.line(line)))
     pages.show(watch.present, tell)
@@ -184,7 +184,7 @@ def start_reading(run: Running) -> None:
     at_terminal = sys.stdin is not None and sys.stdin.isatty()
     if not at_terminal and not run.takes_lines:
         return
-    run.tell(f"words: {HELP}")
+    run.tell(f"{READY}{HELP}")
     if at_terminal:
         run.terminal = Terminal([*(str(node.id) for node in run.lab.nodes), *run.lab.without_house().students])
         run.tell.around = run.terminal.around
@@ -217,14 +217,14 @@ def hold(run: Running, it: server.Server) -> int | None:
             show(run.pages, desk, run.tell, run.takes_lines)
         if run.hands is not None:
             run.hands.show(it.port, run.tell)
-            run.tell(f"page to play {run.hands.address}")
+            run.tell(f"{TO_PLAY} {run.hands.address}")
         for line in letting.page_lines(run.door, run.lab_file, run.pages.looks if run.pages else None):
             run.tell(line)
     except Left:
-        run.tell("another process takes over the desk")
+        run.tell("another process now controls this run, so this one ends")
         return None
     except (Closed, Refused, Denied) as error:
-        run.tell(f"the desk can't be used: {error}")
+        run.tell(f"the desk can't be used, because it has no connection to the server: {error}")
         return give_up(it, run, LATE if isinstance(error, Over) else TICK)
     with contextlib.closing(DiskRoom(run.folder, it.process.number)) as room:
         why = attend(desk, it, run.until == "stable", run.typed, room, run.hung)
@@ -245,8 +245,7 @@ def give_up(it: server.Server, run: Running, seconds: float) -> int | None:
 
 def leave(it: server.Server, run: Running) -> None:
     """Prints that the server `it` continues without a desk."""
-    run.tell(f"the server, process {it.process.number}, keeps running, and nobody controls it: while it runs, {CLASS} attach "
-             f"{run.folder} connects to its desk; after that, {CLASS} mark prints the marks")
+    run.tell(f"the server (process {it.process.number}) keeps running, but nobody controls it. To control it again, type: {CLASS} attach {run.folder}")
 
 
 def take_leave(it: server.Server, desk: Desk, why: str, run: Running) -> int | None:
@@ -256,13 +255,13 @@ def take_leave(it: server.Server, desk: Desk, why: str, run: Running) -> int | N
     tell = run.tell
     if why == "left":
         desk.client.hang_up()
-        tell("another process takes over the desk")
+        tell("another process now controls this run, so this one ends")
         return None
     try:
         if why != "died":
             desk.client.bye()
     except (Closed, Refused, Denied) as error:
-        tell(f"the desk has lost its connection: {error}")
+        tell(f"the desk has lost its connection to the server: {error}")
     if not it.hosted and why != "died":
         it.stop()
     elif not wait_for_server(it, run):
@@ -271,13 +270,13 @@ def take_leave(it: server.Server, desk: Desk, why: str, run: Running) -> int | N
     elif why == "died" or it.status() != 0 and not it.lacks_record():
         put_back(desk.known.journal, run.folder / "journal", tell)
         tell(f"the server has ended{' by itself' if why == 'died' and it.status() >= 0 else ''}, {it.how()}")
-        tell(f"to continue the run: {desk.announcer.go_on}")
+        tell(f"{TO_CONTINUE}{desk.announcer.go_on}")
         return FAILED
     for line in it.printed().splitlines():
         if line.startswith("host: "):
             tell(f"the server printed: {line.removeprefix('host: ')}")
     if it.lacks_record():
-        tell("the record isn't whole, since the disk didn't take all of it; the journal is whole")
+        tell("the record isn't complete, because not all of it could be written to the disk. The journal is complete")
     tell("the network is stable, so the run is ended" if why == "stable" else "the run is ended")
     return {"journal": FAILED, "full": WARNED}.get(why, WARNED if it.lacks_record() else 0)
 
@@ -289,7 +288,7 @@ def wait_for_server(it: server.Server, run: Running) -> bool:
         return True
     while not run.typed.empty():
         run.typed.get()  # Lines that were typed earlier don't answer this question.
-    run.tell(f"waiting until the server ends, process {it.process.number}; type `end` to stop waiting")
+    run.tell(f"waiting for the end of the server (process {it.process.number}). Type `end` to stop waiting")
     while not it.has_ended(TICK):
         if not run.typed.empty() and run.typed.get() in (NOW, "end"):
             return False

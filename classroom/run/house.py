@@ -9,17 +9,18 @@ from classroom.client import Client, Closed, Denied, Refused
 from classroom.core.journal import Event
 from classroom.core.lab import HOUSE, Lab
 from classroom.core.program import Fault
+from classroom.run.wording import named
 
 LIMIT = 5.0  # seconds that the server's answer may take
 AGAIN = 2.0  # seconds after which the house connects again if no seat was free
-WAITS = "the house waits for a first student"
-HOW = "`./class new` with --stand-in makes a lab in which the house is the second owner of each node"
+WAITS = "the house begins when the first student has said hello"
+HOW = "With --stand-in, `./class new` makes a lab in which the house is the second owner of each node"
 
 
 def require_house(lab: Lab, file: object) -> None:
     """Raises `Fault`, which names the lab's file, if the lab has no house."""
     if not lab.held():
-        raise Fault(f"{file}: the house can't stand in, since no node has `{HOUSE}` as its second owner: {HOW}")
+        raise Fault(f"{file}: the house can't play in this lab, since no node has `{HOUSE}` as its second owner. {HOW}")
 
 
 class House:
@@ -46,27 +47,27 @@ class House:
         reports it. Raises `ValueError` if there is no such student."""
         self.played.add(self.student(name))
         self.keep(sorted(self.played))
-        return f"the house plays for {name}: {', '.join(map(str, sorted(self.students[name])))}"
+        return f"the house now plays for {name}, at {named(sorted(self.students[name]))}"
 
     def stop(self, name: str) -> str:
         """Ends what `play` began for the student `name`. Returns the line that reports it. Raises `ValueError` if the
         house doesn't play for this student."""
         if self.student(name) not in self.played:
-            raise ValueError(f"the house doesn't play for {name}")
+            raise ValueError(f"there is nothing to stop: the house doesn't play for {name}")
         self.played.discard(name)
         self.keep(sorted(self.played))
-        return f"the house doesn't play for {name} any longer"
+        return f"the house no longer plays for {name}"
 
     def student(self, name: str) -> str:
         """Returns the name if it is the name of a student with nodes. Raises `ValueError` otherwise."""
         if name not in self.students:
-            raise ValueError(f"no student {name} has a node here; there are {', '.join(self.students)}")
+            raise ValueError(f"there is no student {name} with a node. The students are: {', '.join(self.students)}")
         return name
 
     def told(self) -> str:
         """Returns the line about whom the house plays for."""
         names = ", ".join(name for name in self.students if name in self.played)
-        late = f"each node that has waited for {self.seconds:g} seconds" if self.seconds is not None else ""
+        late = f"at each node for which the class has waited {self.seconds:g} seconds" if self.seconds is not None else ""
         whom = " and ".join(filter(None, (f"for {names}" if names else "", late)))
         return f"the house plays {whom or 'for nobody'}{f'; {WAITS}' if self.waits() else ''}"
 
@@ -106,7 +107,7 @@ class House:
             self.again = now + AGAIN
             if refused.word == "busy" and not self.told_busy:
                 self.told_busy = True
-                self.tell("the house would play now, but no seat is free for it; type who to see which students have the seats")
+                self.tell("the house would play now, but no seat is free for it; type `who` to see which students have the seats")
         except Closed:
             self.again = now + AGAIN
 

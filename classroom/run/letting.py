@@ -13,6 +13,7 @@ from classroom.core.program import CLASS
 from classroom.door import certificate, opening
 from classroom.door.opening import Place
 from classroom.door.routes import ALL, DoorData, announce_all, network
+from classroom.run.teller import FROM_ELSEWHERE, TO_LOOK, TO_PLAY
 
 WHERE = "[ADDRESS:]PORT"
 
@@ -50,11 +51,11 @@ def door(words: argparse.Namespace, labs: Iterable[Path], tell: Callable[[str], 
 def door_lines(opened: opening.OpenDoor, labs: list[Path], file: Path) -> Iterator[str]:
     """Yields the lines about an open door: its port, its certificate in `file`, and the labs whose slips name another
     address."""
-    yield f"door at port {opened.port}; its certificate, {file}, has the fingerprint {certificate.fingerprint(file)}"
+    yield f"the door is open at port {opened.port}; its certificate is {file}, with the SHA-256 fingerprint {certificate.fingerprint(file)}"
     wrong = opening.misled_labs(labs, file, opened.port)
     if wrong:
-        yield (f"the slips of {', '.join(wrong)} lead to another address: {CLASS} slips {' '.join(map(str, labs))} --door HOST:{opened.port} "
-               "makes them again")
+        yield (f"the slips of {', '.join(wrong)} don't have the address of this door. To make them again, type: {CLASS} slips {' '.join(map(str, labs))} "
+               f"--door HOST:{opened.port}")
 
 
 def route_to(folder: str | None, lab: Path, run: Path) -> None:
@@ -70,9 +71,9 @@ def page_lines(folder: str | None, lab: Path, looks: str | None) -> Iterator[str
     place = place_of(folder, lab)
     if place is None:
         return
-    yield f"page to play from elsewhere https://{place.told()}/{network(lab)}/"
+    yield f"{TO_PLAY}{FROM_ELSEWHERE} https://{place.told()}/{network(lab)}/"
     if looks is not None:
-        yield f"page to look at from elsewhere https://{place.told()}/{network(lab)}/look/{looks}/"
+        yield f"{TO_LOOK}{FROM_ELSEWHERE} https://{place.told()}/{network(lab)}/look/{looks}/"
 
 
 def place_of(folder: str | None, lab: Path) -> Place | None:

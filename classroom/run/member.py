@@ -22,20 +22,20 @@ from classroom.core.classes import Network
 from classroom.core.folders import Record
 from classroom.core.lab import Lab
 from classroom.core.program import TOP
-from classroom.core.statuses import FAILED
+from classroom.core.statuses import FAILED, how_ended
+from classroom.run.teller import FROM_ELSEWHERE, READY, TO_ACT, TO_CONTINUE, TO_LOOK, TO_PLAY
 
 Child = subprocess.Popen[str]
 News = queue.SimpleQueue[Callable[[], None]]
-READY = "words: "
 # The lines that a run prints while it starts, by the names of the facts in them.
 FACTS = {
-    "port": re.compile(r"port (\d+), .*"), "page": re.compile(r"page (http\S+)"), "act": re.compile(r"page to act (http\S+)"),
-    "play": re.compile(r"page to play (http\S+)"), "play_from": re.compile(r"page to play from elsewhere (http\S+)"),
-    "look_from": re.compile(r"page to look at from elsewhere (http\S+)"),
+    "port": re.compile(r"port (\d+), .*"), "page": re.compile(rf"{TO_LOOK} (http\S+)"), "act": re.compile(rf"{TO_ACT} (http\S+)"),
+    "play": re.compile(rf"{TO_PLAY} (http\S+)"), "play_from": re.compile(rf"{TO_PLAY}{FROM_ELSEWHERE} (http\S+)"),
+    "look_from": re.compile(rf"{TO_LOOK}{FROM_ELSEWHERE} (http\S+)"),
 }
-TOLD_IN_TABLE = ("slips: ", "desk ", READY, "page to act")
+TOLD_IN_TABLE = ("slips: ", "desk at ", READY, TO_ACT)
 DIED = re.compile(r"the server has ended.*|the desk can't be used: .*|nothing more is granted: .*|class: .*")
-LEFT_OUT = re.compile(r"to go on: .*|the lesson .*|it is \d\d:\d\d: .*")  # The class's desk prints such a line itself, once for all networks.
+LEFT_OUT = re.compile(rf"{TO_CONTINUE}.*|the lesson .*|it is \d\d:\d\d: .*")  # The class's desk prints such a line itself, once for all networks.
 
 
 def environment() -> dict[str, str]:
@@ -146,22 +146,26 @@ class Member:
             return
         self.status = DOWN
         if record is not None and record.server.lives():
-            what = "its desk is gone, and its server goes on"
+            what = "the process that controlled it has ended, but its server keeps running"
         else:
-            what = self.why or f"its process has ended, {told_status(self.code)}"
-        remedy = f"resume {self.number} goes on with it" if record is not None or not self.has_desk else ""
-        self.alarm = f"{what}; {remedy}, end {self.number} gives it up"
+            what = self.why or f"its process has ended, {how_ended(self.code)}"
+        self.alarm = f"{what}; {self.remedy(record is not None or not self.has_desk)}"
+
+    def remedy(self, can_resume: bool = True) -> str:
+        """Returns the commands for a network that is down, as the end of its alarm."""
+        resume = f"`resume {self.number}` to continue it, or " if can_resume else ""
+        return f"type {resume}`end {self.number}` to give it up"
 
     def give_up(self) -> str:
         """Marks a network that is down as ended. Returns the line that reports it. Raises `ValueError` if its server is
         still running."""
         record = Record.read(self.folder)
         if record is not None and record.server.lives():
-            raise ValueError(f"its server keeps running: resume {self.number} connects to its desk, then end {self.number} ends it")
+            raise ValueError(f"its server is still running. Type `resume {self.number}` to control it again, and then `end {self.number}` to end it")
         if record is not None:
             replace(record, ended=True).write(self.folder)
         self.status, self.alarm, self.code = ENDED, "", FAILED
-        return f"given up; its files are in {self.folder}"
+        return f"this network is given up. Its files are in {self.folder}"
 
     def terminate(self) -> None:
         """Sends the process, if it is running, the signal to end its run."""
@@ -207,8 +211,3 @@ def wanted(words: list[str], record: Record | None) -> set[str]:
     if "--page" in words or record is not None and record.page is not None:
         found |= {"page", "act"} | ({"look_from"} if "--door-at" in words else set())
     return found | ({"play"} if "--play" in words or record is not None and record.play is not None else set())
-
-
-def told_status(code: int) -> str:
-    """Returns the text for the exit status of a process, also if a signal ended it."""
-    return f"status {code}" if code >= 0 else f"by {signal.Signals(-code).name}"

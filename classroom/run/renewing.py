@@ -28,17 +28,17 @@ def renew(folder: Path, lab: labs.Lab, it: server.Server, desk: Desk, name: str)
     whose values replace those in `it`. The caller has to connect to the desk again. Raises `ValueError` if there is no
     such student, and `Fault` if the class can't continue."""
     if name not in lab.without_house().students:
-        raise ValueError(f"no student {name}; there are {', '.join(lab.without_house().students)}")
+        raise ValueError(f"there is no student {name}. The students are: {', '.join(lab.without_house().students)}")
     kept = Record.read(folder)
     if kept is None:
-        raise Fault(f"{folder}: there is no run.json, so the server can't be restarted with a new key")
+        raise Fault(f"{folder}: the file run.json is missing or damaged, so the server can't be restarted, and the key isn't changed")
     changed = rekey.change(str(folder), name)
     lab.students[name] = changed.key
-    desk.tell(f"{name} has a new key, slip: {changed.slip}; the server restarts")
+    desk.tell(f"{name} has a new key. The new slip is {changed.slip}; the server restarts")
     desk.read()
     os.kill(it.process.number, signal.SIGKILL)
     if not it.has_ended(PATIENCE):
-        raise Fault(f"the server, process {it.process.number}, doesn't end")
+        raise Fault(f"the server (process {it.process.number}) was killed because of the new key, but hasn't ended. End this process, and resume the run")
     desk.client.hang_up()
     desk.known.rewind()
     it.replace_by(server.start(folder, folder / "lab.toml", it.port, folder / "journal", None, kept))

@@ -106,7 +106,7 @@ def check_stand_in(words: argparse.Namespace, lab: labs.Lab, file: Path) -> None
     if words.stand_in is not None:
         house.require_house(lab, file)
         if getattr(words, "serve", False):
-            raise Fault("--stand-in isn't for --serve: each move of the house takes a connection")
+            raise Fault("--stand-in can't be used with --serve, because each move of the house would use up one of the connections")
 
 
 def resume(words: argparse.Namespace) -> int:
@@ -119,9 +119,9 @@ def resume(words: argparse.Namespace) -> int:
     lab_file, _ = of_folder(folder)
     record = Record.read(folder) or Record.lacking(folder, words.port or FIRST_PORT)
     if record.goes_on():
-        raise Fault(f"{folder}: its run is still going on: {CLASS} attach {folder} connects to it")
+        raise Fault(f"{folder}: this run is still going on. To control it, type: {CLASS} attach {folder}")
     if record.ended and not words.again:
-        raise Fault(f"{folder}: this run was ended; with --again it is continued, and its audit, page and marks are made again")
+        raise Fault(f"{folder}: this run was ended. If you want to continue it, add --again; its audit, page and marks are then made again")
     lab = labs.read(lab_file)
     check_stand_in(words, lab, lab_file)
     run = Running(folder, Path(record.lab), lab, words.close or closing.kept(folder, record),
@@ -140,11 +140,11 @@ def refuse_second_run(into: Path, lab_file: Path) -> None:
         return
     folder, record = found
     if not record.goes_on():
-        how = f"{CLASS} run --resume {folder} goes on with it; --beside starts another class"
-        raise Fault(f"the last run of {lab_file} didn't end: {how}")
-    where = f"a run of {lab_file} goes on at port {record.port}, folder {folder}"
-    how = "" if record.run.lives() and not record.left else f"{CLASS} attach {folder} controls it; "
-    raise Fault(f"{where}; {how}--beside starts another class")
+        how = f"To continue it, type: {CLASS} run --resume {folder} (or add --beside to start another run)"
+        raise Fault(f"the last run of {lab_file} was interrupted. {how}")
+    where = f"a run of {lab_file} is still going on, at port {record.port} and in the folder {folder}"
+    how = "" if record.run.lives() and not record.left else f"To control it, type: {CLASS} attach {folder} . "
+    raise Fault(f"{where}. {how}To start another run beside it, add --beside")
 
 
 def start_server(run: Running, port_asked: int, record: Record | None = None) -> server.Server:
@@ -157,12 +157,12 @@ def start_server(run: Running, port_asked: int, record: Record | None = None) ->
     if slips.exists():
         run.tell(f"slips: {slips}")
     if it.port != port_asked:
-        run.tell(f"port {port_asked} is in use, so another port is taken")
-    seats = f"{run.lab.sessions - 1} students at once" if it.hosted else \
-        f"{run.lab.sessions} connections in all, the teacher's among them"
+        run.tell(f"port {port_asked} is in use, so the server has port {it.port}; students have to use this one, whatever their slips say")
+    seats = f"at most {run.lab.sessions - 1} students at once" if it.hosted else \
+        f"{run.lab.sessions} connections in all, including the teacher's"
     run.tell(f"port {it.port}, for {seats}; folder {run.folder}")
     if it.hosted:
-        run.tell(f"desk {it.desk}")
+        run.tell(f"desk at port {it.desk}, only for the teacher")
     return it
 
 
@@ -180,11 +180,11 @@ def run(words: argparse.Namespace) -> int:
     """Runs a lab, runs several side by side, or resumes a run. Returns the exit status. Raises `Fault` if options don't
     go together, or if the run can't be started."""
     if bool(words.labs) == bool(words.resume):
-        raise Fault("run: name a LAB or several, or --resume FOLDER")
+        raise Fault("run: name either one or more labs, or the folder of a run by --resume FOLDER")
     if words.again and not words.resume:
-        raise Fault("run: --again needs --resume FOLDER")
+        raise Fault("run: --again can only be used together with --resume FOLDER")
     if words.rooms and len(words.labs) < 2:
-        raise Fault("run: --rooms needs several labs")
+        raise Fault("run: --rooms can only be used with several labs")
     if words.door is not None and words.play is None:
         words.play = PLAY  # The addresses on the slips have this port.
     if words.resume:

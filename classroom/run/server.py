@@ -16,6 +16,7 @@ from pathlib import Path
 from classroom.core import record
 from classroom.core.folders import Process, Record
 from classroom.core.program import LISTENING, Fault, first_free, host, plain, program
+from classroom.core.statuses import how_ended
 from classroom.run.knocking import Knock
 
 AGAIN = 0.01  # seconds between two looks at what a server has printed
@@ -59,8 +60,7 @@ class Server:
     def how(self) -> str:
         """Returns a text about how the server ended, with its output if there is any."""
         status, printed = self.status(), self.printed()
-        told = f"status {status}" if status >= 0 else f"by {signal.Signals(-status).name}"
-        return f"{told}: {printed}" if printed else told
+        return f"{how_ended(status)}; it printed: {printed}" if printed else how_ended(status)
 
     def lacks_record(self) -> bool:
         """Returns whether the server ended well, but its record isn't complete."""
@@ -152,7 +152,7 @@ class Call:
             return Server(Process.of(process.pid), int(told["port"]), desk, knock is not None, output, process, first)
         status = process.wait()
         if not line.endswith("cannot listen"):
-            raise Fault(f"the server doesn't start: {line}", status or 4)
+            raise Fault(f"the server can't be started. It ended {how_ended(status)}, and printed: {line or 'nothing'}", status or 4)
         return None
 
 

@@ -32,7 +32,7 @@ from classroom.run.clock import Clock, end_of
 from classroom.run.closing import spelled
 from classroom.run.member import Member, News
 from classroom.run.network_table import now_table, start_table
-from classroom.run.teller import is_private
+from classroom.run.teller import FOR_ALL, FROM_ELSEWHERE, READY, TO_ACT, is_private
 from classroom.run.typed import EOF, Terminal, command_help, read_lines
 from classroom.setup.slips import Way
 
@@ -72,7 +72,7 @@ class Several:
         """Notes the facts in a line that a network's process has printed, and prints the line after the network's name
         unless the table of networks has it. The address to act at is printed only if nobody but the teacher reads
         it."""
-        is_private_line = line.startswith("page to act http")
+        is_private_line = line.startswith(f"{TO_ACT} http")
         if member.note_line(line) and (not is_private_line or is_private(self.is_typed)):
             self.say(f"{member.name}: {line}", is_private_line)
 
@@ -95,16 +95,16 @@ class Several:
         """Shows in the terminal's prompt which networks are down."""
         if self.terminal is not None:
             names = ", ".join(member.name for member in self.down())
-            self.terminal.prompt = f"{names} down> " if names else Terminal.PROMPT
+            self.terminal.prompt = f"down: {names}> " if names else Terminal.PROMPT
 
     def typed(self, line: str) -> None:
         """Runs a typed line, or prints what is wrong with it."""
         if line == EOF:
-            return self.say("to end the class, type `end`; to end one network, type `end 2`")
+            return self.say("to end the class, type `end`; to end only network 2, type `end 2`")
         try:
             indices, rest = addressed.addressed(line, self.names)
         except ValueError as error:
-            return self.say(f"not understood: {error}")
+            return self.say(f"not done: {error}")
         word, *values = rest.split() or [""]
         if word == addressed.HELP:
             return self.say(help_text())
@@ -121,7 +121,8 @@ class Several:
         found = [index for index in indices if name in self.members[index].lab.students]
         if len(found) != 1:
             there = ", ".join(self.names[index] for index in found)
-            self.say(f"{name} is in several networks: put one of these before the command: {there}" if found else f"no student {name} in this class")
+            self.say(f"{name} is in several networks. Write the name of one of them before the command: {there}" if found else
+                     f"there is no student {name} in this class")
         return found if len(found) == 1 else []
 
     def ask(self, member: Member, word: str, line: str, is_alone: bool) -> None:
@@ -132,15 +133,15 @@ class Several:
                 member.start(self.hear, self.note_end)
                 self.prompt()
             elif is_alone:
-                self.say(f"{member.name} isn't down")
+                self.say(f"{member.name} isn't down, so there is nothing to resume")
         elif word == addressed.END and member.status == DOWN:
             try:
                 self.say(f"{member.name}: {member.give_up()}")
             except ValueError as error:
-                self.say(f"{member.name}: no: {error}")
+                self.say(f"{member.name}: not done: {error}")
             self.prompt()
         elif not member.send(line) and is_alone:
-            self.say(f"{member.name}: no: {'it has ended' if member.status == ENDED else member.alarm or 'it is starting'}")
+            self.say(f"{member.name}: not done: {'this network has ended' if member.status == ENDED else member.alarm or 'this network is still starting'}")
 
     def act(self, line: str) -> None:
         """Runs a line that was sent by the page on which the teacher acts. The page asks before an end, so that one
@@ -179,15 +180,15 @@ class Several:
             self.say(line)
         if self.hall is not None:
             self.hall.show(self.state(False), self.state(True))  # Whoever opens the page sees all networks at once.
-            self.say(f"page for all {self.hall.address}")
+            self.say(f"{FOR_ALL} {self.hall.address}")
             if self.from_elsewhere:
-                self.say(f"page for all from elsewhere {self.from_elsewhere}")
+                self.say(f"{FOR_ALL}{FROM_ELSEWHERE} {self.from_elsewhere}")
             if is_private(self.is_typed):
-                self.say(f"page for all to act {self.hall.address_to_act}", private=True)
+                self.say(f"{FOR_ALL}, on which you can act {self.hall.address_to_act}", private=True)
         if self.clock is not None:
             self.say(self.clock.told())
         if self.is_typed:
-            self.say(f"words: {addressed.HOW}; networks, resume, help, end")
+            self.say(f"{READY}help lists them; {addressed.HOW}")
 
     def tick(self) -> None:
         """Does what is due by the clock: warnings, the end of the lesson, repeated alarms, and a new state for the
@@ -245,9 +246,9 @@ class Several:
         if self.hall is not None:
             self.hall.stop(self.state(False, True), self.state(True, True))
         if self.is_left:
-            self.say("another process takes over the desks")
+            self.say("another process now controls this class, so this one ends")
             return FAILED
-        self.say(f"the class is ended; all its files are in {self.folder}: {CLASS} mark {self.folder} prints the marks")
+        self.say(f"the class is ended, and all its files are in {self.folder} . To print the marks, type: {CLASS} mark {self.folder}")
         return max(member.code for member in self.members)
 
     def end(self) -> None:
@@ -325,14 +326,14 @@ def networks_of(words: argparse.Namespace) -> list[Network]:
     name or the number of rooms doesn't fit."""
     rooms = [room.strip() for room in words.rooms.split(",")] if words.rooms else [*map(room_of, words.labs)]
     if words.rooms and len(rooms) != len(words.labs):
-        raise Fault(f"--rooms names {plural(len(rooms), 'room')} for {len(words.labs)} networks")
+        raise Fault(f"--rooms names {plural(len(rooms), 'room')}, but there are {len(words.labs)} networks. Name one room for each network")
     found = [Network(Path(lab).stem, rooms[index], str(Path(lab).resolve())) for index, lab in enumerate(words.labs)]
     names = [network.name for network in found]
     for name in names:
         if names.count(name) > 1:
-            raise Fault(f"two labs are called {name}: rename one")
+            raise Fault(f"several of these labs are called {name}. Rename their files, so that the names differ")
         if name.isdecimal() or name == addressed.EVERY:
-            raise Fault(f"a lab of a class can't be called {name}, which means something else in commands: rename the lab")
+            raise Fault(f"a lab of a class can't be called {name}, because this word has another meaning in commands. Rename the file of the lab")
     return found
 
 
@@ -345,7 +346,7 @@ def room_of(lab: str) -> str:
 def require_ports(words: argparse.Namespace, count: int) -> None:
     """Raises `Fault` if the ports of `count` networks and their pages would exceed the last one."""
     if max(*words.ports, *words.plays, (words.page or 0) + count) > LAST_PORT:
-        raise Fault(f"{count} labs need a port each, and the last port is {LAST_PORT}: name a lower --port, --page or --play")
+        raise Fault(f"{count} labs need as many ports, and some would be above {LAST_PORT}, the highest port. Name a lower --port, --page or --play")
 
 
 def run_desk(folder: Path, members: list[Member], news: News, words: argparse.Namespace, start_networks: Callable[[Several], None]) -> int:
@@ -400,7 +401,7 @@ def side_by_side(words: argparse.Namespace) -> int:
     Returns the exit status. Raises `Fault` if the class can't be started, or if nobody could close its steps."""
     typed = words.typed or sys.stdin is not None and sys.stdin.isatty()
     if words.close is not None and words.close.kind == "by-hand" and not typed:
-        raise Fault("steps of several labs are closed by time (--close every:SECONDS or when-idle:SECONDS), or by what you type (--typed)")
+        raise Fault("with --daemon by-hand you close the steps, but the input isn't a terminal in which you can type. Add --typed, or choose another daemon")
     require_ports(words, len(words.labs))
     server.require_built(words.serve)
     end_of(words.ends)  # A time that has passed raises an error before anything is made, as does a lab that is refused.

@@ -42,7 +42,7 @@ class Striker:
             search = self.adversary.search_of(desk.closing, rules, desk.present_lab)
             nodes = applied(desk.closing, sight, self.chance, SECONDS, search)
         except Fault as fault:
-            desk.tell(f"the adversary can't search: {fault}")
+            desk.tell(f"the daemon {desk.closing.spelled()} can't choose the moves to apply: {fault}")
             desk.close_by(f"when-idle:{SECONDS:g}")
             return
         if nodes:

@@ -32,13 +32,13 @@ def take_desk(it: Server, teacher: tuple[str, str], typed: Typed, tell: Callable
             if isinstance(error, Over) or it.has_ended() or time.monotonic() >= end:
                 raise
             if not is_told:
-                tell(f"{reason_line(error)}; trying again for a minute")
+                tell(f"{reason_line(error)}; this is tried again for a minute")
                 is_told = True
             if wait_for_end(typed, hung):
                 raise
             continue
         if is_told:
-            tell("the desk is connected")
+            tell("the desk is now connected to the server")
         return client
 
 
@@ -52,7 +52,8 @@ def greet(it: Server, teacher: tuple[str, str]) -> Client:
 
 def reason_line(error: Closed | Refused) -> str:
     """Returns the line that says why the desk can't be taken."""
-    return "another process is connected to the desk" if isinstance(error, Refused) and error.word == "busy" else f"the desk can't connect: {error}"
+    is_taken = isinstance(error, Refused) and error.word == "busy"
+    return "another program is connected to the desk" if is_taken else f"the desk can't connect to the server: {error}"
 
 
 def wait_for_end(typed: Typed, hung: Callable[[], None]) -> bool:

@@ -10,6 +10,12 @@ from pathlib import Path
 
 from classroom.core.printable import printable
 
+# How the lines begin that the desk of a class of several networks recognises: the commands, the addresses of the pages,
+# and the command that continues a run.
+READY, TO_CONTINUE = "commands: ", "to continue the run: "
+TO_LOOK, TO_ACT, TO_PLAY, FOR_ALL = "page for the projector", "page on which you can act", "page for playing by hand", "page for all networks"
+FROM_ELSEWHERE = ", from other machines"  # This comes after the name of a page if the address leads through the door.
+
 
 def is_private(typed: bool) -> bool:
     """Returns whether only the teacher reads what is printed. Returns True for a terminal and for the system's journal,

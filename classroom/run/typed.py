@@ -25,11 +25,11 @@ def parse_command(line: str) -> list[str]:
     word, *rest = line.split() or ["wait"]
     if word not in FORMS:
         near = difflib.get_close_matches(word, WORDS, 1)
-        raise ValueError(f"not understood; {f'did you mean {FORMS[near[0]]}? ' if near else ''}words: {HELP}")
+        raise ValueError(f"{word} isn't a command.{f' Did you mean {FORMS[near[0]]}?' if near else ''} The commands are: {HELP}")
     form = WORDS[word].form.replace("[", "").replace("]", "").split()
     least = len(form) - WORDS[word].form.count("[")
     if not least <= len(rest) <= len(form) or not all(re.fullmatch(PATTERNS[of], it, re.ASCII) for of, it in zip(form, rest)):
-        raise ValueError(f"not understood; write {FORMS[word]}")
+        raise ValueError(f"the command {word} was written in a wrong form. Write: {FORMS[word]}")
     return [word, *rest]
 
 

@@ -9,19 +9,24 @@ from classroom.core.journal import Event
 
 MOST_MOVES = 6  # the most moves of a step that are printed one by one
 MOST_NODES = 6  # the most nodes that are named
+KINDS = {"fault": "fault", "link": "added link", "cut": "removed link"}  # the texts for kinds of events
 
 
 def moves(moved: Sequence[tuple[int, str, str]]) -> str:
     """Returns a text for the moves of a step, each with its node, student and rule. For many moves, the text has only
     the number of moves of each rule."""
     if len(moved) <= MOST_MOVES:
-        return ", ".join(f"{node} ({name}) {rule}" for node, name, rule in moved)
+        return ", ".join(f"node {node} ({name}): {rule}" for node, name, rule in moved)
     count = Counter(rule for _, _, rule in moved)
     return f"{plural(len(moved), 'move')}, {', '.join(f'{number} {rule}' for rule, number in count.most_common())}"
 
 
 def edit(event: Event) -> str:
     """Returns a text for an event that isn't a close."""
+    if event.kind in ("link", "cut"):
+        return f"{'added' if event.kind == 'link' else 'removed'} the link between {event.words[1]} and {event.words[2]}"
+    if event.kind == "release":
+        return f"dropped the granted move of node {event.words[1]}"
     if event.kind != "fault":
         return " ".join(event.words)
     _, node, p, m = event.words
@@ -31,7 +36,7 @@ def edit(event: Event) -> str:
 def edits(events: Sequence[Event]) -> str:
     """Returns one text for several events of one kind, with their number."""
     nodes = sorted({node for event in events for node in event.nodes})
-    return f"{plural(len(events), events[0].kind)} at {named(nodes)}"
+    return f"{plural(len(events), KINDS[events[0].kind])} at {named(nodes)}"
 
 
 def named(nodes: Sequence[int]) -> str:

@@ -43,7 +43,7 @@ def refused(path: Path, error: str) -> Iterator[str]:
         yield f"  line {line}{what}: {text.splitlines()[line - 1].strip()}"
     for found, key, meant in unknown_keys(text):
         if meant:
-            yield f"  line {found}: {key}: did you mean {meant}?"
+            yield f"  line {found}: {key} isn't known here. Did you mean {meant}?"
 
 
 def place_of_error(text: str, error: str) -> tuple[int | None, str]:
@@ -166,22 +166,22 @@ def key_warnings(lab: labs.Lab) -> Iterator[str]:
     examples = example_keys()
     for name, key in [lab.teacher, *lab.students.items()]:
         if key in examples:
-            yield f"{name}'s key is that of an example lab, which everybody can read: write another key"
+            yield f"the key of {name} is that of an example lab, which everybody can read. Write another key"
         elif bits(key) < (ENOUGH_DRAWN if is_drawn(key) else ENOUGH_BITS):
-            yield (f"{name}'s key has {bits(key):.0f} bits at most, and can be guessed in {effort(key)} or sooner: "
-                   "write a longer key (64 bits are few, 128 are enough)")
+            yield (f"the key of {name} is easy to guess: it has at most {bits(key):.0f} bits, and guessing it takes at most {effort(key)}. "
+                   "Write a longer key; 128 bits are certainly enough")
 
 
 def network_warnings(lab: labs.Lab) -> Iterator[str]:
     """Yields a warning for each student without a node, for each node without a neighbour, and for a network that isn't
     connected."""
     owners = {owner for node in lab.nodes for owner in node.owners}
-    yield from (f"{name} has no node" for name in lab.students if name not in owners)
+    yield from (f"the student {name} has no node" for name in lab.students if name not in owners)
     near = networks.neighbours((node.id for node in lab.nodes), lab.links)
-    yield from (f"node {node} has no neighbour" for node, others in near.items() if not others)
+    yield from (f"node {node} has no neighbour, so it can't be in a pair" for node, others in near.items() if not others)
     parts = parts_of(near)
     if parts > 1:
-        yield f"the network is in {parts} parts"
+        yield f"the network isn't connected: it has {parts} parts without a link between them"
 
 
 def parts_of(near: dict[int, list[int]]) -> int:
@@ -201,11 +201,11 @@ def limit_warnings(lab: labs.Lab) -> Iterator[str]:
     """Yields warnings if there are fewer sessions or events than the class may need."""
     people, most = len(lab.without_house().students) + 1, limits.allowed().sessions
     if lab.sessions < people:
-        yield (f"{lab.sessions} sessions are fewer than {people - 1} students and a teacher"
-               + (f"; no lab has more than {most}: ./class new --groups makes several labs" if people > most else "; raise `sessions`"))
+        yield (f"`sessions` is {lab.sessions}, so the {people - 1} students and the teacher can't all be connected at once. "
+               + (f"No lab can have more than {most}: make several labs by ./class new --groups" if people > most else f"Raise `sessions` to {people}"))
     need = bounds.of_lab(lab)
     if lab.events < need.events:
-        yield f"{lab.events} events are fewer than the class may need: {need.moves} moves and as many closes; raise `events`"
+        yield f"`events` is {lab.events}, which may be too few: the class may need {need.moves} moves and as many closed steps. Raise `events` to {need.events}"
 
 
 def pair_warnings(lab: labs.Lab) -> Iterator[str]:
@@ -214,7 +214,7 @@ def pair_warnings(lab: labs.Lab) -> Iterator[str]:
     shared = [str(node.id) for node in lab.without_house().nodes if len(node.owners) == 2]
     if shared:
         nodes = ("nodes " if len(shared) > 1 else "node ") + ", ".join(shared[:MOST_LISTED]) + ", ..." * (len(shared) > MOST_LISTED)
-        yield f"two students own {nodes}: a mark by granted moves favours the quicker program there; mark such a pair of students as one"
+        yield f"two students own {nodes}: the one with the quicker program gets most of the moves there, and so the better marks. Mark the two together"
 
 
 def start_warnings(path: Path, lab: labs.Lab) -> Iterator[str]:
@@ -228,7 +228,7 @@ def start_warnings(path: Path, lab: labs.Lab) -> Iterator[str]:
     if answer.status != 0:
         raise Fault(f"{path}: {answer.error}", answer.status)
     if '"stable":true' in answer.output.splitlines()[-1]:
-        yield "no node is privileged at the beginning: there is nothing to do"
+        yield "no node is privileged at the beginning, so the students have nothing to do before a fault"
 
 
 def warnings(path: Path) -> Iterator[str]:
@@ -236,11 +236,11 @@ def warnings(path: Path) -> Iterator[str]:
     one of them, and its keys, owners and limits aren't checked."""
     text = path.read_text(encoding="utf-8-sig")
     for line, key, meant in unknown_keys(text):
-        yield f"line {line}: {key} isn't a key of a lab, so it is ignored" + (f"; did you mean {meant}?" if meant else "")
+        yield f"line {line}: {key} isn't known here, so it is ignored." + (f" Did you mean {meant}?" if meant else "")
     try:
         lab = labs.read(path)
     except Fault as fault:
-        yield f"{fault}; so keys, owners and limits weren't checked"
+        yield f"{fault}. So keys, owners and limits weren't checked"
         return
     for found in (key_warnings(lab), network_warnings(lab), limit_warnings(lab), pair_warnings(lab), start_warnings(path, lab)):
         yield from found

@@ -29,7 +29,7 @@ def in_groups(people: list[str], count: int) -> list[list[str]]:
     """Returns the people in `count` groups, whose sizes differ by at most one. Raises `Fault` if `count` is less than 1
     or more than the number of people."""
     if not 1 <= count <= len(people):
-        raise Fault(f"--groups {count}: write a number from 1 to {len(people)}")
+        raise Fault(f"--groups {count}: each of the groups needs a student. Write a number from 1 to {len(people)}")
     return [people[index::count] for index in range(count)]
 
 
@@ -42,7 +42,7 @@ def parts(people: People, count: int | None, column: str | None) -> list[Part]:
         return [Part(names) for names in in_groups([*people], count or 1)]
     lost = [person.written for person in people.values() if not person.group]
     if lost:
-        raise Fault(f"--groups-by {column}: this column is empty for {', '.join(lost)}")
+        raise Fault(f"--groups-by {column}: this column is empty for these students: {', '.join(lost)}")
     rooms: dict[str, list[str]] = {}
     for name, person in people.items():
         rooms.setdefault(person.group, []).append(name)
@@ -59,7 +59,7 @@ def networks_of(rooms: dict[str, list[str]], count: int | None, column: str) -> 
         seats = limits.allowed().seats
         return {room: -(-len(names) // seats) for room, names in rooms.items()}
     if count < len(rooms):
-        raise Fault(f"--groups {count}: by {column} there are {len(rooms)} rooms: {', '.join(rooms)}")
+        raise Fault(f"--groups {count}: the column {column} has {len(rooms)} rooms, and each needs at least one group. The rooms are: {', '.join(rooms)}")
     shares = dict.fromkeys(rooms, 1)
     for _ in range(count - len(rooms)):
         shares[max(rooms, key=lambda room: len(rooms[room]) / shares[room])] += 1
@@ -70,7 +70,7 @@ def deal(identifiers: list[int], students: list[str], each: int) -> list[labs.No
     """Returns nodes with these identifiers, each with `each` owners, who are taken from the students in rotation. The
     numbers of nodes of two students differ by at most one. Raises `Fault` if there are fewer students than `each`."""
     if len(students) < each:
-        raise Fault(f"{each} owners for each node need {each} students")
+        raise Fault(f"with --pairs each node has {each} owners, so each network needs at least {each} students, but one has only {len(students)}")
     turns = itertools.cycle(students)
     return [labs.Node(node, [next(turns) for _ in range(each)]) for node in identifiers]
 

@@ -7,6 +7,7 @@ import argparse
 import csv
 import io
 import socket
+from dataclasses import replace
 from pathlib import Path
 
 from classroom.client import NoSlip, door_of
@@ -30,8 +31,13 @@ def port(word: str) -> int:
 
 def door(word: str) -> str:
     """Returns the address of a door, such as `class.example:4700`, that an argument names. A port alone is one of this
-    machine. Raises `ArgumentTypeError` for any other argument."""
-    place = f"{own_host_name()}:{word}" if word.isdecimal() else word
+    machine. Raises `ArgumentTypeError` for any other argument, or if a door can't have this machine's own name."""
+    place = word
+    if word.isdecimal():
+        host = own_host_name()
+        if why := certificate.refusal_of(host):
+            raise argparse.ArgumentTypeError(why)
+        place = f"{host}:{word}"
     try:
         door_of(place)
     except NoSlip as error:
@@ -64,24 +70,32 @@ def add_words(words: argparse.ArgumentParser) -> None:
 
 
 def ways(words: argparse.Namespace, files: list[Path], rooms: list[str], before: list[Way | None] | None = None) -> list[Way]:
-    """Returns the way into the network of each lab, for the labs in these files. What the arguments don't name is as in
-    `before`, which has the way on each lab's earlier slips, or None. `rooms` has the room of each network. Makes the
-    door's certificate if it is missing. Raises `Fault` if that fails, two networks have the same name, or a port is too
-    high."""
+    """Returns the way into the network of each lab, for the labs in these files. `rooms` has the room of each network,
+    and `before` the way on each lab's earlier slips, or None. A port that the arguments don't name is as in `before`. By
+    default the labs have the ports from FIRST_PORT and FIRST_PAGE on. If the arguments name a door, the way has this
+    door and no account for ssh. If they name only an account, it has this account and no door. If they name neither,
+    both are as in `before`. By default there is no door, and the account is `NAME` at this machine. Makes the
+    certificate of a door in the arguments if it is missing. Raises `Fault` if that fails, if two networks have the same
+    name, or if a port is too high."""
     found, names = [], [network(file) for file in files]
     if len(set(names)) < len(names):
-        raise Fault(f"two labs have the same network name: {', '.join(names)}")
-    known = certificate.make_if_missing(words.certificate or certificate.beside(files[0]), door_of(words.door)[0]) if words.door else ""
+        same = next(name for name in names if names.count(name) > 1)
+        raise Fault(f"several of these labs would have the same network name, {same}. Rename the files of the labs")
+    fingerprint = certificate.make_if_missing(words.certificate or certificate.beside(files[0]), door_of(words.door)[0]) if words.door else ""
     for index, (name, room) in enumerate(zip(names, rooms, strict=True)):
         old = before[index] if before else None
         at = words.port + index if words.port else old.port if old else FIRST_PORT + index
         page = words.page_port + index if words.page_port else old.page if old else FIRST_PAGE + index
         if max(at, page) > LAST_PORT:
-            raise Fault(f"{len(files)} labs need a port each, and the last port is {LAST_PORT}: name a lower --port or --page-port")
-        is_kept = old is not None and not words.door and not words.ssh
-        ssh = "" if words.door else words.ssh or f"NAME@{own_host_name()}"
-        lead = (old.door, old.fingerprint, old.ssh) if old and is_kept else (words.door or "", known, ssh)
-        found.append(Way(at, name, room, page, *lead))
+            raise Fault(f"{len(files)} labs need as many ports, and some would be above {LAST_PORT}, the highest port. Name a lower --port or --page-port")
+        way = Way(port=at, network=name, room=room, page=page)
+        if words.door:
+            way = replace(way, door=words.door, fingerprint=fingerprint)
+        elif old and not words.ssh:
+            way = replace(way, door=old.door, fingerprint=old.fingerprint, ssh=old.ssh)
+        else:
+            way = replace(way, ssh=words.ssh or f"NAME@{own_host_name()}")
+        found.append(way)
     return found
 
 
@@ -105,7 +119,7 @@ def remake_slips(words: argparse.Namespace) -> int:
     every_way = ways(words, files, [way.room if way else "" for way in before], before)
     for made, way, file in zip(every, every_way, files, strict=True):
         rewrite_slips(made, way, file)
-        print(f"{slips.page_of(file)} to print, {slips.folder_of(file)} for programs, {slips.teacher_of(file)} for you alone")
+        print(f"slips for printing: {slips.page_of(file)}; for programs: {slips.folder_of(file)}; your own slip, for you alone: {slips.teacher_of(file)}")
     if any(way.door and not printed.has_squares(way) for way in every_way):
         print(printed.NO_SQUARE)
     return 0

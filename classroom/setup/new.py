@@ -98,7 +98,7 @@ def checked_size(made: labs.Lab, wanted: Path) -> str:
             raise Fault(str(fault).replace(str(file), str(wanted)), fault.status) from None
         answer = call("check", file)
     if answer.status != 0:
-        raise Fault(f"no lab can be made of this: {answer.error}", answer.status)
+        raise Fault(f"no lab can be made from this list and network ({answer.error})", answer.status)
     return labs.with_house_apart(answer.output.strip().removeprefix("ok: "), made)
 
 
@@ -136,14 +136,14 @@ def new(words: argparse.Namespace) -> int:
     people = lists.read(Path(words.students), words).people
     chance = random.Random(words.seed)
     if words.pairs and words.stand_in:
-        raise Fault("--stand-in gives each node a second owner, the house, and --pairs another student: a node has at most two")
+        raise Fault("--stand-in and --pairs can't be used together: both give each node a second owner, and a node has at most two owners")
     everywhere = names.all_of(people, [names.lab_name(words.teacher) or "teacher", labs.HOUSE])
     parts = dealing.parts(everywhere, words.groups, words.groups_by)
     where = files(Path(words.lab), len(parts))
     merge = merge_of(Path(words.lab))
     for file in itertools.chain([merge], *((lab, slips.page_of(lab), slips.teacher_of(lab), slips.folder_of(lab)) for lab in where)):
         if os.path.lexists(file):
-            raise Fault(f"{file} is there already, and isn't overwritten: name another lab, or move this file away")
+            raise Fault(f"{file} exists already, and isn't overwritten. Name another lab, or move this file away")
     every = [make(words, {name: everywhere[name] for name in part.names}, chance) for part in parts]
     if words.strict:
         refuse_idle(every, words)
@@ -173,7 +173,7 @@ def print_summary(words: argparse.Namespace, made: list[Made], ways: list[Way], 
     """Prints the labs with their slips, notes about them, and the table of students. `everybody` is the number of all
     students."""
     for it in made:
-        print(f"{it.file}: {it.size}; slips: {slips.page_of(it.file)} to print, {slips.folder_of(it.file)} for programs")
+        print(f"{it.file}: {it.size}; slips for printing: {slips.page_of(it.file)}; for programs: {slips.folder_of(it.file)}")
         print(f"  {dealing.counts(it.lab)}")
         tell_seats(it.lab, everybody, words)
         tell_few(it.lab)
@@ -192,7 +192,7 @@ def next_steps(words: argparse.Namespace, made: list[Made], merge: Path) -> str:
     pages = " ".join(str(slips.page_of(it.file)) for it in made)
     door = f" --door {words.door.rpartition(':')[2]}" if words.door else ""
     own = f"{slips.teacher_of(made[0].file)} is" if len(made) == 1 else f"the files {str(merge).removesuffix('-slips.csv')}-*-teacher.slip are"
-    return (f"print {pages}, or send each student the file that {merge} names; {own} for you alone. Then\n"
+    return (f"print {pages}, or send each student the slip that {merge} names; {own} for you alone. Then type:\n"
             f"  {CLASS} check {made[0].file}\n  {CLASS} run {every} --page{door or ' --play'}")
 
 
@@ -201,10 +201,10 @@ def tell_seats(made: labs.Lab, everybody: int, words: argparse.Namespace) -> Non
     be enough for `everybody`, the number of all students."""
     students = len(made.without_house().students)
     if made.sessions < students + 1 and words.groups_by:
-        print(f"note: {made.sessions} sessions for {students} students and a teacher: with more --groups all have a seat")
+        print(f"note: this lab has {made.sessions} seats for {students} students and a teacher. With a higher number of --groups, everybody gets a seat")
     elif made.sessions < students + 1:
-        print(f"note: {made.sessions} sessions for {students} students and a teacher: "
-              f"--groups {-(-everybody // limits.allowed().seats)} makes labs in which all have a seat")
+        print(f"note: this lab has {made.sessions} seats for {students} students and a teacher. "
+              f"With --groups {-(-everybody // limits.allowed().seats)}, everybody gets a seat")
 
 
 def tell_few(made: labs.Lab) -> None:
@@ -214,7 +214,7 @@ def tell_few(made: labs.Lab) -> None:
         return
     least = bounds.of_lab(made).events
     if made.events < least:
-        print(f"note: {made.events} events may be too few: {least} are always enough for moves and closes until the network is stable")
+        print(f"note: {made.events} events may be too few. The moves and closed steps until the network is stable need at most {least}")
 
 
 def without_node(made: labs.Lab, words: argparse.Namespace) -> str:
@@ -225,15 +225,15 @@ def without_node(made: labs.Lab, words: argparse.Namespace) -> str:
     if not idle:
         return ""
     need = -(-len(shown.students) // (2 if words.pairs else 1))
-    more = f"a file with {need} nodes has enough" if words.links else f"{networks.enough(words.family, need)} has enough"
-    return f"no node for {', '.join(idle)}: {more}"
+    more = f"a file with {need} nodes" if words.links else networks.option_for(words.family, need)
+    return f"these get no node: {', '.join(idle)}. With {more}, each student gets one"
 
 
 def tell_idle(made: labs.Lab, words: argparse.Namespace) -> None:
     """Prints a warning if a lab has more students than nodes."""
     idle = without_node(made, words)
     if idle:
-        print(f"WARNING: more students than nodes: {idle}")
+        print(f"WARNING: there are more students than nodes; {idle}")
 
 
 def refuse_idle(made: list[labs.Lab], words: argparse.Namespace) -> None:
@@ -241,4 +241,4 @@ def refuse_idle(made: list[labs.Lab], words: argparse.Namespace) -> None:
     for lab in made:
         idle = without_node(lab, words)
         if idle:
-            raise Fault(f"--strict: more students than nodes: {idle}")
+            raise Fault(f"--strict: there are more students than nodes; {idle}")

@@ -33,7 +33,7 @@ p { margin: 0 0 1.5mm; }
 @media screen { .sheet { max-width: 194mm; margin: 8mm auto; } }
 """
 EACH = 4  # the number of slips on a page
-NO_SQUARE = "The slips have no QR codes: qrencode isn't installed (Debian's package qrencode)."
+NO_SQUARE = "The slips have no QR codes, because qrencode isn't installed (Debian's package qrencode)."
 
 
 def address(way: Way, name: str, key: str) -> str:
@@ -54,7 +54,7 @@ def square(content: str) -> str:
     arguments. Raises `Fault` if qrencode fails."""
     done = run(["qrencode", "-t", "ASCII", "-m", "0", "-l", "M"], given=content.encode())
     if done.returncode != 0:
-        raise Fault(f"qrencode: {done.stderr.decode(errors='replace').strip()}", FAILED)
+        raise Fault(f"qrencode couldn't make a QR code. It printed: {done.stderr.decode(errors='replace').strip() or 'nothing'}", FAILED)
     rows = [line[::2] for line in done.stdout.decode("ascii").splitlines() if line]
     dark = "".join(f"M{x} {y}h1v1h-1z" for y, row in enumerate(rows) for x, cell in enumerate(row) if cell == "#")
     size = len(rows) + 4
@@ -90,18 +90,18 @@ def slip(made: Lab, shown: Lab, name: str, way: Way) -> str:
     person, link = made.people.get(name, Person(name)), address(way, name, made.students[name])
     room = f" · {escape(way.room)}" if way.room else ""
     listed = "".join(f"<dt>{head}</dt><dd>{value}</dd>" for head, value in rows(shown, name, way))
-    house = "<p>A program, the house, may play a node that waits for you.</p>" if made.held() else ""
+    house = "<p>If a node of yours waits too long for you, a program, the house, may play it.</p>" if made.held() else ""
     anchor = f'<a href="{escape(link)}">{escape(link.partition("#")[0])}</a>'
     if way.door:
-        how = (f"<p>By hand: {anchor}; the browser warns of a certificate that it doesn't know.</p>"
-               f"<p>A program: <code>python3 bot.py {escape(name)}.slip</code></p>"
-               f"<p>In another language, first: <code>python3 client.py --tunnel {escape(name)}.slip</code>; then it connects to port "
-               f"{way.port} of your own machine.</p>"
-               f'<p class="small">The certificate\'s SHA-256: <code>{in_parts(way.fingerprint)}</code></p>')
+        how = (f"<p>To play by hand: {anchor}. Your browser will warn you about the certificate; compare its fingerprint with the one below.</p>"
+               f"<p>To start a bot: <code>python3 bot.py {escape(name)}.slip</code></p>"
+               f"<p>For a bot in another language, first: <code>python3 client.py --tunnel {escape(name)}.slip</code>. Then the bot connects to "
+               f"port {way.port} of your own machine.</p>"
+               f'<p class="small">The certificate\'s SHA-256 fingerprint: <code>{in_parts(way.fingerprint)}</code></p>')
     else:
         how = (f"<p>From another machine, first: <code>{escape(forwards(way))}</code></p>"
-               f"<p>By hand: {anchor}</p>"
-               f"<p>A program: <code>python3 bot.py {escape(name)}.slip</code>, which connects to port {way.port}.</p>")
+               f"<p>To play by hand: {anchor}</p>"
+               f"<p>To start a bot: <code>python3 bot.py {escape(name)}.slip</code>, which connects to port {way.port}.</p>")
     code = square(link) if has_squares(way) else ""
     return (f'<section class="slip"><h2>{escape(way.network)}{room}</h2><h3>{escape(person.written)}</h3><dl>{listed}</dl>'
             f"{code}{house}{how}</section>")

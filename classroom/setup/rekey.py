@@ -32,7 +32,7 @@ def changed(path: Path, name: str, key: str) -> str:
     index = next((index for index, each in enumerate(before["student"]) if each["name"] == name), None)
     if index is None:
         there = ", ".join(each["name"] for each in before["student"])
-        raise Fault(f"{path}: no student {name}; there are: {there}")
+        raise Fault(f"{path}: this lab has no student called {name}. Its students are: {there}")
     table = positions.table(text, "student", index)
     old = labs.quoted(before["student"][index]["key"])
     lines = text.splitlines(keepends=True)
@@ -42,7 +42,7 @@ def changed(path: Path, name: str, key: str) -> str:
     after = "".join(lines)
     before["student"][index]["key"] = key
     if labs.parsed(after) != before:
-        raise Fault(f"{path}: the key of {name} isn't written as `key = \"..\"` on one line; change the key by hand")
+        raise Fault(f"{path}: the key of {name} can't be changed by this command, since it isn't written as `key = \"..\"` on one line. Change it by hand")
     return after
 
 
@@ -92,9 +92,9 @@ def rekey(words: argparse.Namespace) -> int:
     still accepts the old key. Raises `Fault` like `change`."""
     words.lab = str(classes.run_of(Path(words.lab), words.name))
     it, record = change(words.lab, words.name), files_of(words.lab)[2]
-    print(f"{words.name} has another key in {', '.join(map(str, it.files))}; slip: {it.slip}")
+    print(f"{words.name} has a new key in {', '.join(map(str, it.files))}. The new slip is {it.slip}")
     if record is not None and record.goes_on():
-        print("the run that is going on still accepts the old key: type `key NAME` at its desk instead")
+        print("a run of this lab is going on, and still accepts only the old key. To change the key there, too, type `key NAME` in the terminal of `run`")
     elif record is not None:
         print(f"to continue the run: {CLASS} run --resume {words.lab}{' --again' if record.ended else ''}")
     return 0

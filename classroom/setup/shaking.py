@@ -26,7 +26,7 @@ def shaken(nodes: list[int], links: Iterable[Collection[int]], word: str, seed: 
     is the number of nodes to draw, or `all`. Raises `Fault` if there are fewer nodes than that."""
     count = len(nodes) if word == "all" else int(word)
     if not 1 <= count <= len(nodes):
-        raise Fault(f"shake {word}: write a number of nodes from 1 to {len(nodes)}, or all")
+        raise Fault(f"shake {word}: this network has {len(nodes)} nodes. Write a number from 1 to {len(nodes)}, or all")
     chance = random.Random(seed)
     near = neighbours(nodes, pairs_of(links))
     drawn = sorted(chance.sample(sorted(nodes), count))

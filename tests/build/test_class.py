@@ -67,7 +67,7 @@ class SetsUp(InClone):
             done = self.call("./class", *words)
             self.assertEqual((done.returncode, done.stdout), (1, ""), words)
             self.assertIn("\nmml: the build failed, see ", done.stderr, words)
-            self.assertTrue(done.stderr.endswith("class: the build of the program failed, so nothing was done\n"), done.stderr)
+            self.assertTrue(done.stderr.endswith("class: this command needs the program mml, and building it failed. The lines above say why\n"), done.stderr)
             (self.clone / "crates/mml_host/build.log").unlink()
         self.assertEqual(sorted(self.clone.rglob("*")), before)
 
@@ -105,7 +105,7 @@ class SetsUp(InClone):
         (self.clone / "names.txt").write_text("".join(f"student{number}\n" for number in range(7)) + "refused\n", encoding="utf-8")
         done = self.new("--groups", "2")
         self.assertEqual((done.returncode, done.stdout, self.made()), (2, "", []))
-        self.assertIn("no lab can be made of this: lab fault: 3", done.stderr)
+        self.assertIn("no lab can be made from this list and network (lab fault: 3)", done.stderr)
 
     def test_a_full_disk(self) -> None:
         """If a file can't be written completely, neither it nor the others are left. A limit on file sizes stands

@@ -44,9 +44,9 @@ def origin(module: str, node: ast.ImportFrom, is_package: bool) -> str:
 
 
 @cache
-def statements(module: str, text: str, is_package: bool) -> tuple[tuple[str, str], ...]:
-    """Returns each name that the text of a module imports, with the module that it is from. A name that is only known
-    at run time is `?`."""
+def imports_in(module: str, text: str, is_package: bool) -> tuple[tuple[str, str], ...]:
+    """Returns a pair for each import in the text of a module: the module from which a name is imported, and this name.
+    If a whole module is imported, the second is empty. If the module is only known at run time, the first is `?`."""
     found: list[tuple[str, str]] = []
     for node in ast.walk(ast.parse(text)):
         if isinstance(node, ast.Import):
@@ -61,7 +61,7 @@ def statements(module: str, text: str, is_package: bool) -> tuple[tuple[str, str
 def imported(module: str, known: Sources) -> list[str]:
     """Returns the modules of `classroom` that a module imports."""
     is_package = any(it.startswith(f"{module}.") for it in known)
-    found = statements(module, known[module], is_package)
+    found = imports_in(module, known[module], is_package)
     return [f"{whole}.{name}" if f"{whole}.{name}" in known else whole for whole, name in found]
 
 

@@ -72,7 +72,7 @@ class Called(unittest.TestCase):
     def test_stored_outputs(self) -> None:
         done = subprocess.run([sys.executable, "-B", "-m", "model", "--all"], cwd=TOP, capture_output=True, text=True, check=False)
         self.assertEqual((done.returncode, done.stderr), (0, ""), done.stdout)
-        self.assertRegex(done.stdout, r"^[0-9]+ scripts, 0 outputs differ\n$")
+        self.assertRegex(done.stdout, r"^[0-9]+ scripts were played; 0 outputs differ from the stored files\n$")
 
     def test_an_output_that_differs_is_written_beside_the_old_one(self) -> None:
         stored, new = self.room / "examples/path-run.out", self.room / "examples/path-run.out.new"
@@ -84,7 +84,7 @@ class Called(unittest.TestCase):
         changed = [line for line in out.splitlines() if re.match(r"[-+]\d", line)]
         self.assertEqual([line[0] for line in changed], ["-", "+"], out)
         self.assertIn('"ok":"closed"', changed[0])
-        self.assertIn(", 1 outputs differ; the new ones are beside them, as FILE.new\n", out)
+        self.assertIn("; 1 outputs differ from the stored files. The new outputs are in FILE.new\n", out)
         stored.write_text(right, encoding="ascii")
         self.assertEqual(self.called("--all")[0], 0)
         self.assertFalse(new.exists())

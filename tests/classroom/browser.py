@@ -19,6 +19,7 @@ from selenium.webdriver.chrome.service import Service
 from selenium.webdriver.common.action_chains import ActionChains
 from selenium.webdriver.support.wait import WebDriverWait
 
+from classroom.core.journal import in_words
 from classroom.core.program import TOP
 from classroom.pages.frames import Frame, State
 from tests.classroom.contrast import LEAST, contrast
@@ -104,7 +105,7 @@ def told(state: State, frame: Frame) -> Shown:
         }
         for node, pointer in state.pointers.items()
     ]
-    line = "the beginning" if frame.event is None else f"{state.place}: {' '.join(frame.event.words)}"
+    line = "the beginning of the run" if frame.event is None else f"event {state.place}: {in_words(frame.event)}"
     return root, sorted(nodes, key=lambda node: int(node["node"])), line
 
 

@@ -104,7 +104,7 @@ class InRoom(unittest.TestCase):
 class Going:
     """A running class, whose lines are read one by one."""
 
-    def __init__(self, test: InRoom, lab: Path | None, *more: str | Path, before: tuple[str, ...] = (), ready: str = "^words: ",
+    def __init__(self, test: InRoom, lab: Path | None, *more: str | Path, before: tuple[str, ...] = (), ready: str = "^commands: ",
                  **environment: str) -> None:
         """`before` are words before the call: a program that makes the call. Without a lab, `more` are all
         arguments. Reads up to a line that matches `ready`."""
@@ -230,7 +230,7 @@ class InTerminal:
         )
         os.close(theirs)
         self.text = b""
-        self.until(b"words: ")
+        self.until(b"commands: ")
 
     def until(self, wanted: bytes) -> None:
         """Reads the terminal until a text was printed."""

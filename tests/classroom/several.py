@@ -33,7 +33,7 @@ class GoingClass(Going):
         told = re.search(r"^class of \d+ networks?; folder (.*)$", self.until("^class of "))
         assert told is not None
         self.folder = Path(told[1])
-        self.until("^words: ")
+        self.until("^commands: ")
 
     def record(self, name: str) -> Record:
         """Returns the record of the run of the network with this name."""

@@ -144,33 +144,33 @@ class Everywhere(Cycle):
         for name in KEYS:
             self.bot(going, name)
         going.type("daemon adversary")
-        going.until("^steps are closed adversary$")
+        going.until("^from now on steps are closed by the daemon adversary$")
         going.until("^stable after ")
         going.type("link 1 3\nbreak")
-        going.until(r"^stable again after \d+ moves, \d+ closes, \d+ rounds; proved: at most 37 moves, 13 rounds$")
+        going.until(r"^stable again after \d+ moves, \d+ steps and \d+ rounds \(at most 37 moves and 13 rounds, as is proved\)$")
         going.type("end")
         self.assertEqual(going.ends(), 0, going.lines)
         self.whole(going.folder)
         told = [line for line in going.lines if re.search("^stable (again )?after ", line)]
         text = (going.folder / "marks.txt").read_text(encoding="utf-8")
-        self.assertEqual(re.findall(r"(?m)^place \d+: (.*)$", text), told)
+        self.assertEqual(re.findall(r"(?m)^event \d+: (.*)$", text), told)
         self.assertEqual(words("mark", going.folder).stdout, text.replace(f"{CYCLE}", str(going.folder)))
 
     def test_practise_and_experiment_and_grade_take_it(self) -> None:
         done = words("practise", EXAMPLES / "bot.py", "--nodes", "5", "--daemon", "adversary", "--into", self.room / "runs")
         self.assertEqual(done.returncode, 0, done.stdout + done.stderr)
-        self.assertRegex(done.stdout, "(?m)^stable: pairs ")
+        self.assertRegex(done.stdout, "(?m)^the network is stable; pairs: ")
         table = self.room / "runs.csv"
         done = words("experiment", "--family", "path", "--nodes", "4", "--daemon", "adversary,central", "--runs", "2", "--csv", table)
         self.assertEqual(done.returncode, 0, done.stdout + done.stderr)
-        self.assertIn("4 of 4 runs, all within the proved bounds", done.stdout)
+        self.assertIn("4 of 4 runs are done, all within the proved bounds", done.stdout)
         (self.room / "labs").mkdir()
         made = words("new", self.room / "labs/one.toml", "--students", self.file("names", "Ana\nBen\n"), "--nodes", "4", "--start", "hurt")
         self.assertEqual(made.returncode, 0, made.stderr)
         done = words("grade", EXAMPLES / "bot.py", "--labs", self.room / "labs", "--daemon", "adversary", "--timeout", "100",
                      "--into", self.room / "grades")
         self.assertEqual(done.returncode, 0, done.stdout + done.stderr)
-        self.assertIn("passed  bot.py: one adversary 1;", done.stdout)
+        self.assertIn("passed  bot.py: one, daemon adversary, seed 1;", done.stdout)
 
     def test_where_it_can_not_search_the_class_goes_on(self) -> None:
         report = unittest.mock.Mock(privileged=[(1, "update"), (2, "update")])
@@ -179,7 +179,7 @@ class Everywhere(Cycle):
         striker = Striker()
         with unittest.mock.patch.object(striker.adversary, "choose", side_effect=Fault("no memory")):
             striker.strike(desk)
-        desk.tell.assert_called_once_with("the adversary can't search: no memory")
+        desk.tell.assert_called_once_with("the daemon adversary can't choose the moves to apply: no memory")
         desk.close_by.assert_called_once_with("when-idle:2")
         desk.close.assert_not_called()
 

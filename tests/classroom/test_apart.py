@@ -93,8 +93,8 @@ class Apart(Grades):
                                   "--into", self.room / "grades", "--json", self.room / "cases.json", "--timeout", "60", *more]
         done = subprocess.run(call, stdin=subprocess.DEVNULL, capture_output=True, text=True, check=False, timeout=LIMIT)
         why: str = json.loads((self.room / "cases.json").read_text(encoding="utf-8"))[0]["why"]
-        self.assertRegex(why, "^it ended by itself, status 3; it printed last: ", done.stdout)
-        return why.partition("it printed last: ")[2]
+        self.assertRegex(why, "^the bot ended by itself, with status 3; the last line of its output is: ", done.stdout)
+        return why.partition("; the last line of its output is: ")[2]
 
     def test_of_bots_in_one_folder_none_sees_another(self) -> None:
         text = FAULTY.read_text(encoding="utf-8").replace("Path(__file__).resolve().parents[3]", repr(str(TOP)))
@@ -114,8 +114,8 @@ class Apart(Grades):
 
     def test_room_and_memory_that_no_process_has_are_limited(self) -> None:
         output = self.grades("fills", "hides-memory", "shares-memory", "digs")
-        self.assertEqual(output.count("\n        it was ended: it had more than 64 megabytes in files\n"), 3, output)
-        self.assertEqual(output.count("\n        it was ended: it used more than 200 megabytes of memory\n"), 6, output)
+        self.assertEqual(output.count("\n        the bot was ended: it had more than 64 megabytes in files\n"), 3, output)
+        self.assertEqual(output.count("\n        the bot was ended: it used more than 200 megabytes of memory\n"), 6, output)
         self.assertEqual(self.passed(output, "digs"), 0)
 
 
@@ -126,14 +126,14 @@ class Together(Grades):
     def test_without_namespaces_one_is_tried_after_another_and_it_is_told_why(self) -> None:
         output = self.grades("right", "spoils", "copies", before=WITHOUT)
         self.assertEqual([self.passed(output, fault) for fault in ("right", "copies")], [3, 0], output)
-        self.assertTrue(output.startswith("class: bots aren't kept apart (unshare: No space left on device): they run one after another, with your rights, "
-                                          "and see your files (docs/COURSE.md)\n"), output)
+        self.assertTrue(output.startswith("class: bots aren't isolated (unshare: No space left on device): they run one after another, with your rights, "
+                                          "and can read your files (see docs/COURSE.md)\n"), output)
 
     def test_limits_hold_as_well(self) -> None:
         output = self.grades("fills", "hides-memory", more=("--not-apart",))
-        self.assertEqual(output.count("\n        it was ended: it had more than 64 megabytes in files\n"), 3, output)
-        self.assertEqual(output.count("\n        it was ended: it used more than 200 megabytes of memory\n"), 3, output)
-        self.assertTrue(output.startswith("class: bots aren't kept apart (--not-apart): "), output)
+        self.assertEqual(output.count("\n        the bot was ended: it had more than 64 megabytes in files\n"), 3, output)
+        self.assertEqual(output.count("\n        the bot was ended: it used more than 200 megabytes of memory\n"), 3, output)
+        self.assertTrue(output.startswith("class: bots aren't isolated (--not-apart): "), output)
 
     def test_no_link_of_a_bot_is_followed_and_nothing_of_it_is_left(self) -> None:
         kept, rooms = self.room / "kept", self.room / "rooms"
@@ -144,7 +144,7 @@ class Together(Grades):
         self.addCleanup(kept.chmod, 0o700)
         faults = (f"links {spelled(kept / 'secret')}", f"moves-out {spelled(kept)}", "digs")
         output = self.grades(*faults, before=("env", f"TMPDIR={rooms}"), more=("--not-apart",))
-        self.assertLessEqual(6, output.count("it ended by itself, status 3"), output)  # A bot that searches the disk may be killed earlier.
+        self.assertLessEqual(6, output.count("the bot ended by itself, with status 3"), output)  # A bot that searches the disk may be killed earlier.
         self.assertEqual((kept.stat().st_mode & 0o777, (kept / "secret").read_bytes()), (0o500, HIDDEN))
         found = [file for file in (self.room / "grades").rglob("*") if file.is_file() and HIDDEN in file.read_bytes()]
         self.assertEqual(found, [])

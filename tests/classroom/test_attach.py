@@ -27,7 +27,7 @@ class Attach(Cycle):
         with Client(going.port, "gus", KEYS["gus"]) as gus:
             gus.move(gus.look(4))
         going.type("close")
-        going.until("^configuration 1: 4 ")
+        going.until("^configuration 1: node 4 ")
         going.type("fault 1 2 true")
         going.until("^configuration 2: fault at node 1: p 2, m true")
         going.process.kill()
@@ -49,45 +49,45 @@ class Attach(Cycle):
         going = self.killed()
         again = Going(self, None, "attach", going.folder)
         self.assertEqual((again.port, again.folder), (going.port, going.folder))
-        self.assertIn("the class goes on at configuration 2, events 3 of 1000", again.lines)
+        self.assertIn("the class continues at configuration 2; events: 3 of 1000", again.lines)
         self.assertFalse(any(line.startswith("configuration ") for line in again.lines), again.lines)
         with Client(again.port, "gus", KEYS["gus"]) as gus:
             gus.move(gus.look(1))
         again.type("close")
-        again.until("^configuration 3: 1 \\(gus\\) update; .* 1 of at most 35 moves; events 5 of 1000$")
+        again.until("^configuration 3: node 1 \\(gus\\): update; .* moves: 1 of at most 35; events: 5 of 1000$")
         self.assertEqual(again.ended(), 0, again.lines)
         self.assertEqual(self.whole(going.folder), 5)
         self.assertEqual(self.marks(going.folder), {"gus": 2, "hana": 0, "ines": 0, "jonas": 0})
         told = (going.folder / "run.txt").read_text(encoding="utf-8")
-        for line in ("configuration 1: 4 (gus) update", "configuration 2: fault", "configuration 3: 1 (gus) update"):
+        for line in ("configuration 1: node 4 (gus): update", "configuration 2: fault", "configuration 3: node 1 (gus): update"):
             self.assertEqual(told.count(line), 1, line)
 
     def test_a_page_shows_what_was_before(self) -> None:
         going = self.killed("--page", "29500")
         again = Going(self, None, "attach", going.folder)
-        self.assertRegex(again.until("^page "), "^page http://127.0.0.1:295")
+        self.assertRegex(again.until("^page for the projector "), "^page for the projector http://127.0.0.1:295")
         again.type("link 1 3")
-        again.until("^configuration 3: link 1 3")
+        again.until("^configuration 3: added the link between 1 and 3")
         self.assertEqual(again.ended(), 0, again.lines)
 
     def test_a_second_run_offers_it(self) -> None:
         going = self.killed()
         done = words("run", CYCLE, "--into", self.room / "runs")
         self.assertEqual(done.returncode, 1)
-        self.assertEqual(done.stderr, f"class: a run of {CYCLE} goes on at port {going.port}, folder {going.folder}; "
-                                      f"{CLASS} attach {going.folder} controls it; --beside starts another class\n")
+        self.assertEqual(done.stderr, f"class: a run of {CYCLE} is still going on, at port {going.port} and in the folder {going.folder}. "
+                                      f"To control it, type: {CLASS} attach {going.folder} . To start another run beside it, add --beside\n")
 
     def test_a_terminal_that_goes_away(self) -> None:
         terminal = InTerminal(self)
-        terminal.type(b"fault 1 2 true\n", b" 0 of at most 35 moves")
+        terminal.type(b"fault 1 2 true\n", b" moves: 0 of at most 35;")
         os.close(terminal.ours)
         folder = next((self.room / "runs").iterdir())
-        self.until_told(folder, f"the terminal was closed, and the run goes on: {CLASS} attach {folder} controls it again\n")
+        self.until_told(folder, f"the terminal was closed, and the run continues. To control it again, type: {CLASS} attach {folder}\n")
         self.assertIsNone(terminal.process.poll())
         again = Going(self, None, "attach", folder)
         terminal.process.wait(LIMIT)
         again.type("link 1 3")
-        again.until("^configuration 2: link 1 3")
+        again.until("^configuration 2: added the link between 1 and 3")
         self.assertEqual(again.ended(), 0, again.lines)
         self.assertEqual(self.whole(folder), 2)
 
@@ -99,18 +99,19 @@ class Attach(Cycle):
         stop(server)
         self.addCleanup(self.end, server)
         going.process.send_signal(signal.SIGTERM)
-        going.until("^the desk has lost its connection: no answer in ")
-        going.until(f"^waiting until the server ends, process {server}; type `end` to stop waiting$")
+        going.until("^the desk has lost its connection to the server: no answer in ")
+        going.until(rf"^waiting for the end of the server \(process {server}\)\. Type `end` to stop waiting$")
         going.type("end")
         self.assertEqual(going.ends(), 4, going.lines)
-        self.assertTrue(going.lines[-1].startswith(f"the server, process {server}, keeps running, and nobody controls it: "), going.lines)
+        self.assertTrue(going.lines[-1].startswith(f"the server (process {server}) keeps running, but nobody controls it. "), going.lines)
         self.assertTrue(Process.of(server).lives())
         os.kill(server, signal.SIGCONT)
         end = time.monotonic() + LIMIT
         while Process.of(server).lives():  # The server has received the bye.
             self.assertLess(time.monotonic(), end)
             time.sleep(0.05)
-        self.assertIn("1 events, configuration 1, ", words("mark", going.folder).stdout)
+        self.assertIn("1 event, among them 0 closed steps, 1 fault, 0 added links and 0 removed links; last configuration: 1, ",
+                      words("mark", going.folder).stdout)
 
     def until_told(self, folder: Path, line: str) -> None:
         """Waits until the file `run.txt` in the folder has a line."""
@@ -122,11 +123,13 @@ class Attach(Cycle):
     def test_what_can_not_be_taken(self) -> None:
         going = Going(self, CYCLE, "--close", "by-hand")
         done = words("attach", going.folder)
-        self.assertEqual((done.returncode, done.stderr), (1, f"class: {going.folder}: process {going.process.pid} controls this run already\n"))
+        self.assertEqual((done.returncode, done.stderr), (1, f"class: {going.folder}: another process (number {going.process.pid}) controls this run. "
+                                                               "Type your commands in its terminal. Or close that terminal (don't type `end` there: "
+                                                               "that ends the run), and then type this command again\n"))
         self.assertEqual(going.ended(), 0, going.lines)
         done = words("attach", going.folder)
         self.assertEqual((done.returncode, done.stderr), (
-            1, f"class: {going.folder}: the server of this run has ended: {CLASS} run --resume {going.folder} continues the run\n"))
+            1, f"class: {going.folder}: the server of this run has ended. To continue the run, type: {CLASS} run --resume {going.folder}\n"))
         self.assertEqual(words("attach", self.room / "none").returncode, 1)
 
 

@@ -51,9 +51,9 @@ class Broken(Cycle):
                     student.move(student.look(node))
             return act
 
-        acts = [move("gus", 4), move("ines", 3), typed("release 3", "release 3"), typed("close", r"\d+ \("),
-                typed("fault 1 2 true", "fault at node 1: p 2, m true"), typed("link 1 3", "link 1 3"), move("jonas", 7),
-                typed("cut 1 3", "cut 1 3"), typed("link 2 4", "link 2 4")]
+        acts = [move("gus", 4), move("ines", 3), typed("release 3", "dropped the granted move of node 3"), typed("close", r"node \d+ \("),
+                typed("fault 1 2 true", "fault at node 1: p 2, m true"), typed("link 1 3", "added the link between 1 and 3"), move("jonas", 7),
+                typed("cut 1 3", "removed the link between 1 and 3"), typed("link 2 4", "added the link between 2 and 4")]
         for moment in range(10):
             with self.subTest(moment=moment):
                 going = Going(self, self.lab("cycle.toml", 16), "--close", "by-hand", "--beside")
@@ -96,17 +96,17 @@ class Broken(Cycle):
     def test_a_full_disk(self) -> None:
         going = Going(self, CYCLE, "--close", "by-hand", before=self.mounted())
         self.fill(Path(f"/proc/{going.process.pid}/root{going.folder}"))
-        going.until("^the disk is full: the next line of the journal can't be written, and after this failure nothing is granted any longer; make room$")
+        going.until("^the disk is full. Make room now: if a line of the journal can't be written, the server grants nothing more$")
         with Client(going.port, "gus", KEYS["gus"]) as gus:
             with self.assertRaises(Refused) as refused:
                 gus.move(gus.look(4))
             self.assertEqual((refused.exception.word, gus.look(4).chosen), ("journal", None))
         going.type("fault 1 2 true")
-        going.until("^no: journal")
+        going.until("^the server refused this command: journal")
         going.until("^nothing more is granted: .*journal")
         self.assertEqual(going.ends(), 4, going.lines)
         self.assertTrue(any(line.startswith("ok: 0 events") for line in going.lines), going.lines)
-        self.assertTrue(any("No space left on device; the journal is" in line for line in going.lines), going.lines)
+        self.assertTrue(any("No space left on device. The journal is" in line for line in going.lines), going.lines)
 
     @unittest.skipUnless(host(), "not tried: no host is built")
     def test_a_limit_that_leaves_no_trace(self) -> None:
@@ -117,7 +117,7 @@ class Broken(Cycle):
         journal = going.folder / "journal"
         size = journal.stat().st_size
         resource.prlimit(going.server(), resource.RLIMIT_FSIZE, (size, size))
-        going.until("^the journal has reached the limit on the server's files, so nothing more is granted ")
+        going.until("^the journal has reached the limit on the size of files, so the server grants nothing more ")
         with Client(going.port, "gus", KEYS["gus"]) as gus, self.assertRaises(Refused) as refused:
             gus.move(gus.look(4))
         self.assertEqual((refused.exception.word, journal.stat().st_size), ("journal", size))
@@ -142,14 +142,15 @@ class Broken(Cycle):
         """Nobody asks for anything. The teacher is informed all the same, and nothing is lost."""
         for act in (self.remove, self.move, self.replace):
             going = self.lost(act)
-            told = f"the journal's file was removed, moved or replaced; put the old file back, then {CLASS} run --resume {going.folder}"
+            told = f"the journal's file was removed, moved or replaced. Put the old file back, and then continue the run by {CLASS} run --resume {going.folder}"
             self.assertIn(f"nothing more is granted: {told}", going.lines)
             kept = going.folder / ("journal.saved" if act == self.replace else "journal")
-            self.assertIn(f"the journal's old content is saved in {kept}", going.lines)
+            why = "another file is in the journal's place" if act == self.replace else "the journal's file was missing"
+            self.assertIn(f"{why}, so the journal's old lines are saved in {kept}", going.lines)
             self.assertEqual(kept.read_bytes().count(b"\n"), 3)
             kept.replace(going.folder / "journal")
             again = Going(self, None, "run", "--resume", going.folder)
-            self.assertIn("the class goes on at configuration 3, events 3 of 1000", again.lines)
+            self.assertIn("the class continues at configuration 3; events: 3 of 1000", again.lines)
             self.assertEqual(again.ended(), 0, again.lines)
 
     def remove(self, journal: Path) -> None:
@@ -176,7 +177,7 @@ class Broken(Cycle):
         acts: list[tuple[Callable[[Path], object], int]] = [(lambda journal: os.truncate(journal, 19), 4), (lengthen, 3)]
         for act, status in acts:
             going = self.lost(act, status)
-            self.assertTrue(any(line.startswith("nothing more is granted: the journal's file was changed; put the old file back, then ")
+            self.assertTrue(any(line.startswith("nothing more is granted: the journal's file was changed. Put the old file back, and then ")
                                 for line in going.lines), going.lines)
 
     def test_no_event_is_left(self) -> None:
@@ -190,7 +191,7 @@ class Broken(Cycle):
             except Closed:  # The event ends the class, and replies that aren't sent by then are lost.
                 pass
         self.assertEqual(going.ends(), 5, going.lines)
-        self.assertTrue(any(line.startswith("nothing more is granted: the journal is full, events 1 of 1; ") for line in going.lines), going.lines)
+        self.assertTrue(any(line.startswith("nothing more is granted: all 1 events that the lab allows are used. ") for line in going.lines), going.lines)
         self.assertEqual(self.whole(going.folder), 1)
         self.assertEqual((going.folder / "journal").read_text(encoding="ascii"), "1 0 grant gus 4 update\n")
 
@@ -202,7 +203,7 @@ class Broken(Cycle):
         (going.folder / "marks.txt").symlink_to("/dev/full")
         lines: list[str] = []
         self.assertEqual(ending.finish(going.folder, lines.append), 4)
-        self.assertRegex(lines[-1], "No space left on device; the journal is .*/journal$")
+        self.assertRegex(lines[-1], "No space left on device. The journal is .*/journal$")
 
     def test_nobody_reads_any_more(self) -> None:
         going = Going(self, CYCLE, "--close", "by-hand")
@@ -212,7 +213,7 @@ class Broken(Cycle):
             going.type(line)
         self.assertEqual(going.process.wait(LIMIT), 0)
         self.assertEqual(self.whole(going.folder), 2)
-        self.assertIn("link 1 3", (going.folder / "run.txt").read_text(encoding="utf-8"))
+        self.assertIn("added the link between 1 and 3", (going.folder / "run.txt").read_text(encoding="utf-8"))
 
     def test_busy(self) -> None:
         with socket.create_server(("127.0.0.1", 0)) as full:
@@ -268,7 +269,7 @@ class Broken(Cycle):
         with self.assertRaises(Refused if host() else Closed):
             Client(going.port, "ines", KEYS["ines"])
         gus.kill()
-        going.until("^gone: gus$")
+        going.until("^disconnected: gus$")
         self.assertEqual(going.ended(), 0, going.lines)
         self.whole(going.folder)
 
@@ -277,15 +278,15 @@ class Broken(Cycle):
         served = [(4711, port, "01", "2") for port in (5, 6, 7)]
         found = Connected(4711, 2, 7)
         self.assertEqual(found.changes([listens, served[2]]), [])
-        self.assertEqual(found.changes([listens, *served[1:]]), ["connected: someone from elsewhere"])
+        self.assertEqual(found.changes([listens, *served[1:]]), ["connected: a program of another user"])
         lines = found.changes([listens, *served])
-        self.assertEqual((lines[0], lines[1][:20]), ("connected: someone from elsewhere", "all seats are taken:"))
+        self.assertEqual((lines[0], lines[1][:20]), ("connected: a program of another user", "all seats are taken,"))
         self.assertEqual(found.changes([listens, *served]), [])
-        self.assertEqual(found.changes([listens, *served[1:]]), ["gone: someone from elsewhere"])
-        self.assertEqual(found.changes([listens, *served]), ["connected: someone from elsewhere"])
-        self.assertEqual(Connected(4711, 2, 7).changes(served[1:])[1][:40], "this server has accepted all connections")
+        self.assertEqual(found.changes([listens, *served[1:]]), ["disconnected: a program of another user"])
+        self.assertEqual(found.changes([listens, *served]), ["connected: a program of another user"])
+        self.assertEqual(Connected(4711, 2, 7).changes(served[1:])[1][:44], "this server has accepted as many connections")
         found.known = {6: "first", 5: "second"}
-        self.assertEqual(found.who(), "2 of 2 seats: first, second")
+        self.assertEqual(found.who(), "first, second (2 of 2 seats are taken)")
 
     def test_a_newcomer_whose_own_end_is_read_later_is_named(self) -> None:
         listens, served = (4711, 0, "0A", "1"), (4711, 5, "01", "2")
@@ -296,7 +297,7 @@ class Broken(Cycle):
                 with unittest.mock.patch.object(connected, "rows", side_effect=readings):
                     self.assertEqual(Connected(4711, 2, 7).news()[0], f"connected: process {os.getpid()}")
         with unittest.mock.patch.object(connected, "rows", side_effect=[[listens, served]] * connected.READINGS):
-            self.assertEqual(Connected(4711, 2, 7).news(), ["connected: someone from elsewhere"])
+            self.assertEqual(Connected(4711, 2, 7).news(), ["connected: a program of another user"])
 
     def test_bots_that_race_and_guess(self) -> None:
         lab = self.lab("cycle.toml", 16)

@@ -58,7 +58,7 @@ class Playing(InRoom):
         """Starts a run over a lab with these options, whose steps are closed by hand. Keeps the address of its page to
         play."""
         self.going = Going(self, lab, "--close", "by-hand", "--play", str(a_port()), *more)
-        self.address = self.going.until("^page to play http").removeprefix("page to play ")
+        self.address = self.going.until("^page for playing by hand http").removeprefix("page for playing by hand ")
 
     def open(self, more: str = "") -> None:
         """Loads the page again, with `more` after its address."""
@@ -141,7 +141,7 @@ class Playing(InRoom):
     def who(self) -> str:
         """Returns the output of `who` at the desk."""
         self.going.type("who")
-        return self.going.until("^connected: .* seats: ")
+        return self.going.until(r"^connected: .* seats are taken\)")
 
     def compare(self, client: Client, nodes: list[int]) -> None:
         """Checks that the page shows the server's replies about these nodes, in words and in the picture."""
@@ -174,7 +174,7 @@ class Playing(InRoom):
         self.compare(gus, [1, 4])
         self.assertEqual(self.driver.execute_script("return [...document.querySelectorAll('.beyond text')].map((it) => it.textContent)"), ["6"])
         self.assertEqual(self.press(1, "seduction"), "step 0, seduction: denied, since the guard of seduction doesn't hold at this node now (clause 4, guard)")
-        self.assertEqual(self.act(4), "step 0, update: granted, at place 1; it is applied when the step closes")
+        self.assertEqual(self.act(4), "step 0, update: granted, as event 1; the move is applied when the step closes")
         until(self.driver, lambda _: self.card(4)["idle"].startswith("update is chosen"))
         self.compare(gus, [1, 4])
         self.assertEqual(self.press(4, "update"), "step 0, update: denied, since a move of this node is chosen already, and is applied when the step closes "
@@ -186,7 +186,7 @@ class Playing(InRoom):
         self.going.type("fault 1 null false")
         self.shows(2)
         self.compare(gus, [1, 4])
-        for partner, told in (("2", "denied, since the guard of marriage "), ("7", "granted, at place 4; ")):
+        for partner, told in (("2", "denied, since the guard of marriage "), ("7", "granted, as event 4; ")):
             choice: Any = Select(self.driver.find_element("css selector", "#nodes section:first-child select"))
             choice.select_by_value(partner)
             self.assertIn(f"step 2, marriage: {told}", self.press(1, "marriage"))
@@ -196,7 +196,7 @@ class Playing(InRoom):
         self.shows(4)
         self.compare(gus, [1, 4])
         gus.bye()
-        self.seats("1 of 7 seats: gus, by hand")
+        self.seats("gus, by hand (1 of 7 seats are taken)")
         self.assertEqual(self.going.ended(), 0, self.going.lines)
         self.is_told("the class is over")
         marks = json.loads((self.going.folder / "marks.json").read_text(encoding="utf-8"))
@@ -211,7 +211,8 @@ class Playing(InRoom):
         return client
 
     def keeps_no_key(self) -> None:
-        """Checks that no file of the run but its lab contains a key."""
+        """Checks that no file directly in the run's folder contains a key, except for the lab and its copy. The record, in
+        a folder of its own, has the keys of the hellos."""
         for file in self.going.folder.iterdir():
             if file.is_file() and file.name not in ("lab.toml", "journal.lab"):
                 for key in (*KEYS.values(), read(CYCLE).teacher[1]):
@@ -223,7 +224,7 @@ class Playing(InRoom):
         self.come()
         self.is_in()
         self.assertEqual((self.card(4)["holding"], self.card(4)["acts"]), (["update"], ["Node 4: update m"]))
-        self.assertEqual(self.driver.find_element("id", "told").text, "1 of your nodes can move")
+        self.assertEqual(self.driver.find_element("id", "told").text, "1 of your 2 nodes can move")
         self.driver.find_element("id", "quiz").click()
         for node in (1, 4):
             self.assertEqual((self.card(node)["holding"], self.card(node)["acts"], set(self.card(node)["guards"])), ([], [], {""}))
@@ -236,26 +237,26 @@ class Playing(InRoom):
     def test_a_key_that_is_wrong_and_one_behind_the_address(self) -> None:
         self.begin()
         self.open()
-        self.seats("0 of 7 seats: nobody")
+        self.seats("nobody (0 of 7 seats are taken)")
         self.come("gus", "heron-32")
-        self.is_told("denied by clause 2, unknown: name and key do not match")
-        self.seats("0 of 7 seats: nobody")
+        self.is_told("the hello was denied, since name and key do not match (clause 2, unknown)")
+        self.seats("nobody (0 of 7 seats are taken)")
         self.come("tess", read(CYCLE).teacher[1])
-        self.is_told("tess owns no node")
+        self.is_told("tess has no node in this network")
         self.come("gus")
         self.is_in()
         self.open("#name=hana&key=swift-86")
         self.is_in()
         self.assertEqual(self.driver.current_url, self.address)
-        self.seats("1 of 7 seats: hana, by hand")
+        self.seats("hana, by hand (1 of 7 seats are taken)")
         self.assertEqual(self.driver.find_element("id", "who").text, "· hana")
         self.driver.find_element("id", "leave").click()
-        self.is_told("you left")
-        self.seats("0 of 7 seats: nobody")
+        self.is_told("you clicked Leave")
+        self.seats("nobody (0 of 7 seats are taken)")
         self.come("hana")
         self.is_in()
         self.driver.get("about:blank")
-        self.seats("0 of 7 seats: nobody")
+        self.seats("nobody (0 of 7 seats are taken)")
         self.keeps_no_key()
 
     def test_without_a_seat(self) -> None:
@@ -266,10 +267,10 @@ class Playing(InRoom):
         self.come()
         self.is_told("busy: all seats are taken; come again later")
         other.bye()
-        self.seats("0 of 1 seats: nobody")
+        self.seats("nobody (0 of 1 seats are taken)")
         self.come()
         self.is_in()
-        self.assertEqual(self.press(4, "update"), "step 0, update: granted, at place 1; it is applied when the step closes")
+        self.assertEqual(self.press(4, "update"), "step 0, update: granted, as event 1; the move is applied when the step closes")
 
     def test_in_four_windows_and_both_themes(self) -> None:
         self.begin()
@@ -314,7 +315,7 @@ class Wire(InRoom):
 
     def test_nothing_hidden_and_no_key_came_over_the_wire(self) -> None:
         going = Going(self, CYCLE, "--close", "by-hand", "--play", str(a_port()))
-        address = going.until("^page to play http").removeprefix("page to play ")
+        address = going.until("^page for playing by hand http").removeprefix("page for playing by hand ")
         _, page = self.ask(address, "GET", "/")
         rows = self.enter(address, "gus", KEYS["gus"])
         token = rows.next()["token"]
@@ -347,14 +348,14 @@ class Wire(InRoom):
     def test_a_run_that_goes_on_serves_it_again(self) -> None:
         with socket.create_server(("127.0.0.1", a_port())) as taken:  # The page moves to the next port, and stays there.
             going = Going(self, CYCLE, "--close", "by-hand", "--play", str(taken.getsockname()[1]))
-            page = going.until("^page to play http").removeprefix("page to play ")
+            page = going.until("^page for playing by hand http").removeprefix("page for playing by hand ")
         rows = self.enter(page, "gus", KEYS["gus"])
         self.assertEqual((rows.next()["who"], rows.next()["at"]), ("gus", 0))
         os.kill(going.server(), signal.SIGKILL)
         self.assertEqual(rows.rest()[-1].keys(), {"ended"})
         self.assertEqual(going.ends(), 4, going.lines)
         again = Going(self, None, "run", "--resume", going.folder)
-        self.assertEqual(again.until("^page to play http").removeprefix("page to play "), page)
+        self.assertEqual(again.until("^page for playing by hand http").removeprefix("page for playing by hand "), page)
         rows = self.enter(page, "gus", KEYS["gus"])
         self.assertEqual((rows.next()["who"], rows.next()["at"]), ("gus", 0))
 
@@ -392,9 +393,9 @@ class Wire(InRoom):
             rows = self.enter(hands.address, "gus", "a")
             token = rows.next()["token"]
             wrong: tuple[tuple[dict[str, object], str], ...] = (
-                ({}, 'missing "node"'), ({"node": 4, "at": 0, "rule": "dance"}, 'rule is "dance", not one of'),
+                ({}, 'the key "node" is missing'), ({"node": 4, "at": 0, "rule": "dance"}, 'rule is "dance", not one of'),
                 ({"node": 4, "at": -1, "rule": "update"}, "at is a number out of range, not a whole number"),
-                ({"node": 4, "at": 0, "rule": "marriage"}, 'missing "with"'),
+                ({"node": 4, "at": 0, "rule": "marriage"}, 'the key "with" is missing'),
             )
             for more, why in wrong:
                 answer, told = self.ask(hands.address, "POST", "/move", {"token": token} | more)
@@ -402,8 +403,8 @@ class Wire(InRoom):
             self.assertEqual({json.loads(line)["do"] for line in host.lines}, {"hello", "look"})
 
     def test_why_a_connection_ended(self) -> None:
-        words = {"late": "a hello has to be granted within ten seconds", "over": "the class is over",
-                 "busy": "busy: all seats are taken", "long": "a line has at most 4096 bytes", "": "the server has closed the connection"}
+        words = {"late": "no hello was granted within ten seconds", "over": "the class is over",
+                 "busy": "busy: all seats are taken", "long": "a line had more than 4096 bytes", "": "the server has closed the connection"}
         with served(self) as hands, Host(list(words)) as host:
             hands.show(host.port, print)
             for word, told in words.items():

@@ -52,7 +52,7 @@ class Check(InRoom):
     def test_refused(self) -> None:
         self.says(2, "lab: node 2: no such owner", 'line 27 (the node with identifier 17): owner = "jo"',
                   change=('id = 17\nowner = "jonas"', 'id = 17\nowner = "jo"'))
-        self.says(2, "lab: node.owner is missing", "line 27: onwer: did you mean owner?",
+        self.says(2, "lab: node.owner is missing", "line 27: onwer isn't known here. Did you mean owner?",
                   change=('id = 17\nowner', 'id = 17\nonwer'))
         self.says(2, "lab: link 1: no such node", "line 3: links", change=("[12, 17]", "[12, 18]"))
         self.says(2, "lab: principal 2: bad name", 'line 13: [[student]]', change=('"jonas"\nkey = "2f', '"jonas"\nkey = "\\u00e4'))
@@ -64,16 +64,17 @@ class Check(InRoom):
         self.assertEqual(words("check", self.room / "none.toml").returncode, 4)
 
     def test_keys_of_the_format(self) -> None:
-        self.warns("line 3: link isn't a key of a lab, so it is ignored; did you mean links?", "node 11 has no neighbour",
-                   "node 12 has no neighbour", "node 17 has no neighbour", "the network is in 3 parts",
+        self.warns("line 3: link isn't known here, so it is ignored. Did you mean links?", "node 11 has no neighbour",
+                   "node 12 has no neighbour", "node 17 has no neighbour", "the network isn't connected: it has 3 parts",
                    "no node is privileged at the beginning", change=("links =", "link ="))
-        self.warns("line 8: links isn't a key of a lab, so it is ignored; did you mean links above the first header?",
+        self.warns("line 8: links isn't known here, so it is ignored. Did you mean links above the first header?",
                    change=('61357"\n\n[[student]]\nname = "ana"', '61357"\nlinks = []\n\n[[student]]\nname = "ana"'))
-        self.warns("line 20: colour isn't a key of a lab, so it is ignored", change=('owner = "ana"', 'owner = "ana"\ncolour = "red"'))
+        self.warns("line 20: colour isn't known here, so it is ignored", change=('owner = "ana"', 'owner = "ana"\ncolour = "red"'))
 
     def test_keys(self) -> None:
-        self.warns("ana's key is that of an example lab", change=("1f3b5a7c9d1e2f48a6b8c0d2e4f61357", "a-key"))
-        self.warns("ana's key has 43 bits at most, and can be guessed in", change=("1f3b5a7c9d1e2f48a6b8c0d2e4f61357", "abcdefghij"))
+        self.warns("the key of ana is that of an example lab", change=("1f3b5a7c9d1e2f48a6b8c0d2e4f61357", "a-key"))
+        self.warns("the key of ana is easy to guess: it has at most 43 bits, and guessing it takes at most",
+                   change=("1f3b5a7c9d1e2f48a6b8c0d2e4f61357", "abcdefghij"))
         self.assertLess(bits("a" * 60), 64)
         self.assertGreater(bits("0f3b5a7c9d1e2f48a6b8c0d2e4f61357"), 100)
 
@@ -81,14 +82,14 @@ class Check(InRoom):
         drawn = "amber-lilac-tonic-42"
         self.assertAlmostEqual(bits(drawn), 36 + math.log2(100))
         cases = ((drawn, ""), ("ant-ant-ant-11", ""), ("amber-lilac-tonic-gravel", ""),
-                 ("amber-lilac-tonic-4", "39 bits at most, and can be guessed in 261 years"),
-                 ("amber-lilac-42", "31 bits at most, and can be guessed in 233 days"),
-                 ("amber", "12 bits at most, and can be guessed in 49 seconds"), ("1111-1111-1111-1111", "38 bits at most, and can be guessed in 105 years"),
-                 ("Amber-lilac", "48 bits at most, and can be guessed in 77930 years"))
+                 ("amber-lilac-tonic-4", "39 bits, and guessing it takes at most 261 years"),
+                 ("amber-lilac-42", "31 bits, and guessing it takes at most 233 days"),
+                 ("amber", "12 bits, and guessing it takes at most 49 seconds"), ("1111-1111-1111-1111", "38 bits, and guessing it takes at most 105 years"),
+                 ("Amber-lilac", "48 bits, and guessing it takes at most 77930 years"))
         for key, warning in cases:
             lab = labs.Lab(1000, 4, ("tess", "0f3b5a7c9d1e2f48a6b8c0d2e4f61357"), {"ana": key}, [], [])
-            warned = [line.partition(" or sooner")[0] for line in key_warnings(lab)]
-            self.assertEqual(warned, [f"ana's key has {warning}"] if warning else [], key)
+            warned = [line.partition(". Write")[0] for line in key_warnings(lab)]
+            self.assertEqual(warned, [f"the key of ana is easy to guess: it has at most {warning}"] if warning else [], key)
 
     def test_letters_of_no_kind(self) -> None:
         for key, least in (("äöüßéèêàâçñøåæœłżźčš", 100), ("шифр из восьми слов", 80), ("äÄ1!" * 8, 95),
@@ -99,33 +100,37 @@ class Check(InRoom):
         self.assertLess(bits("äö" * 8), 64)
         self.assertAlmostEqual(bits("abcdefghijklmnopqrstuvwxyz ABCDEFGHIJKLMNOPQRSTUVWXYZ"), 53 * math.log2(106))
         self.assertAlmostEqual(bits("".join(map(chr, range(0x410, 0x510)))), 256 * 7)
-        for key, told in (("äöüßéèêàâçñøåæœłżźčš", []), ("äöüßéè", ["ana's key has 22 bits at most, and can be guessed in 10 hours"])):
+        for key, told in (("äöüßéèêàâçñøåæœłżźčš", []),
+                          ("äöüßéè", ["the key of ana is easy to guess: it has at most 22 bits, and guessing it takes at most 10 hours"])):
             lab = labs.Lab(1000, 4, ("tess", "0f3b5a7c9d1e2f48a6b8c0d2e4f61357"), {"ana": key}, [], [])
-            self.assertEqual([line.partition(" or sooner")[0] for line in key_warnings(lab)], told)
+            self.assertEqual([line.partition(". Write")[0] for line in key_warnings(lab)], told)
         self.assertGreater(bits("abcdefghijklmnopqrstuvwxyzä"), bits("abcdefghijklmnopqrstuvwxyza"))
 
     def test_network(self) -> None:
-        self.warns("ana has no node", change=('id = 11\nowner = "ana"\n\n[[node]]\nid = 12\nowner = "ana"',
-                                               'id = 11\nowner = "jonas"\n\n[[node]]\nid = 12\nowner = "jonas"'))
-        self.warns("node 17 has no neighbour", "the network is in 2 parts", change=(", [12, 17]", ""))
+        self.warns("the student ana has no node", change=('id = 11\nowner = "ana"\n\n[[node]]\nid = 12\nowner = "ana"',
+                                                           'id = 11\nowner = "jonas"\n\n[[node]]\nid = 12\nowner = "jonas"'))
+        self.warns("node 17 has no neighbour", "the network isn't connected: it has 2 parts", change=(", [12, 17]", ""))
 
     def test_pairs(self) -> None:
-        self.warns("warning: two students own node 12: a mark by granted moves favours the quicker program there",
+        self.warns("warning: two students own node 12: the one with the quicker program gets most of the moves there",
                    change=PAIR)
         students = self.file("students", "Ana\nBen\nCyd\n")
         self.assertEqual(words("new", self.room / "pairs.toml", "--students", students, "--pairs", "--nodes", "10").returncode, 0)
         self.assertIn("two students own nodes 1, 2, 3, 4, 5, 6, 7, 8, ...: ", words("check", self.room / "pairs.toml").stdout)
 
     def test_limits(self) -> None:
-        self.warns("2 sessions are fewer than 2 students and a teacher", change=("sessions = 4", "sessions = 2"))
-        self.warns("25 events are fewer than the class may need: 13 moves and as many closes", change=("events = 1000", "events = 25"))
+        self.warns("`sessions` is 2, so the 2 students and the teacher can't all be connected at once. Raise `sessions` to 3",
+                   change=("sessions = 4", "sessions = 2"))
+        self.warns("`events` is 25, which may be too few: the class may need 13 moves and as many closed steps. Raise `events` to 26",
+                   change=("events = 1000", "events = 25"))
         self.says(0, change=("events = 1000", "events = 26"))
 
     def test_more_people_than_any_lab_has_sessions(self) -> None:
         most = MOST["sessions"]
-        for students, rest in ((most - 1, "; raise `sessions`\n"), (most, f"; no lab has more than {most}: ./class new --groups makes several labs\n")):
+        for students, rest in ((most - 1, f"Raise `sessions` to {most}\n"),
+                               (most, f"No lab can have more than {most}: make several labs by ./class new --groups\n")):
             more = "".join(table("[[student]]", f'name = "s{number}"', f'key = "{number:032x}"') for number in range(students - 2))
-            self.says(5, f"warning: 4 sessions are fewer than {students} students and a teacher{rest}", text=GOOD + more)
+            self.says(5, f"warning: `sessions` is 4, so the {students} students and the teacher can't all be connected at once. {rest}", text=GOOD + more)
 
     def test_the_largest_lab_has_events_enough(self) -> None:
         self.assertLessEqual(67072, MOST["events"])
@@ -134,7 +139,7 @@ class Check(InRoom):
             done = words("new", lab, "--students", self.file("students", "Ana\nBen\n"), "--family", "complete", "--nodes", "256",
                          "--events", str(events))
             self.assertEqual(done.returncode, 0, done.stderr)
-            found = "67071 events are fewer than the class may need: 33536 moves and as many closes" in words("check", lab).stdout
+            found = "`events` is 67071, which may be too few: the class may need 33536 moves and as many closed steps" in words("check", lab).stdout
             self.assertEqual(found, is_few)
 
     def test_stable_start(self) -> None:
@@ -145,7 +150,7 @@ class Check(InRoom):
         for lab in sorted(EXAMPLES.glob("*.toml")):
             done = words("check", lab)
             self.assertEqual(done.returncode, 5)
-            self.assertNotIn("isn't a key of a lab", done.stdout)
+            self.assertNotIn("isn't known here", done.stdout)
             self.assertNotIn("can't", done.stdout)
 
 

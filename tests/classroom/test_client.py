@@ -22,45 +22,45 @@ from tests.classroom.help import LIMIT, InRoom
 # Lines as beginners write them, each with the client's answer.
 HURT = (
     ("{'do':'look','node':4}",
-     'not JSON at byte 2 (JSON wants double quotes)'),
+     "the line isn't JSON at byte 2 (write double quotes)"),
     ('{"do":\'look\',"node":4}',
-     'not JSON at byte 7 (JSON wants double quotes)'),
+     "the line isn't JSON at byte 7 (write double quotes)"),
     ('{“do”:“look”,“node”:4}',
-     'not JSON at byte 2 (JSON wants straight double quotes)'),
+     "the line isn't JSON at byte 2 (write straight double quotes)"),
     ('{do:"look","node":4}',
-     'not JSON at byte 2 (write "do", in double quotes)'),
+     'the line isn\'t JSON at byte 2 (write "do", in double quotes)'),
     ('{"do":look,"node":4}',
-     'not JSON at byte 7 (write "look", in double quotes)'),
+     'the line isn\'t JSON at byte 7 (write "look", in double quotes)'),
     ('{"do":"look","node":4,}',
-     'not JSON at byte 23 (there is a comma too many)'),
+     "the line isn't JSON at byte 23 (leave out the comma before this byte)"),
     ('{"do":"look",,"node":4}',
-     'not JSON at byte 14 (there is a comma too many)'),
+     "the line isn't JSON at byte 14 (leave out the comma before this byte)"),
     ('{"do":"look" "node":4}',
-     'not JSON at byte 14 (a comma is missing before this)'),
+     "the line isn't JSON at byte 14 (write a comma before this byte)"),
     ('{"do":"look","node" 4}',
-     'not JSON at byte 21 (a : is missing after the key)'),
+     "the line isn't JSON at byte 21 (write : after the key)"),
     ('{"do"="look","node"=4}',
-     'not JSON at byte 6 (write : between key and value)'),
+     "the line isn't JSON at byte 6 (write : between key and value)"),
     ('{"do":"look","node":4',
-     "not JSON: the object isn't closed at its end, and a request is one line"),
+     "the line isn't JSON: the object isn't closed by } at the end of the line"),
     ('{"do":"look,"node":4}',
-     'not JSON at byte 14 (a double quote is missing before this)'),
+     "the line isn't JSON at byte 14 (a double quote is missing before this byte)"),
     ('{"do":"look","node":4}}',
-     'not JSON at byte 23 (nothing may follow the object)'),
+     "the line isn't JSON at byte 23 (leave out what follows the object)"),
     ('{"do":"look","node":4} # mine',
-     'not JSON at byte 24 (JSON has no comments)'),
+     "the line isn't JSON at byte 24 (JSON has no comments)"),
     ('# a comment',
-     'not JSON at byte 1 (a request is an object: {"do":"bye"})'),
+     'the line isn\'t JSON at byte 1 (a request is an object, such as {"do":"bye"})'),
     ('look 4',
-     'not JSON at byte 1 (a request is an object: {"do":"bye"})'),
+     'the line isn\'t JSON at byte 1 (a request is an object, such as {"do":"bye"})'),
     ('',
-     'not JSON at byte 1 (a request is an object: {"do":"bye"})'),
+     'the line isn\'t JSON at byte 1 (a request is an object, such as {"do":"bye"})'),
     ('{"do":"look","node":04}',
-     'not JSON at byte 22 (write 4, without a zero before it)'),
+     "the line isn't JSON at byte 22 (write 4, without a zero before it)"),
     ('{"do":"look","node":+4}',
-     'not JSON at byte 21 (write 4, without a sign)'),
+     "the line isn't JSON at byte 21 (write 4, without a sign)"),
     ('{"do":"look","node":0x4}',
-     'not JSON at byte 22 (write the number in decimal digits)'),
+     "the line isn't JSON at byte 22 (write the number in decimal digits)"),
     ('{"do":"look","node":4.0}',
      'node is a number with a point or exponent, not a whole number (write 4, without a point)'),
     ('{"do":"look","node":4.5}',
@@ -70,19 +70,19 @@ HURT = (
     ('{"do":"look","node":[4]}',
      'node is a list, not a whole number (write 4, without brackets)'),
     ('{"do":"look","node":None}',
-     'not JSON at byte 21 (write null)'),
+     "the line isn't JSON at byte 21 (write null)"),
     ('{"do":"look","nodes":4}',
-     'missing "node" (you wrote nodes)'),
+     'the key "node" is missing (you wrote nodes)'),
     ('{"do":"look","Node":4}',
-     'missing "node" (you wrote Node)'),
+     'the key "node" is missing (you wrote Node)'),
     ('{"do":"loook","node":4}',
-     'unknown do: loook (did you mean look?)'),
+     'there is no request "loook" (did you mean look?)'),
     ('{"do":"LOOK","node":4}',
-     'unknown do: LOOK (did you mean look?)'),
+     'there is no request "LOOK" (did you mean look?)'),
     ('{"look":4}',
-     'missing "do" (write {"do":"look"} for look)'),
+     'the key "do" is missing (write {"do":"look"} for look)'),
     ('{"Do":"look","node":4}',
-     'missing "do" (you wrote Do)'),
+     'the key "do" is missing (you wrote Do)'),
     ('{"do":"move","node":4,"at":0,"rule":"Update"}',
      'rule is "Update", not one of update, marriage, seduction, abandonment (did you mean update?)'),
     ('{"do":"move","node":4,"at":0,"rule":"marry","with":3}',
@@ -92,17 +92,17 @@ HURT = (
     ('{"do":"move","node":4,"at":0,"rule":"dance"}',
      'rule is "dance", not one of update, marriage, seduction, abandonment'),
     ('{"do":"move","node":4,"at":0,"rule":"marriage"}',
-     'missing "with" (the neighbour that points at the node)'),
+     'the key "with" is missing (it names the neighbour that points at the node)'),
     ('{"do":"move","node":4,"at":0,"rule":"marriage","With":3}',
-     'missing "with" (you wrote With)'),
+     'the key "with" is missing (you wrote With)'),
     ('{"do":"move","node":4,"at":0,"rule":"marriage","with":"3"}',
      'with is a string, not a whole number (write 3, without quotes)'),
     ('{"do":"fault","node":4,"p":None,"m":true}',
-     'not JSON at byte 28 (write null)'),
+     "the line isn't JSON at byte 28 (write null)"),
     ('{"do":"fault","node":4,"p":"null","m":true}',
      'p is a string, not a whole number or null (write null, without quotes)'),
     ('{"do":"fault","node":4,"p":null,"m":True}',
-     'not JSON at byte 37 (write true)'),
+     "the line isn't JSON at byte 37 (write true)"),
     ('{"do":"fault","node":4,"p":null,"m":"false"}',
      'm is a string, not true or false (write false, without quotes)'),
     ('{"do":"fault","node":4,"p":null,"m":1}',
@@ -110,16 +110,17 @@ HURT = (
     ('{"do":"hello","name":4,"key":"k"}',
      'name is a whole number, not a string (write "4", in double quotes)'),
     ('{"do":"hello","name":"gus","keys":"k"}',
-     'missing "key" (you wrote keys)'),
+     'the key "key" is missing (you wrote keys)'),
     ('{"do":"link","from":1,"to":2}',
-     'missing "a"'),
+     'the key "a" is missing'),
     ('{"do":"look","node":NaN}',
-     'not JSON: NaN is no number'),
+     "the line isn't JSON: JSON has no number NaN"),
 )
 
 HINT = "; --help prints what to type"  # after wrong words
 # Wrong lines that a schema can't exclude.
-BEYOND = ("not UTF-8", "the line begins with a byte order mark", "half of a surrogate pair", "nested deeper than", "a number that is too large", "out of range")
+BEYOND = ("the line isn't UTF-8", "the line begins with a byte order mark", "a text has only half", "values are nested",
+          "a number is too large", "out of range")
 
 
 class Server:
@@ -168,7 +169,7 @@ class Before(unittest.TestCase):
         me = Client(server.port, "gus", "k")
         rows: tuple[tuple[dict[str, object], str], ...] = (
             ({"do": "look", "node": "4"}, "node is a string, not a whole number (write 4, without quotes)"),
-            ({"do": "loook", "node": 4}, "unknown do: loook (did you mean look?)"), ({"do": "see", "node": {4}}, "Object of type set"),
+            ({"do": "loook", "node": 4}, 'there is no request "loook" (did you mean look?)'), ({"do": "see", "node": {4}}, "Object of type set"),
         )
         for request, why in rows:
             with self.assertRaises(Malformed) as malformed:
@@ -176,7 +177,7 @@ class Before(unittest.TestCase):
             self.assertEqual(malformed.exception.word, "malformed")
             self.assertIn(f"malformed, and not sent: {why}", str(malformed.exception))
         look = Look(4, None, False, 0, None, None, (Near(3, None, False),))
-        with self.assertRaisesRegex(Malformed, "by this look no rule is enabled at node 4"):
+        with self.assertRaisesRegex(Malformed, "the look at node 4 shows no rule: ask for no move there, or name a rule"):
             me.move(look)
         with self.assertRaisesRegex(Malformed, "no neighbour of node 4 points at it"):
             me.move(look, "marriage")
@@ -227,8 +228,8 @@ class CommandLine(InRoom):
             ([slip, "--verbose"], "--verbose: there is no such option" + HINT),
             ([slip, "--log"], "--log needs the name of a file" + HINT),
             ([slip, "again"], "again: this argument is one too many" + HINT),
-            (["4711", "gus"], "SLIP, or PORT NAME KEYFILE NODE,.." + HINT),
-            (["--tunnel", slip], "--tunnel SLIP [PORT]: this slip names no door" + HINT),
+            (["4711", "gus"], "write the arguments SLIP, or PORT NAME KEYFILE NODE,.." + HINT),
+            (["--tunnel", slip], "--tunnel SLIP [PORT]: this slip has no line `door ..`" + HINT),
             (["none.slip"], "none.slip: No such file or directory"), (["0", "gus", slip], "0 isn't a port: write a number from 1 to 65535"),
         ):
             self.assertEqual(self.called(*given), (1, "", f"client.py: {why}\n"), given)

@@ -24,7 +24,7 @@ class Clocks(unittest.TestCase):
     def test_the_next_time(self) -> None:
         self.assertEqual(next_time("10:45", NOW), datetime(2026, 11, 24, 10, 45))
         self.assertEqual(next_time("00:30", datetime(2026, 11, 24, 23, 0)), datetime(2026, 11, 25, 0, 30))
-        with self.assertRaisesRegex(ValueError, "^--ends 09:45: it is 10:02 already$"):
+        with self.assertRaisesRegex(ValueError, "^--ends 09:45: it is 10:02 already. Name a later time$"):
             next_time("09:45", NOW)
         self.assertEqual((time_of_day("9:05"), time_of_day("23:59")), ("09:05", "23:59"))
         for word in ("24:00", "10:60", "10", "10:5", "x", "10:45:00"):
@@ -56,7 +56,7 @@ class Ends(Cycle):
         end = (datetime.now() + timedelta(seconds=90)).replace(second=0, microsecond=0)
         end += timedelta(minutes=(end - datetime.now()) < timedelta(seconds=30))
         going = Going(self, CYCLE, "--close", "by-hand", "--ends", f"{end:%H:%M}")
-        going.until(f"^it is {end:%H:%M}: the lesson is over$")
+        going.until(f"^it is {end:%H:%M}: the lesson is over, so the run ends$")
         self.assertEqual(going.ends(), 0, going.lines)
         self.assertGreaterEqual(datetime.now(), end)
         self.whole(going.folder)
@@ -66,7 +66,7 @@ class Ends(Cycle):
         for labs in ([CYCLE], [CYCLE, EXAMPLES / "shared.toml"]):
             done = words("run", *labs, "--close", "every:1", "--into", self.room / "runs", "--ends", f"{before:%H:%M}")
             self.assertEqual(done.returncode, 1)
-            self.assertRegex(done.stderr, rf"^class: --ends {before:%H:%M}: it is \d\d:\d\d already\n$")
+            self.assertRegex(done.stderr, rf"^class: --ends {before:%H:%M}: it is \d\d:\d\d already. Name a later time\n$")
             self.assertFalse((self.room / "runs").exists())
 
 
@@ -111,7 +111,7 @@ class Wording(unittest.TestCase):
 
     def test_moves_of_a_step(self) -> None:
         moved = [(node, f"s{node}", "update" if node % 3 else "marriage") for node in range(1, 56)]
-        self.assertEqual(wording.moves(moved[:2]), "1 (s1) update, 2 (s2) update")
+        self.assertEqual(wording.moves(moved[:2]), "node 1 (s1): update, node 2 (s2): update")
         self.assertEqual(wording.moves(moved), "55 moves, 37 update, 18 marriage")
         self.assertEqual(len(re.findall(r"\(s\d", wording.moves(moved[:6]))), 6)
 
@@ -121,7 +121,9 @@ class Wording(unittest.TestCase):
         self.assertEqual(wording.edit(Event(1, 0, ("fault", "12", "4", "false"))), "fault at node 12: p 4, m false")
         self.assertEqual(wording.edits(faults), "64 faults at nodes 1, 2, 3, 4, 5, 6 and 58 more")
         self.assertEqual(wording.edits(faults[:2]), "2 faults at nodes 1, 2")
-        self.assertEqual(wording.edit(Event(1, 0, ("link", "1", "2"))), "link 1 2")
+        self.assertEqual(wording.edit(Event(1, 0, ("link", "1", "2"))), "added the link between 1 and 2")
+        self.assertEqual(wording.edits([Event(at, at - 1, ("cut", "1", str(at))) for at in (2, 3)]), "2 removed links at nodes 1, 2, 3")
+        self.assertEqual(wording.edit(Event(1, 0, ("release", "3"))), "dropped the granted move of node 3")
 
     def test_some_of_many(self) -> None:
         self.assertEqual(wording.some(["a", "b"], 2, "node"), "a, b")

@@ -18,7 +18,7 @@ from classroom.setup.shaking import longest_start, shaken
 from tests.classroom.help import CYCLE, Cycle, Going, KEYS
 
 SERVE = tuple(os.environ.get("MML_SERVE", "").split())
-BACK = r"^stable (again )?after \d+ moves?, \d+ closes?, \d+ rounds?; proved: at most 35 moves, 13 rounds$"
+BACK = r"^stable (again )?after \d+ moves?, \d+ steps? and \d+ rounds? \(at most 35 moves and 13 rounds, as is proved\)$"
 
 
 class Alone(unittest.TestCase):
@@ -64,7 +64,7 @@ class Alone(unittest.TestCase):
         for seed in range(50):
             for node, p, _ in shaken(nodes, links, "2", seed):
                 self.assertIn(p, near[node])
-        with self.assertRaisesRegex(Fault, "shake 5: write a number of nodes from 1 to 4, or all"):
+        with self.assertRaisesRegex(Fault, "shake 5: this network has 4 nodes. Write a number from 1 to 4, or all"):
             shaken(nodes, links, "5", 1)
         self.assertEqual(longest_start(nodes, links), [(1, 2, True), (2, 3, True), (3, 4, True), (4, None, True)])
         self.assertEqual(longest_start([1, 2, 3], [(1, 3), (2, 3), (1, 2)]), [(1, 3, True), (2, 3, True), (3, None, True)])
@@ -84,7 +84,7 @@ class Beside:
         self.done: list[object] = []
 
     def present_lab(self) -> None:
-        """Returns the network. This daemon doesn't need it."""
+        """Raises, since only a daemon that searches needs the network, and a central daemon doesn't search."""
         raise AssertionError("a central daemon searches nothing")
 
     def release(self, node: int) -> None:
@@ -137,7 +137,7 @@ class Desk(Cycle):
         self.whole(going.folder)
         marks = (going.folder / "marks.txt").read_text(encoding="utf-8")
         told = [line for line in going.lines if re.search(BACK, line)]
-        self.assertEqual(re.findall(r"(?m)^place \d+: (.*)$", marks), told)
+        self.assertEqual(re.findall(r"(?m)^event \d+: (.*)$", marks), told)
         return going.folder
 
     def steps(self, folder: Path) -> list[tuple[set[int], set[int]]]:
@@ -167,14 +167,14 @@ class Desk(Cycle):
     def test_words(self) -> None:
         going = Going(self, CYCLE, "--close", "by-hand", *SERVE)
         going.type("daemon synchronous")
-        going.until("^steps are closed synchronous$")
+        going.until("^from now on steps are closed by the daemon synchronous$")
         going.until(r"^waiting for .*\(gus\): ")
         going.type("daemon fair")
-        going.until("^fair isn't one of central, synchronous, ")
+        going.until("^'fair' isn't a daemon. The daemons are: central, synchronous, ")
         going.type("shake 9")
-        going.until("^shake 9: write a number of nodes from 1 to 7, or all$")
+        going.until("^shake 9: this network has 7 nodes. Write a number from 1 to 7, or all$")
         going.type("shake 0")
-        going.until(r"^not understood; write shake K\|all \[SEED\]$")
+        going.until(r"^the command shake was written in a wrong form. Write: shake K\|all \[SEED\]$")
         going.type("shake 2 5")
         going.until("^the registers of 2 nodes were set$")
         lab = labs.read(CYCLE)

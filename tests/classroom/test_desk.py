@@ -32,7 +32,7 @@ from classroom.run.typed import FORMS, NOW, Terminal, Typed, parse_command
 from tests.classroom.help import CYCLE, EXAMPLES, KEYS, LIMIT, Cycle, Going, InRoom, InTerminal, a_port, stop, words
 from tests.common.limits import MOST
 
-ROOM_AGAIN = "the disk has room again. If a line couldn't be written, the journal is halted and moves are refused as `journal`"
+ROOM_AGAIN = "the disk has room again. If a line of the journal couldn't be written meanwhile, the server refuses all moves with `journal`"
 
 
 class Forms(unittest.TestCase):
@@ -47,8 +47,8 @@ class Forms(unittest.TestCase):
                      "every", "every x", "every -1", "by-hand 2", "end now", "release ٣"):
             with self.assertRaises(ValueError) as error:
                 parse_command(line)
-            self.assertEqual(str(error.exception), f"not understood; write {FORMS[line.split()[0]]}")
-        with self.assertRaisesRegex(ValueError, "^not understood; did you mean close\\? words: close, fault NODE"):
+            self.assertEqual(str(error.exception), f"the command {line.split()[0]} was written in a wrong form. Write: {FORMS[line.split()[0]]}")
+        with self.assertRaisesRegex(ValueError, "^clsoe isn't a command. Did you mean close\\? The commands are: close, fault NODE"):
             parse_command("clsoe")
 
     def test_what_others_write_is_printable(self) -> None:
@@ -82,11 +82,11 @@ class Words(Cycle):
     def test_the_end_is_asked_for_twice(self) -> None:
         going = Going(self, CYCLE, "--close", "by-hand")
         going.type("end")
-        going.until("^not stable, 3 privileged: type `end` once more to end the run anyway$")
+        going.until("^the network isn't stable yet \\(privileged nodes: 3\\). Type `end` once more to end the run anyway$")
         going.type("close 3")
-        going.until("^not understood; write close$")
+        going.until("^the command close was written in a wrong form. Write: close$")
         going.type("end")
-        going.until("^not stable, 3 privileged: ")
+        going.until("^the network isn't stable yet \\(privileged nodes: 3\\)")
         going.type("end")
         self.assertEqual(going.ends(), 0, going.lines)
 
@@ -96,10 +96,10 @@ class Words(Cycle):
             gus.move(gus.look(4))
             going.until("^connected: gus$")
             going.type("who")
-            going.until(r"^connected: 1 of \d+ seats: gus$")
-            going.until("^without a granted move so far: hana, ines, jonas$")
+            going.until(r"^connected: gus \(1 of \d+ seats are taken\)$")
+            going.until("^students without a granted move so far: hana, ines, jonas$")
             going.type("report")
-            going.until(r"^configuration 0, not stable: .*; events 1 of \d+$")
+            going.until(r"^configuration 0 is not stable; .*; events: 1 of \d+$")
             going.type("help")
             for form in FORMS.values():
                 going.until(f"^  {re.escape(form)} ")
@@ -108,7 +108,7 @@ class Words(Cycle):
         going = Going(self, CYCLE, "--close", "by-hand")
         with socket.create_connection(("127.0.0.1", going.port)):
             going.type("who")
-            going.until(r"^connected: 1 of \d+ seats: 1 without a name$")
+            going.until(r"^connected: 1 connection without a hello \(1 of \d+ seats are taken\)$")
         by_number = Going(self, CYCLE, "--close", "by-hand", "--serve", "--beside")
         held = subprocess.Popen(
             [sys.executable, "-c", f"import socket; it = socket.create_connection(('127.0.0.1', {by_number.port})); it.recv(1)", "hana"],
@@ -122,11 +122,11 @@ class Words(Cycle):
         going = Going(self, lab, "--close", "by-hand")
         for number in range(1, 11):
             going.type("fault 1 2 true")
-            going.until(f"^configuration {number}: .*; events {number} of 10$")
+            going.until(f"^configuration {number}: .*; events: {number} of 10$")
             if number == 9:
-                going.until("^events 9 of 10: after the last event nothing more is granted$")
+                going.until("^the lab allows 10 events, and 9 of them are used. After the last one the server grants nothing more$")
         line = going.until("^nothing more is granted: ")
-        self.assertRegex(line, "the journal is full, events 10 of 10; ")
+        self.assertRegex(line, "all 10 events that the lab allows are used")
         self.assertEqual(going.ends(), 5, going.lines)
         self.assertEqual(self.whole(going.folder), 10)
 
@@ -144,12 +144,12 @@ class Words(Cycle):
         with process.stdout:
             for line in process.stdout:
                 told.append(line)
-                if line.startswith("words: "):
+                if line.startswith("commands: "):
                     process.stdin.write("2: fault 1 null true\n9: close\n")
                 if "lab-2: configuration 1: fault at node 1: p null, m true" in line:
                     process.stdin.write("end\nend\n")
         self.assertEqual(process.wait(LIMIT), 0, told)
-        self.assertIn("not understood: there is no network 9; there are 1 lab-1, 2 lab-2\n", told)
+        self.assertIn("not done: this class has no network 9. Its networks are: 1 lab-1, 2 lab-2\n", told)
         self.assertFalse(any(line.startswith("lab-1: configuration 1: ") for line in told))
         row = rf"\d  lab-\d +28\d\d\d +3 +{MOST['sessions'] - 1} +http://127.0.0.1:282\d\d/"
         self.assertEqual([bool(re.match(row, line)) for line in told if line[:1].isdigit()], [True, True])
@@ -162,9 +162,9 @@ class InATerminal(Cycle):
         terminal = InTerminal(self)
         terminal.type(b"fau\t1 2 true\n", b"fault at node 1: p 2, m true; ")
         terminal.type(b"\x1b[A\n", b"configuration 2: fault at node 1: p 2, m true; ")
-        terminal.type(b"clossse\x1b[D\x7f\x7f\n", b"no: empty")
+        terminal.type(b"clossse\x1b[D\x7f\x7f\n", b"the server denied this command: empty")
         terminal.type(b"\x04", b"to end the run, type `end`")
-        terminal.type(b"end\n", b"type `end` once more to end the run")
+        terminal.type(b"end\n", b"Type `end` once more to end the run")
         terminal.type(b"end\n", b"all files of the run are in ")
         self.assertEqual(terminal.process.wait(LIMIT), 0)
         os.close(terminal.ours)
@@ -191,11 +191,12 @@ class Late(Cycle):
         self.addCleanup(patient.stop)
         holding.start()
         typed.put("fault 1 2 true")
-        self.until(lambda: any(line.startswith("the desk has lost its connection: no answer in 0.5 seconds") for line in lines))
+        lost = "the desk has lost its connection to the server, and tries to connect again: no answer in 0.5 seconds"
+        self.until(lambda: any(line.startswith(lost) for line in lines))
         os.kill(it.process.number, signal.SIGCONT)
-        self.until(lambda: "the desk is connected again" in lines)
+        self.until(lambda: "the desk is connected to the server again" in lines)
         typed.put("link 1 3")
-        self.until(lambda: any("link 1 3" in line for line in lines))
+        self.until(lambda: any("the link between 1 and 3" in line for line in lines))
         self.assertTrue(any("configuration 1: fault at node 1: p 2, m true" in line for line in lines), lines)
         typed.put(NOW)
         holding.join(LIMIT)
@@ -234,26 +235,26 @@ class Late(Cycle):
                 )
             try:
                 end = time.monotonic() + LIMIT
-                while "\npage to act" not in told.read_text(encoding="utf-8"):
+                while "\npage on which you can act" not in told.read_text(encoding="utf-8"):
                     self.assertLess(time.monotonic(), end)
                     time.sleep(0.05)
             finally:
                 run.send_signal(signal.SIGTERM)
                 self.assertEqual(run.wait(LIMIT), 0)
             text = told.read_text(encoding="utf-8")
-            self.assertIn("\npage to act: its address is printed only at a terminal\n", text)
+            self.assertIn("\npage on which you can act: its address is secret, and is printed only in a terminal\n", text)
             self.assertEqual(text.count("http://"), 1, text)
 
     def test_the_address_to_look_at_stays_and_where_it_acts_does_not(self) -> None:
         going = Going(self, CYCLE, "--close", "by-hand", "--page", str(a_port()))
-        looks, acts = (going.until(f"^{word} http").removeprefix(f"{word} ") for word in ("page", "page to act"))
+        looks, acts = (going.until(f"^{word} http").removeprefix(f"{word} ") for word in ("page for the projector", "page on which you can act"))
         os.kill(going.server(), signal.SIGKILL)
         self.assertEqual(going.ends(), 4, going.lines)
-        self.assertIn("the server has ended, by SIGKILL", going.lines)
+        self.assertIn("the server has ended, by the signal SIGKILL", going.lines)
         self.assertNotIn(acts.split("/")[3], (going.folder / "run.json").read_text(encoding="utf-8"))
         self.assertEqual({(going.folder / name).stat().st_mode & 0o777 for name in ("lab.toml", "journal.lab", "journal")}, {0o600})
         again = Going(self, None, "run", "--resume", going.folder)
-        self.assertEqual(again.until("^page http"), f"page {looks}")
+        self.assertEqual(again.until("^page for the projector http"), f"page for the projector {looks}")
         with urllib.request.urlopen(looks, timeout=LIMIT) as it:
             self.assertEqual(it.status, 200)
         with self.assertRaises(urllib.error.HTTPError):
@@ -263,8 +264,8 @@ class Late(Cycle):
         going = Going(self, CYCLE, "--close", "by-hand")
         second = words("run", CYCLE, "--into", self.room / "runs")
         self.assertEqual((second.returncode, second.stdout), (1, ""))
-        self.assertEqual(second.stderr, f"class: a run of {CYCLE} goes on at port {going.port}, folder {going.folder}; "
-                                        "--beside starts another class\n")
+        self.assertEqual(second.stderr, f"class: a run of {CYCLE} is still going on, at port {going.port} and in the folder {going.folder}. "
+                                        "To start another run beside it, add --beside\n")
         self.assertEqual(len(list((self.room / "runs").iterdir())), 1)
         beside = Going(self, CYCLE, "--close", "by-hand", "--beside")
         for run in (beside, going):
@@ -296,7 +297,7 @@ class Disk(InRoom):
 
     def test_little_room_none_and_room_again(self) -> None:
         told = self.told(self.disk(), 10**9, 65536, 65535, 4096, 0, 0, 10**9, 10**9)
-        self.assertEqual(told, [[], [], ["the disk has little room"], [], ["the disk is full"], [], [ROOM_AGAIN], []])
+        self.assertEqual(told, [[], [], ["the disk is nearly full"], [], ["the disk is full"], [], [ROOM_AGAIN], []])
 
     def disk(self) -> DiskRoom:
         """Returns the object that watches the disk of the test's folder."""
@@ -310,7 +311,7 @@ class Disk(InRoom):
         for left in free:
             room.due = 0.0
             with unittest.mock.patch.object(room, "left", return_value=left):
-                told.append([line.partition(":")[0] for line in room.news()])
+                told.append([re.split(r": |\. (?!If)", line)[0] for line in room.news()])
         return told
 
     def test_a_disk_that_takes_nothing_though_bytes_are_free(self) -> None:
@@ -335,9 +336,9 @@ class Disk(InRoom):
         told = []
         for size in (34_464, 34_465, 50_000, 99_900, 100_000):
             journal.write_bytes(bytes(size))
-            told.append([line.partition(":")[0] for line in room.limit_news()])
-        self.assertEqual(told, [[], ["the journal may only grow by 65535 more bytes, since there is a limit on the server's files (ulimit -f)"], [],
-                                ["the journal has reached the limit on the server's files, so nothing more is granted (ulimit -f)"], []])
+            told.append([line.partition(". ")[0] for line in room.limit_news()])
+        self.assertEqual(told, [[], ["the journal can only grow by 65535 more bytes, because of a limit on the size of files (ulimit -f)"], [],
+                                ["the journal has reached the limit on the size of files, so the server grants nothing more (ulimit -f)"], []])
         unbounded = DiskRoom(self.room, os.getpid())
         self.addCleanup(unbounded.close)
         self.assertEqual(unbounded.limit_news(), [])
@@ -383,15 +384,15 @@ class NotDone(Cycle):
         self.says(4, f"class: {self.room}: .*", "run", self.room, "--into", into)
         self.says(1, "class: the following arguments are required: .*; class --help prints what to type")
         file = self.file("file", "")
-        self.says(4, f"class: {file}/.*: Not a directory; name another folder by --into FOLDER", "run", CYCLE, "--into", file)
-        self.says(4, "class: /proc/none/.*; name another folder by --into FOLDER", "run", CYCLE, "--into", "/proc/none")
+        self.says(4, f"class: {file}/.*: this folder can't be made: Not a directory. Name another place for it by --into FOLDER", "run", CYCLE, "--into", file)
+        self.says(4, "class: /proc/none/.*: this folder can't be made: .*. Name another place for it by --into FOLDER", "run", CYCLE, "--into", "/proc/none")
         self.assertFalse(into.exists() and list(into.iterdir()))
 
     def test_no_folder_is_left_where_no_server_starts(self) -> None:
         broken = self.file("broken", "#!/bin/sh\necho no >&2\nexit 4\n")
         broken.chmod(0o755)
         with unittest.mock.patch.dict(os.environ, {"MML_HOST": str(broken)}):
-            self.says(4, "class: the server doesn't start: no", "run", CYCLE, "--into", self.room / "runs")
+            self.says(4, "class: the server can't be started. It ended with status 4, and printed: no", "run", CYCLE, "--into", self.room / "runs")
         self.assertEqual(list((self.room / "runs").iterdir()), [])
 
     def test_each_word_has_an_example(self) -> None:

@@ -34,22 +34,22 @@ ASKED: dict[str, dict[str, object]] = {
 }
 # Typed lines, and the beginning of the answer to each, over a lab without a house and pages.
 TOLD = {
-    "report": "configuration 0, not stable: privileged 4 (update); events 0 of ",
-    "wait": "waiting for 4 (gus): update",
-    "who": "without a granted move so far: ",
-    "play gus": "no node has a second owner who could play for gus: ",
-    "stop gus": "no node has a second owner who could play for gus: ",
-    "every 5": "steps are closed every:5",
-    "when-idle 0.5": "steps are closed when-idle:0.5",
-    "by-hand": "steps are closed by-hand",
-    "daemon random:0.5": "steps are closed random:0.5",
+    "report": "configuration 0 is not stable; privileged nodes: 4 (update); events: 0 of ",
+    "wait": "waiting for node 4 (gus): update",
+    "who": "students without a granted move so far: ",
+    "play gus": "the house can't play for gus, because it owns no node in this lab. ",
+    "stop gus": "the house can't play for gus, because it owns no node in this lab. ",
+    "every 5": "from now on steps are closed by the daemon every:5",
+    "when-idle 0.5": "from now on steps are closed by the daemon when-idle:0.5",
+    "by-hand": "from now on steps are closed by the daemon by-hand",
+    "daemon random:0.5": "from now on steps are closed by the daemon random:0.5",
     "shake 3 1": "the registers of 3 nodes were set",
     "shake all": "the registers of 7 nodes were set",
     "break": "the registers of 7 nodes were set",
-    "page": "there is no page: start the run with --page",
-    "key gus": "a key can't be changed in a run with --serve",
+    "page": "this run has no page. Start a run with --page if you want one",
+    "key gus": "the key can't be changed, because this run was started with --serve",
     "help": "  close ",
-    "end": "not stable, 1 privileged: type `end` once more to end the run anyway",
+    "end": "the network isn't stable yet (privileged nodes: 1). Type `end` once more to end the run anyway",
 }
 # The line that each button of the page sends, if the fields have the values of FIELDS.
 SENT = {

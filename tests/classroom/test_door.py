@@ -299,7 +299,7 @@ class Bots(AtDoor):
         self.wait(lambda: self.told != [])
         with Client.of(self.slip("maths")) as me:
             self.assertEqual(me.ask(do="see", node=1)["by"], "maths")
-        self.assertRegex(self.told[0], "^the door's process has ended, status -9: the door is opened again$")
+        self.assertRegex(self.told[0], "^the process of the door has ended unexpectedly, by the signal SIGKILL. The door is opened again$")
 
     def test_it_ends_with_its_last_network(self) -> None:
         self.lines("maths")
@@ -331,7 +331,8 @@ class Tunnels(AtDoor):
         self.lines("maths")
         port = opening_port()
         with self.tunnel(self.files(self.slip("maths")), str(port)) as line:
-            self.assertEqual(line, f"port {port} of this machine leads through the door at 127.0.0.1:{self.door.port} to maths; Ctrl-C closes the tunnel\n")
+            self.assertEqual(line, f"port {port} of this machine leads through the door at 127.0.0.1:{self.door.port} to the network maths; "
+                                   "Ctrl-C closes the tunnel\n")
             with Client(port, "gus", "heron-31") as me:
                 self.assertEqual(me.ask(do="look", node=1)["by"], "maths")
             with socket.create_connection(("127.0.0.1", port), LIMIT) as it:  # A client that ends its own side gets the replies.
@@ -444,7 +445,7 @@ class Pages(AtDoor):
 
     def test_no_page_where_the_run_has_none(self) -> None:
         self.record(self.room / "run-maths", self.bots.port)
-        self.assertEqual(self.asks("/maths/"), (404, b"this class has no page to play on\n"))
+        self.assertEqual(self.asks("/maths/"), (404, b"this class has no page for playing by hand. Ask your teacher\n"))
         self.assertEqual(self.asks("/maths/look/look-token/")[0], 404)
         self.assertEqual(self.bots.taken, [])
 
@@ -590,19 +591,20 @@ class Certificates(InRoom):
         self.assertIn("DNS:class.example", told)
 
     def test_none_can_be_had(self) -> None:
-        with mock.patch("shutil.which", return_value=None), self.assertRaisesRegex(Fault, "there is no certificate, and no `openssl` to make one"):
+        why = "the door has no certificate yet, and the program openssl, which makes one, isn't installed"
+        with mock.patch("shutil.which", return_value=None), self.assertRaisesRegex(Fault, why):
             certificate.make_if_missing(self.room / "door.pem", "class.example")
         for text in ("", "-----BEGIN CERTIFICATE-----\nAAA\n-----END CERTIFICATE-----\n"):
             with self.assertRaises(Fault):
                 certificate.fingerprint(self.file("bad.pem", text))
         with self.assertRaises(Fault):
             certificate.context(self.room / "bad.pem")
-        with self.assertRaises(Fault):
-            certificate.make(self.room / "a.pem", "a b")
+        with self.assertRaisesRegex(Fault, "^this machine calls itself 'my_pc', but a certificate's name may contain only letters, digits, dots and hyphens"):
+            certificate.make(self.room / "a.pem", "my_pc")
 
     def test_a_port_that_is_taken(self) -> None:
         certificate.make_if_missing(self.room / "door.pem", "localhost")
-        with socket.create_server(("127.0.0.1", 0)) as taken, self.assertRaisesRegex(Fault, "^the door can't listen at 127.0.0.1:"):
+        with socket.create_server(("127.0.0.1", 0)) as taken, self.assertRaisesRegex(Fault, "^the door can't be opened at 127.0.0.1:"):
             opening.open_door(Place("127.0.0.1", taken.getsockname()[1]), self.room, self.room / "door.pem", print)
 
 

@@ -56,7 +56,7 @@ class Disks(InRoom):
         done = self.grades(before, "--into", disk, "--json", table)
         self.assertEqual(done.returncode, 5, done.stdout + done.stderr)
         self.assertRegex(done.stdout, "(?m)^class: .*: the record of this case can't be written: No space left on device; name another folder by --into$")
-        self.assertIn("bot.py: 1 of 1 cases passed\nno-such-bot: not tried: it can't be started\n", done.stdout)
+        self.assertIn("bot.py: 1 of 1 cases passed\nno-such-bot: not tried: the bot can't be started\n", done.stdout)
         self.assertEqual([each["passed"] for each in json.loads(table.read_text(encoding="utf-8"))], [True, False])
 
     def test_a_table_that_does_not_fit_takes_no_other_away(self) -> None:
@@ -64,7 +64,8 @@ class Disks(InRoom):
         junit = self.room / "cases.xml"
         done = self.grades(before, "--into", self.room / "grades", "--json", disk / "cases.json", "--junit", junit)
         self.assertEqual(done.returncode, 4, done.stdout + done.stderr)
-        self.assertIn(f"class: {disk}/cases.json: No space left on device; the old file is unchanged: make room, or name another file\n", done.stdout)
+        self.assertIn(f"class: {disk}/cases.json: No space left on device; nothing was written to this file: make room on the disk, or name another "
+                      "file\n", done.stdout)
         self.assertIn("bot.py: 1 of 1 cases passed\n", done.stdout)
         self.assertIn("</testsuites>", junit.read_text(encoding="utf-8"))
 
@@ -72,16 +73,16 @@ class Disks(InRoom):
         disk, before = full_disk(self)
         call: list[str | Path] = [*before, sys.executable, TOP / "class", "experiment", "--family", "path", "--nodes", "4", "--runs", "2"]
         rows: tuple[tuple[tuple[str | Path, ...], str], ...] = (
-            (("--csv", disk / "runs.csv"), "runs.csv: No space left on device; make room and run the same command again, which continues this table, or "
-                                           "name another file by --csv, which begins a new table"),
-            (("--csv", self.room / "runs.csv", "--plot", disk / "runs.svg"), "runs.svg: No space left on device; make room and run the same command "
-                                                                             "again, or name another file by --plot"),
+            (("--csv", disk / "runs.csv"), "runs.csv: No space left on device; make room on the disk and run the same command again to continue this table, or "
+                                           "name another file by --csv to begin a new table"),
+            (("--csv", self.room / "runs.csv", "--plot", disk / "runs.svg"), "runs.svg: No space left on device; make room on the disk and run the same "
+                                                                             "command again, or name another file by --plot"),
         )
         for given, why in rows:
             done = subprocess.run([*call, *given], capture_output=True, text=True, check=False, timeout=LIMIT)
             self.assertEqual((done.returncode, done.stderr.count("\n")), (4, 1), done.stderr)
             self.assertIn(f"class: {disk}/{why}", done.stderr)
-        self.assertIn("4 of 4 runs, all within the proved bounds", done.stdout)
+        self.assertIn("4 of 4 runs are done, all within the proved bounds", done.stdout)
         self.assertEqual(len((self.room / "runs.csv").read_text(encoding="utf-8").splitlines()), 5)
 
     def test_practice_says_where_there_may_be_room(self) -> None:
@@ -98,7 +99,8 @@ class Disks(InRoom):
         with unittest.mock.patch.object(Path, "write_text", side_effect=OSError(28, "No space left on device", "/tmp/slip")):
             found = list(grade.results_of([Bot.of("true"), Bot.of("false")], [case], told, self.room, threading.Event()))
         self.assertEqual([result.why for result in found],
-                         ["not tried: /tmp/slip: No space left on device; name another folder by the environment variable TMPDIR"] * 2)
+                         ["this case wasn't tried: /tmp/slip: No space left on device; name another folder for temporary files by the environment "
+                          "variable TMPDIR"] * 2)
         self.assertFalse(any(result.passed for result in found))
 
 
@@ -114,13 +116,15 @@ class AtHome(InRoom):
         return done.stdout
 
     def test_bytes_replies_and_silence(self) -> None:
-        self.assertIn("\nyou: malformed: not UTF-8 at byte 1: \\x80\\x81", self.practises(f"python3 {FAULTY} binary", "15"))
-        self.assertRegex(self.practises(f"python3 {FAULTY} pretends"), r"(?m)^the run hangs: the class waits for 1 \(")
-        self.assertRegex(self.practises(f"python3 {FAULTY} hangs"), r"(?m)^the run hangs: the class waits for 1 \(")
+        self.assertIn("\nyou: a line is refused as malformed: the line isn't UTF-8 at byte 1; the line is \\x80\\x81",
+                      self.practises(f"python3 {FAULTY} binary", "15"))
+        for fault in ("pretends", "hangs"):
+            self.assertRegex(self.practises(f"python3 {FAULTY} {fault}"),
+                             r"(?m)^the run is given up, since nothing has happened for 3 seconds; it waits for \w+ at node 1 \(")
 
     def test_nothing_stays_of_what_it_started(self) -> None:
         told = self.practises(f"python3 {FAULTY} forks", str(LIMIT))
-        self.assertIn("\nyou: the program has ended, status 0\n", told)
+        self.assertIn("\nyou: the bot ended by itself, with status 0\n", told)
         end = time.monotonic() + LIMIT
         while any(SLEEP in cmdline(each) for each in Path("/proc").iterdir()):
             self.assertLess(time.monotonic(), end)
@@ -152,9 +156,9 @@ class Folders(InRoom):
         (self.room / "wrong").mkdir()
         (self.room / "wrong/one.toml").write_bytes(os.urandom(50))
         rows = (
-            ("none", 4, "none: No such file or directory; --labs names a folder with labs, which are files NAME.toml"),
+            ("none", 4, "none: No such file or directory; --labs has to name a folder with labs, which are files NAME.toml"),
             ("empty", 2, "empty: this folder has no labs, which are files NAME.toml; ./class new makes them"),
-            ("wrong", 2, f"one.toml: lab: not a TOML document; `{CLASS} check"),
+            ("wrong", 2, f"one.toml: the lab is refused (lab: not a TOML document). Type `{CLASS} check"),
         )
         for name, status, why in rows:
             done = words("grade", EXAMPLES / "bot.py", "--labs", self.room / name, "--into", self.room / "grades")

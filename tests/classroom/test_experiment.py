@@ -119,14 +119,14 @@ class Words(InRoom):
             lines = [line.split() for line in experiment.table(rows).splitlines()]
         self.assertEqual(lines[1], ["path", "central", "4", "3", "4", "9", "20", "1", "1", "8"])
         self.assertEqual(lines[2], ["path", "central", "8", "2", "15", "20", "40", "1", "1", "16"])
-        self.assertIn("closest to the bound", " ".join(lines[3]))
-        self.assertIn("20 of 40 moves (n 8, seed 1)", " ".join(lines[3]))
+        self.assertIn("closest to the bounds", " ".join(lines[3]))
+        self.assertIn("20 of at most 40 moves (8 nodes, seed 1)", " ".join(lines[3]))
 
     def test_a_table_and_a_chart_and_going_on(self) -> None:
         table, plot = self.room / "runs.csv", self.room / "runs.svg"
         done = words("experiment", *TINY, "--csv", table, "--plot", plot)
         self.assertEqual(done.returncode, 0, done.stdout + done.stderr)
-        self.assertIn("54 of 54 runs, all within the proved bounds", done.stdout)
+        self.assertIn("54 of 54 runs are done, all within the proved bounds", done.stdout)
         rows = read(table)
         self.assertEqual(list(rows[0]), "family,nodes,links,daemon,start,seed,moves,closes,rounds,stable".split(","))
         self.assertEqual(len(rows), 54)
@@ -151,7 +151,7 @@ class Words(InRoom):
         lines = table.read_text(encoding="utf-8").splitlines(keepends=True)
         table.write_text("".join(lines[:20]) + lines[20][:9], encoding="utf-8")
         again = words("experiment", *TINY, "--csv", table)
-        self.assertIn("19 runs are in ", again.stdout)
+        self.assertIn(f"already in {table}, and not repeated: 19 runs\n", again.stdout)
         self.assertEqual(sorted(table.read_text(encoding="utf-8").splitlines()), sorted(line.rstrip("\n") for line in lines))
 
     def test_an_interrupt_keeps_what_is_there(self) -> None:
@@ -164,16 +164,16 @@ class Words(InRoom):
         going.send_signal(signal.SIGINT)
         output, _ = going.communicate(timeout=LIMIT)
         self.assertEqual(going.returncode, 4, output)
-        self.assertIn("interrupted; run the same command again to continue", output)
+        self.assertIn("interrupted: run the same command again to continue", output)
         self.assertLess(0, len(read(table)))
 
     def test_what_is_no_experiment(self) -> None:
         other = self.file("other.csv", "name,mark\nana,1\n")
         rows: tuple[tuple[tuple[str | Path, ...], str], ...] = (
-            (("--csv", other), "isn't the table of an experiment"),
-            (("--daemon", "by-hand"), "--daemon by-hand: an experiment has nobody to close steps; name another daemon"),
-            (("--nodes", "9..3"), "9..3 isn't A..B or A..B/STEP with numbers from 1 to 256"),
-            (("--family", "ring"), "no family ring"),
+            (("--csv", other), "this file isn't a table of class experiment, and stays as it is"),
+            (("--daemon", "by-hand"), "--daemon by-hand: in an experiment nobody closes steps by hand; name another daemon"),
+            (("--nodes", "9..3"), "9..3 isn't a number of nodes, A..B or A..B/STEP, with numbers from 1 to 256"),
+            (("--family", "ring"), "--family ring: there is no such family of networks"),
         )
         for given, why in rows:
             done = words("experiment", "--csv", self.room / "runs.csv", *given)

@@ -95,7 +95,7 @@ class Far(InRoom):
                 self.assertEqual(self.gets(f"/{lab.stem}/look/{record['looks']}/")[0], 200)
             path = self.page_for_all(runs[0].parent, [record["looks"] for record in records])
             self.killed(3, records[2]["server"]["number"], path, run, {Path(row["file"]).stem for row in rows if row["network"] == "maths-3"})
-            wait_until(lambda: all("; stable, " in (folder / "run.txt").read_text(encoding="utf-8") for folder in runs))
+            wait_until(lambda: all("; stable; " in (folder / "run.txt").read_text(encoding="utf-8") for folder in runs))
             run.stdin.write("end\n")
             run.stdin.flush()
             output = run.communicate(timeout=LIMIT)[0]
@@ -104,7 +104,7 @@ class Far(InRoom):
         self.assertEqual([(name, room) for name, room, *_ in rows], list(zip([lab.stem for lab in labs], ["B 2", "B 2", "A 1", "A 1"], strict=True)), output)
         marks = [json.loads((folder / "marks.json").read_text(encoding="utf-8"))["runs"][0] for folder in runs]
         self.assertEqual(sum(len(it["students"]) for it in marks), 44)
-        self.assertEqual(re.findall("(?m)^ALARM (maths-\\d) is down: the server has ended, by SIGKILL", output), ["maths-3"])
+        self.assertEqual(re.findall("(?m)^ALARM (maths-\\d) is down: the server has ended, by the signal SIGKILL", output), ["maths-3"])
         self.assertTrue(all(it["stable"] for it in marks))
         wait_until(lambda: not self.reaches(self.students, self.port))  # The door stays open for a little while after its last network has ended.
 
@@ -148,12 +148,12 @@ class Far(InRoom):
         old = Slip.read(slips["student-3"])
         with self.crowd([*slips.values()]):
             wait_until(lambda: len(set(self.greeted())) == 6)
-            going.until("; stable, ")
+            going.until("; stable; ")
             before = (going.folder / "journal").read_bytes()
             going.type("key nobody")
-            going.until("^no student nobody; there are student-0, ")
+            going.until("^there is no student nobody. The students are: student-0, ")
             going.type("key student-3")
-            going.until("^the class goes on at port ")
+            going.until("^the class continues at port ")
             others = [name for name in slips if name != "student-3"]
             wait_until(lambda: all(self.greeted().count(name) == 2 for name in others))
             new = Slip.read(slips["student-3"])

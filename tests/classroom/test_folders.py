@@ -63,7 +63,7 @@ class Hostile(Disputed):
             going.until("^connected: gus$")
             gus.ask(MOVE % 0)
             gus.ask(MOVE % 7)
-        going.until("^gone: gus$")
+        going.until("^disconnected: gus$")
         self.whole_one = self.ended(going)
 
     def copy(self) -> Path:
@@ -103,7 +103,7 @@ class Hostile(Disputed):
                               ("run", "--resume", folder, "--again"), ("key", folder, "gus")]
                 for given in calls:
                     with self.subTest(name=name, spoil=spoil.__name__, word=given[0]):
-                        self.says(words(*given), 4, f"{folder / name}: this isn't a regular file")
+                        self.says(words(*given), 4, f"{folder / name}: this isn't a plain file")
                 shutil.rmtree(folder)
 
     def test_the_program_waits_for_no_pipe(self) -> None:
@@ -183,7 +183,7 @@ class Hostile(Disputed):
             self.assertEqual(done.returncode, 0, done.stderr)
         self.says(words("attach", folder), 1, "the server of this run has ended")
         (folder / RECORD).write_text(json.dumps(kept | {"close": "when-it-likes"}), encoding="utf-8")
-        self.says(words("run", "--resume", folder, "--again"), 4, folder / RECORD, "when-it-likes isn't one of ")
+        self.says(words("run", "--resume", folder, "--again"), 4, folder / RECORD, "'when-it-likes' isn't a daemon. ")
         (folder / RECORD).write_text(" " * (plain.MOST_KEPT + 1), encoding="utf-8")
         self.assertIsNone(Record.read(folder))
 
@@ -197,8 +197,8 @@ class Hostile(Disputed):
             folder = self.copy()
             (folder / "record" / "lab").write_text(changed, encoding="utf-8")
             with self.subTest(what):
-                self.says(words("mark", folder), 5, "record: its lab isn't the same as the run's lab.toml")
-                self.says(words("history", folder, "gus"), 2, "its lab isn't the same as the run's lab.toml")
+                self.says(words("mark", folder), 5, "record: this record was made with another lab than the file lab.toml of this run")
+                self.says(words("history", folder, "gus"), 2, "this record was made with another lab than the file lab.toml of this run")
         folder = self.copy()
         (folder / "lab.toml").write_text(text.replace(key[1], "another-key-1"), encoding="utf-8")
         self.assertEqual(words("mark", folder).returncode, 0)
@@ -210,9 +210,9 @@ class Plainly(Disputed):
     def test_limits(self) -> None:
         it = self.file("it", "1234")
         self.assertEqual((plain.read(it, 4), plain.tail(it, 2), plain.tail(it, 9)), (b"1234", b"34", b"1234"))
-        self.assertRaisesRegex(Fault, "this file has more than 3 bytes", plain.read, it, 3)
-        self.assertRaisesRegex(Fault, "this isn't a regular file", plain.read, Path("/dev/zero"), 1 << 40)
-        self.assertRaisesRegex(Fault, "this isn't a regular file", plain.read, self.room, 10)
+        self.assertRaisesRegex(Fault, "this file is too large: it has more than 3 bytes", plain.read, it, 3)
+        self.assertRaisesRegex(Fault, "this isn't a plain file", plain.read, Path("/dev/zero"), 1 << 40)
+        self.assertRaisesRegex(Fault, "this isn't a plain file", plain.read, self.room, 10)
         self.assertRaisesRegex(Fault, "No such file", plain.read, self.room / "none", 10)
         self.assertEqual([plain.number(text) for text in (b"0", b"007", b"9" * 19, b"9" * 20, b"", b"-1", b" 1", "٣".encode())],
                          [0, 7, 10 ** 19 - 1, None, None, None, None, None])

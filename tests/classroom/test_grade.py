@@ -19,7 +19,7 @@ from xml.etree import ElementTree
 
 from classroom.bots import suites, troubles
 from classroom.bots.attempt import Limits
-from classroom.bots.bots import Bot
+from classroom.bots.bots import Bot, end_in_words
 from classroom.bots.trial import Result, try_bot
 from classroom.core.processes import parents
 from classroom.core.program import TOP, call
@@ -31,21 +31,23 @@ SLEEP = b"98765.25"
 SECONDS = 20  # seconds that a case may take; a slow machine starts a bot in a part of them
 # Each fault with the case that finds it, and the reason that is recorded.
 OWN = {
-    "never-updates": ("path-4", rf"isn't stable after {SECONDS} seconds: waiting for \d \(bot\): update"),
-    "marries-anyone": ("alone-path-4", r"move \d+ marriage \d+ is denied as guard, clause 4: .*; (update|seduction|abandonment) would be"),
-    "asks-always": ("alone-cycle-4", r"asks for a move of node \d with `at` 1\d\d\d, and no look at node \d had that number"),
-    "floods": ("path-4", "it floods the server: "),
-    "hangs": ("path-4", rf"isn't stable after {SECONDS} seconds: waiting for "),
-    "ignores-faults": ("complete-4", rf"it didn't ask for \w+ at node \d+, which is privileged, in {SECONDS} seconds; its last line came "),
-    "needs-order": ("alone-path-4", rf"isn't stable after {SECONDS} seconds: waiting for "),
-    "sulks": ("random-6", rf"its connection was closed, and in {SECONDS} seconds it didn't connect again"),
-    "binary": ("path-4", r"^malformed: not UTF-8 at byte 1: \\x80"),
-    "quotes-numbers": ("path-4", r'^malformed: node is a string, not a whole number \(write \d, without quotes\): {"do": "look", "node": "\d"}$'),
-    "never-ends-a-line": ("path-4", rf"no hello in {SECONDS} seconds; it sent a line without a newline at the end$"),
-    "forks": ("path-4", "it ended by itself, status 0"),
-    "bombs": ("path-4", "it was ended: it had more than 64 processes"),
-    "eats-memory": ("path-4", "it was ended: it used more than 200 megabytes of memory"),
-    "pretends": ("path-4", rf"no hello in {SECONDS} seconds; it never connected to port \d+$"),
+    "never-updates": ("path-4", rf"didn't become stable within {SECONDS} seconds: it waits for update at node \d \(bot\)"),
+    "marries-anyone": ("alone-path-4", r"move at node \d+ by marriage with \d+ is denied as guard, clause 4: .*; (update|seduction|abandonment) would be"),
+    "asks-always": ("alone-cycle-4", r"asks for a move of node \d with `at` 1\d\d\d, but none of its looks at node \d had this `at`"),
+    "floods": ("path-4", "the bot floods the server: "),
+    "hangs": ("path-4", rf"didn't become stable within {SECONDS} seconds: it waits for "),
+    "ignores-faults": ("complete-4", rf"the bot didn't ask for \w+ at node \d+, which is privileged, within {SECONDS} seconds; the bot sent its last line "),
+    "needs-order": ("alone-path-4", rf"didn't become stable within {SECONDS} seconds: it waits for "),
+    "sulks": ("random-6", rf"the bot's connection was closed, and within {SECONDS} seconds the bot didn't connect again"),
+    "binary": ("path-4", r"^a line is refused as malformed: the line isn't UTF-8 at byte 1; the line is \\x80"),
+    "quotes-numbers": ("path-4", r"^a line is refused as malformed: node is a string, not a whole number \(write \d, without quotes\); "
+                                 r'the line is {"do": "look", "node": "\d"}$'),
+    "never-ends-a-line": ("path-4", rf"^no hello of the bot was granted within {SECONDS} seconds; the bot sent a line without a newline at its end, "),
+    "forks": ("path-4", "the bot ended by itself, with status 0"),
+    "bombs": ("path-4", "the bot was ended: it had more than 64 processes"),
+    "eats-memory": ("path-4", "the bot was ended: it used more than 200 megabytes of memory"),
+    "computes": ("path-4", rf"the bot used more than {SECONDS} seconds of processor time, the limit of --timeout, and was ended"),
+    "pretends": ("path-4", rf"no hello of the bot was granted within {SECONDS} seconds; the bot never connected to port \d+$"),
 }
 PLANS = {plan.name: plan for plan in suites.SMALL}
 
@@ -151,7 +153,7 @@ class Cases(unittest.TestCase):
         for word in ("central", "synchronous", "random:0.25", "every:2", "when-idle:0.5", "by-hand"):
             self.assertEqual(Daemon.of(word).spelled(), word)
         for word in ("", "fair", "central:1", "random:0", "random:1.5", "every:x", "when-idle:-1"):
-            with self.assertRaisesRegex(ValueError, "isn't one of central"):
+            with self.assertRaisesRegex(ValueError, "isn't a daemon. The daemons are: central"):
                 Daemon.of(word)
 
 
@@ -180,6 +182,16 @@ class Commands(InRoom):
         self.assertIn("data: this file can't be run; make it executable", Bot.of("data").fault)
         for name in ("none.py", "./none.py"):
             self.assertIn("there is no such program; a BOT is a command", Bot.of(name).fault)
+
+    def test_how_a_bot_ended_is_told_in_words(self) -> None:
+        by_system = "which the system sends if a program uses far too much processor time or memory"
+        rows = (("ended 3", 20.0, "ended by itself, with status 3"), ("killed it had more than 64 processes", 20.0, "was ended: it had more than 64 processes"),
+                ("ended -24", 20.0, "used more than 20 seconds of processor time, the limit of --timeout, and was ended"),
+                ("ended -25", 20.0, "made a file of more than 16 megabytes, and was ended"), ("ended -24", None, "was ended by the signal SIGXCPU"),
+                ("ended -9", 20.0, f"was ended by the signal SIGKILL, {by_system}"), ("ended -11", 20.0, "was ended by the signal SIGSEGV"),
+                ("ended -44", 20.0, "was ended by the signal 44"))
+        for how, seconds, told in rows:
+            self.assertEqual(end_in_words(how, seconds), told)
 
 
 class Calls(InRoom):
@@ -212,24 +224,24 @@ class Calls(InRoom):
         done = words("grade", "no-such-bot", f"python3 {FAULTY} right", "--labs", labs, "--daemon", "synchronous", "--timeout", "60",
                      "--into", self.room / "grades", "--json", table)
         self.assertEqual(done.returncode, 5, done.stdout + done.stderr)
-        self.assertRegex(done.stdout, r"(?m)^class: .*none.toml: lab: .* is missing")
+        self.assertRegex(done.stdout, r"(?m)^class: .*none.toml: the lab is refused \(lab: .* is missing\)")
         self.assertRegex(done.stdout, r"(?m)^class: no-such-bot: there is no such program")
-        self.assertIn("no-such-bot: not tried: it can't be started\npython3 faulty.py right: 2 of 2 cases passed\n", done.stdout)
+        self.assertIn("no-such-bot: not tried: the bot can't be started\npython3 faulty.py right: 2 of 2 cases passed\n", done.stdout)
         self.assertEqual([each["passed"] for each in json.loads(table.read_text(encoding="utf-8"))], [False, False, True, True])
 
     def test_where_no_bot_starts_there_is_no_score(self) -> None:
         table = self.room / "cases.json"
         done = words("grade", "no-such-bot", "--into", self.room / "grades", "--json", table)
         self.assertEqual(done.returncode, 5, done.stdout + done.stderr)
-        self.assertRegex(done.stdout, r"^class: no-such-bot: there is no such program.*\nno-such-bot: not tried: it can't be started\n$")
+        self.assertRegex(done.stdout, r"^class: no-such-bot: there is no such program.*\nno-such-bot: not tried: the bot can't be started\n$")
         self.assertFalse((self.room / "grades").exists())
         self.assertEqual(len(json.loads(table.read_text(encoding="utf-8"))), 12)
         foreign = self.file("foreign", "no program of this machine's\n")
         foreign.chmod(0o755)
         done = words("grade", foreign, "--into", self.room / "grades")
         self.assertEqual(done.returncode, 5, done.stdout + done.stderr)
-        self.assertEqual(done.stdout.count(f"it can't be started: {foreign}: Exec format error\n"), 12, done.stdout)
-        self.assertIn("\nforeign: not tried: it can't be started\n", done.stdout)
+        self.assertEqual(done.stdout.count(f"the bot can't be started: {foreign}: Exec format error\n"), 12, done.stdout)
+        self.assertIn("\nforeign: not tried: the bot can't be started\n", done.stdout)
 
     def test_an_interrupted_grade_keeps_what_it_has_and_leaves_nothing_running(self) -> None:
         table = self.room / "cases.json"
@@ -247,7 +259,7 @@ class Calls(InRoom):
         lines += list(going.stdout)
         going.stdout.close()
         self.assertEqual(going.wait(LIMIT), 4, lines)
-        self.assertIn("interrupted: 12 of 24 cases were tried\n", lines)
+        self.assertIn("interrupted: only 12 of 24 cases were tried to their end\n", lines)
         self.assertEqual(len(json.loads(table.read_text(encoding="utf-8"))), 12)
         nothing_left(self)
 
@@ -258,8 +270,8 @@ class Calls(InRoom):
         shutil.copy(EXAMPLES / "path.toml", labs)
         self.fight(labs)
         whys = self.fight(labs, "--not-apart")
-        self.assertEqual(whys["halts"], {"it was ended: it halted the process that watches it"})
-        self.assertEqual(whys["kills"], {"it was ended: it killed the process that watches it"})
+        self.assertEqual(whys["halts"], {"the bot was ended: it halted the process that watches it"})
+        self.assertEqual(whys["kills"], {"the bot was ended: it killed the process that watches it"})
 
     def fight(self, labs: Path, *more: str) -> dict[str, set[str]]:
         """Grades bots that kill or halt their keeper together with a correct bot. Returns why each of them failed."""
@@ -272,7 +284,7 @@ class Calls(InRoom):
         cases = json.loads(table.read_text(encoding="utf-8"))
         self.assertEqual([each["passed"] for each in cases], [False] * 9 + [True] * 3)
         whys = {fault: {each["why"] for each in cases[3 * index:][:3]} for index, fault in enumerate(faults)}
-        self.assertEqual(whys["swaps-output"], {"it ended by itself, status 3"})
+        self.assertEqual(whys["swaps-output"], {"the bot ended by itself, with status 3"})
         return whys
 
     def test_a_second_interrupt_ends_it_whatever_it_waits_for(self) -> None:

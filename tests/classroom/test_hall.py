@@ -102,8 +102,8 @@ class OfAClass(Classes):
     def test_it_shows_closes_shakes_and_ends(self) -> None:
         port = a_port()
         desk = self.begin("--close", "by-hand", "--page", str(port), "--rooms", "A,B")
-        looks, acts = (next(found[1] for line in desk.lines if (found := re.fullmatch(f"page for all {kind}(http.*)", line)))
-                       for kind in ("", "to act "))
+        looks, acts = (next(found[1] for line in desk.lines if (found := re.fullmatch(f"page for all networks{kind} (http.*)", line)))
+                       for kind in ("", ", on which you can act"))
         state = json.loads(ask(f"{looks}state")[1])
         self.assertRegex(state["title"], r"^maths, \d{4}-\d\d-\d\d$")
         self.assertEqual([(it["number"], it["name"], it["room"], it["status"]) for it in state["networks"]],
@@ -121,7 +121,7 @@ class OfAClass(Classes):
         desk.until("^ALARM maths-1 is down: ")
         self.until_state(looks, lambda it: it["networks"][0]["status"] == "down")
         ask(f"{acts}act", "1: resume")
-        desk.until("^maths-1: the class goes on at ")
+        desk.until("^maths-1: the class continues at ")
         self.until_state(looks, lambda it: it["networks"][0]["status"] == "runs")
         self.assertEqual(ask(f"{acts}act", "all: end")[0], 204)
         self.assertEqual(desk.ends(), 0, desk.lines)

@@ -17,7 +17,7 @@ from tests.classroom.browser import browser, is_ready, show_as, until
 from tests.classroom.help import a_port
 from tests.classroom.test_shown import WINDOWS, can_be_read, resize
 
-DOWN = "its server was killed; resume 2 goes on with it, end 2 gives it up"
+DOWN = "its server was killed; type `resume 2` to continue it, or `end 2` to give it up"
 NODES = """
 return [...document.querySelectorAll(`article[data-number="${arguments[0]}"] .node`)].map((it) => ({...it.dataset}));
 """

@@ -1,16 +1,18 @@
 """Slips for students: with ssh or a door, with or without QR codes, and made again."""
 from __future__ import annotations
 
+import argparse
 import csv
 import re
 import shutil
 import unittest
 from pathlib import Path
+from unittest import mock
 
 from classroom.client import Slip
 from classroom.core.lab import read
 from classroom.door import certificate
-from classroom.setup import printed
+from classroom.setup import handing, printed
 from classroom.setup.slips import Way
 from tests.classroom.help import InRoom, words
 
@@ -91,6 +93,12 @@ class Made(Slips):
         self.assertEqual(rows, [("Zoë Müller", "z@x.example", "maths-1", "A 1"), ("Cyd", "c@x.example", "maths-1", "A 1"),
                                 ("Ben", "b@x.example", "maths-2", "B 2"), ("Dan", "", "maths-2", "B 2")])
 
+    def test_a_machine_whose_name_no_certificate_can_have(self) -> None:
+        with mock.patch.object(handing, "own_host_name", return_value="my_pc"):
+            with self.assertRaisesRegex(argparse.ArgumentTypeError, "^this machine calls itself 'my_pc', .*: --door ADDRESS:PORT$"):
+                handing.door("4700")
+            self.assertEqual(handing.door(DOOR), DOOR)
+
     def test_no_qrencode(self) -> None:
         told = self.new("--door", DOOR, PATH=self.path_with())
         self.assertIn(f"\nnote: {printed.NO_SQUARE}\n", told)
@@ -101,7 +109,7 @@ class Made(Slips):
 
     def test_a_qrencode_that_fails(self) -> None:
         told = self.new("--door", DOOR, status=4, PATH=self.path_with(qrencode="#!/bin/sh\necho too long >&2\nexit 1\n"))
-        self.assertEqual(told, "class: qrencode: too long\n")
+        self.assertEqual(told, "class: qrencode couldn't make a QR code. It printed: too long\n")
         self.assertEqual([*self.room.glob("maths*"), *self.room.glob("door.pem")], [])
 
 
@@ -119,8 +127,8 @@ class Anew(Slips):
         before, labs = self.slips(), [(self.room / f"maths-{number}.toml").read_bytes() for number in (1, 2)]
         told = self.again("--door", "other.example:4701")
         for number in (1, 2):
-            self.assertIn(f"{self.room}/maths-{number}-slips.html to print, {self.room}/maths-{number}-slips for programs, "
-                          f"{self.room}/maths-{number}-teacher.slip for you alone\n", told)
+            self.assertIn(f"slips for printing: {self.room}/maths-{number}-slips.html; for programs: {self.room}/maths-{number}-slips; "
+                          f"your own slip, for you alone: {self.room}/maths-{number}-teacher.slip\n", told)
             self.assertIn("https://other.example:4701/", self.page(number))
             self.assertNotIn(DOOR, self.page(number))
         self.assertEqual(self.slips(), {name: text.replace(DOOR, "other.example:4701") for name, text in before.items()})
@@ -150,7 +158,8 @@ class Anew(Slips):
         (self.room / "sub").mkdir()
         shutil.copy(self.room / "maths-1.toml", self.room / "sub/maths-1.toml")
         none = self.room / "none.toml"
-        for files, status, error in (((self.room / "maths-1.toml", self.room / "sub/maths-1.toml"), 1, "two labs have the same network name: maths-1, maths-1"),
+        for files, status, error in (((self.room / "maths-1.toml", self.room / "sub/maths-1.toml"), 1, "several of these labs would have the same network "
+                                                                                                "name, maths-1. Rename the files of the labs"),
                                      ((none,), 4, f"{none}: No such file or directory")):
             done = words("slips", *files)
             self.assertEqual((done.returncode, done.stderr), (status, f"class: {error}\n"))

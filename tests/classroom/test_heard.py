@@ -44,24 +44,24 @@ class Listened(InRoom):
         return self.heard.look(step, self.now)
 
     def test_who_comes_and_goes(self) -> None:
-        self.assertEqual((self.news(), self.heard.who(0, 7)), ([], "0 of 7 seats: nobody"))
+        self.assertEqual((self.news(), self.heard.who(0, 7)), ([], "nobody (0 of 7 seats are taken)"))
         self.greet(1, "tess")
         self.greet(5, "gus")
         self.assertEqual(self.news(), ["connected: gus"])
         self.assertEqual(self.news(), [])
         self.greet(4, "gus")
         self.greet(3, "hana")
-        self.assertEqual(self.heard.who(3, 7), "3 of 7 seats: gus, 2 without a name")
+        self.assertEqual(self.heard.who(3, 7), "gus, 2 connections without a hello (3 of 7 seats are taken)")
         self.heard.read()
-        self.assertEqual(self.heard.who(5, 7), "5 of 7 seats: gus 2 times, hana, 2 without a name")
+        self.assertEqual(self.heard.who(5, 7), "gus by 2 connections, hana, 2 connections without a hello (5 of 7 seats are taken)")
         self.assertEqual(self.news(), ["connected: gus, 2 connections", "connected: hana"])
         self.put(5, "5 0 .\n")
         self.put(3, "3 0 .\n")
-        self.assertEqual(self.news(), ["gone: gus, 1 connection left", "gone: hana"])
+        self.assertEqual(self.news(), ["disconnected: gus, 1 connection left", "disconnected: hana"])
         self.put(4, "4 0 .\n")
         self.greet(4, "gus")
         self.assertEqual(self.news(), [])
-        self.assertEqual(self.heard.who(1, 7), "1 of 7 seats: gus")
+        self.assertEqual(self.heard.who(1, 7), "gus (1 of 7 seats are taken)")
 
     def test_nothing_more_is_granted(self) -> None:
         for word in ("malformed", "memory", "busy"):
@@ -85,55 +85,60 @@ class Listened(InRoom):
         for at in range(len(whole)):
             self.put(5, whole[at])
             told += self.news()
-        self.assertEqual(told, ["connected: gus", "gone: gus"])
+        self.assertEqual(told, ["connected: gus", "disconnected: gus"])
 
     def test_wrong_keys_are_told_as_their_number_doubles(self) -> None:
         told = []
         for _ in range(11):
             self.say(6, 0, HELLO % ("gus", "heron-32"), UNKNOWN)
             told += self.news()
-        self.assertEqual(told, ["1 wrong key for gus", "2 wrong keys for gus", "4 wrong keys for gus", "8 wrong keys for gus"])
+        self.assertEqual(told, [f"{count} with a wrong key for gus" for count in ("1 hello", "2 hellos", "4 hellos", "8 hellos")])
         for name in ("\x1b[2Jmallory", "heron-31", "tess"):
             self.say(5, 0, HELLO % (name.replace("\x1b", "\\u001b"), "x"), UNKNOWN)
         self.say(5, 0, '{"do":"hello","name":"gus","name":"hana","key":"k"}', UNKNOWN, 11)
-        self.assertEqual(self.news(), ["2 wrong keys for names that aren't in the lab", "1 wrong key for tess", "11 wrong keys for hana"])
-        self.assertEqual(self.heard.amiss(), ["wrong keys: 11 for gus, 2 for names that aren't in the lab, 1 for tess, 11 for hana"])
+        self.assertEqual(self.news(), ["2 hellos with a wrong key for names that aren't in the lab", "1 hello with a wrong key for tess",
+                                       "11 hellos with a wrong key for hana"])
+        self.assertEqual(self.heard.amiss(), ["hellos with wrong keys: 11 for gus, 2 for names that aren't in the lab, 1 for tess, 11 for hana"])
 
     def test_who_asks_in_vain_since_the_last_step(self) -> None:
         self.greet(5, "gus")
         self.say(5, 2, MOVE, STALE, 9)
         self.assertEqual(self.news(), ["connected: gus"])
         self.say(5, 2, MOVE, STALE)
-        self.assertEqual(self.news(), ["gus: denied stale 10 times since the last step"])
+        self.assertEqual(self.news(), ["10 requests of gus since the last step were denied as `stale`"])
         self.say(5, 2, MOVE, STALE, 9)
         self.assertEqual(self.news(), [])
         self.say(5, 2, "no request", '{"refuse":"malformed"}', 10)
         self.say(5, 3, MOVE, STALE, 21)
-        self.assertEqual(self.news(), ["gus: denied stale 40 times since the last step", "gus: refused malformed 10 times since the last step"])
-        self.assertEqual(self.heard.amiss(), ["since the last step gus: denied stale 40 times; gus: refused malformed 10 times"])
-        self.assertEqual(self.news(step=3), ["gus: denied stale 21 times since the last step"])
+        self.assertEqual(self.news(), ["40 requests of gus since the last step were denied as `stale`",
+                                       "10 requests of gus since the last step were refused as `malformed`"])
+        self.assertEqual(self.heard.amiss(), ["since the last step: 40 requests of gus denied as `stale`; 10 requests of gus refused as `malformed`"])
+        self.assertEqual(self.news(step=3), ["21 requests of gus since the last step were denied as `stale`"])
         self.assertEqual((self.news(step=4), self.heard.amiss()), ([], []))
         self.say(6, 4, '{"do":"close"}', SILENT, 12)
         self.say(1, 4, '{"do":"close"}', '{"clause":2,"deny":"empty","text":"no node is chosen"}', 50)
         self.greet(4, "tess")
         self.say(4, 4, '{"do":"close"}', '{"clause":2,"deny":"empty","text":"no node is chosen"}', 50)
-        self.assertEqual(self.news(step=4), ["connected: tess", "someone without a name: denied not-greeted 12 times since the last step"])
+        self.assertEqual(self.news(step=4), ["connected: tess", "12 requests of a connection without a hello since the last step were denied as `not-greeted`"])
 
     def test_floods(self) -> None:
         self.greet(5, "gus")
         self.news()
         lines = int(FLOOD) * 3
         self.say(5, 0, MOVE, STALE, lines - 1)
-        self.assertEqual(self.news(seconds=3)[-1], f"gus: denied stale {lines - 1} times since the last step")
+        self.assertEqual(self.news(seconds=3)[-1], f"{lines - 1} requests of gus since the last step were denied as `stale`")
         self.say(5, 0, MOVE, STALE, lines)
-        self.assertEqual(self.news(seconds=3)[-1], f"a flood: {FLOOD:.0f} lines a second from gus")
-        self.assertEqual(self.heard.amiss()[-1], f"a flood of gus, {FLOOD:.0f} lines a second")
+        self.assertEqual(self.news(seconds=3)[-1], f"gus sends too much: {FLOOD:.0f} lines a second")
+        self.assertEqual(self.heard.amiss()[-1], f"sending too much: gus ({FLOOD:.0f} lines a second)")
         self.say(5, 0, MOVE, STALE, lines)
-        self.assertFalse(any("flood" in line for line in self.news(seconds=3)))
-        self.assertEqual(self.news(seconds=3), ["no flood any longer from gus"])
+        self.assertFalse(any("too much" in line for line in self.news(seconds=3)))
+        self.assertEqual(self.news(seconds=3), ["gus no longer sends too much"])
         self.put(5, "5 0 !\n5 0 .\n")
         self.assertEqual(self.news(), [
-            "gone: gus", "the rest of what gus sends isn't recorded: its share of the record is used up, or the disk is full"])
+            "disconnected: gus",
+            "the further lines of this connection of gus aren't recorded: the limit for the lines of gus is reached, or the record can't be written, for "
+            "example because the disk is full. `mark` doesn't count these lines, and `history` doesn't show them, but granted moves are still in the "
+            "journal. If the disk is full, make room now"])
 
     def test_who_goes_on_is_told_only_what_is_new(self) -> None:
         self.greet(5, "gus")
@@ -144,7 +149,7 @@ class Listened(InRoom):
         self.assertEqual(self.news(), ["connected: gus"])
         self.say(6, 0, HELLO % ("hana", "x"), UNKNOWN, 3)
         self.say(5, 0, MOVE, STALE, 15)
-        self.assertEqual(self.news(), ["6 wrong keys for hana", "gus: denied stale 30 times since the last step"])
+        self.assertEqual(self.news(), ["6 hellos with a wrong key for hana", "30 requests of gus since the last step were denied as `stale`"])
 
     def test_a_record_that_is_not_there_or_is_none_ends_nothing(self) -> None:
         self.assertEqual(Heard(self.room / "none", read(CYCLE)).look(0, self.now), [])

@@ -24,30 +24,30 @@ from tests.classroom.help import CYCLE, KEYS, Cycle, Going, words
 
 MOVE = b'{"do":"move","node":4,"rule":"update","at":%d}\n'
 EVIL = b'\x1b[2J\xff=1+1 {"key":"heron-31"}\n'
-UNENDED = "its server is running or was killed, so its last entries may be missing, through no fault of a student"
+UNENDED = "the server is still running or was killed, so the last entries of this record may be missing; no student caused this"
 UNKNOWN = '{"clause":2,"deny":"unknown","text":"name and key do not match"}'
 STALE = '{"at":1,"clause":2,"deny":"stale","text":"this is not the current configuration"}'
 GUARD = '{"clause":4,"deny":"guard","text":"the guard of this rule does not hold"}'
 GUESSED = f"""\
-  after 0, seat SEAT > {{"do":"hello","name":"gus","key":"***"}}
+  after 0 events, seat SEAT > {{"do":"hello","name":"gus","key":"***"}}
                    < {UNKNOWN}
-  after 0, seat SEAT: this connection ended
+  after 0 events, seat SEAT: this connection ended
 """
 GREETED = """\
-  after 0, seat SEAT > {"do":"hello","name":"gus","key":"***"}
+  after 0 events, seat SEAT > {"do":"hello","name":"gus","key":"***"}
                    < {"ok":"hello","who":"gus"}
-  after 0, seat SEAT > {"do":"move","node":4,"rule":"update","at":0}
+  after 0 events, seat SEAT > {"do":"move","node":4,"rule":"update","at":0}
                    < {"at":0,"node":4,"ok":"move","place":1,"rule":"update"}
 """
 DENIED = f"""\
-  event 3: configuration 1: 4 (gus) update, 7 (jonas) abandonment
-  after 3, seat SEAT > {{"do":"move","node":4,"rule":"update","at":0}}
+  event 3: configuration 1: node 4 (gus): update, node 7 (jonas): abandonment
+  after 3 events, seat SEAT > {{"do":"move","node":4,"rule":"update","at":0}}
                    < {STALE}
-  after 3, seat SEAT > {{"do":"move","node":4,"rule":"update","at":1}}
+  after 3 events, seat SEAT > {{"do":"move","node":4,"rule":"update","at":1}}
                    < {GUARD}
-  after 3, seat SEAT > \\x1b[2J\\xff=1+1 {{".. (16 more characters, which may contain a key)
+  after 3 events, seat SEAT > \\x1b[2J\\xff=1+1 {{".. (16 more characters are hidden, since they may contain a key)
                    < {{"refuse":"malformed"}}
-  after 3, seat SEAT: this connection ended
+  after 3 events, seat SEAT: this connection ended
 """
 
 
@@ -89,24 +89,24 @@ class Disputed(Cycle):
         going = Going(self, CYCLE, "--close", "by-hand")
         with Raw(going.port) as wrong:
             self.assertEqual(wrong.ask(hello("gus", "heron-13")), UNKNOWN)
-        going.until("^1 wrong key for gus$")
+        going.until("^1 hello with a wrong key for gus$")
         with Raw(going.port, "gus") as gus, Raw(going.port, "jonas") as jonas:
             going.until("^connected: gus$")
             gus.ask(MOVE % 0)
             jonas.ask(b'{"do":"move","node":7,"rule":"abandonment","at":0}\n')
             going.type("close")
-            going.until("^configuration 1: 4 ")
+            going.until("^configuration 1: node 4 ")
             for _ in range(stale):
                 self.assertEqual(gus.ask(MOVE % 0), STALE)
             if stale >= 20:
-                going.until(r"^gus: denied stale \d+ times since the last step$")
+                going.until(r"^\d+ requests of gus since the last step were denied as `stale`$")
                 going.type("who")
-                going.until(r"^connected: 2 of \d+ seats: gus, jonas$")
-                going.until("^wrong keys: 1 for gus$")
-                going.until(f"^since the last step gus: denied stale {stale} times$")
+                going.until(r"^connected: gus, jonas \(2 of \d+ seats are taken\)$")
+                going.until("^hellos with wrong keys: 1 for gus$")
+                going.until(f"^since the last step: {stale} requests of gus denied as `stale`$")
             self.assertEqual(gus.ask(MOVE % 1), GUARD)
             self.assertEqual(gus.ask(EVIL), '{"refuse":"malformed"}')
-        going.until("^gone: gus$")
+        going.until("^disconnected: gus$")
         return going
 
     def ended(self, going: Going) -> Path:
@@ -148,7 +148,7 @@ class Told(Disputed):
         self.assertEqual(squeezed(rest), squeezed(self.wanted(folder)))
         self.assertEqual(squeezed(now.partition("\n")[2]), squeezed(self.wanted(folder)))
         other = self.history(folder, name="hana")
-        self.assertEqual(other.splitlines()[1:], ["  event 3: configuration 1: 4 (gus) update, 7 (jonas) abandonment"])
+        self.assertEqual(other.splitlines()[1:], ["  event 3: configuration 1: node 4 (gus): update, node 7 (jonas): abandonment"])
         self.assertIn('> {"do": "close"}', self.history(folder, name="tess"))
 
     def test_a_connection_goes_on(self) -> None:
@@ -159,12 +159,12 @@ class Told(Disputed):
             now = self.history(going.folder)
             self.assertNotIn("ended\n", now)
             self.assertNotIn("isn't recorded", now)
-            self.assertRegex(now, r"(?m)^  after 1, seat \d+: this connection goes on$")
+            self.assertRegex(now, r"(?m)^  after 1 event, seat \d+: this connection is still open$")
             os.kill(going.server(), signal.SIGKILL)
             self.assertEqual(going.ends(), 4, going.lines)
         now = self.history(going.folder)
-        self.assertNotIn("goes on", now)
-        self.assertRegex(now, r"(?m)^  after 1, seat \d+: the rest of this connection isn't recorded$")
+        self.assertNotIn("is still open", now)
+        self.assertRegex(now, r"(?m)^  after 1 event, seat \d+: the rest of this connection isn't recorded$")
 
     def test_a_table(self) -> None:
         folder = self.ended(self.disputed())
@@ -173,13 +173,13 @@ class Told(Disputed):
         self.assertEqual([row[0] for row in rows], ["0", "0", "0", "0", "3", "3", "3", "3", "3"])
         self.assertEqual(sorted(row[5] for row in rows[:4]), ["", "", "", "unknown"])
         self.assertEqual([row[5] for row in rows[4:]], ["", "stale", "guard", "malformed", ""])
-        self.assertEqual((rows[5][4], rows[4][6]), (STALE, "configuration 1: 4 (gus) update, 7 (jonas) abandonment"))
+        self.assertEqual((rows[5][4], rows[4][6]), (STALE, "configuration 1: node 4 (gus): update, node 7 (jonas): abandonment"))
 
     def test_asking_in_vain_is_told_and_listed(self) -> None:
         folder = self.ended(self.disputed(stale=40))
         self.assertEqual(self.history(folder, "--csv").count("this is not the current configuration"), 40)
         told = squeezed(self.history(folder))
-        self.assertRegex(told, r'\n after 3, seat \d+, 40 times > {"do":"move","node":4,"rule":"update","at":0}\n < {"at":1,"clause":2,')
+        self.assertRegex(told, r'\n after 3 events, seat \d+, 40 times > {"do":"move","node":4,"rule":"update","at":0}\n < {"at":1,"clause":2,')
         page = self.room / "gus.html"
         self.history(folder, "-o", page)
         self.assertIn(", 40 times <code>", page.read_text(encoding="utf-8"))
@@ -219,7 +219,7 @@ class Told(Disputed):
         folder = self.ended(self.disputed())
         done = words("history", folder, "mallory")
         self.assertEqual((done.returncode, done.stdout), (1, ""))
-        self.assertIn("no student mallory; there are: gus, hana, ines, jonas", done.stderr)
+        self.assertIn("this run has no student called mallory. Its students are: gus, hana, ines, jonas", done.stderr)
         self.assertEqual(words("history", self.room, "gus").returncode, 1)
 
 
@@ -257,8 +257,9 @@ class Verified(Disputed):
         shutil.rmtree(record)
         done = words("mark", folder)
         self.assertEqual(done.returncode, 0)
-        self.assertIn("\nno record, so requests and denials aren't known\n", done.stdout)
-        self.assertEqual(json.loads(words("mark", folder, "--json").stdout)["runs"][0]["records"], ["no record, so requests and denials aren't known"])
+        self.assertIn("\nthis run has no record, so requests and denials aren't known\n", done.stdout)
+        records = json.loads(words("mark", folder, "--json").stdout)["runs"][0]["records"]
+        self.assertEqual(records, ["this run has no record, so requests and denials aren't known"])
         self.assertEqual(self.denied(folder), (dict.fromkeys(COLUMNS), False))
         self.assertEqual(words("history", folder, "gus").returncode, 1)
 
@@ -292,8 +293,8 @@ class Verified(Disputed):
             again.until("^connected: gus$")
             self.assertEqual(gus.ask(MOVE % 0), STALE)
             again.type("who")
-            again.until(r"^connected: 1 of \d+ seats: gus$")
-            again.until("^wrong keys: 1 for gus$")
+            again.until(r"^connected: gus \(1 of \d+ seats are taken\)$")
+            again.until("^hellos with wrong keys: 1 for gus$")
         folder = self.ended(again)
         told = self.history(folder)
         self.assertEqual(told.count(STALE), 2)
@@ -328,9 +329,9 @@ class Verified(Disputed):
             going.until("^connected: gus$")
             for _ in range(500):
                 self.assertIn('"deny":"stale"', gus.ask(MOVE % 7))
-            going.until("^the rest of what gus sends isn't recorded: ")
+            going.until("^the further lines of this connection of gus aren't recorded: ")
         self.assertEqual(going.ended(), 5, going.lines)
-        self.assertIn("the record isn't whole, since the disk didn't take all of it; the journal is whole", going.lines)
+        self.assertIn("the record isn't complete, because not all of it could be written to the disk. The journal is complete", going.lines)
         self.assertIn("the run is ended", going.lines)
         self.assertRegex((going.folder / "marks.txt").read_text(encoding="utf-8"), r"(?m)^record: ok: .*, not whole$")
         self.assertEqual(self.whole(going.folder), 0)

@@ -24,7 +24,7 @@ class Hosted(Cycle):
         """Starts a run over a lab with this number of seats and these options."""
         text = re.sub(r"(?m)^sessions = \d+", f"sessions = {sessions}", CYCLE.read_text(encoding="utf-8"))
         going = Going(self, self.file("cycle.toml", text), *more)
-        self.assertTrue(any(f"for {sessions - 1} students at once; folder" in line for line in going.lines), going.lines)
+        self.assertTrue(any(f"for at most {sessions - 1} students at once; folder" in line for line in going.lines), going.lines)
         return going
 
     def ended(self, going: Going) -> None:
@@ -45,7 +45,7 @@ class Hosted(Cycle):
 
     def desk(self, going: Going) -> int:
         """Returns the desk's port."""
-        return next(int(line.removeprefix("desk ")) for line in going.lines if line.startswith("desk "))
+        return next(int(found[1]) for line in going.lines if (found := re.match(r"desk at port (\d+), ", line)))
 
     def test_run_until_stable_with_bots_that_die_and_come_again(self) -> None:
         """Bots are killed, and others connect in their place. The run still becomes stable."""
@@ -68,19 +68,19 @@ class Hosted(Cycle):
         gus = self.bot(going, "gus")
         going.until("^connected: gus$")
         self.bot(going, "hana")
-        going.until_each("^connected: hana$", "^all seats are taken: newcomers are turned away; type who to see which students have them$")
+        going.until_each("^connected: hana$", "^all seats are taken, so newcomers are turned away; type `who` to see which students have the seats$")
         going.type("who")
-        going.until("^connected: 2 of 2 seats: gus, hana$")
+        going.until("^connected: gus, hana \\(2 of 2 seats are taken\\)$")
         for _ in range(3):
             with self.assertRaises(Refused) as refused:
                 Client(going.port, "ines", KEYS["ines"])
             self.assertEqual(refused.exception.word, "busy")
         gus.kill()
-        going.until("^gone: gus$")
+        going.until("^disconnected: gus$")
         with self.let_in(going.port, "ines", KEYS["ines"]) as ines:
             self.assertEqual(ines.look(3).at, 0)
             going.until("^connected: ines$")
-        going.until("^gone: ")
+        going.until("^disconnected: ")
         self.bot(going, "jonas")
         going.until("^connected: jonas$")
         going.type("end\nend")
@@ -96,7 +96,7 @@ class Hosted(Cycle):
         with Client(going.port, *TEACHER) as program, Client(going.port, "gus", KEYS["gus"]) as gus:
             gus.move(gus.look(4))
             self.assertEqual(program.close().moved, (4,))
-        going.until("^configuration 1: 4 \\(gus\\) update")
+        going.until("^configuration 1: node 4 \\(gus\\): update")
         going.type("fault 1 2 true")
         going.until("^configuration 2: fault at node 1: p 2, m true")
         going.type("end\nend")

@@ -56,7 +56,7 @@ class Alone(unittest.TestCase):
     def test_no_time_passes_before_a_first_student_has_come(self) -> None:
         house = House(self.lab, 1, 20, self.told.append)
         self.assertEqual((house.due([1, 2], 100), house.due([1, 2], 200)), ([], []))
-        self.assertTrue(house.told().endswith("; the house waits for a first student"))
+        self.assertTrue(house.told().endswith("; the house begins when the first student has said hello"))
         house.play("gus")
         self.assertEqual(house.due([1, 2], 201), [1])
         house.stop("gus")
@@ -68,15 +68,15 @@ class Alone(unittest.TestCase):
     def test_a_student_is_played_at_once_until_it_is_stopped(self) -> None:
         house = House(self.lab, 1, None, self.told.append)
         gus = self.lab.nodes_of("gus")
-        self.assertEqual(house.play("gus"), f"the house plays for gus: {', '.join(map(str, gus))}")
+        self.assertEqual(house.play("gus"), f"the house now plays for gus, at nodes {', '.join(map(str, gus))}")
         self.assertEqual(house.due([1, 2, 3, 4, 5, 6, 7], 0), gus)
         self.assertEqual(house.told(), "the house plays for gus")
-        with self.assertRaisesRegex(ValueError, "^no student zoe has a node here; there are gus, hana, ines, jonas$"):
+        with self.assertRaisesRegex(ValueError, "^there is no student zoe with a node. The students are: gus, hana, ines, jonas$"):
             house.play("zoe")
-        with self.assertRaisesRegex(ValueError, "^no student house "):
+        with self.assertRaisesRegex(ValueError, "^there is no student house "):
             house.play(HOUSE)
-        self.assertEqual(house.stop("gus"), "the house doesn't play for gus any longer")
-        with self.assertRaisesRegex(ValueError, "^the house doesn't play for gus$"):
+        self.assertEqual(house.stop("gus"), "the house no longer plays for gus")
+        with self.assertRaisesRegex(ValueError, "^there is nothing to stop: the house doesn't play for gus$"):
             house.stop("gus")
         self.assertEqual(house.due([1, 2, 3, 4, 5, 6, 7], 1e9), [])
 
@@ -127,11 +127,11 @@ class Standing(InRoom):
         printed = (self.room / "maths-slips.html").read_text(encoding="utf-8")
         self.assertNotIn(self.lab.students[HOUSE], printed)
         self.assertNotIn("shared", printed)
-        self.assertEqual(printed.count("A program, the house, may play a node that waits for you."), 4)
+        self.assertEqual(printed.count("If a node of yours waits too long for you, a program, the house, may play it."), 4)
         checked = words("check", self.made)
         self.assertEqual((checked.returncode, checked.stdout.count("warning")), (0, 0), checked.stdout)
         self.assertEqual(checked.stdout.splitlines()[0], "ok: 8 nodes, 8 links, 4 students and the house")
-        self.assertIn("toml: 8 nodes, 8 links, 4 students and the house; slips: ", self.told)
+        self.assertIn("toml: 8 nodes, 8 links, 4 students and the house; slips for printing: ", self.told)
 
     def test_the_house_plays_for_who_is_absent_and_nobody_is_marked_by_it(self) -> None:
         going = Going(self, self.made, "--daemon", "synchronous", "--stand-in", "0.5s")
@@ -139,7 +139,7 @@ class Standing(InRoom):
             self.bot(going, name)
         going.until("^stable (again )?after ")
         going.type("who")
-        going.until("^the house plays each node that has waited for 0.5 seconds$")
+        going.until("^the house plays at each node for which the class has waited 0.5 seconds$")
         going.type("shake all 7")
         going.until("^stable again after ")
         going.type("end")
@@ -148,7 +148,7 @@ class Standing(InRoom):
         self.assertEqual(set(found) - {"ana-lima", "eva-sol"}, {HOUSE})
         absent = {*self.lab.nodes_of("gus-roy"), *self.lab.nodes_of("house-2")}
         self.assertTrue(found[HOUSE] & absent)
-        self.assertTrue(any(re.search(r"^configuration \d+: .*\d \(house\) ", line) for line in going.lines), going.lines)
+        self.assertTrue(any(re.search(r"^configuration \d+: .*\d \(house\): ", line) for line in going.lines), going.lines)
         self.assertFalse(any("and house)" in line for line in going.lines), going.lines)
         marks = json.loads((folder / "marks.json").read_text(encoding="utf-8"))["runs"][0]["students"]
         for name in ("gus-roy", "house-2"):
@@ -168,12 +168,12 @@ class Standing(InRoom):
 
     def test_a_class_to_which_nobody_has_come_yet_is_left_to_its_students(self) -> None:
         going = Going(self, self.made, "--daemon", "synchronous", "--stand-in", "0.2s", "--until", "stable")
-        self.assertIn("the house waits for a first student", going.lines)
+        self.assertIn("the house begins when the first student has said hello", going.lines)
         with Client(going.port, *self.lab.teacher):
             going.until("^connected: teacher$")  # The name of nobody in the class.
         time.sleep(1)
         going.type("who")
-        going.until("^the house plays each node that has waited for 0.2 seconds; the house waits for a first student$")
+        going.until("^the house plays at each node for which the class has waited 0.2 seconds; the house begins when the first student has said hello$")
         self.assertEqual((going.folder / "journal").read_bytes(), b"")
         self.greet(going)
         self.assertEqual(going.ends(), 0, going.lines)
@@ -184,14 +184,14 @@ class Standing(InRoom):
         going = Going(self, self.made, "--daemon", "by-hand")
         going.type("play gus-roy")
         nodes = self.lab.nodes_of("gus-roy")
-        going.until(f"^the house plays for gus-roy: {', '.join(map(str, nodes))}$")
+        going.until(f"^the house now plays for gus-roy, at nodes? {', '.join(map(str, nodes))}$")
         self.comes_back_without(going, nodes)
         going.type("stop gus-roy")
-        going.until("^the house doesn't play for gus-roy any longer$")
+        going.until("^the house no longer plays for gus-roy$")
         going.type("stop gus-roy")
-        going.until("^the house doesn't play for gus-roy$")
+        going.until("^there is nothing to stop: the house doesn't play for gus-roy$")
         going.type("play nobody")
-        going.until("^no student nobody has a node here; there are ana-lima, gus-roy, house-2, eva-sol$")
+        going.until("^there is no student nobody with a node. The students are: ana-lima, gus-roy, house-2, eva-sol$")
         before = self.grants(going.folder)
         self.assertEqual(set(before), {HOUSE})
         self.assertLessEqual(before[HOUSE], set(nodes))
@@ -214,8 +214,8 @@ class Standing(InRoom):
     def test_no_process_and_no_page_has_its_key(self) -> None:
         key = self.lab.students[HOUSE].encode()
         going = Going(self, self.made, "--stand-in", "0.1s", "--daemon", "when-idle:0.3", "--page", str(a_port()))
-        address = going.until("^page http").removeprefix("page ")
-        acts = going.until("^page to act http").removeprefix("page to act ")
+        address = going.until("^page for the projector http").removeprefix("page for the projector ")
+        acts = going.until("^page on which you can act http").removeprefix("page on which you can act ")
         self.greet(going)
         going.type("play gus-roy\nshake all 2")
         going.until("^stable (again )?after ")
@@ -240,15 +240,16 @@ class Standing(InRoom):
     def test_it_goes_on_after_the_server_died(self) -> None:
         going = Going(self, self.made, "--stand-in", "0.3s", "--daemon", "by-hand")
         self.greet(going)
-        for line, told in (("play eva-sol", "for eva-sol: "), ("play gus-roy", "for gus-roy: "), ("stop eva-sol", "doesn't play for eva-sol")):
+        for line, told in (("play eva-sol", "for eva-sol, at "), ("play gus-roy", "for gus-roy, at "), ("stop eva-sol", "no longer plays for eva-sol")):
             going.type(line)
             going.until(f"^the house .*{told}")
         os.kill(going.server(), 9)
         self.assertEqual(going.ends(), 4, going.lines)
         again = Going(self, None, "run", "--resume", going.folder, "--daemon", "synchronous")
-        self.assertIn("the house plays for gus-roy and each node that has waited for 0.3 seconds; the house waits for a first student",
+        self.assertIn("the house plays for gus-roy and at each node for which the class has waited 0.3 seconds; "
+                      "the house begins when the first student has said hello",
                       again.lines)
-        self.assertIn("the house waits for a first student", again.lines)  # Everyone greets again.
+        self.assertIn("the house begins when the first student has said hello", again.lines)  # Everyone greets again.
         self.greet(again)
         again.until("^stable after ")
         again.type("end")
@@ -259,7 +260,7 @@ class Standing(InRoom):
         lab = self.file("one.toml", re.sub(r"(?m)^sessions = \d+", "sessions = 2", self.made.read_text(encoding="utf-8")))
         going = Going(self, lab, "--stand-in", "0.1s", "--daemon", "synchronous")
         with Client(going.port, "ana-lima", self.lab.students["ana-lima"]):
-            going.until("^the house would play now, but no seat is free for it; type who to see which students have the seats$")
+            going.until("^the house would play now, but no seat is free for it; type `who` to see which students have the seats$")
         going.until("^stable after ")
         first = next(at for at, line in enumerate(going.lines) if line.startswith("configuration "))  # From then on the house has a seat now and then.
         self.assertEqual(sum("no seat is free" in line for line in going.lines[:first]), 1)
@@ -271,13 +272,13 @@ class Refused(InRoom):
     def test_labs_without_a_house_say_how_to_get_one(self) -> None:
         done = words("run", CYCLE, "--stand-in", "20s", "--into", self.room / "runs")
         self.assertEqual((done.returncode, done.stdout), (1, ""))
-        self.assertEqual(done.stderr, f"class: {CYCLE}: the house can't stand in, since no node has `house` as its second owner: "
-                                      "`./class new` with --stand-in makes a lab in which the house is the second owner of each node\n")
+        self.assertEqual(done.stderr, f"class: {CYCLE}: the house can't play in this lab, since no node has `house` as its second owner. "
+                                      "With --stand-in, `./class new` makes a lab in which the house is the second owner of each node\n")
         self.assertFalse((self.room / "runs").exists())
         going = Going(self, CYCLE, "--close", "by-hand")
         for word in ("play", "stop"):
             going.type(f"{word} gus")
-            going.until("^no node has a second owner who could play for gus: `./class new` with --stand-in makes a lab "
+            going.until("^the house can't play for gus, because it owns no node in this lab. With --stand-in, `./class new` makes a lab "
                         "in which the house is the second owner of each node$")
 
     def test_no_third_owner(self) -> None:

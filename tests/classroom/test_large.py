@@ -5,6 +5,7 @@ from __future__ import annotations
 import unittest
 from pathlib import Path
 
+from classroom.core.journal import events, in_words
 from tests.classroom.browser import Played, is_ready, shown, until
 from tests.classroom.runs import largest_run, long_run
 
@@ -109,8 +110,8 @@ class Long(Played):
         self.assertLess(size, most)
         self.open(page, "#p=20000")
         self.assertEqual(shown(self.driver)[0]["place"], "20000")
-        place, _, last = journal.read_text().splitlines()[-1].split(" ", 2)
-        self.assertEqual(self.driver.find_element("id", "event").text, f"{place}: {last}")
+        last = events(journal.read_text())[-1]
+        self.assertEqual(self.driver.find_element("id", "event").text, f"event {last.place}: {in_words(last)}")
 
 
 if __name__ == "__main__":

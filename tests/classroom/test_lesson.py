@@ -121,7 +121,7 @@ class Lesson(InRoom):
         self.assertEqual(going.port, self.port)
         bots = self.bots(list(self.lab.students))
         going.type("\n".join(["fault 11 null true"] * (60 + (1024 * most - journal.stat().st_size) // 20)))
-        going.until("^nothing more is granted: no line can be written to the journal; make room on the disk, then .*class run --resume ")
+        going.until("^nothing more is granted: no line can be written to the journal. Make room on the disk, and then .*class run --resume ")
         self.assertEqual(going.ends(), 4, going.lines)
         self.are_told_of_the_end(bots, 0, 4, 6)
 
@@ -132,7 +132,7 @@ class Lesson(InRoom):
         terminal.type(b"fault 3 null true\n", b": fault at node 3: p null, m true; ")
         bots = self.bots(list(self.lab.students))
         os.close(terminal.ours)
-        self.told(folder, f"the terminal was closed, and the run goes on: {CLASS} attach {folder} controls it again")
+        self.told(folder, f"the terminal was closed, and the run continues. To control it again, type: {CLASS} attach {folder}")
         self.assertIsNone(terminal.process.poll())
         record = Record.read(folder)
         assert record is not None
@@ -149,7 +149,7 @@ class Lesson(InRoom):
             time.sleep(0.1)
         going.type("fault 5 null true")
         going.until("fault at node 5: p null, m true")
-        going.until("; stable, ")
+        going.until("; stable; ")
         going.type("end")
         self.assertEqual(going.ends(), 0, going.lines)
         self.assertFalse(Process.of(record.server.number) == record.server)

@@ -59,7 +59,7 @@ class Doors(InRoom):
     def test_a_killed_server_s_run_goes_on_behind_the_same_door(self) -> None:
         """If the server is killed, the process of the door ends. `run --resume` starts a new one at the same address."""
         going = self.begin()
-        address = going.until("^page to look at from elsewhere https://")
+        address = going.until("^page for the projector, from other machines https://")
         with self.comes() as client:
             self.grants(client)
             record = Record.read(going.folder)
@@ -71,7 +71,7 @@ class Doors(InRoom):
         with self.assertRaises(NoServer):
             Client.of(self.slip)
         again = Going(self, None, "run", "--resume", going.folder)
-        self.assertEqual(again.until("^page to look at from elsewhere "), address)
+        self.assertEqual(again.until("^page for the projector, from other machines "), address)
         with self.comes() as client:
             self.grants(client)
             client.see(self.slip.nodes[0])
@@ -100,12 +100,12 @@ class Doors(InRoom):
         """`run` prints a warning if the slips name another address than that of the door."""
         self.port = a_port()
         going = self.begin()
-        self.assertTrue(any(line.startswith(f"the slips of {self.lab} lead to another address: ") for line in going.lines), going.lines)
+        self.assertTrue(any(line.startswith(f"the slips of {self.lab} don't have the address of this door. ") for line in going.lines), going.lines)
         self.assertEqual(going.ended(), 0, going.lines)
         done = words("slips", self.lab, "--door", f"127.0.0.1:{self.port}")
         self.assertEqual(done.returncode, 0, done.stderr)
         going = self.begin()
-        self.assertFalse([line for line in going.lines if "lead to another address" in line])
+        self.assertFalse([line for line in going.lines if "the address of this door" in line])
         self.assertEqual(going.ended(), 0, going.lines)
 
     def test_another_certificate(self) -> None:
@@ -118,8 +118,7 @@ class Doors(InRoom):
         self.assertEqual(done.returncode, 0, done.stderr)
         self.slip = Slip.read(self.room / "maths-slips/ben.slip")
         going = self.begin("--certificate", str(own))
-        self.assertTrue(any(line == f"door at port {self.port}; its certificate, {own}, has the fingerprint {self.slip.fingerprint}" for line in going.lines),
-                        going.lines)
+        self.assertIn(f"the door is open at port {self.port}; its certificate is {own}, with the SHA-256 fingerprint {self.slip.fingerprint}", going.lines)
         with self.comes() as client:
             client.look(self.slip.nodes[0])
         self.assertEqual(going.ended(), 0, going.lines)

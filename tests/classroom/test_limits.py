@@ -19,7 +19,7 @@ from classroom.run.announcing import Announcer
 from tests.classroom.help import InRoom, words
 from tests.common.limits import LIMITS, MOST, TEXT
 
-BEGIN = "mml is of another version, which prints "
+BEGIN = "the program mml is of another version than ./class: `mml limits` prints "
 SESSIONS = f"sessions {MOST['sessions']} count"  # a line that the program prints
 
 
@@ -30,7 +30,7 @@ class Reads(unittest.TestCase):
         """Checks that reading this text raises the fault about `what`."""
         with self.assertRaises(Fault) as raised:
             limits.parsed(text)
-        self.assertEqual((str(raised.exception), raised.exception.status), (f"{BEGIN}{what}: `./mml build` builds it again", FAILED))
+        self.assertEqual((str(raised.exception), raised.exception.status), (f"{BEGIN}{what}. Type `./mml build` to build the present version", FAILED))
 
     def test_each_limit(self) -> None:
         found = limits.parsed(TEXT)
@@ -47,19 +47,19 @@ class Reads(unittest.TestCase):
     def test_a_missing_line(self) -> None:
         lines = TEXT.splitlines()
         for index, name in enumerate(LIMITS):
-            self.refuses("".join(f"{line}\n" for line in lines[:index] + lines[index + 1:]), f"no limit {name}")
-        self.refuses("", "no limit nodes")
-        self.refuses(TEXT[:-1], "no limit write")
+            self.refuses("".join(f"{line}\n" for line in lines[:index] + lines[index + 1:]), f"no line {name}")
+        self.refuses("", "no line nodes")
+        self.refuses(TEXT[:-1], "no line write")
 
     def test_a_strange_number(self) -> None:
         for number in ("", "0", "-16", "+16", "016", "16.0", "1e2", "16 ", "0x10", "sixteen", "١٦", "16_000", "9" * 20):
             line = f"sessions {number} count"
-            self.refuses(TEXT.replace(SESSIONS, line), f"the limit {line!r}")
+            self.refuses(TEXT.replace(SESSIONS, line), f"the unknown line {line!r}")
 
     def test_a_strange_line(self) -> None:
         for line in ("", " ", "sessions", "sessions 16", "sessions 16 seconds", "sessions 16 count more", "Sessions 16 count", "sessions  16 count",
                      "sessions 16 count\r", "nodes 256 count"):
-            self.refuses(TEXT.replace(SESSIONS, line), f"the limit {line!r}")
+            self.refuses(TEXT.replace(SESSIONS, line), f"the unknown line {line!r}")
 
 
 class Asks(InRoom):
@@ -90,8 +90,8 @@ class Asks(InRoom):
 
     def test_no_limits(self) -> None:
         """If a program is missing, prints nothing or fails, no limit is known."""
-        for path, what in ((str(self.room / "none"), "mml isn't built: "), (self.program("silent", ""), f"{BEGIN}no limit nodes: "),
-                           (self.program("failing", TEXT, 1), f"{BEGIN}no limits: ")):
+        for path, what in ((str(self.room / "none"), "the program mml isn't built. "), (self.program("silent", ""), f"{BEGIN}no line nodes. "),
+                           (self.program("failing", TEXT, 1), f"{BEGIN}nothing. ")):
             with unittest.mock.patch.dict(os.environ, {"MML_HOST": path}):
                 self.assertIsNone(limits.known())
                 with self.assertRaisesRegex(Fault, f"^{what}"):
@@ -107,9 +107,10 @@ class Asks(InRoom):
         links = self.file("links", "1 100\n")
         cases: tuple[tuple[list[str | Path], int, str], ...] = (
             (["new", self.room / "it.toml", "--students", table, "--groups-by", "Room"], 0, "it-3.toml: 9 nodes"),
-            (["new", self.room / "more.toml", "--students", table, "--nodes", "10"], 1, "class: a lab has 1 to 9 nodes, not 10\n"),
-            (["new", self.room / "far.toml", "--students", table, "--links", links], 1, f"class: {links}: line 1: the number of a node is 1 to 99: 1 100\n"),
-            (["experiment", "--nodes", "4..10"], 1, "4..10 isn't A..B or A..B/STEP with numbers from 1 to 9;"),
+            (["new", self.room / "more.toml", "--students", table, "--nodes", "10"], 1, "class: this network would have 10 nodes, but a lab has 1 to 9\n"),
+            (["new", self.room / "far.toml", "--students", table, "--links", links], 1,
+             f"class: {links}: line 1 is wrong: 1 100 (the number of a node has to be from 1 to 99)\n"),
+            (["experiment", "--nodes", "4..10"], 1, "4..10 isn't a number of nodes, A..B or A..B/STEP, with numbers from 1 to 9;"),
         )
         for given, status, what in cases:
             done = words(*given, MML_HOST=it, MML_PROGRAM=it)
@@ -122,10 +123,10 @@ class Asks(InRoom):
 
     def test_a_full_lab(self) -> None:
         """If all events are used, the remedy names the limit, if it is known."""
-        most, go_on = MOST["events"], "; raise `events` in here/lab.toml"
-        for path, events, said in ((self.program("host", TEXT), most - 1, f"{go_on}, to at most {most}, then resume --again"),
-                                   (self.program("host", TEXT), most, ", the most that a lab may have; continue with a new lab"),
-                                   (str(self.room / "none"), most, f"{go_on}, then resume --again")):
+        most, go_on = MOST["events"], ". Raise `events` in here/lab.toml"
+        for path, events, said in ((self.program("host", TEXT), most - 1, f"{go_on} (to at most {most}), and then continue the run by resume --again"),
+                                   (self.program("host", TEXT), most, ". No lab can allow more, so continue with a new lab"),
+                                   (str(self.room / "none"), most, f"{go_on}, and then continue the run by resume --again")):
             limits.allowed.cache_clear()
             run: Any = SimpleNamespace(lab=SimpleNamespace(events=events), folder="here", go_on="resume")
             with unittest.mock.patch.dict(os.environ, {"MML_HOST": path}):

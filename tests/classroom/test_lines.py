@@ -10,7 +10,8 @@ from tests.classroom.lines import TABLE, lines
 NOT_SAID = (
     r"no move was granted yet to", r"for nobody, and", r"at a terminal alone", r"hasn't ended, or not as it should", r"gone on from",
     r"entries may be lacking", r"^[^:]*: where ", r"the same words", r"tells the words", r"its keeper", r"left to itself",
-    r"desk is held", r"is no part:",
+    r"desk is held", r"is no part:", r"isn't handled", r"^classroom/bots/\w+: it (?!had|used)", r"by this look", r"nodes, \{\}, daemon",
+    r"new configuration after place",
 )
 
 
@@ -26,13 +27,13 @@ class Lines(unittest.TestCase):
         """Checks some lines of each kind, so that the table isn't empty or wrong."""
         kept = TABLE.read_text(encoding="utf-8").splitlines()
         for line in (
-            "classroom/run/desk: without a granted move so far: {}", "classroom/run/several: ALARM {} is down: {}",
+            "classroom/run/desk: students without a granted move so far: {}", "classroom/run/several: ALARM {} is down: {}",
             "classroom/run/announcing: nothing more is granted: {}", "classroom/run/clock: the lesson ends at {}, in {}",
-            "classroom/run/wording: fault at node {}: p {}, m {}", "classroom/run/heard: a flood: {} lines a second from {}",
+            "classroom/run/wording: fault at node {}: p {}, m {}", "classroom/run/heard: {} sends too much: {} lines a second",
             "classroom/client: node {}: {} granted in configuration {}, as event {}",
             "crates/mml_program/src/fault.rt: command line: not understood", "crates/mml_board/src/denial.rt: this node is not shown to you",
             "crates/mml_host_program/src/journal_watch.rt: host: {}: nothing more is granted", "classroom/setup/check: warning: {}",
-            "classroom/bots/attempt: it ended by itself, status {}", "examples/bot.c: the connection was lost: start again",
+            "classroom/bots/bots: ended by itself, with status {}", "examples/bot.c: the connection was lost: start again",
             "examples/Bot.java: the run is over", "examples/bot.js: the run is over", "examples/bot.rs: the run is over",
             "classroom/pages/live.html: Freeze the picture", "classroom/pages/by_hand.js: this node isn't yours",
         ):

@@ -92,7 +92,7 @@ class Mark(InRoom):
         owners, = (it for it in run["shared"].values() if "jonas" in it)
         self.assertEqual({name: granted for name, granted in owners.items() if name == "jonas"}, {"jonas": none | {"seduction": 1}})
         said = words("mark", lab, journal).stdout
-        self.assertEqual(len(re.findall(r"(?m)^node \d+: .*jonas 1 granted \(1 seduction\)", said)), 1, said)
+        self.assertEqual(len(re.findall(r"(?m)^node \d+: .*jonas got 1 granted move \(1 seduction\)", said)), 1, said)
 
     def test_who_made_none(self) -> None:
         run, = self.marks(self.file("lab.toml", GOOD.replace(*PAIR)), self.file("journal", ""))
@@ -113,9 +113,9 @@ class Mark(InRoom):
         journal = self.file("journal", "1 0 grant ana 11 seduction\n2 0 close\n")
         self.assertEqual(marked(lab, journal).tally.events, 2)
         for old, new, error in (
-            ('"ok":"move"', '"deny":"guard"', '"rule":"seduction"} is answered {"at":0,'),
-            ('"place":2', '"place":3', "the program's reply to event 2 of the journal names event 3"),
-            ('"stable":false', '"stable":true', "`tally` and `report` disagree"),
+            ('"ok":"move"', '"deny":"guard"', '"rule":"seduction"} by {"at":0,'),
+            ('"place":2', '"place":3', "the program counted its event 2 as event 3"),
+            ('"stable":false', '"stable":true', "`tally` and `report`, disagree"),
         ):
             def another(made: labs.Lab, script: list[str]) -> str:
                 """Returns the program's replies with `old`, which they have once, replaced by `new`."""
@@ -134,7 +134,7 @@ class Mark(InRoom):
         self.assertIn("audit: line 1: illegal, not-owner: 1 0 grant jonas 11 seduction", done.stderr)
         done = words("mark", self.file("journal", "1 0 close\n"), lab)
         self.assertEqual((done.returncode, done.stderr),
-                         (2, f"class: {self.room / 'journal'}: lab: not a TOML document; name a lab before its journals\n"))
+                         (2, f"class: {self.room / 'journal'}: lab: not a TOML document. Name the lab before its journals\n"))
         folder = self.room / "empty"
         folder.mkdir()
         self.assertEqual(words("mark", folder).returncode, 1)
@@ -158,7 +158,7 @@ class Mark(InRoom):
         ])
         shorter = self.file("shorter.csv", "Name,ID\nZoë M.,s1\nBen,s2\nNew,s9\n")
         done = words("mark", lab, one, "--roster", shorter)
-        self.assertEqual((done.returncode, done.stderr), (5, f"class: {shorter} has no student Eva\n"))
+        self.assertEqual((done.returncode, done.stderr), (5, f"class: {shorter} has no row for the student Eva, so the table lacks these marks\n"))
         self.assertEqual([line.split(",")[:3] for line in done.stdout.splitlines()[1:]], [["Zoë M.", "s1", "1"], ["Ben", "s2", "1"], ["New", "s9", "0"]])
         self.assertEqual(words("mark", lab, one, two, "--total").stdout.splitlines()[1], '"Müller, Zoë",s1,2,1,0,0,1,0,1,0,2,0,0,0,0,0,0,2,lab')
 
@@ -185,14 +185,14 @@ class Mark(InRoom):
         first = words("mark", folder)
         self.assertEqual((first.returncode, first.stderr), (0, ""))
         done = words("mark", "--second", folder)
-        self.assertEqual((done.returncode, done.stderr), (0, "class: the plain model agrees about all that is marked\n"))
+        self.assertEqual((done.returncode, done.stderr), (0, "class: the plain model gets the same counts\n"))
         self.assertEqual(done.stdout, first.stdout)
         # Programs whose output differs in one line, and how the difference is reported.
         for other, of, told in (
-            ("s/^student ana 0 0 1/student ana 0 0 2/", "journal", "tally: the program prints 'student ana 0 0 2 "),
-            ("s/^denied ana 1/denied ana 2/", "record", "tally: the program prints 'denied ana 2 "),
-            ("s/, 7 lines/, 8 lines/", "record", "verify: the program prints 'ok: 2 sessions, 8 lines, 2 events', "
-                                                 "the plain model 'ok: 2 sessions, 7 lines, 2 events'\n"),
+            ("s/^student ana 0 0 1/student ana 0 0 2/", "journal", "the two programs disagree about `tally`: mml prints 'student ana 0 0 2 "),
+            ("s/^denied ana 1/denied ana 2/", "record", "the two programs disagree about `tally`: mml prints 'denied ana 2 "),
+            ("s/, 7 lines/, 8 lines/", "record", "the two programs disagree about `verify`: mml prints 'ok: 2 sessions, 8 lines, 2 events', "
+                                                 "and the plain model prints 'ok: 2 sessions, 7 lines, 2 events'\n"),
         ):
             lying = self.file("lying", f"#!/bin/sh\n{program.host()} \"$@\" | sed '{other}'\n")
             lying.chmod(0o755)
@@ -218,7 +218,8 @@ class Mark(InRoom):
                             .replace(" 2 seduction", " 3 seduction"))
         for roster, more in ((students, ()), (self.file("names", "\n".join(names[:3]) + "\n"), ("--total",))):
             done = words("mark", lab, journal, "--roster", roster, *more)
-            self.assertEqual(done.stderr, "" if not more else f"class: {roster} has no student {printable(names[3].strip())}\n")
+            lacks = f"class: {roster} has no row for the student {printable(names[3].strip())}, so the table lacks these marks\n"
+            self.assertEqual(done.stderr, lacks if more else "")
             rows = list(csv.reader(io.StringIO(done.stdout)))
             granted = rows[0].index("granted")
             self.assertEqual([(row[0], row[granted]) for row in rows[1:]], [*zip(names, ("1", "0", "1", "0"))][:len(rows) - 1])
@@ -249,7 +250,7 @@ class Mark(InRoom):
         for done in (words("new", self.room / "lab.toml", "--students", roster),
                      words("mark", self.file("lab.toml", BUILT_IN), self.file("journal", ""), "--roster", roster)):
             self.assertEqual((done.returncode, done.stdout), (1, ""))
-            self.assertEqual(done.stderr, f"class: {roster}: line 3: field larger than field limit (131072)\n")
+            self.assertEqual(done.stderr, f"class: {roster}: line 3 isn't CSV: field larger than field limit (131072)\n")
 
     def test_forms(self) -> None:
         lab = self.file("lab.toml", GOOD.replace(*PAIR))

@@ -89,7 +89,7 @@ class Lists(InRoom):
             self.assertEqual(self.people(content, name, first_name="given", last_name="FAMILY", id="no"), [("Zoë Müller", "7")])
         self.assertEqual(self.people(content, column="who"), [("x", "")])
         for wrong in ({"id": "none"}, {"column": "none"}, {"first_name": "none"}):
-            with self.assertRaisesRegex(program.Fault, "no column none; there are: who, given, family, no"):
+            with self.assertRaisesRegex(program.Fault, "the columns of this table are: who, given, family, no, and none of them is called none"):
                 self.people(content, **wrong)
 
 
@@ -131,11 +131,13 @@ class New(InRoom):
         links = self.file("links", "1 2\n2 7 # a far one\n\n7-9\n")
         self.assertIn("4 nodes, 3 links", self.new("--links", str(links)))
         self.clean()
-        for line, what in (("3 3", "a node can't be linked to itself"), ("2 1", "these nodes are linked in line 1 already"),
-                           ("0 1", "the number of a node is 1 to 65535"),
-                           ("1 65536", "the number of a node is 1 to 65535"), ("1 2 3", "a link is two numbers"), ("a b", "a link is two numbers")):
+        for line, what in (("3 3", "a node can't be linked to itself"), ("2 1", "line 1 has the same link already"),
+                           ("0 1", "the number of a node has to be from 1 to 65535"),
+                           ("1 65536", "the number of a node has to be from 1 to 65535"),
+                           ("1 2 3", "a link is written as the numbers of two nodes, such as 1 2"),
+                           ("a b", "a link is written as the numbers of two nodes, such as 1 2")):
             links = self.file("links", f"1 2\n\n{line}  # this\n")
-            self.assertIn(f"class: {links}: line 3: {what}: {line}  # this\n", self.new("--links", str(links), status=1))
+            self.assertIn(f"class: {links}: line 3 is wrong: {line}  # this ({what})\n", self.new("--links", str(links), status=1))
 
     def test_students_without_a_node_are_told_with_a_network_that_has_enough(self) -> None:
         for more, offered in ((("--family", "grid:2x2"), "--family grid:2x3"), (("--nodes", "4"), "--nodes 5"),
@@ -145,10 +147,11 @@ class New(InRoom):
             if offered is None:
                 self.assertNotIn("WARNING", told)
             else:
-                self.assertIn(f"WARNING: more students than nodes: no node for student-4: {offered} has enough\n", told)
+                self.assertIn(f"WARNING: there are more students than nodes; these get no node: student-4. With {offered}, each student gets one\n", told)
                 self.clean()
                 refused = self.new(*more, "--strict", status=1)
-                self.assertEqual(refused, f"class: --strict: more students than nodes: no node for student-4: {offered} has enough\n")
+                self.assertEqual(refused, "class: --strict: there are more students than nodes; these get no node: student-4. "
+                                          f"With {offered}, each student gets one\n")
                 self.assertEqual([*self.room.glob("lab*")], [])
 
     def test_the_lab_keeps_written_names_and_ids(self) -> None:
@@ -158,7 +161,7 @@ class New(InRoom):
         self.assertRegex(done.stdout, r'\nZoë "Z" Müller \(7\) +zoe-z-mueller +lab +1\n😀 王 \(8\) +s-8 +lab +2\nBen +ben +lab +3\n')
         people = labs.read(self.room / "lab.toml").people
         self.assertEqual(people, {"zoe-z-mueller": Person('Zoë "Z" Müller', "7"), "s-8": Person("😀 王", "8"), "ben": Person("Ben")})
-        self.assertNotIn("isn't a key of a lab", words("check", self.room / "lab.toml").stdout)
+        self.assertNotIn("isn't known here", words("check", self.room / "lab.toml").stdout)
 
     def test_pairs_keys_and_slips(self) -> None:
         self.new("--pairs", "--nodes", "6")
@@ -184,7 +187,7 @@ class New(InRoom):
 
     def test_few_events_are_told(self) -> None:
         asked = ("--family", "path", "--events")
-        self.assertIn("note: 45 events may be too few: 46 are always enough for moves and closes until the network is stable", self.new(*asked, "45"))
+        self.assertIn("note: 45 events may be too few. The moves and closed steps until the network is stable need at most 46", self.new(*asked, "45"))
         self.clean()
         self.assertNotIn("note", self.new(*asked, "46"))
 
@@ -230,27 +233,29 @@ class New(InRoom):
         many = SEATS + 5
         told = self.rooms({"A": many, "B": 5}, "--groups", "2")
         self.assertEqual(sorted(self.sizes()), [("A", many), ("B", 5)])
-        self.assertIn(f"note: {SEATS + 1} sessions for {many} students and a teacher: with more --groups all have a seat\n", told)
+        self.assertIn(f"note: this lab has {SEATS + 1} seats for {many} students and a teacher. "
+                      "With a higher number of --groups, everybody gets a seat\n", told)
         self.clean()
         refused = self.rooms({"A": 4, "B": 4}, "--groups", "1", status=1)
-        self.assertRegex(refused, r"^class: --groups 1: by room there are 2 rooms: (A, B|B, A)\n$")
+        self.assertRegex(refused, r"^class: --groups 1: the column room has 2 rooms, and each needs at least one group. The rooms are: (A, B|B, A)\n$")
         refused = self.rooms({"A": 4, "": 1}, status=1)
-        self.assertEqual(refused, "class: --groups-by room: this column is empty for Student  0\n")
+        self.assertEqual(refused, "class: --groups-by room: this column is empty for these students: Student  0\n")
         self.assertEqual([*self.room.glob("lab*")], [])
 
     def test_several_labs_are_made_or_none(self) -> None:
         refused = self.rooms({"A": 4, "B": 6}, "--nodes", "5", "--strict", status=1)
-        self.assertRegex(refused, r"^class: --strict: more students than nodes: no node for student-b-\d: --nodes 6 has enough\n$")
+        self.assertRegex(refused, r"^class: --strict: there are more students than nodes; these get no node: student-b-\d. "
+                                  r"With --nodes 6, each student gets one\n$")
         self.assertEqual([*self.room.glob("lab*")], [])
         warned = self.rooms({"A": 4, "B": 6}, "--nodes", "5")
-        self.assertEqual(warned.count("WARNING: more students than nodes: no node for student-b-"), 1)
+        self.assertEqual(warned.count("WARNING: there are more students than nodes; these get no node: student-b-"), 1)
 
     def test_a_spreadsheet_s_own_file_is_refused_by_name(self) -> None:
         for name in ("list.xlsx", "list.ODS", "list.csv"):
             file = self.file(name, "PK\x03\x04 and more")
             done = words("new", self.room / "lab.toml", "--students", file)
-            self.assertEqual((done.returncode, done.stderr), (1, f"class: {file}: this is a spreadsheet's own file, not a table as text: open it "
-                                                                 "there, save it as CSV (UTF-8), and name that file\n"))
+            self.assertEqual((done.returncode, done.stderr), (1, f"class: {file}: this file is in the format of a spreadsheet program. Open it in this "
+                                                                 "program, save it as CSV (UTF-8), and name the new file instead\n"))
         self.assertEqual([*self.room.glob("lab*")], [])
 
     def test_a_csv(self) -> None:
@@ -258,7 +263,7 @@ class New(InRoom):
         done = words("new", self.room / "lab.toml", "--students", self.room / "class.csv", "--family", "path")
         self.assertRegex(done.stdout, r"\nZoë Müller +zoe-mueller +lab +1\n")
         done = words("new", self.room / "other.toml", "--students", self.room / "class.csv", "--column", "who")
-        self.assertIn("no column who", done.stderr)
+        self.assertIn("none of them is called who", done.stderr)
 
     def test_no_lab(self) -> None:
         for more in (["--family", "ring"], ["--family", "random:5:3"], ["--family", "grid:0x4"], ["--nodes", str(MOST["nodes"] + 1)],

@@ -52,9 +52,9 @@ class Beginnings(unittest.TestCase):
         rows = self.listed(Entry(3, 0, b"no request", b'{"refuse":"malformed"}'), Entry(3, 0, *HELLO), Entry(3, 41, *MOVE), Entry(3, 42, mark=ENDED))
         self.assertEqual([row.event or row.denied or row.reply[:12] for row in rows],
                          ["a step", "another step", "malformed", '{"ok":"hello', '{"at":9,"nod', "this connection ended"])
-        self.assertEqual([row.after() for row in rows], ["after 10", "after 41", "after 0 to 41", "after 0 to 41", "after 41", "after 42"])
+        self.assertEqual([row.after() for row in rows], [f"after {events} events" for events in ("10", "41", "0 to 41", "0 to 41", "41", "42")])
         self.assertEqual([row.place for row in rows], [10, 41, 0, 0, 41, 42])
-        self.assertIn('\n  after 0 to 41, seat 3 > {"do":"hello","name":"gus","key":"***"}\n', text([], rows))
+        self.assertIn('\n  after 0 to 41 events, seat 3 > {"do":"hello","name":"gus","key":"***"}\n', text([], rows))
 
     def test_where_nothing_is_known_it_stays(self) -> None:
         """Three sessions: one that has only a beginning, one without a name, and one whose first line came at
@@ -62,7 +62,7 @@ class Beginnings(unittest.TestCase):
         for said in ([Entry(3, 0, *HELLO), Entry(3, 0, mark=ENDED)], [Entry(3, 5, b"x", b'{"refuse":"malformed"}'), Entry(3, 5, mark=ENDED)],
                      [Entry(3, 0, *HELLO), Entry(3, 0, *MOVE), Entry(3, 41, mark=ENDED)]):
             rows = [row for row in self.listed(*said) if row.seat and not row.event]
-            self.assertEqual({row.after() for row in rows}, {f"after {said[0].place}"})
+            self.assertEqual({row.after() for row in rows}, {f"after {said[0].place} events"})
         self.assertEqual(self.listed(Entry(3, 0, *HELLO), Entry(3, 0, mark=CUT))[0].reply, HELLO[1].decode())
 
 
@@ -91,8 +91,8 @@ class Practised(InRoom):
         self.assertEqual(done.returncode, 5, done.stdout + done.stderr)
         (page,) = self.room.glob("*/run.html")
         (entry,) = items(page.read_text(encoding="utf-8"))
-        self.assertEqual(entry[:2], ("0", "after 0"))
-        for part in ('"rule": "marriage", "with": 2}', '"deny":"guard"', MARK, "p of 2 isn't 1, it is null"):
+        self.assertEqual(entry[:2], ("0", "after 0 events"))
+        for part in ('"rule": "marriage", "with": 2}', '"deny":"guard"', MARK, "p of node 2 isn't 1, but null"):
             self.assertIn(part, entry[2])
 
     def test_practise_keeps_what_was_granted_among_the_steps(self) -> None:
@@ -157,14 +157,14 @@ class OfARun(Cycle):
             gus.ask(b'{"do":"move","node":4,"rule":"update","at":0}\n')
             jonas.ask(b'{"do":"move","node":7,"rule":"update","at":0}\n')
             going.type("close")
-            going.until("^configuration 1: 4 ")
+            going.until("^configuration 1: node 4 ")
             gus.ask(b'{"do":"move","node":4,"rule":"update","at":1}\n')
         self.assertEqual(going.ended(), 0, going.lines)
         folder = going.folder / own_pages.FOLDER
         self.assertEqual({page.name for page in folder.iterdir()}, {"gus.html", "jonas.html"})
         rows = [row[2] for row in items((folder / "gus.html").read_text(encoding="utf-8"))]
-        self.assertTrue(any('"deny":"guard"' in row and f"{MARK}m of 4 is " in row for row in rows), rows)
-        self.assertTrue(any("configuration 1: 4 (gus) update" in row for row in rows), rows)
+        self.assertTrue(any('"deny":"guard"' in row and f"{MARK}m of node 4 is " in row for row in rows), rows)
+        self.assertTrue(any("configuration 1: node 4 (gus): update" in row for row in rows), rows)
         self.assertFalse(any("jonas" in row and "hello" in row for row in rows))
         for key in ("heron-31", "plover-48"):
             self.assertFalse([page for page in folder.iterdir() if key in page.read_text(encoding="utf-8")])

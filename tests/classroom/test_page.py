@@ -15,6 +15,7 @@ from urllib.parse import urlsplit
 from selenium.webdriver.common.keys import Keys
 
 from classroom.client import Client
+from classroom.core.journal import Event, in_words
 from classroom.core.lab import read
 from classroom.pages.frames import frames_of
 from tests.classroom.browser import Shown, browser, is_ready, pale, press, show_as, shown, told, until
@@ -35,8 +36,8 @@ class Live(InRoom):
         """Starts a run with a page, whose steps are closed by hand, and opens it."""
         port = str(a_port())
         self.going = Going(self, CYCLE, "--close", "by-hand", "--page", port, *more)
-        self.looks = self.going.until("^page http").removeprefix("page ")
-        self.address = self.going.until("^page to act http").removeprefix("page to act ")
+        self.looks = self.going.until("^page for the projector http").removeprefix("page for the projector ")
+        self.address = self.going.until("^page on which you can act http").removeprefix("page on which you can act ")
         self.open()
 
     def open(self) -> None:
@@ -68,8 +69,9 @@ class Live(InRoom):
         until(self.driver, lambda driver: driver.find_element("id", "closes").get_attribute("data-closing") == wanted)
 
     def sees(self, event: str) -> Shown:
-        """Waits until `event` is the newest event on the page. Returns the contents of the page."""
-        until(self.driver, lambda driver: shown(driver)[2].partition(": ")[2] == event)
+        """Waits until `event`, a line of the journal, is the newest event on the page. Returns the contents of the page."""
+        told = in_words(Event(0, 0, tuple(event.split(" "))))
+        until(self.driver, lambda driver: shown(driver)[2].partition(": ")[2] == told)
         return shown(self.driver)
 
     def ask(self, verb: str, path: str, body: str | bytes | None = None, **head: str) -> tuple[int, bytes]:
@@ -200,14 +202,14 @@ class Live(InRoom):
     def test_no_is_told(self) -> None:
         self.begin()
         self.find("close")
-        until(self.driver, lambda driver: "no: empty" in driver.find_element("id", "lines").text)
+        until(self.driver, lambda driver: "the server denied this command: empty" in driver.find_element("id", "lines").text)
         self.end()
 
     def test_texts_are_readable_in_both_themes(self) -> None:
         self.begin()
         self.addCleanup(show_as, self.driver)
         self.find("close")
-        until(self.driver, lambda driver: "no: empty" in driver.find_element("id", "lines").text)
+        until(self.driver, lambda driver: "the server denied this command: empty" in driver.find_element("id", "lines").text)
         gus = self.student("gus")
         gus.move(gus.look(4))
         self.sees("grant gus 4 update")
@@ -230,7 +232,7 @@ class Live(InRoom):
         first = shown(self.driver)
         self.driver.get("about:blank")
         self.going.type("cut 1 3")
-        self.going.until("cut 1 3")
+        self.going.until("removed the link between 1 and 3")
         self.open()
         again = self.sees("cut 1 3")
         self.assertEqual((again[0]["place"], again[1][2]["p"]), ("4", ""))
@@ -263,7 +265,7 @@ class Live(InRoom):
             slow.connect(("127.0.0.1", parts.port))
             slow.sendall(f"GET {parts.path}events HTTP/1.0\r\nHost: {parts.netloc}\r\n\r\n".encode())
             self.going.type("\n".join(["cut 1 2", "link 1 2"] * 30))
-            self.going.until("^configuration 60: link 1 2")
+            self.going.until("^configuration 60: added the link between 1 and 2")
             until(self.driver, lambda driver: shown(driver)[0]["number"] == "60")
             pieces = 0
             for line in slow.makefile("rb"):
@@ -320,18 +322,18 @@ class Live(InRoom):
         self.assertEqual(self.ask("POST", f"{parts.path}act", "fault 1 2 true", Host=parts.netloc)[0], 204)
         self.sees("fault 1 2 true")
         self.going.type("page")
-        other = self.going.until("^page to act http").removeprefix("page to act ")
-        until(self.driver, lambda driver: driver.find_element("id", "connection").text == "(no connection)")
+        other = self.going.until("^page on which you can act http").removeprefix("page on which you can act ")
+        until(self.driver, lambda driver: driver.find_element("id", "connection").text == "(no connection: this page may show an old state)")
         for verb, path in (("POST", f"{parts.path}act"), ("GET", parts.path), ("GET", f"{parts.path}events")):
             self.assertEqual(self.ask(verb, path, "cut 1 2" if verb == "POST" else None, Host=parts.netloc)[0], 404)
         self.address = other
         self.open()
         self.click_node(5)
         self.find("set")
-        until(self.driver, lambda driver: "fault 5 " in shown(driver)[2])
+        until(self.driver, lambda driver: "fault at node 5: " in shown(driver)[2])
         kept = (self.going.folder / "run.txt").read_text(encoding="utf-8")
         self.assertIn(self.looks, kept)
-        for address in (other, parts.path, "page to act"):
+        for address in (other, parts.path, "page on which you can act"):
             self.assertNotIn(address, kept)
         self.end()
 

@@ -55,7 +55,7 @@ class Experiments(InRoom):
         merged = self.room / "merged.csv"
         done = words(*RUNS, "--merge", *files[::-1], "--csv", merged)
         self.assertEqual((done.returncode, merged.read_bytes()), (0, whole), done.stderr)
-        self.assertIn("54 of 54 runs, all within the proved bounds", done.stdout)
+        self.assertIn("54 of 54 runs are done, all within the proved bounds", done.stdout)
         self.lacks_a_part(files)
 
     def lacks_a_part(self, files: list[Path]) -> None:
@@ -63,14 +63,14 @@ class Experiments(InRoom):
         exist are refused."""
         done = words(*RUNS, "--merge", *files[:2], "--csv", self.room / "two.csv")
         self.assertEqual(done.returncode, 5)
-        self.assertIn("36 of 54 runs, ", done.stdout)
+        self.assertIn("36 of 54 runs are done, ", done.stdout)
         text = files[0].read_text().splitlines()
         row = text[1].split(",")
         row[6] = str(int(row[6]) + 1)
         other = self.file("other.csv", "\n".join([text[0], ",".join(row)]) + "\n")
         said = words(*RUNS, "--merge", *files, other, "--csv", self.room / "differ.csv")
         self.assertEqual((said.returncode, said.stdout), (4, ""))
-        self.assertIn(f"{other}: this run is in another table with different numbers: ", said.stderr)
+        self.assertIn(f"{other}: another table has different numbers for the same run; ", said.stderr)
         self.assertEqual(words(*RUNS, "--merge", self.room / "none.csv", "--csv", self.room / "x.csv").returncode, 4)
 
     @unittest.skipUnless(shutil.which("parallel"), "not tried: parallel")
@@ -118,7 +118,7 @@ class Grades(InRoom):
         self.assertEqual((self.room / "all.scope").read_bytes(), (self.room / "whole.scope").read_bytes())
         lacking = words(*asked, "--merge", files[0])
         self.assertEqual(lacking.returncode, 5)
-        self.assertIn("class: no part has a result of 1 case: bot.py cycle central 1\n", lacking.stdout)
+        self.assertIn("class: no file has a result of 1 case (bot, lab, daemon and seed): bot.py cycle central 1\n", lacking.stdout)
         other = words("grade", EXAMPLES / "bot.py", "--suite", "small", "--merge", *files)
         self.assertEqual(other.returncode, 4)
         self.assertIn("isn't a case of this command: name the same bots and options as for the parts", other.stderr)

@@ -35,8 +35,9 @@ class Practise(InRoom):
     def test_a_right_bot_comes_to_a_stable_end(self) -> None:
         done = self.practises(EXAMPLES / "bot.py", "--family", "grid:3x2", "--node", "2,5", "--daemon", "synchronous", "--seed", "4")
         self.assertEqual(done.returncode, 0, done.stdout + done.stderr)
-        self.assertRegex(done.stdout, r"^grid:3x2 of 6 nodes, hurt, daemon synchronous; you: 2, 5\n")
-        told = re.search(r"(?m)^stable: pairs (.*); (\d+) moves, (\d+) closes?, (\d+) rounds?; proved: at most 32 moves, 12 rounds$", done.stdout)
+        self.assertRegex(done.stdout, r"^network: grid:3x2, 6 nodes; start: hurt; daemon: synchronous; your nodes: 2, 5\n")
+        told = re.search(r"(?m)^the network is stable; pairs: (.*); (\d+) moves, (\d+) steps? and (\d+) rounds? "
+                         r"\(at most 32 moves and 12 rounds, as is proved\)$", done.stdout)
         assert told is not None, done.stdout
         steps = re.findall(r"(?m)^configuration \d+: (.*); ", done.stdout)
         self.assertEqual(len(steps), int(told[3]))
@@ -51,17 +52,17 @@ class Practise(InRoom):
         done = self.practises(f"python3 {FAULTY} marries-anyone", "--family", "path", "--nodes", "4", "--node", "1,2,3,4",
                               "--start", "clean", "--daemon", "by-hand")
         self.assertEqual(done.returncode, 5, done.stdout + done.stderr)
-        self.assertIn("\nyou: move 1 marriage 2 is denied as guard, clause 4: the guard of this rule does not hold; "
-                      "node 1 has p null, m false, its neighbours are 2 (p null, m false); seduction would be granted there; "
-                      "the plain model, which decides nothing, adds: p of 2 isn't 1, it is null; "
+        self.assertIn("\nyou: move at node 1 by marriage with 2 is denied as guard, clause 4: the guard of this rule does not hold; "
+                      "node 1 has p null and m false; its neighbours: 2 (p null, m false); seduction would be granted there now; "
+                      "the plain model, which doesn't decide the result, explains: p of node 2 isn't 1, but null; "
                       'a right bot would send {"at":0,"do":"move","node":1,"rule":"seduction"}\n', done.stdout)
-        self.assertIn("\nyou: the program has ended, status 1\n", done.stdout)
-        self.assertRegex(done.stdout, r"(?m)^the run hangs: no program is left, and the class waits for 1 \(you\): seduction, ")
+        self.assertIn("\nyou: the bot ended by itself, with status 1\n", done.stdout)
+        self.assertRegex(done.stdout, r"(?m)^the run is given up, since no bot is running any longer; it waits for seduction at node 1 \(you\), ")
 
     def test_the_nodes_that_are_dealt_out_need_all_four_rules(self) -> None:
         done = self.practises(EXAMPLES / "bot.py")
         self.assertEqual(done.returncode, 0, done.stdout + done.stderr)
-        self.assertRegex(done.stdout, r"\nyou: \d+ moves \(update, marriage, seduction, abandonment\), \d+ denials?( \(.*\))?\n$")
+        self.assertRegex(done.stdout, r"\nyou: \d+ granted moves \(update, marriage, seduction, abandonment\), \d+ denials?( \(.*\))?\n$")
 
     def test_a_page_to_play_by(self) -> None:
         """The page's server sends the same requests as a program and gets the same replies. The class ends when
@@ -74,7 +75,7 @@ class Practise(InRoom):
         self.addCleanup(going.kill)
         assert going.stdout is not None
         self.addCleanup(going.stdout.close)
-        address = next(line for line in going.stdout if line.startswith("page to play ")).split()[-1]
+        address = next(line for line in going.stdout if line.startswith("page to play on: ")).split()[-1]
         name, key = re.findall("=([^&]+)", address)
         rows = Rows(address.partition("#")[0], name, key)
         self.addCleanup(rows.connection.close)
@@ -99,21 +100,23 @@ class Practise(InRoom):
     def test_what_a_program_did_is_told_last(self) -> None:
         done = self.practises(f"python3 {FAULTY} floods", "--family", "path", "--nodes", "2", "--node", "1", "--start", "clean")
         self.assertEqual(done.returncode, 0, done.stdout + done.stderr)
-        self.assertRegex(done.stdout, r"\nyou: 2 moves \(update, seduction\), \d+ denials?.*; it never asked for: marriage, abandonment"
-                                      r"(; it floods the server: it sends line after line .*)?\n$")
+        self.assertRegex(done.stdout, r"\nyou: 2 granted moves \(update, seduction\), \d+ denials?.*; rules that were never asked for: marriage, abandonment"
+                                      r"(; the bot floods the server: it sends line after line .*)?\n$")
 
     def test_floods_are_told(self) -> None:
         done = self.practises(f"python3 {FAULTY} floods", "--family", "path", "--nodes", "3", "--node", "1", "--daemon", "by-hand", "--timeout", "10")
         self.assertEqual(done.returncode, 5, done.stdout + done.stderr)
-        self.assertIn("; it floods the server: it sends line after line without a pause; a bot waits when it has looked at its nodes\n", done.stdout)
+        self.assertIn("; the bot floods the server: it sends line after line without a pause; a bot waits a tenth of a second when it has looked at all "
+                      "its nodes\n", done.stdout)
 
     def test_what_is_malformed_is_told_once_and_counted(self) -> None:
         done = self.practises(f"python3 {FAULTY} quotes-numbers", "--nodes", "3")
         self.assertEqual(done.returncode, 0, done.stdout + done.stderr)
         lines = [line for line in done.stdout.splitlines() if "malformed" in line]
         self.assertEqual(len(lines), 3, lines)
-        self.assertRegex(lines[0], r'^you: malformed: node is a string, not a whole number \(write \d, without quotes\): {"do": "look", "node": "\d"}$')
-        self.assertEqual(lines[1], "you: 10 times so far: malformed: node is a string, not a whole number")
+        self.assertRegex(lines[0], r"^you: a line is refused as malformed: node is a string, not a whole number \(write \d, without quotes\); "
+                                   r'the line is {"do": "look", "node": "\d"}$')
+        self.assertEqual(lines[1], "you: this has happened 10 times so far: a line is refused as malformed: node is a string, not a whole number")
         self.assertIn(", 30 malformed lines", lines[2])
 
     def test_denials_of_a_kind_are_told_once_and_counted(self) -> None:
@@ -121,20 +124,22 @@ class Practise(InRoom):
         self.assertEqual(done.returncode, 0, done.stdout + done.stderr)
         lines = [line for line in done.stdout.splitlines() if "stale" in line]
         self.assertGreater(len(re.findall("(?m)^configuration ", done.stdout)), 2, "the number was the same for all of them")
-        self.assertRegex(lines[0], r"^you: move \d \w+.* is denied as stale, clause 2: this is not the current configuration; "
-                                   r"its `at` is \d+, and the current configuration has the number \d+$")
+        self.assertRegex(lines[0], r"^you: move at node \d by \w+.* is denied as stale, clause 2: this is not the current configuration; "
+                                   r"the request has `at` \d+, but the current configuration has the number \d+$")
         told = re.fullmatch(r"you: .*, \d+ denials? \(.*?(\d+) stale.*", lines[-1])
         assert told is not None, lines
         self.assertGreater(int(told[1]), 2)
         counts = [10 ** power for power in range(1, len(told[1]))]
-        self.assertEqual(lines[1:-1], [f"you: {count} times so far: move is denied as stale, clause 2" for count in counts])
+        self.assertEqual(lines[1:-1], [f"you: this has happened {count} times so far: move is denied as stale, clause 2" for count in counts])
 
     def test_a_program_that_never_connects_is_told_from_one_that_is_silent(self) -> None:
         done = self.practises(f"python3 {FAULTY} pretends", "--timeout", "1")
         self.assertEqual(done.returncode, 5, done.stdout + done.stderr)
-        self.assertRegex(done.stdout, r"(?m)^the run hangs: the class waits for \d \(you\): .*; you: it never connected to port \d+; "
-                                      r'the plain model, which decides nothing, adds: a right bot would send {"at":1?\d,"do":"move",.*}$')
-        self.assertTrue(done.stdout.endswith("\nyou: 0 moves, 0 denials; it never asked for: update, marriage, seduction, abandonment\n"), done.stdout)
+        self.assertRegex(done.stdout, r"(?m)^the run is given up, since nothing has happened for 1 seconds; it waits for \w+ at node \d \(you\).*; "
+                                      r"you: the bot never connected to port \d+; "
+                                      r"the plain model, which doesn't decide the result, explains: " r'a right bot would send {"at":1?\d,"do":"move",.*}$')
+        self.assertTrue(done.stdout.endswith("\nyou: 0 granted moves, 0 denials; rules that were never asked for: update, marriage, seduction, "
+                                             "abandonment\n"), done.stdout)
 
     def test_no_program_goes_on_while_record_and_page_are_made(self) -> None:
         """Writing the record and the page may take long, and nobody would answer a program meanwhile."""
@@ -151,7 +156,7 @@ class Practise(InRoom):
         bot = f"python3 {FAULTY} right"
         done = self.practises(bot, bot, "--family", "star", "--nodes", "5", "--start", "random", "--daemon", "central")
         self.assertEqual(done.returncode, 0, done.stdout + done.stderr)
-        self.assertRegex(done.stdout, r"; you-1: \d, \d; you-2: \d, \d\n")
+        self.assertRegex(done.stdout, r"; nodes of you-1: \d, \d; nodes of you-2: \d, \d\n")
 
     def test_without_a_bot_a_port_waits(self) -> None:
         going = subprocess.Popen(
@@ -160,9 +165,11 @@ class Practise(InRoom):
         assert going.stdout is not None
         self.addCleanup(going.kill)
         lines = iter(going.stdout)
-        told = next(line for line in lines if line.startswith("port "))
-        self.assertRegex(told, r"^port \d+; play by hand \(python3 \S*classroom/client.py SLIP\), or start your program, with the slip ")
-        slip = Path(told.rpartition("with the slip ")[2].strip())
+        told = next(line for line in lines if line.startswith("the class is at port "))
+        found = re.fullmatch(r"the class is at port \d+; start your bot with the slip (\S+), or type requests by hand: "
+                             r"python3 \S*classroom/client.py \1\n", told)
+        assert found is not None, told
+        slip = Path(found[1])
         nodes = Slip.read(slip).nodes
         with Client.from_slip(slip) as me:
             with self.assertRaises(Denied):
@@ -176,9 +183,10 @@ class Practise(InRoom):
         rest = list(lines)
         self.assertEqual(going.wait(LIMIT), 0)
         going.stdout.close()
-        self.assertTrue(any(line.startswith("you: look 2 is denied as not-owner, clause 1: you do not own this node") for line in rest), rest)
-        self.assertIn('you: malformed: node is a string, not a whole number (write 1, without quotes): {"do":"look","node":"1"}\\r\n', rest)
-        self.assertTrue(any(line.startswith("stable: pairs 1-2; ") for line in rest), rest)
+        self.assertTrue(any(line.startswith("you: look at node 2 is denied as not-owner, clause 1: you do not own this node") for line in rest), rest)
+        self.assertIn("you: a line is refused as malformed: node is a string, not a whole number (write 1, without quotes); "
+                      'the line is {"do":"look","node":"1"}\\r\n', rest)
+        self.assertTrue(any(line.startswith("the network is stable; pairs: 1-2; ") for line in rest), rest)
 
     def plays(self, me: Client, node: int) -> None:
         """Plays a node until it is married."""
@@ -197,9 +205,9 @@ class Practise(InRoom):
     def test_words_that_fit_no_network(self) -> None:
         rows: tuple[tuple[tuple[str | Path, ...], str], ...] = (
             (("no-such-program",), "no-such-program: there is no such program"),
-            ((EXAMPLES / "bot.py", "--node", "9"), "--node 9: the nodes are 1 to 7"),
-            ((EXAMPLES / "bot.py", "--family", "ring"), "no family ring"),
-            ((EXAMPLES / "bot.py", "--daemon", "fair"), "fair isn't one of central, "),
+            ((EXAMPLES / "bot.py", "--node", "9"), "--node 9: this network has only the nodes 1 to 7"),
+            ((EXAMPLES / "bot.py", "--family", "ring"), "--family ring: there is no such family of networks"),
+            ((EXAMPLES / "bot.py", "--daemon", "fair"), "'fair' isn't a daemon. The daemons are: central, "),
         )
         for given, why in rows:
             done = self.practises(*given)

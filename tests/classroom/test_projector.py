@@ -57,7 +57,7 @@ class Served(unittest.TestCase):
         self.assertEqual(self.ask(pages), 200)
         with patch.object(projector, "live_page", side_effect=ValueError("no page")), contextlib.redirect_stderr(io.StringIO()) as printed:
             self.assertEqual(self.ask(pages), 0)
-        self.assertEqual((self.told, printed.getvalue()), (["the page: ValueError: no page"], ""))
+        self.assertEqual((self.told, printed.getvalue()), (["error in the server of a page: ValueError: no page"], ""))
         with socket.create_connection(("127.0.0.1", pages.server_port)) as gone:
             gone.setsockopt(socket.SOL_SOCKET, socket.SO_LINGER, b"\x01\0\0\0\0\0\0\0")
             gone.sendall(b"GET /")
@@ -79,7 +79,7 @@ class Served(unittest.TestCase):
         second = projector.open_pages(first.server_port, "", self.lab, queue.SimpleQueue())
         self.addCleanup(second.server_close)
         self.assertGreater(second.server_port, first.server_port)
-        with self.assertRaisesRegex(Fault, "^no port is free for the page from 65536 to 65535$"):
+        with self.assertRaisesRegex(Fault, "^all ports for the page from 65536 to 65535 are in use. Name another port$"):
             projector.open_pages(65536, "", self.lab, queue.SimpleQueue())
 
     def test_a_page_is_told_what_is_new_to_it(self) -> None:
@@ -95,7 +95,7 @@ class Served(unittest.TestCase):
         self.present.put(events=events[1:], line=lines[31])
         self.present.put(closing="every:5", ended=True)
         told = projector.message(rows, self.present, first, self.present.now)
-        self.assertEqual((told["begin"], told["lines"], told["events"]), (False, lines[30:32], ["1: link 1 3", "2: link 1 3"]))
+        self.assertEqual((told["begin"], told["lines"], told["events"]), (False, lines[30:32], ["event 1: ⚡ link 1–3 added", "event 2: ⚡ link 1–3 added"]))
         self.assertEqual((told["closing"], told["ended"]), ("every:5", True))
         self.assertLess(len(json.dumps(told)), 1000)
 

@@ -119,12 +119,12 @@ class Resume(Cycle):
                 self.killed(going, what)
                 offered = words("run", CYCLE, "--into", self.room / "runs")
                 self.assertEqual((offered.returncode, offered.stderr),
-                                 (1, f"class: the last run of {CYCLE} didn't end: {CLASS} run --resume {going.folder} goes on with it; "
-                                     "--beside starts another class\n"))
+                                 (1, f"class: the last run of {CYCLE} was interrupted. To continue it, type: {CLASS} run --resume {going.folder} "
+                                     "(or add --beside to start another run)\n"))
                 before = (going.folder / "journal").read_bytes()
                 again = Going(self, None, "run", "--resume", going.folder)
                 self.assertEqual((again.port, again.folder), (going.port, going.folder))
-                self.assertTrue(any(re.match(r"the class goes on at configuration \d+, events \d+ of 1000$", line) for line in again.lines), again.lines)
+                self.assertTrue(any(re.match(r"the class continues at configuration \d+; events: \d+ of 1000$", line) for line in again.lines), again.lines)
                 for name in KEYS:  # A student whose bot hadn't greeted starts another bot.
                     self.bot(again, name)
                 self.assertEqual(again.ends(), 0, again.lines)
@@ -158,10 +158,10 @@ class Resume(Cycle):
             again: list[str | Path] = ["attach", folder] if kind == "run" else ["run", "--resume", folder]
             going = Going(self, None, *again)
             server = server if kind == "run" else going.server()
-            self.assertTrue(any(line.startswith("the class goes on at configuration ") for line in going.lines), going.lines)
+            self.assertTrue(any(line.startswith("the class continues at configuration ") for line in going.lines), going.lines)
         players = Players(going.port, disturbs=False)
         going.type("fault 1 2 true")  # The class may be stable since the last kill.
-        going.until("; stable, ")
+        going.until("; stable; ")
         players.ended()
         self.assertEqual(going.ended(), 0, going.lines)
         self.assertGreater(self.whole(folder), KILLS)
@@ -182,17 +182,17 @@ class Resume(Cycle):
         going = Going(self, CYCLE, "--close", "by-hand", MML_HOST=str(self.limited(2)))
         going.type("\n".join(["fault 1 2 true"] * 110))
         line = going.until("^nothing more is granted: ")
-        self.assertEqual(line, "nothing more is granted: no line can be written to the journal; make room on the disk, then "
-                               f"{CLASS} run --resume {going.folder}")
+        self.assertEqual(line, "nothing more is granted: no line can be written to the journal. Make room on the disk, and then continue "
+                               f"the run by {CLASS} run --resume {going.folder}")
         self.assertEqual(going.ends(), 4, going.lines)
         self.assertFalse(any("by itself" in line for line in going.lines), going.lines)
         events = (going.folder / "journal").read_bytes().count(b"\n")
         self.assertGreater(events, 80)
         again = Going(self, None, "run", "--resume", going.folder, "--close", "every:0.2")
-        self.assertIn(f"the class goes on at configuration {events}, events {events} of 1000", again.lines)
+        self.assertIn(f"the class continues at configuration {events}; events: {events} of 1000", again.lines)
         for name in KEYS:
             self.bot(again, name)
-        again.until("; stable, ")
+        again.until("; stable; ")
         again.type("end")
         self.assertEqual(again.ends(), 0, again.lines)
         self.assertGreater(self.whole(going.folder), events)
@@ -210,7 +210,7 @@ class Resume(Cycle):
                 gus.move(gus.look(4))
             with journal.open("ab") as it:
                 it.write(b"9")  # A full disk leaves the beginning of a line; a limit on the file's size leaves nothing.
-            going.until("^nothing more is granted: no line can be written to the journal; ")
+            going.until("^nothing more is granted: no line can be written to the journal. ")
         self.assertEqual(going.ends(), 4, going.lines)
 
     def test_another_key_in_mid_course(self) -> None:
@@ -242,14 +242,14 @@ class Resume(Cycle):
         with Client(going.port, "gus", KEYS["gus"]) as gus:
             gus.move(gus.look(4))
         going.type("close")
-        line = going.until("^nothing more is granted: the journal is full, events 2 of 2; ")
-        self.assertTrue(line.endswith(f"then {CLASS} run --resume {going.folder} --again"))
+        line = going.until("^nothing more is granted: all 2 events that the lab allows are used. ")
+        self.assertTrue(line.endswith(f"then continue the run by {CLASS} run --resume {going.folder} --again"))
         self.assertEqual(going.ends(), 5, going.lines)
         kept = going.folder / "lab.toml"
         kept.write_text(kept.read_text(encoding="utf-8").replace("events = 2\n", "events = 100\n"), encoding="utf-8")
         again = Going(self, None, "run", "--resume", going.folder, "--again", "--close", "by-hand")
         again.type("fault 1 2 true")
-        again.until("^configuration 2: fault at node 1: p 2, m true; .*; events 3 of 100$")
+        again.until("^configuration 2: fault at node 1: p 2, m true; .*; events: 3 of 100$")
         self.assertEqual(again.ended(), 0, again.lines)
         self.assertEqual(self.whole(going.folder), 3)
 
@@ -262,15 +262,16 @@ class Resume(Cycle):
         before = {file.name: file.read_bytes() for file in folder.iterdir() if file.is_file()}
         done = words("run", "--resume", folder)
         self.assertEqual((done.returncode, done.stdout, done.stderr),
-                         (1, "", f"class: {folder}: this run was ended; with --again it is continued, and its audit, page and marks are made again\n"))
+                         (1, "", f"class: {folder}: this run was ended. If you want to continue it, add --again; "
+                                 "its audit, page and marks are then made again\n"))
         self.assertEqual({file.name: file.read_bytes() for file in folder.iterdir() if file.is_file()}, before)
         again = Going(self, None, "run", "--resume", folder, "--again")
-        self.assertIn("the class goes on at configuration 1, events 1 of 1000", again.lines)
+        self.assertIn("the class continues at configuration 1; events: 1 of 1000", again.lines)
         os.kill(again.server(), signal.SIGKILL)
         self.assertEqual(again.ends(), 4, again.lines)
         again = Going(self, None, "run", "--resume", folder)  # The session is open, and its server died.
         self.assertEqual(again.ended(), 0, again.lines)
-        self.assertEqual(words("run", CYCLE, "--again").stderr, "class: run: --again needs --resume FOLDER\n")
+        self.assertEqual(words("run", CYCLE, "--again").stderr, "class: run: --again can only be used together with --resume FOLDER\n")
 
     def test_a_torn_line_and_another_lab(self) -> None:
         going = Going(self, CYCLE, "--close", "by-hand")
@@ -287,8 +288,8 @@ class Resume(Cycle):
         self.assertIn("another lab", done.stderr)
         kept.write_text(text, encoding="utf-8")
         again = Going(self, None, "run", "--resume", going.folder)
-        self.assertIn("the class goes on at configuration 1, events 1 of 1000", again.lines)
-        self.assertRegex(words("run", "--resume", going.folder).stderr, f"its run is still going on: {CLASS} attach ")
+        self.assertIn("the class continues at configuration 1; events: 1 of 1000", again.lines)
+        self.assertRegex(words("run", "--resume", going.folder).stderr, f"this run is still going on. To control it, type: {CLASS} attach ")
         self.assertEqual(again.ended(), 0, again.lines)
         self.assertEqual(call("audit", kept, going.folder / "journal").status, 0)
 
@@ -296,7 +297,7 @@ class Resume(Cycle):
         both: list[str | Path] = [CYCLE, "--resume", self.room]
         for asked in (both[:0], both):
             done = words("run", *asked)
-            self.assertEqual((done.returncode, done.stderr), (1, "class: run: name a LAB or several, or --resume FOLDER\n"))
+            self.assertEqual((done.returncode, done.stderr), (1, "class: run: name either one or more labs, or the folder of a run by --resume FOLDER\n"))
         self.assertEqual(words("run", "--resume", self.room).returncode, 1)
 
 

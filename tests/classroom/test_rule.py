@@ -15,7 +15,7 @@ from tests.classroom.help import EXAMPLES, InRoom, words
 from tests.classroom.runs import journal_of
 
 ROW: dict[str, Value] = {"applied": Fraction(7), "nodes": Fraction(2), "student": "ana", "clause4": None, "whole": True}
-TAKEN = "is already the name of a column, of an earlier line or of a word of rules: take another name"
+TAKEN = "is already the name of a column, of an earlier line or of a word of rules; choose another name"
 
 
 def value(expression: str) -> str:
@@ -54,38 +54,45 @@ class Expressions(unittest.TestCase):
     def test_each_error_is_a_line(self) -> None:
         deep = "(" * (MOST_DEPTH + 1) + "1" + ")" * (MOST_DEPTH + 1)
         for text, error in (
-            ("pass", "write NAME = EXPRESSION"), ("= 1", "write NAME = EXPRESSION"), ("pass =", "write NAME = EXPRESSION"),
-            ("1 = 2", "write NAME = EXPRESSION"), ("pass == 1", "write NAME = EXPRESSION"), ("x = 1 +", "the line ends too early"),
-            ("x = (1", ") is expected at the end"), ("x = (1 2", ") is expected before 2"), ("x = 1 2", "2 isn't expected here"),
-            ("x = and", "and isn't expected here"), ("x = )", ") isn't expected here"), ("x = 1 if true", "else is expected at the end"),
-            ("x = aplied", "no column aplied; mark --columns prints the columns"),
+            ("pass", "each line has the form NAME = EXPRESSION"), ("= 1", "each line has the form NAME = EXPRESSION"),
+            ("pass =", "each line has the form NAME = EXPRESSION"),
+            ("1 = 2", "each line has the form NAME = EXPRESSION"), ("pass == 1", "each line has the form NAME = EXPRESSION"),
+            ("x = 1 +", "the expression isn't complete"),
+            ("x = (1", "')' is missing at the end"), ("x = (1 2", "')' is missing before '2'"), ("x = 1 2", "'2' isn't expected in this place"),
+            ("x = and", "'and' isn't expected in this place"), ("x = )", "')' isn't expected in this place"), ("x = 1 if true", "'else' is missing at the end"),
+            ("x = aplied", "there is no column or earlier line called aplied; `class mark --columns` lists the columns"),
             ("applied = 1", f"applied {TAKEN}"),
-            ("min = 1", f"min {TAKEN}"), ("x = 1 < 2 < 3", "a < b < c can't be written: write a < b and b < c"),
-            ("x = __import__('os')", "no column __import__; mark --columns prints the columns"), ("x = applied.real", ". can't be used in a rule"),
-            ("x = 1 ** 2", "* isn't expected here"), ("x = [1]", "[ can't be used in a rule"), ("x = 'a", "' can't be used in a rule"),
-            ("x = 1234567890123", "1234567890123 has more than 12 digits"), ("x = round(1, 2)", "round takes one number"),
-            ("x = min()", ") isn't expected here"), (f"x = {deep}", f"the line is nested more than {MOST_DEPTH} deep"),
-            ("x = e\u0301", "e\u0301"[1] + " can't be used in a rule"),
+            ("min = 1", f"min {TAKEN}"), ("x = 1 < 2 < 3", "two comparisons can't be joined as in a < b < c; write a < b and b < c"),
+            ("x = __import__('os')", "there is no column or earlier line called __import__; `class mark --columns` lists the columns"),
+            ("x = applied.real", "the character '.' can't be used in a rule"),
+            ("x = 1 ** 2", "'*' isn't expected in this place"), ("x = [1]", "the character '[' can't be used in a rule"),
+            ("x = 'a", 'the character "\'" can\'t be used in a rule'),
+            ("x = 1234567890123", "the number 1234567890123 has more than 12 digits"), ("x = round(1, 2)", "write one number in the parentheses of round"),
+            ("x = min()", "')' isn't expected in this place"), (f"x = {deep}", f"there are more than {MOST_DEPTH} parentheses or conditions inside each other"),
+            ("x = e\u0301", f"the character {chr(0x301)!r} can't be used in a rule"),
         ):
             with self.assertRaises(Fault) as fault:
                 parsed(Path("rule"), ["", text], list(ROW))
-            self.assertTrue(str(fault.exception).startswith(f"rule: line 2: {error}: "), (text, str(fault.exception)))
+            self.assertEqual(str(fault.exception), f"rule: line 2 is wrong: {text} ({error})")
         several: list[list[str]] = [[], ["# none"], [f"x{number} = 1" for number in range(MOST_LINES + 1)]]
         for lines in several:
-            with self.assertRaisesRegex(Fault, f"^rule: a rule has 1 to {MOST_LINES} lines"):
+            count = len(lines) if len(lines) > 1 else 0
+            with self.assertRaisesRegex(Fault, f"^rule: this file has {count} lines of a rule, but it must have 1 to {MOST_LINES}, "):
                 parsed(Path("rule"), lines, [])
 
     def test_each_fault_of_a_value_is_a_line(self) -> None:
         for expression, error in (
-            ("applied / 0", "a division by 0"), ("1 / (nodes - 2)", "a division by 0"), ("student + 1", "ana is no number"),
-            ("true + 1", "yes is no number"), ("applied and true", "7 is neither yes nor no; write a comparison, such as applied >= 1"),
-            ("1 if applied else 2", "7 is neither yes nor no; write a comparison, such as applied >= 1"), ("student == 1", "ana and 1 can't be compared"),
-            ("true == 1", "yes and 1 can't be compared"), ("student < 'b'", "ana is no number"),
-            ("not 1", "1 is neither yes nor no; write a comparison, such as applied >= 1"),
+            ("applied / 0", "it divides by 0"), ("1 / (nodes - 2)", "it divides by 0"), ("student + 1", "the value 'ana' isn't a number"),
+            ("true + 1", "the value 'yes' isn't a number"),
+            ("applied and true", "the value '7' is neither yes nor no; write a comparison, such as applied >= 1"),
+            ("1 if applied else 2", "the value '7' is neither yes nor no; write a comparison, such as applied >= 1"),
+            ("student == 1", "the values 'ana' and '1' are of different kinds, and can't be compared"),
+            ("true == 1", "the values 'yes' and '1' are of different kinds, and can't be compared"), ("student < 'b'", "the value 'ana' isn't a number"),
+            ("not 1", "the value '1' is neither yes nor no; write a comparison, such as applied >= 1"),
         ):
             with self.assertRaises(Fault) as fault:
                 value(expression)
-            self.assertEqual(str(fault.exception), f"rule: line 1: {error}", expression)
+            self.assertEqual(str(fault.exception), f"rule: line 1 can't be computed for the student ana: {error}", expression)
 
 
 class InMarks(InRoom):
@@ -115,7 +122,8 @@ class InMarks(InRoom):
         rows = {row["student"]: row for row in csv.DictReader(io.StringIO(done.stdout))}
         self.assertEqual((rows["gus"]["applied"], rows["gus"]["nodes"], rows["gus"]["enough"], rows["gus"]["points"]), ("6", "4", "no", "12"))
         first = self.file("first.txt", "early = first <= 3\n")
-        self.assertIn("no column first; mark --columns prints the columns", words("mark", "--total", "--rule", first, self.lab, self.journal).stderr)
+        done = words("mark", "--total", "--rule", first, self.lab, self.journal)
+        self.assertIn("there is no column or earlier line called first; `class mark --columns` lists the columns", done.stderr)
         self.assertEqual(words("mark", "--csv", "--rule", first, self.lab, self.journal).returncode, 0)
         roster = self.file("names.csv", "name\ngus\nhana\nines\njonas\nnobody else\n")
         listed = list(csv.reader(io.StringIO(words("mark", "--roster", roster, "--rule", self.rule, self.lab, self.journal).stdout)))
@@ -131,7 +139,7 @@ class InMarks(InRoom):
         self.assertLessEqual({*columns.for_rules(True), *columns.for_rules(False)}, {*names})
 
     def test_mark_needs_a_run(self) -> None:
-        self.assertEqual(words("mark").stderr, "class: mark: name folders of runs or of classes, or a lab and its journals\n")
+        self.assertEqual(words("mark").stderr, "class: mark: name the folders of runs or of classes, or a lab and its journals\n")
 
 
 if __name__ == "__main__":

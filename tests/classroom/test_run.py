@@ -28,7 +28,7 @@ class Run(Cycle):
     def test_by_hand_with_a_bot_that_dies(self) -> None:
         going = Going(self, CYCLE, "--close", "by-hand")
         going.type("wait")
-        self.assertIn("7 (jonas): abandonment", going.until("^waiting for "))
+        self.assertIn("node 7 (jonas): abandonment", going.until("^waiting for "))
         with Client(going.port, "gus", KEYS["gus"]) as gus:
             look = gus.snapshot([1, 4])[4]
             gus.move(look)
@@ -38,24 +38,24 @@ class Run(Cycle):
             with self.assertRaises(Refused):
                 gus.ask(do="dance")
             going.type("close")
-            self.assertIn("4 (gus) update", going.until("^configuration 1"))
+            self.assertIn("node 4 (gus): update", going.until("^configuration 1"))
             with self.assertRaises(Denied) as denied:
                 gus.move(look)
             self.assertEqual((denied.exception.name, denied.exception.at), ("stale", 1))
         bot = self.bot(going, "jonas")
         going.type("fault 1 2 true")
-        going.until("fault at node 1: p 2, m true; .* 0 of at most 35 moves")
+        going.until("fault at node 1: p 2, m true; .* moves: 0 of at most 35")
         bot.kill()
         going.type("cut 1 2")
-        going.until("cut 1 2; .* 0 of at most 33 moves")
+        going.until("removed the link between 1 and 2; .* moves: 0 of at most 33")
         going.type("dance")
-        going.until("^not understood; words: close, fault NODE")
+        going.until("^dance isn't a command. The commands are: close, fault NODE")
         going.type("fault 1 7 yes")
-        going.until(r"^not understood; write fault NODE NEIGHBOUR\|null true\|false$")
+        going.until(r"^the command fault was written in a wrong form. Write: fault NODE NEIGHBOUR\|null true\|false$")
         going.type("report")
-        going.until(r"^configuration \d+, not stable: .*privileged .*\((seduction|abandonment|marriage|update)\)")
+        going.until(r"^configuration \d+ is not stable; .*privileged nodes: .*\((seduction|abandonment|marriage|update)\)")
         going.type("link 1 1")
-        going.until("^no: loop")
+        going.until("^the server denied this command: loop")
         self.assertEqual(going.ended(), 0, going.lines)
         self.assertGreaterEqual(self.whole(going.folder), 4)
 
@@ -81,14 +81,14 @@ class Run(Cycle):
             port = taken.getsockname()[1]
             going = Going(self, CYCLE, "--port", str(port))
             self.assertGreater(going.port, port)
-            self.assertIn(f"port {port} is in use, so another port is taken", going.lines)
+            self.assertIn(f"port {port} is in use, so the server has port {going.port}; students have to use this one, whatever their slips say", going.lines)
             going.type("end\nend")
             self.assertEqual(going.ends(), 0)
 
     def test_nothing_built(self) -> None:
         done = words("run", CYCLE, "--into", self.room / "runs", MML_PROGRAM=str(self.room / "none"))
         self.assertEqual(done.returncode, 1)
-        self.assertIn("mml isn't built: `./mml build` builds it", done.stderr)
+        self.assertIn("the program mml isn't built. Type `./mml build` to build it", done.stderr)
         self.assertFalse((self.room / "runs").exists())
 
     def test_no_host_built(self) -> None:
@@ -98,18 +98,19 @@ class Run(Cycle):
         for given in asked:
             done = words(*given, "--into", self.room / "runs", MML_HOST=none)
             self.assertEqual(done.returncode, 1)
-            self.assertIn("mml isn't built: `./mml build` builds it", done.stderr)
+            self.assertIn("the program mml isn't built. Type `./mml build` to build it", done.stderr)
         self.assertFalse((self.room / "runs").exists())
         going = Going(self, CYCLE, "--close", "by-hand", "--serve", MML_HOST=none)
         self.assertTrue(any("connections in all" in line for line in going.lines), going.lines)
         with Client(going.port, "gus", KEYS["gus"]) as gus:
             gus.move(gus.look(4))
         going.type("close")
-        going.until("^configuration 1: 4 \\(gus\\) update")
+        going.until("^configuration 1: node 4 \\(gus\\): update")
         self.assertEqual(going.ended(), 1, going.lines)
         self.assertTrue(any("mml isn't built" in line for line in going.lines), going.lines)
         self.assertTrue((going.folder / "run.html").is_file())
-        self.assertIn("2 events, configuration 1", words("mark", going.folder).stdout)
+        self.assertIn("2 events, among them 1 closed step, 0 faults, 0 added links and 0 removed links; last configuration: 1, ",
+                      words("mark", going.folder).stdout)
 
     def test_no_server(self) -> None:
         with no_server() as port, self.assertRaises(Closed):

@@ -109,7 +109,7 @@ class Seated(Cycle):
         with Client(going.port, "hana", KEYS["hana"]) as hana:
             hana.look(read(CYCLE).nodes_of("hana")[0])
         going.type("link 1 3")
-        going.until(f"^configuration {events + 1}: link 1 3")
+        going.until(f"^configuration {events + 1}: added the link between 1 and 3")
         self.assertEqual(going.ended(), 0, going.lines)
         self.assertEqual(self.whole(going.folder), events + 1)
 
@@ -127,7 +127,7 @@ class Seated(Cycle):
             time.sleep(0.01)
         again = Going(self, None, "run", "--resume", going.folder, "--close", "by-hand", MML_HOST=self.relayed("seated"))
         self.assertEqual(self.told(), '{"ok":"hello","who":"gus"}\n')
-        self.assertIn("the class goes on at configuration 1, events 1 of 1000", again.lines)
+        self.assertIn("the class continues at configuration 1; events: 1 of 1000", again.lines)
         self.goes_on(again, 1)
 
     def test_a_student_before_attach(self) -> None:
@@ -147,7 +147,7 @@ class Seated(Cycle):
         both."""
         tess = Client(record.desk, *TESS)
         self.addCleanup(tess.hang_up)
-        again = Going(self, None, "attach", going.folder, ready="^another process is connected to the desk; trying again for a minute$")
+        again = Going(self, None, "attach", going.folder, ready="^another program is connected to the desk; this is tried again for a minute$")
         return again, tess
 
     def test_the_teacher_at_the_desk_is_waited_for(self) -> None:
@@ -155,9 +155,9 @@ class Seated(Cycle):
         going, record = self.killed()
         again, tess = self.attached(going, record)
         tess.hang_up()
-        again.until("^the desk is connected$")
-        again.until("^words: ")
-        self.assertEqual(sum("trying again" in line for line in again.lines), 1, again.lines)
+        again.until("^the desk is now connected to the server$")
+        again.until("^commands: ")
+        self.assertEqual(sum("tried again" in line for line in again.lines), 1, again.lines)
         self.goes_on(again, 1)
 
     def test_a_server_that_was_found_is_not_ended(self) -> None:
@@ -168,9 +168,8 @@ class Seated(Cycle):
         again.process.send_signal(signal.SIGTERM)
         self.assertEqual(again.ends(), 4, again.lines)
         self.assertEqual(again.lines[-2:], [
-            "the desk can't be used: busy: all seats are taken; come again later",
-            f"the server, process {record.server.number}, keeps running, and nobody controls it: while it runs, {CLASS} attach {going.folder} connects to its "
-            f"desk; after that, {CLASS} mark prints the marks",
+            "the desk can't be used, because it has no connection to the server: busy: all seats are taken; come again later",
+            f"the server (process {record.server.number}) keeps running, but nobody controls it. To control it again, type: {CLASS} attach {going.folder}",
         ])
         self.assertTrue(record.server.lives())
         self.assertTrue(tess.fault(2, None, True).place)

@@ -15,7 +15,7 @@ from classroom.core.classes import Class, name_of
 from classroom.core.program import host
 from classroom.run.addressed import addressed
 from classroom.run.network_table import now_table, start_table
-from tests.classroom.help import LIMIT, wait_until, words
+from tests.classroom.help import CLASS, LIMIT, wait_until, words
 from tests.classroom.several import Classes, GoingClass
 from tests.common.limits import MOST
 
@@ -37,7 +37,7 @@ class Lines(unittest.TestCase):
         ):
             self.assertEqual(addressed(line, NAMES), (indices, rest), line)
         for line, name in (("4 close", "4"), ("0: close", "0"), ("maths-9: close", "maths-9"), ("end 7", "7"), ("resume zoe", "zoe")):
-            with self.assertRaisesRegex(ValueError, f"^there is no network {name}; there are 1 maths-1, 2 maths-2, 3 close$"):
+            with self.assertRaisesRegex(ValueError, f"^this class has no network {name}. Its networks are: 1 maths-1, 2 maths-2, 3 close$"):
                 addressed(line, NAMES)
 
     def test_tables(self) -> None:
@@ -70,36 +70,37 @@ class OneDesk(Classes):
         desk = self.begin("--rooms", "A 104, B 7", "--close", "by-hand")
         self.table(desk)
         desk.kill("maths-2")
-        desk.until(r"^ALARM maths-2 is down: the server has ended, by SIGKILL; resume 2 goes on with it, end 2 gives it up$")
+        desk.until(r"^ALARM maths-2 is down: the server has ended, by the signal SIGKILL; type `resume 2` to continue it, or `end 2` to give it up$")
         desk.type("networks")
         desk.until(r"^1  maths-1  A 104  \d+ privileged|^1  maths-1  A 104  stable")
         desk.until(r"^2  maths-2  B 7    DOWN ")
         desk.type("1 shake all 3")
         desk.until("^maths-1: configuration 4: 4 faults at nodes 1, 2, 3, 4; ")
         desk.type("2 close")
-        desk.until("^maths-2: no: the server has ended, by SIGKILL; resume 2")
+        desk.until("^maths-2: not done: the server has ended, by the signal SIGKILL; type `resume 2")
         before = len(desk.lines)
         desk.type("resume 2")
-        desk.until("^maths-2: the class goes on at configuration 0, ")
+        desk.until("^maths-2: the class continues at configuration 0; ")
         desk.type("maths-2: fault 1 null true")
         desk.until("^maths-2: configuration 1: ")
         self.assertFalse([line for line in desk.lines[before:] if line.startswith("maths-1: ") or "ALARM" in line])
         desk.type("resume 2")
-        desk.until("^maths-2 isn't down$")
+        desk.until("^maths-2 isn't down, so there is nothing to resume$")
         desk.type("9: close")
-        desk.until("^not understood: there is no network 9; there are 1 maths-1, 2 maths-2$")
+        desk.until("^not done: this class has no network 9. Its networks are: 1 maths-1, 2 maths-2$")
         desk.type("end all\nend")
-        desk.until(f"^the class is ended; all its files are in {desk.folder}: .* mark .* prints the marks$")
+        desk.until(f"^the class is ended, and all its files are in {desk.folder} . To print the marks, type: .* mark {desk.folder}$")
         self.assertEqual(desk.ends(), 0, desk.lines)
         self.assertEqual((desk.marks("maths-1")["faults"], desk.marks("maths-2")["faults"]), (4, 1))
         self.taken_as_a_whole(desk)
 
     def table(self, desk: GoingClass) -> None:
-        """Checks the table at the start, and that no line of a network comes before it."""
+        """Checks the table at the start, and that no line before its first row begins with a network's name."""
         rows, seats = [line.split() for line in desk.lines if re.match(r"\d  ", line)], str(MOST["sessions"] - 1)
         self.assertEqual(rows, [["1", "maths-1", "A", "104", str(desk.record("maths-1").port), "4", seats],
                                 ["2", "maths-2", "B", "7", str(desk.record("maths-2").port), "4", seats]])
-        self.assertLess(len(desk.lines), 10, desk.lines)
+        first = next(index for index, line in enumerate(desk.lines) if re.match(r"\d  ", line))
+        self.assertEqual([line for line in desk.lines[:first] if line.startswith(("maths-1", "maths-2"))], [], desk.lines)
 
     def taken_as_a_whole(self, desk: GoingClass) -> None:
         """Checks that the subcommands that take the folder of a run also take that of a class."""
@@ -110,8 +111,8 @@ class OneDesk(Classes):
         said = words("history", desk.folder, "jose-garcia")
         self.assertEqual((said.returncode, said.stderr), (0, ""))
         self.assertIn("event 1: ", said.stdout)
-        self.assertIn("name one: ", words("history", desk.folder, "teacher").stderr)
-        self.assertIn("no network of this class has a student zoe", words("history", desk.folder, "zoe").stderr)
+        self.assertIn("Name the folder of one network: ", words("history", desk.folder, "teacher").stderr)
+        self.assertIn("no network of this class has a student called zoe", words("history", desk.folder, "zoe").stderr)
         before = labs.read(desk.folder / "maths-2/lab.toml").students
         self.assertEqual(words("key", desk.folder, "jose-garcia").returncode, 0)
         after = labs.read(desk.folder / "maths-2/lab.toml").students
@@ -121,15 +122,15 @@ class OneDesk(Classes):
         desk = self.begin("--close", "by-hand")
         students = [list(labs.read(lab).students) for lab in self.labs]
         desk.type(f"key {students[1][0]}")
-        desk.until(f"^maths-2: {students[1][0]} has a new key, slip: ")
-        desk.until("^maths-2: the class goes on at port ")
+        desk.until(f"^maths-2: {students[1][0]} has a new key. The new slip is ")
+        desk.until("^maths-2: the class continues at port ")
         before = len(desk.lines)
         desk.type("key zoe\nnetworks")
         desk.until("^1  maths-1 ")
         said = [line for line in desk.lines[before:-2] if not line.startswith("maths-2: ")]  # The desk hasn't printed the other key yet.
-        self.assertEqual(said, ["no student zoe in this class"])
+        self.assertEqual(said, ["there is no student zoe in this class"])
         desk.type(f"1 key {students[1][0]}")
-        desk.until(f"^maths-1: no student {students[1][0]}; there are {students[0][0]}, ")
+        desk.until(f"^maths-1: there is no student {students[1][0]}. The students are: {students[0][0]}, ")
         desk.type("end all\nend")
         self.assertEqual(desk.ends(), 0, desk.lines)
 
@@ -138,15 +139,15 @@ class OneDesk(Classes):
         desk.kill("maths-1")
         desk.until("^ALARM maths-1 is down: ")
         desk.type("end 1")
-        desk.until(f"^maths-1: given up; its files are in {desk.folder / 'maths-1'}$")
+        desk.until(f"^maths-1: this network is given up. Its files are in {desk.folder / 'maths-1'}$")
         desk.type("end 2\nend 2")
         self.assertEqual(desk.ends(), 4, desk.lines)
         said = [words("mark", desk.folder / name).stdout for name in ("maths-1", "maths-2")]
-        wanted = "its server is running or was killed, so its last entries may be missing, through no fault of a student\n"
+        wanted = "the server is still running or was killed, so the last entries of this record may be missing; no student caused this\n"
         self.assertEqual([wanted in text for text in said], [True, False], said)
         again = words("run", "--resume", desk.folder)
-        self.assertEqual((again.returncode, again.stderr), (1, f"class: {desk.folder}: each run of this class was ended; run --resume "
-                                                               "FOLDER --again opens them again\n"))
+        self.assertEqual((again.returncode, again.stderr), (1, f"class: {desk.folder}: all runs of this class were ended. To continue them, "
+                                                               f"type: {CLASS} run --resume {desk.folder} --again\n"))
 
     def test_a_desk_that_was_killed_is_taken(self) -> None:
         desk = self.begin("--close", "by-hand")
@@ -157,12 +158,15 @@ class OneDesk(Classes):
         wait_until(lambda: not desk.record("maths-2").goes_on())
         again = GoingClass(self, "attach", desk.folder)
         self.assertEqual([line for line in again.lines if "ALARM" in line],
-                         ["ALARM maths-2 is down: its server has ended; resume 2 goes on with it, end 2 gives it up"])
+                         ["ALARM maths-2 is down: its server has ended; type `resume 2` to continue it, or `end 2` to give it up"])
         self.assertEqual(again.record("maths-1").server, servers[0])
         held = words("attach", desk.folder)
-        self.assertEqual((held.returncode, held.stderr), (1, f"class: {desk.folder}: process {again.process.pid} controls this class already\n"))
+        who = f"another process (number {again.process.pid}) controls this class"
+        self.assertEqual((held.returncode, held.stderr), (1, f"class: {desk.folder}: {who}. "
+                                                             "Type your commands in its terminal. Or close that terminal (don't type `end` there: "
+                                                             "that ends the class), and then type this command again\n"))
         again.type("resume 2\n1 fault 1 null true")
-        again.until_each("^maths-2: the class goes on at ", "^maths-1: configuration 1: ")
+        again.until_each("^maths-2: the class continues at ", "^maths-1: configuration 1: ")
         again.process.send_signal(signal.SIGTERM)
         self.assertEqual(again.ends(), 0, again.lines)
         self.assertEqual(again.marks("maths-1")["faults"], 1)
@@ -187,9 +191,9 @@ class OneDesk(Classes):
         other.mkdir()
         (other / "maths-1.toml").write_bytes(self.labs[0].read_bytes())
         cases: tuple[tuple[list[str | Path], str], ...] = (
-            ([*self.labs, "--rooms", "A"], "--rooms names 1 room for 2 networks"),
-            ([self.labs[0], "--rooms", "A"], "run: --rooms needs several labs"),
-            ([self.labs[0], other / "maths-1.toml"], "two labs are called maths-1: rename one"),
+            ([*self.labs, "--rooms", "A"], "--rooms names 1 room, but there are 2 networks. Name one room for each network"),
+            ([self.labs[0], "--rooms", "A"], "run: --rooms can only be used with several labs"),
+            ([self.labs[0], other / "maths-1.toml"], "several of these labs are called maths-1. Rename their files, so that the names differ"),
             ([self.labs[0], self.room / "none.toml"], f"{self.room / 'none.toml'}: No such file or directory"),
         )
         for given, error in cases:
@@ -201,7 +205,8 @@ class OneDesk(Classes):
         for text in ("{}", "[]", "x", json.dumps({"networks": [{"name": "..", "room": "", "lab": ""}], "desk": {"number": 1, "start": ""}})):
             self.file("broken/class.json", text)
             done = words("mark", folder)
-            self.assertEqual((done.returncode, done.stderr), (4, f"class: {folder / 'class.json'}: this file doesn't name the networks of a class\n"))
+            self.assertEqual((done.returncode, done.stderr), (4, f"class: {folder / 'class.json'}: this file is damaged, so the networks of the "
+                                                                "class aren't known. Name the folder of each network instead\n"))
 
     def test_the_folder_is_kept(self) -> None:
         desk = self.begin("--close", "by-hand")
@@ -211,7 +216,8 @@ class OneDesk(Classes):
         self.assertEqual(kept.desk.number, desk.process.pid)
         self.assertEqual(desk.folder.stat().st_mode & 0o777, 0o700)
         second = words("run", self.labs[1], "--into", self.room / "runs")
-        self.assertIn(f"a run of {self.labs[1]} goes on at port {desk.record('maths-2').port}, folder {desk.folder / 'maths-2'}", second.stderr)
+        where = f"at port {desk.record('maths-2').port} and in the folder {desk.folder / 'maths-2'}"
+        self.assertIn(f"a run of {self.labs[1]} is still going on, {where}", second.stderr)
         os.kill(desk.process.pid, signal.SIGINT)
         self.assertEqual(desk.ends(), 0, desk.lines)
 

@@ -25,23 +25,24 @@ class Counted(unittest.TestCase):
                 "6 2 grant ana 2 update\n7 2 close\n8 3 grant ana 1 update\n9 3 grant ana 2 update\n10 3 close\n11 4 cut 1 2\n"
                 "12 5 grant ana 1 update\n13 5 close\n14 6 grant ana 2 update\n15 6 close\n")
         self.assertEqual(recoveries(lab, events(text)), [
-            "place 3: stable after 2 moves, 1 close, 1 round; proved: at most 8 moves, 4 rounds",
-            "place 10: stable again after 4 moves, 2 closes, 2 rounds; proved: at most 8 moves, 4 rounds",
-            "place 15: stable again after 2 moves, 2 closes, 1 round; proved: at most 6 moves, 4 rounds",
+            "event 3: stable after 2 moves, 1 step and 1 round (at most 8 moves and 4 rounds, as is proved)",
+            "event 10: stable again after 4 moves, 2 steps and 2 rounds (at most 8 moves and 4 rounds, as is proved)",
+            "event 15: stable again after 2 moves, 2 steps and 1 round (at most 6 moves and 4 rounds, as is proved)",
         ])
 
     def test_a_fault_on_the_way_begins_the_count_anew(self) -> None:
         lab = labs.Lab(100, 2, ("teacher", "key"), {"ana": "key"}, [labs.Node(1, ["ana"], 2), labs.Node(2, ["ana"], 1)], [(1, 2)])
         text = ("1 0 grant ana 1 update\n2 0 close\n3 1 fault 1 2 false\n4 2 grant ana 1 update\n5 2 grant ana 2 update\n6 2 close\n")
-        self.assertEqual(recoveries(lab, events(text)), ["place 6: stable again after 2 moves, 1 close, 1 round; proved: at most 8 moves, 4 rounds"])
+        self.assertEqual(recoveries(lab, events(text)), [
+            "event 6: stable again after 2 moves, 1 step and 1 round (at most 8 moves and 4 rounds, as is proved)"])
 
     def test_what_was_missed_is_not_told_as_counted(self) -> None:
         it = Comeback(read(CYCLE))
         self.assertEqual(it.close([1], [1, 2], [2]), "")
         it.miss()
-        self.assertEqual(it.close([2], [2], []), "stable after several closes in quick succession: the marks say how many "
-                                                 "moves and rounds it took")
-        self.assertEqual(it.close([1], [1], []), "stable after 1 move, 1 close, 1 round; proved: at most 35 moves, 13 rounds")
+        self.assertEqual(it.close([2], [2], []), "stable after several steps in quick succession; how many moves and rounds "
+                                                 "this took is printed with the marks")
+        self.assertEqual(it.close([1], [1], []), "stable after 1 move, 1 step and 1 round (at most 35 moves and 13 rounds, as is proved)")
 
 
 @unittest.skipUnless(host(), "not tried: no host is built")
@@ -57,7 +58,7 @@ class AfterACrash(Cycle):
         for _ in range(2):
             while not going.lines[-1].startswith("configuration ") or " fault" in going.lines[-1]:
                 going.type("close")
-                going.until("^(configuration .*;|no: empty)")
+                going.until("^(configuration .*;|the server denied this command: empty)")
             going.lines.append("")
         os.kill(going.server(), 9)
         self.assertEqual(going.ends(), 4, going.lines)
@@ -68,9 +69,9 @@ class AfterACrash(Cycle):
         again.type("end")
         self.assertEqual(again.ends(), 0, again.lines)
         marks = words("mark", again.folder).stdout
-        self.assertEqual(re.findall(r"(?m)^place \d+: (.*)$", marks), [told])
+        self.assertEqual(re.findall(r"(?m)^event \d+: (.*)$", marks), [told])
         closes = sum(" close" in line for line in (again.folder / "journal").read_text(encoding="ascii").splitlines())
-        self.assertIn(f" {closes} closes, ", told)
+        self.assertIn(f" {closes} steps and ", told)
 
 
 class ByThePage(Cycle):
@@ -79,8 +80,8 @@ class ByThePage(Cycle):
     def test_shake_and_break(self) -> None:
         driver: Any = browser()
         going = Going(self, CYCLE, "--daemon", "synchronous", "--page", str(a_port()))
-        looks = going.until("^page http").removeprefix("page ")
-        driver.get(going.until("^page to act http").removeprefix("page to act "))
+        looks = going.until("^page for the projector http").removeprefix("page for the projector ")
+        driver.get(going.until("^page on which you can act http").removeprefix("page on which you can act "))
         until(driver, is_ready)
         driver.find_element("css selector", ".acts summary").click()
         count = driver.find_element("id", "count")
@@ -98,7 +99,7 @@ class ByThePage(Cycle):
         self.assertEqual([(node["node"], node["p"], node["m"]) for node in shown(driver)[1]], wanted)
         for name in KEYS:
             self.bot(going, name)
-        told = going.until("^stable again after .*; proved: at most 35 moves, 13 rounds$")
+        told = going.until(r"^stable again after .* \(at most 35 moves and 13 rounds, as is proved\)$")
         until(driver, lambda driver: told in driver.find_element("id", "lines").text)
         driver.get(looks)
         until(driver, is_ready)

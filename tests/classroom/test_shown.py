@@ -10,6 +10,7 @@ from typing import Any
 from selenium.webdriver.common.keys import Keys
 
 from classroom.client import Client, Denied
+from classroom.core.journal import Event, in_words
 from classroom.core.lab import read
 from tests.classroom.browser import Played, browser, is_ready, pale, press, show_as, until
 from tests.classroom.help import CYCLE, Going, InRoom, a_port, words
@@ -115,7 +116,7 @@ class Told(InRoom):
         self.addCleanup(resize, self.driver, None)
         self.lab = read(CYCLE)
         self.going = Going(self, CYCLE, "--close", "by-hand", "--page", str(a_port()))
-        self.driver.get(self.going.until("^page http").removeprefix("page "))
+        self.driver.get(self.going.until("^page for the projector http").removeprefix("page for the projector "))
         until(self.driver, is_ready)
         self.teacher = self.client(*self.lab.teacher)
         self.students = {name: self.client(name, key) for name, key in self.lab.students.items()}
@@ -147,8 +148,8 @@ class Told(InRoom):
         return {
             "told": "At rest" if report.stable else counted(len(report.privileged), "node") + " can move", "pairs": counted(len(report.pairs), "pair"),
             "number": str(report.at), "since": str(since), "bound": str(bound),
-            "event": f"{lines[-1][0]}: {' '.join(lines[-1][2:])}" if lines else "the beginning",
-            "counts": f"event {len(lines)}: {counted(moves, 'move')} in all, {counted(len(report.open), 'open link')}",
+            "event": f"event {lines[-1][0]}: {in_words(Event(0, 0, tuple(lines[-1][2:])))}" if lines else "the beginning of the run",
+            "counts": f"after event {len(lines)}: {counted(moves, 'move')} in the whole run, {counted(len(report.open), 'open link')} now",
         }
 
     def said(self) -> dict[int, str]:
@@ -216,7 +217,7 @@ class Told(InRoom):
         tree = self.driver.execute_cdp_cmd("Accessibility.getFullAXTree", {})["nodes"]
         names = {it.get("name", {}).get("value", "") for it in tree if not it.get("ignored")}
         self.assertLessEqual(set(self.said().values()), names)
-        act = self.going.until("^page to act http").removeprefix("page to act ")
+        act = self.going.until("^page on which you can act http").removeprefix("page on which you can act ")
         self.driver.get(act)
         until(self.driver, is_ready)
         tree = self.driver.execute_cdp_cmd("Accessibility.getFullAXTree", {})["nodes"]
@@ -281,7 +282,7 @@ class Sizes(Played):
         test.room = self.room
         going = Going(test, lab, "--close", "by-hand", "--page", str(port))
         self.addCleanup(test.doCleanups)
-        looks, acts = (going.until(f"^{word} http").removeprefix(f"{word} ") for word in ("page", "page to act"))
+        looks, acts = (going.until(f"^{word} http").removeprefix(f"{word} ") for word in ("page for the projector", "page on which you can act"))
         for number in range(1, 9):
             going.type(f"fault {number} null true")
             going.until(f"^configuration {number}: ")

@@ -83,7 +83,7 @@ class Files(InRoom):
         key = self.file("key", "k-1\n")
         self.assertEqual(Slip.of(["80", "ben", str(key), "7,8", "5"]), (Slip(80, "ben", "k-1", (7, 8)), ["5"]))
         self.assertEqual(Slip.of(["80", "tess", str(slip)]), (Slip(80, "tess", "a b", ()), []))
-        for content, error in (("port 4711\nname ana\n", "no line `key ..`"), ("port x\nname a\nkey b\n", "x isn't a port"),
+        for content, error in (("port 4711\nname ana\n", "there is no line `key ..`"), ("port x\nname a\nkey b\n", "x isn't a port"),
                                ("port 1\nname a\nkey b\nnodes one\n", "nodes one: write numbers")):
             with self.assertRaisesRegex(NoSlip, error):
                 Slip.read(self.file("bad.slip", content))
@@ -96,14 +96,16 @@ class Files(InRoom):
                      '{"do":"fault","node":1,"p":null,"m":true}', '{"do":"hello","name":"a","key":"b"}'):
             self.assertIsNone(wrong(line), line)
         for line, what in (
-            (move.replace(',"at":0', ""), 'missing "at"'), (move.replace(":1", ':"1"'), "node is a string, not a whole number (write 1, without quotes)"),
-            ("hello", 'not JSON at byte 1 (a request is an object: {"do":"bye"})'),
-            ('{"é":1,}', "not JSON at byte 9 (there is a comma too many)"), ('{"do":"lok"}', "unknown do: lok (did you mean look?)"),
-            ("\ufeff" + move, "the line begins with a byte order mark"), ('{"do":\n"close"}', "several lines: a request is one line"),
-            ('{"do":"close"', "not JSON: the object isn't closed at its end, and a request is one line"),
-            ("", 'not JSON at byte 1 (a request is an object: {"do":"bye"})'),
-            ('{"node":1}', 'missing "do"'), ("[1]", "a list, not an object"),
-            ('{"do":"see","do":"see","node":1}', "the key do is there twice, and the last one counts"),
+            (move.replace(',"at":0', ""), 'the key "at" is missing'),
+            (move.replace(":1", ':"1"'), "node is a string, not a whole number (write 1, without quotes)"),
+            ("hello", 'the line isn\'t JSON at byte 1 (a request is an object, such as {"do":"bye"})'),
+            ('{"é":1,}', "the line isn't JSON at byte 9 (leave out the comma before this byte)"),
+            ('{"do":"lok"}', 'there is no request "lok" (did you mean look?)'),
+            ("\ufeff" + move, "the line begins with a byte order mark: leave it out"), ('{"do":\n"close"}', "there are several lines: a request is one line"),
+            ('{"do":"close"', "the line isn't JSON: the object isn't closed by } at the end of the line"),
+            ("", 'the line isn\'t JSON at byte 1 (a request is an object, such as {"do":"bye"})'),
+            ('{"node":1}', 'the key "do" is missing'), ("[1]", "the line is a list, not an object"),
+            ('{"do":"see","do":"see","node":1}', "the key do occurs twice, and only the last value counts"),
             ('{"do":"see","node":true}', "node is true or false, not a whole number"),
             ('{"do":"see","node":1.0}', "node is a number with a point or exponent, not a whole number (write 1, without a point)"),
             ('{"do":"see","node":-1}', "node is a number out of range, not a whole number"),
@@ -114,15 +116,16 @@ class Files(InRoom):
             ('{"do":"hello","name":"a","key":18446744073709551616}', "key is a number out of range, not a string"),
             ('{"do":"fault","node":1,"p":null,"m":1}', "m is a whole number, not true or false (write true)"),
             ('{"do":"move","node":1,"at":0,"rule":0}', f"rule is a whole number, not one of {', '.join(RULES)}"),
-            ("5", "a whole number, not an object"), ("-5", "a number out of range, not an object"),
-            ("18446744073709551616", "a number out of range, not an object"), ("true", "true or false, not an object"),
-            ('{"do":"move","node":2,"rule":"marriage","at":4}', 'missing "with" (the neighbour that points at the node)'),
+            ("5", "the line is a whole number, not an object"), ("-5", "the line is a number out of range, not an object"),
+            ("18446744073709551616", "the line is a number out of range, not an object"), ("true", "the line is true or false, not an object"),
+            ('{"do":"move","node":2,"rule":"marriage","at":4}', 'the key "with" is missing (it names the neighbour that points at the node)'),
             ('{"do":"move","node":2,"rule":"dance","at":4}', 'rule is "dance", not one of update, marriage, seduction, abandonment'),
-            ('{"do":"see","node":1,"x":"' + "a" * 4096 + '"}', "more than 4096 bytes: the server ends the connection"),
+            ('{"do":"see","node":1,"x":"' + "a" * 4096 + '"}', "the line has more than 4096 bytes: the server closes the connection"),
         ):
             self.assertEqual(wrong(line), what, line[:60])
-        for value, what in (("1e309", "a number that is too large"), ("NaN", "not JSON: NaN is no number"),
-                            ('"\\ud800"', "half of a surrogate pair"), ('"\udcff"', "not UTF-8 at byte 27"), ("[" * 127 + "]" * 127, "nested deeper than 127")):
+        for value, what in (("1e309", "a number is too large"), ("NaN", "the line isn't JSON: JSON has no number NaN"),
+                            ('"\\ud800"', "a text has only half of a surrogate pair"), ('"\udcff"', "the line isn't UTF-8 at byte 27"),
+                            ("[" * 127 + "]" * 127, "values are nested deeper than 127 levels")):
             self.assertEqual(wrong(f'{{"do":"see","node":1,"x":{value}}}'), what)
 
     @unittest.skipUnless(host(), "not tried: no host is built")
@@ -323,7 +326,7 @@ class Talking(Cycle):
         self.assertEqual((said.returncode, said.stdout.splitlines()[0]), (0, '{"ok":"hello","who":"gus"}'))
         for command in BOTS:
             self.assertEqual(call(*command, "-", slip=slip.replace(KEYS["gus"], "another")).returncode, 2)
-            for given, why in ((None, "the environment variable CENDUWA_SLIP isn't set"), (slip.partition("nodes")[0], "no nodes in -")):
+            for given, why in ((None, "the environment variable CENDUWA_SLIP isn't set"), (slip.partition("nodes")[0], "there are no nodes in -")):
                 said = call(*command, "-", slip=given)
                 self.assertEqual((said.returncode, said.stdout), (1, ""))
                 self.assertRegex(said.stderr, rf"^\w+(\.py)?: {why}\n$")
@@ -348,19 +351,19 @@ class Talking(Cycle):
         replies = [json.loads(line) for line in said.stdout.splitlines()]
         self.assertEqual([list(reply.values())[-1] for reply in replies[:2]], ["gus", "malformed"])
         self.assertEqual([reply["ok"] for reply in replies[2:]], ["look", "bye"])
-        self.assertEqual(said.stderr, 'client: missing "node"\n')
+        self.assertEqual(said.stderr, 'client: the key "node" is missing\n')
         kept = log.read_text(encoding="utf-8")
         self.assertNotIn(KEYS["gus"], kept)
         self.assertEqual([line.split(" ")[1] for line in kept.splitlines()], [">", "<", "!", ">", "<", ">", "<", ">", "<"])
         said = call(*BY_HAND, self.slip(going.port, "gus"), typed="x" * 5000 + "\n")
-        self.assertIn("the server has closed the connection: a line has at most 4096 bytes", said.stdout)
+        self.assertIn("the server has closed the connection: a line had more than 4096 bytes", said.stdout)
         said = call(*BY_HAND, self.slip(going.port, "gus"), "--log", "/dev/full", typed='{"do":"bye"}\n')
         self.assertEqual((said.returncode, said.stdout.splitlines()[-1]), (0, '{"ok":"bye"}'))
-        self.assertEqual(said.stderr, "client: /dev/full: No space left on device: no more lines are logged\n")
+        self.assertEqual(said.stderr, "client: /dev/full: No space left on device, so no more lines are logged\n")
         done = subprocess.run([*BY_HAND, self.slip(going.port, "gus")], input=b'{"do":"bye\xff"}\n{"do":"bye"}\n', capture_output=True,
                               check=False, timeout=LIMIT)
         self.assertEqual(done.stdout.splitlines()[1:], [b'{"refuse":"malformed"}', b'{"ok":"bye"}'])
-        self.assertEqual((done.returncode, done.stderr), (0, b"client: not UTF-8 at byte 11\n"))
+        self.assertEqual((done.returncode, done.stderr), (0, b"client: the line isn't UTF-8 at byte 11\n"))
 
 
 if __name__ == "__main__":

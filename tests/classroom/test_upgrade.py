@@ -74,7 +74,7 @@ class Upgrade(Cycle):
                 before = (folder / "journal").read_bytes()
                 going = Going(self, None, "run", "--resume", folder, "--close", "when-idle:0.5", "--until", "stable")
                 self.assertEqual(going.folder, folder)
-                self.assertTrue(any(f"events {events} of " in line for line in going.lines), going.lines)
+                self.assertTrue(any(f"events: {events} of " in line for line in going.lines), going.lines)
                 for student in KEYS:
                     self.bot(going, student)
                 self.assertEqual(going.ends(), 0, going.lines)

@@ -100,13 +100,13 @@ class Words(InRoom):
         done = words("experiment", "--family", "crowd,halves", "--nodes", "6", "--start", "worst", "--runs", "1", "--daemon", "synchronous",
                      "--csv", self.room / "runs.csv")
         self.assertEqual(done.returncode, 0, done.stderr)
-        self.assertIn("2 of 2 runs, all within the proved bounds", done.stdout)
+        self.assertIn("2 of 2 runs are done, all within the proved bounds", done.stdout)
 
     def test_practise_begins_with_it(self) -> None:
         done = words("practise", EXAMPLES / "bot.py", "--family", "crowd", "--nodes", "4", "--start", "worst", "--daemon", "synchronous",
                      "--timeout", "250", "--into", self.room / "runs")
         self.assertEqual(done.returncode, 0, done.stdout + done.stderr)
-        self.assertIn("crowd of 4 nodes, worst, daemon synchronous", done.stdout)
+        self.assertIn("network: crowd, 4 nodes; start: worst; daemon: synchronous; ", done.stdout)
         (made_lab,) = (self.room / "runs").glob("*/lab.toml")
         self.assertEqual([(node.p, node.m) for node in labs.read(made_lab).nodes], [(4, True), (3, True), (4, True), (2, True)])
 

@@ -19,7 +19,9 @@ def called(*words: str | Path) -> Ended:
 
 
 def first_other(found: bytes, wanted: bytes) -> str:
-    """Returns the first line of `found` that differs from the one in `wanted`."""
+    """Returns a text about the first line in which two outputs differ: its number, the line of `found`, and the one of
+    `wanted`. The end of an output counts as an empty line. If no such line differs, returns a text that says that there
+    are more lines or fewer."""
     pairs = list(zip(found.splitlines() + [b""], wanted.splitlines() + [b""]))
     return next((f"line {k}: {a!r}, not {b!r}" for k, (a, b) in enumerate(pairs, 1) if a != b), "more lines or fewer")
 

@@ -25,6 +25,9 @@ from tests.outsiders import byes, contested, crowded, edges, parting, segments, 
 NONE = Ended(0, b"done: 0 events, configuration 0\n", b"")
 FAULT = Ended(4, b"", b"journal fault\n")
 EAGAIN = 11
+LINE_TIME = 600.0  # the seconds in which a line of a student has to arrive
+PAUSE = 5.0  # the seconds between two pieces of a student's lines
+LAST_LINE = 2  # the index of the last whole line among these pieces
 LOOKS = 4  # threads that a host starts before it listens, to check that it can
 MOVE = seduction(0)
 FREE = ["setpriv", "--reuid", "65534", "--regid", "65534", "--clear-groups"] if os.geteuid() == 0 else []
@@ -438,25 +441,29 @@ def next_wait(library: Preloaded, caller: Caller, piece: bytes) -> float:
         time.sleep(0.01)
 
 
-def ten_minutes(room: Path) -> None:
-    """After a hello, each line of a student has to come within ten minutes, in whatever pieces. At the desk there
-    is no limit."""
+def a_line_has_ten_minutes(room: Path) -> None:
+    """After a student's hello, each line has to arrive within LINE_TIME of the line before it, even if its bytes arrive
+    one by one. Checks how long the server is ready to wait after each of five pieces, which are sent PAUSE apart: three
+    whole lines, and two bytes of a fourth line. At the desk the server waits without a limit."""
     library, lab = Preloaded("outsiders/waits.c", room, "WAITS"), lab_of(room, 4)
     with Host(lab, 0, 0, variables=library.variables({})) as host:
-        student, waits, gone, sent = Caller(host.port), list[float](), list[float](), 0.0
-        for piece in (hello("ana"), look("ana"), look("ana"), b" ", b" "):
-            sent = time.monotonic() if piece.endswith(b"\n") else sent
-            waits.append(next_wait(library, student, piece))
-            gone.append(time.monotonic() - sent)
-            time.sleep(5)
-        # If the bytes of one line restarted the time, the last two waits would be longer. If the lines shared the time
-        # since the hello, these waits would be ten seconds shorter than what is left since the last line was sent.
-        late = any(not 599 - gone[at] < waits[at] <= most for at, most in ((3, 595), (4, 590)))
-        if late or any(not 595.1 < wait <= 600 for wait in waits[:3]):
-            fail(f"outsiders: a student's lines have {waits} seconds")
+        student, sent = Caller(host.port), 0.0
+        for number, piece in enumerate((hello("ana"), look("ana"), look("ana"), b" ", b" ")):
+            is_line = piece.endswith(b"\n")
+            sent = time.monotonic() if is_line else sent
+            wait = next_wait(library, student, piece)
+            # A whole line restarts the time. Only a part of PAUSE may be gone when the server begins to wait again.
+            if is_line and not LINE_TIME - PAUSE + 0.1 < wait <= LINE_TIME:
+                fail(f"outsiders: after a student's line the next one has {wait} seconds")
+            # A byte of the fourth line doesn't restart the time, which is counted from the third line.
+            pauses = number - LAST_LINE
+            left = LINE_TIME - (time.monotonic() - sent)
+            if not is_line and not left - 1 < wait <= LINE_TIME - pauses * PAUSE:
+                fail(f"outsiders: after byte {pauses} of a student's line its rest has {wait} seconds")
+            time.sleep(PAUSE)
         teacher = Caller(host.desk)
         if next_wait(library, teacher, hello("tess")) != 0:
-            fail("outsiders: at the desk a line has its time")
+            fail("outsiders: at the desk the time for a line is limited")
         ends(host, teacher)
 
 
@@ -561,7 +568,7 @@ def small_stacks(room: Path) -> None:
 
 
 TESTS: list[Test] = [
-    never_reads, ten_minutes, silent_ones, guessed_keys, refused_threads, comes_again, one_of_many, a_third, nobody_behind, journals,
+    never_reads, a_line_has_ten_minutes, silent_ones, guessed_keys, refused_threads, comes_again, one_of_many, a_third, nobody_behind, journals,
     limits_of_files, few, small_stacks,
     three_hellos, a_web_form, words_at_the_end, asks_after_the_bye,
     *byes.TESTS, *contested.TESTS, *crowded.TESTS, *segments.TESTS, *strangers.TESTS, *parting.TESTS, *edges.TESTS,

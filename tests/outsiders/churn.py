@@ -84,7 +84,7 @@ class Class:
 
     def address(self) -> tuple[str, ...]:
         """Returns the port and the path of the page, which the class prints."""
-        told = re.search(r"page http://127\.0\.0\.1:(\d+)(/[^/\s]+/)", "".join(self.printed))
+        told = re.search(r"page for the projector http://127\.0\.0\.1:(\d+)(/[^/\s]+/)", "".join(self.printed))
         return told.groups() if told else ()
 
     def type(self, line: str) -> None:

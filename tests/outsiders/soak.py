@@ -88,7 +88,7 @@ class Class:
         self.lines: list[str] = []
         self.is_ending, self.cut = False, list[str]()
         threading.Thread(target=self.read, daemon=True).start()
-        self.until(lambda: any(line.startswith("words: ") for line in self.lines))
+        self.until(lambda: any(line.startswith("commands: ") for line in self.lines))
         text = "\n".join(self.lines)
         self.port, self.desk = (int(re.findall(rf"(?m)^{word} (\d+)(?:,|$)", text)[0]) for word in ("port", "desk"))
 

@@ -45,8 +45,8 @@ def of_the_kit() -> Iterator[Copy]:
     yield "classroom.client.MOST", client.MOST, MOST["line"]
     yield "classroom.client.GREETING", client.GREETING, MOST["greeting"]
     yield "classroom.client.NEXT_LINE", client.NEXT_LINE, MOST["next-line"]
-    yield "classroom.client.LAST", client.LAST["late"], (f"a hello has to be granted within {WORDS[MOST['greeting']]} seconds, "
-                                                         f"and each next line has to come within {WORDS[MOST['next-line'] // 60]} minutes")
+    yield "classroom.client.LAST", client.LAST["late"], (f"no hello was granted within {WORDS[MOST['greeting']]} seconds, "
+                                                         f"or no line came within {WORDS[MOST['next-line'] // 60]} minutes")
     yield "classroom.door.passing.FIRST", passing.FIRST, MOST["greeting"]
     yield "the bytes of a line in docs/requests.schema.json", number_in("docs/requests.schema.json", r"with at most (\d+) bytes"), MOST["line"]
     yield "the greatest node in docs/replies.schema.json", number_in("docs/replies.schema.json", r'"maximum": (\d{3,})$'), MOST["identifier"]

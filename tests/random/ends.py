@@ -7,7 +7,7 @@ from typing import Any
 
 from model import Lab, Run, read_lab
 from model.world import Move, World
-from tests.random.labs import Link, Registers, complete, registers
+from tests.random.labs import Link, Registers, complete, drawn_registers
 
 Daemon = Callable[[Random, list[int]], list[int]]
 HELLOS = ['{"do":"hello","key":"s-key","name":"student"}', '{"do":"hello","key":"t-key","name":"teacher"}']
@@ -58,7 +58,7 @@ def drawn_lab(rng: Random, count: int) -> str:
     every = complete(rng, nodes)
     most = len(every) if rng.random() < 0.2 else min(len(every), 2 * count)
     links = rng.sample(every, rng.randint(0, most))
-    found = registers(rng, nodes, links)
+    found = drawn_registers(rng, nodes, links)
     for i in nodes:
         if rng.random() < 0.25:
             found.p[i], found.m[i] = None, True

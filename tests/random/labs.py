@@ -96,7 +96,7 @@ class Registers:
     m: dict[int, bool]
 
 
-def registers(rng: Random, nodes: list[int], links: list[Link]) -> Registers:
+def drawn_registers(rng: Random, nodes: list[int], links: list[Link]) -> Registers:
     """Returns registers as a fault may leave them: all null and false, or random pointers, some of them mutual."""
     near: dict[int, list[int]] = {i: [] for i in nodes}
     for a, b in links:
@@ -127,19 +127,20 @@ def quoted(text: str) -> str:
     return json.dumps(text)
 
 
-def node_line(rng: Random, i: int, owners: list[str], found: Registers) -> str:
+def node_line(rng: Random, i: int, owners: list[str], registers: Registers) -> str:
     """Returns the lines of node i in a lab's file. Registers that are null or false are left out, except sometimes a
     false."""
     is_short = len(owners) == 1 and rng.random() < 0.8
     owner = f"owner = {quoted(owners[0])}" if is_short else f"owners = {json.dumps(owners)}"
-    p = "" if found.p[i] is None else f", p = {found.p[i]}"
-    m = f", m = {json.dumps(found.m[i])}" if found.m[i] or rng.random() < 0.2 else ""
+    p = "" if registers.p[i] is None else f", p = {registers.p[i]}"
+    m = f", m = {json.dumps(registers.m[i])}" if registers.m[i] or rng.random() < 0.2 else ""
     return f"  {{ id = {i}, {owner}{p}{m} }},\n"
 
 
-def document(rng: Random, nodes: list[int], links: list[Link], found: Registers, events: int, sessions: int) -> str:
+def document(rng: Random, nodes: list[int], links: list[Link], registers: Registers, events: int, sessions: int) -> str:
     """Returns the text of a lab for a network with its registers, with random owners, names and keys."""
     people = list(dict.fromkeys(name(rng) for _ in range(rng.choice([2, 2, 3, 4, 6]))))
+    # If all names are the same, there is only the teacher. Then a student with another name is added.
     students = people[1:] or [people[0] + "x" if len(people[0]) < 32 else "x"]
     ends = [[a, b] if rng.random() < 0.5 else [b, a] for a, b in links]
     rng.shuffle(ends)
@@ -150,7 +151,7 @@ def document(rng: Random, nodes: list[int], links: list[Link], found: Registers,
     text += "]\nnode = [\n"
     for i in nodes:
         owners = rng.sample(students, min(len(students), rng.choice([1, 1, 1, 2])))
-        text += node_line(rng, i, owners, found)
+        text += node_line(rng, i, owners, registers)
     return text + "]\n"
 
 
@@ -159,4 +160,4 @@ def drawn_lab(rng: Random) -> str:
     nodes = identifiers(rng, size(rng))
     links = rng.choice(FAMILIES)(rng, nodes)
     events = rng.choice([1, 2, 5, 20, 100, 1000, 100000])
-    return document(rng, nodes, links, registers(rng, nodes, links), events, rng.randint(1, MOST["sessions"]))
+    return document(rng, nodes, links, drawn_registers(rng, nodes, links), events, rng.randint(1, MOST["sessions"]))

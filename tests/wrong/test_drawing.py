@@ -140,11 +140,14 @@ class Drawing(unittest.TestCase):
                 self.assertNotIn("ensures", pair.old)
                 self.assertNotIn("assert", pair.old)
 
-    def test_no_change_makes_a_line_of_another_body(self) -> None:
-        lines = ["fn no() -> bool {", "    false", "}", "fn yes() -> bool {", "    true && 1 < 2", "}"]
-        no, yes = bodies_of_file("src/lib.rt", lines)
+    def test_a_change_whose_new_line_is_in_another_body_is_left_out(self) -> None:
+        """Several bodies of a file may be changed at once, so no new line may be in the file already. Here the only
+        change of the body of `no` replaces `false` by `true`, but `yes` has this line. The three changes of the body of
+        `other` are possible, because no body has their new lines."""
+        lines = ["fn no() -> bool {", "    false", "}", "fn yes() -> bool {", "    true", "}", "fn other() -> bool {", "    1 < 2", "}"]
+        no, _, other = bodies_of_file("src/lib.rt", lines)
         self.assertEqual(drawing.candidates(no, lines, {}), [])
-        self.assertEqual(len(drawing.candidates(yes, lines, {})), 5)
+        self.assertEqual(len(drawing.candidates(other, lines, {})), 3)
 
     def test_who_is_no_program(self) -> None:
         plants = [plants[0] for plants in drawing.drawn_in("low", self.tree.folder("low"), random.Random(3))]

@@ -126,8 +126,8 @@ def with_those_below(crates: list[str]) -> set[str]:
 
 
 def share(crates: set[str], pattern: str) -> float:
-    """Returns the share that the files of these crates which match a pattern have in those of all crates, by size.
-    Returns 1 if there are no crates or no such files."""
+    """Takes the files of all crates that match a pattern, and returns what share of their bytes is in these crates.
+    Returns 1 if no crates are given, or if no file matches."""
     sizes = {it: sum(file.stat().st_size for file in (TOP / "crates" / it).glob(pattern)) for it in uses()}
     whole = sum(sizes.values())
     return sum(sizes[it] for it in crates) / whole if crates and whole else 1.0

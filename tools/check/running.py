@@ -56,13 +56,13 @@ class Running:
         wanted = self.part.hands_on
         return [it[1] for line in lines if wanted and (it := re.search(wanted, line))]
 
-    def send_words(self, words: list[str], is_all: bool = False) -> None:
-        """Writes words to the standard input of a part that runs beside, if it still reads. If `is_all` is set, closes
+    def send_words(self, words: list[str], is_last: bool = False) -> None:
+        """Writes words to the standard input of a part that runs beside, if it still reads. If `is_last` is set, closes
         that input after them. Does nothing for any other part."""
         if self.process.stdin:
             with contextlib.suppress(BrokenPipeError):
                 self.process.stdin.write("".join(f"{it}\n" for it in words).encode())
-            if is_all:
+            if is_last:
                 self.process.stdin.close()
                 self.process.stdin = None
 
@@ -110,19 +110,19 @@ class Crew:
             if pid in self.running:
                 it = self.running.pop(pid)
                 it.process.returncode = os.waitstatus_to_exitcode(status)
-                self.show(it, is_all=bool(it.part.hands_on))
-                it.send_words([], is_all=True)
+                self.show(it, is_last=bool(it.part.hands_on))
+                it.send_words([], is_last=True)
                 text = it.output.read_text(encoding="utf-8", errors="replace")
                 minutes = (used.ru_utime + used.ru_stime) / 60
                 yield Done(it.part, it.process.returncode, time.monotonic() - it.begun, minutes, text)
 
-    def show(self, of: Running, is_all: bool = False) -> None:
-        """Prints the new lines of the running part `of` that are to be shown, and sends the words in them to the parts
-        that run beside. If `is_all` is set, these are the last words that these parts get."""
+    def show(self, of: Running, is_last: bool = False) -> None:
+        """Prints those new lines of the running part `of` that match its `shows`. Sends what matches its `hands_on` in the
+        new lines to the parts that run beside. If `is_last` is set, closes their inputs after that."""
         words = of.show()
         for it in self.running.values():
-            if words or is_all:
-                it.send_words(words, is_all)
+            if words or is_last:
+                it.send_words(words, is_last)
 
     def run(self, parts: list[Part]) -> Iterator[Done]:
         """Runs parts to their ends, and yields each as it ends. Whenever processors are free, the first part that fits

@@ -178,7 +178,8 @@ def ask_all(tree: Tree, drawn: list[list[Plant]]) -> Iterator[tuple[Plant, str]]
     running, kept = Running(), find_name(tree)
 
     def verdicts(crate: str) -> list[tuple[Plant, str]]:
-        # Returns one plant for each function of the crate that has drawn ones, with the verdict on it.
+        """For each function of the crate for which plants were drawn, returns one of these plants and the prover's
+        verdict on it."""
         return [*asked(tree, crate, [plants for plants in drawn if plants[0].crate == crate], kept, running)]
 
     with ThreadPoolExecutor(lane_count(None)) as pool:

@@ -5,6 +5,7 @@ from __future__ import annotations
 
 import ctypes
 import os
+import resource
 import signal
 import socket
 import subprocess
@@ -199,6 +200,13 @@ def eats_memory() -> None:
         time.sleep(0.01)
 
 
+def computes() -> None:
+    """Uses processor time until the system ends it. The bot lowers its limit to a second, so that this happens soon."""
+    resource.setrlimit(resource.RLIMIT_CPU, (1, resource.getrlimit(resource.RLIMIT_CPU)[1]))
+    while True:
+        pass
+
+
 def pretends() -> None:
     """Prints what looks like a reply."""
     while True:
@@ -361,6 +369,7 @@ FAULTS = {
     "leaves": leaves,
     "bombs": bombs,
     "eats-memory": eats_memory,
+    "computes": computes,
     "pretends": pretends,
     "swaps-output": swaps_output,
     "halts": halts,
