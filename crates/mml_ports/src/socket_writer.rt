@@ -82,8 +82,10 @@ impl<'a, Rt: Clock + Wait + Eprint> SocketWriter<'a, Rt> {
         }
     }
 
-    // Waits until the turn of a denial. In the last half second before it, returns early if another thread ends the
-    // connection. Returns an error if the clock fails.
+    // Waits until the turn of a denial, in two parts. In the second part, the last half second, another thread can end
+    // the wait by ending the connection: then the port keeps the denial, and sends it at its turn (`postpone_denial`).
+    // In the first part no thread can end the wait. So the port never keeps a denial for longer than half a second.
+    // Returns an error if the clock fails.
     fn wait_for_turn(&self, turn: Instant) -> io::Result<()> {
         let rt = self.connection.rt;
         let wait = turn.duration_since(Instant::now(rt)?);

@@ -237,47 +237,46 @@ fn story_of_changes() -> [Part; 5] {
     ]
 }
 
-/// Applies the events of a story to a board, and returns whether the board's text is right after each. Continues after
-/// a wrong text, since another story may follow on the same board.
-fn is_story_told(alloc: Global, board: &mut Board, story: &[Part]) -> Result<bool, AllocError> {
-    let mut is_told = true;
+/// Applies the events of a story to a board, one after another. Returns whether after each event the text of the board
+/// was the one that the story expects. Continues after a wrong text, since another story may follow on the same board.
+fn play_story(alloc: Global, board: &mut Board, story: &[Part]) -> Result<bool, AllocError> {
+    let mut is_right = true;
     for (event, expected) in story {
         if let Some(event) = event {
             board.absorb_event(event);
         }
-        let told = board_text(alloc, board, false)?;
-        if told.as_str() != *expected {
-            is_told = false;
+        let text = board_text(alloc, board, false)?;
+        if text.as_str() != *expected {
+            is_right = false;
         }
     }
-    Ok(is_told)
+    Ok(is_right)
 }
 
-/// Applies `story_of_moves` and then `story_of_changes` to a board. Returns for each whether all texts were right.
-fn are_stories_told(alloc: Global, board: &mut Board) -> Result<(bool, bool), Fail> {
-    let moved = is_story_told(alloc, board, &story_of_moves())?;
-    let changed = is_story_told(alloc, board, &story_of_changes())?;
-    Ok((moved, changed))
+/// Plays `story_of_moves` on a board, and then `story_of_changes`. Returns for each of the two stories whether all texts
+/// of the board were the expected ones.
+fn play_both_stories(alloc: Global, board: &mut Board) -> Result<(bool, bool), Fail> {
+    let moves_are_right = play_story(alloc, board, &story_of_moves())?;
+    let changes_are_right = play_story(alloc, board, &story_of_changes())?;
+    Ok((moves_are_right, changes_are_right))
 }
 
-/// Applies `story_of_moves` and then `story_of_changes` to the first board of a lab. Returns for each whether all texts
-/// were right.
-fn are_stories_of_lab_told(alloc: Global, lab: &Lab) -> Result<(bool, bool), Fail> {
+/// Plays both stories on a new board of a lab, and returns what `play_both_stories` returns.
+fn play_both_stories_in(alloc: Global, lab: &Lab) -> Result<(bool, bool), Fail> {
     let mut board = boxed_board(alloc, lab)?;
-    are_stories_told(alloc, &mut board)
+    play_both_stories(alloc, &mut board)
 }
 
-/// Applies `story_of_moves` and then `story_of_changes` to the first board of the path of three. Returns for each
-/// whether all texts were right.
-fn are_stories_of_path_told(alloc: Global) -> Result<(bool, bool), Fail> {
+/// Plays both stories on a new board of the lab `PATH_OF_THREE`, and returns what `play_both_stories` returns.
+fn play_both_stories_on_the_path(alloc: Global) -> Result<(bool, bool), Fail> {
     let lab = boxed_lab(alloc, PATH_OF_THREE)?;
-    are_stories_of_lab_told(alloc, &lab)
+    play_both_stories_in(alloc, &lab)
 }
 
 /// Checks that a board is right after each event of `story_of_moves` and `story_of_changes`, whose texts were worked
 /// out by hand, and that illegal events don't change it.
 #[test]
 fn events_in_a_row_of_three(rt: HostRuntime) -> Result<(), Fail> {
-    assert_eq!(rt; are_stories_of_path_told(rt.alloc())?, (true, true));
+    assert_eq!(rt; play_both_stories_on_the_path(rt.alloc())?, (true, true));
     Ok(())
 }
