@@ -20,7 +20,7 @@ TABLE = Path(__file__).parent / "kept" / "lines.txt"
 SOURCES = (
     "classroom/**/*.py", "classroom/pages/*.html", "classroom/pages/*.js", "examples/*.py", "examples/bot.*", "examples/Bot.java",
     "student/*.py", "crates/mml_board/src/denial.rt", "crates/mml_program/src/*.rt", "crates/mml_host_program/src/*.rt",
-    "crates/mml_judging_program/src/*.rt", "crates/mml_ports/src/*.rt", "crates/mml_recording/src/*.rt", "crates/mml_serving/src/*.rt",
+    "crates/mml_host_program/src/judging/*.rt", "crates/mml_ports/src/*.rt", "crates/mml_recording/src/*.rt", "crates/mml_serving/src/*.rt",
 )
 NO_SOURCES = ("classroom/setup/word_list.py", "crates/mml_program/src/built_in.rt")
 NOT_LINES = ("add_argument", "add_parser", "compile", "fullmatch", "match", "search", "sub", "findall", "strftime")  # calls

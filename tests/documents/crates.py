@@ -28,9 +28,8 @@ FOLDERS = {
     "mml_resuming": ["resume"],
     "mml_program": ["program"],
     "mml_server": ["program"],
-    "mml_judging_program": ["tally", "record"],
     "mml_ports": ["host", "outsiders"],
-    "mml_host_program": ["host", "resume"],
+    "mml_host_program": ["host", "resume", "tally", "record"],
     "mml_host": ["program", "host", "hostile"],
 }
 COLUMNS, WIDTH, HEIGHT, GAP, MARGIN = 4, 232, 44, 8, 16

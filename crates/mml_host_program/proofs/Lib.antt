@@ -1,2 +1,4 @@
-mod WordsLemmas
+mod PortsLemmas
 pub mod TellingLemmas
+pub mod TallyLemmas
+pub mod ClassLemmas

@@ -1,5 +1,10 @@
 pub mod Faults
+pub mod Refusals
 pub mod Limits
 pub mod Telling
+pub mod Ports
 pub mod Words
 pub mod Classes
+pub mod Tallies
+pub mod Verifying
+pub mod Judging

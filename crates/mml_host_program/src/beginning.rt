@@ -5,7 +5,7 @@ ghost use Rattle.mml_journal.specs.Taken.{IsFresh};
 ghost use Rattle.mml_host_program.specs.Telling.{EndsWell, ports_line, TellsClass};
 
 use crate::class::{Ready, without_log};
-use crate::fault::ServerFault;
+use crate::fault::Fault;
 use crate::socket_class::SocketClass;
 use crate::system::System;
 use mml_hosting::{Hosted, serve_host};
@@ -17,17 +17,17 @@ use mml_session::Observer;
 use mml_window::Log;
 use std::alloc::Global;
 use std::io::Write;
-use std::net::{Net, TcpListener, TcpStream};
 use std::sync::Wait;
 
 impl<C: Observer + Send + Drop> Ready<C> {
     /// Serves a new class with a new host state. Granted events go to the journal's `sink`. Returns the reason if the
     /// class can't begin, or fails. If a session ran out of memory, returns that error after the last line.
-    pub(crate) fn start<
-        R: System + Net<Listener = TcpListener, Stream = TcpStream> + Sync,
-        S: Sink + Send + Drop,
-        W: Write,
-    >(self, rt: &R, sink: S, writer: &mut W) -> Result<(), ServerFault>
+    pub(crate) fn start<R: System, S: Sink + Send + Drop, W: Write>(
+        self,
+        rt: &R,
+        sink: S,
+        writer: &mut W,
+    ) -> Result<(), Fault>
         requires fresh { IsFresh (S.contents sink) }
         requires countable { S.failures sink < 2 ^ 64 - 1 }
         requires as_many { length self.observers.others.items + 1 ≡ self.lab.sessions }
@@ -42,12 +42,13 @@ impl<C: Observer + Send + Drop> Ready<C> {
     // Serves a new class in the host state `state`: writes the first line, serves the connections, and writes the last
     // line. Granted events go to the journal's `sink`. Returns the log whose events the last line counts. Returns the
     // reason if the class can't begin, or fails. If a session ran out of memory, that is only noted in the state.
-    fn begin<
-        'a,
-        R: System + Net<Listener = TcpListener, Stream = TcpStream> + Sync,
-        S: Sink + Send + Drop,
-        W: Write,
-    >(self, rt: &'a R, sink: S, state: &'a HostState, writer: &mut W) -> Result<Log<S>, ServerFault>
+    fn begin<'a, R: System, S: Sink + Send + Drop, W: Write>(
+        self,
+        rt: &'a R,
+        sink: S,
+        state: &'a HostState,
+        writer: &mut W,
+    ) -> Result<Log<S>, Fault>
         requires fresh { IsFresh (S.contents sink) }
         requires countable { S.failures sink < 2 ^ 64 - 1 }
         requires as_many { length self.observers.others.items + 1 ≡ self.lab.sessions }
@@ -70,19 +71,14 @@ impl<C: Observer + Send + Drop> Ready<C> {
 
     // Serves the connections with this host state and bell until the class is over, and writes the last line. Returns
     // the log. If a session ran out of memory, that is only noted in the state.
-    fn serve_to_the_end<
-        'a,
-        R: System + Net<Listener = TcpListener, Stream = TcpStream> + Sync,
-        S: Sink + Send + Drop,
-        W: Write,
-    >(
+    fn serve_to_the_end<'a, R: System, S: Sink + Send + Drop, W: Write>(
         self,
         rt: &'a R,
         sink: S,
         state: &'a HostState,
         bell: &EndBell<'a, R>,
         writer: &mut W,
-    ) -> Result<Log<S>, ServerFault>
+    ) -> Result<Log<S>, Fault>
         requires fresh { IsFresh (S.contents sink) }
         requires countable { S.failures sink < 2 ^ 64 - 1 }
         requires as_many { length self.observers.others.items + 1 ≡ self.lab.sessions }
@@ -103,7 +99,7 @@ impl<C: Observer + Send + Drop> Ready<C> {
         );
         match served {
             Ok(house) => Ok(log_of(house)),
-            Err(fault) => Err(ServerFault::from(fault)),
+            Err(fault) => Err(Fault::from(fault)),
         }
     }
 }
@@ -115,7 +111,7 @@ fn announce<'a, R: AllocGlobal, W: Write>(
     state: &'a HostState,
     ports: &Ports,
     writer: &mut W,
-) -> Result<EndBell<'a, R>, ServerFault>
+) -> Result<EndBell<'a, R>, Fault>
     ensures { OnOk result (Appends (W.contents writer.old) (W.contents writer.new)
         (ports_line ports.now.port ports.now.desk)) }
 {
@@ -126,12 +122,12 @@ fn announce<'a, R: AllocGlobal, W: Write>(
 /// Returns the error of a class that was `served`, or else `Memory` if the host's state notes that memory ran out, and
 /// otherwise `Ok`.
 pub(crate) fn told_memory<R: Wait>(
-    served: Result<(), ServerFault>,
+    served: Result<(), Fault>,
     rt: &R,
     state: &HostState,
-) -> Result<(), ServerFault> {
+) -> Result<(), Fault> {
     if served.is_ok() && state.lacked_memory(rt) {
-        Err(ServerFault::Common(ProgramFault::Memory))
+        Err(Fault::Common(ProgramFault::Memory))
     } else {
         served
     }

@@ -3,7 +3,7 @@ ghost use Rattle.std.specs.Prelude.{◌≡◌, ◌+◌, IsOk, OnOk, length};
 ghost use Rattle.std.specs.Thread.{IsSync, IsSend};
 ghost use Rattle.mml_host_program.specs.Classes.{IsAuditedIn};
 
-use crate::fault::{ServerFault, of_record};
+use crate::fault::{Fault, of_record};
 use crate::journal_watch::{JournalWatch, Look, WatchedSink};
 use crate::system::System;
 use mml_ends::Retrying;
@@ -20,7 +20,6 @@ use mml_window::Log;
 use std::fs::File;
 use std::io::Write;
 use std::marker::Model;
-use std::net::{Net, TcpListener, TcpStream};
 use std::rt::Files;
 use std::{io, thread};
 
@@ -113,10 +112,12 @@ pub(crate) struct Ready<C: Drop> {
 /// Serves a class until it is over. Records it if there is a folder. If the class's journal is a plain file, lets `eye`
 /// check that file meanwhile. Returns the reason if the class can't begin or be resumed, fails, isn't recorded
 /// completely, or lost its journal's file.
-pub(crate) fn serve_class<
-    R: System + Files<File = File> + Net<Listener = TcpListener, Stream = TcpStream> + Sync,
-    L: Look + Sync,
->(rt: &R, class: Class<'_>, folder: Option<RecordFolder>, eye: &L) -> Result<(), ServerFault> {
+pub(crate) fn serve_class<R: System + Files<File = File>, L: Look + Sync>(
+    rt: &R,
+    class: Class<'_>,
+    folder: Option<RecordFolder>,
+    eye: &L,
+) -> Result<(), Fault> {
     match class.watch() {
         Some(watch) => serve_watched(rt, class, folder, watch, eye),
         None => serve_recorded(rt, class, folder),
@@ -125,20 +126,17 @@ pub(crate) fn serve_class<
 
 // Serves a class, while another thread watches the journal's file. If no thread can be started, checks the file once,
 // at the end. Returns the error of the class, or else a journal fault if the file was lost.
-fn serve_watched<
-    R: System + Files<File = File> + Net<Listener = TcpListener, Stream = TcpStream> + Sync,
-    L: Look + Sync,
->(
+fn serve_watched<R: System + Files<File = File>, L: Look + Sync>(
     rt: &R,
     class: Class<'_>,
     folder: Option<RecordFolder>,
     watch: &JournalWatch<'_>,
     eye: &L,
-) -> Result<(), ServerFault> {
+) -> Result<(), Fault> {
     thread::scope(
         thread::scope_env(),
         rt,
-        |scope| -> Result<(), ServerFault>
+        |scope| -> Result<(), Fault>
             requires { IsSync R.row × IsSync L.row }
         {
             let is_watched = scope.spawn(move || watch.look_until_over(rt, eye)).is_ok();
@@ -154,9 +152,11 @@ fn serve_watched<
 }
 
 // Serves a class, and records it if there is a folder.
-fn serve_recorded<
-    R: System + Files<File = File> + Net<Listener = TcpListener, Stream = TcpStream> + Sync,
->(rt: &R, class: Class<'_>, folder: Option<RecordFolder>) -> Result<(), ServerFault> {
+fn serve_recorded<R: System + Files<File = File>>(
+    rt: &R,
+    class: Class<'_>,
+    folder: Option<RecordFolder>,
+) -> Result<(), Fault> {
     match folder {
         Some(folder) => serve_in_folder(rt, class, folder),
         None => serve_unrecorded(rt, class),
@@ -164,23 +164,23 @@ fn serve_recorded<
 }
 
 // Serves a class without recording it.
-fn serve_unrecorded<
-    R: System + Files<File = File> + Net<Listener = TcpListener, Stream = TcpStream> + Sync,
->(rt: &R, class: Class<'_>) -> Result<(), ServerFault> {
+fn serve_unrecorded<R: System + Files<File = File>>(rt: &R, class: Class<'_>) -> Result<(), Fault> {
     match no_observers(rt.alloc(), class.lab()) {
         Ok(observers) => serve_ports(rt, class, observers),
         Err(memory) => {
             drop(class);
-            Err(ServerFault::from(memory))
+            Err(Fault::from(memory))
         }
     }
 }
 
 // Serves a class, and records it in this folder. Returns the error of the class, or else `Unrecorded` if something
 // couldn't be recorded.
-fn serve_in_folder<
-    R: System + Files<File = File> + Net<Listener = TcpListener, Stream = TcpStream> + Sync,
->(rt: &R, class: Class<'_>, folder: RecordFolder) -> Result<(), ServerFault> {
+fn serve_in_folder<R: System + Files<File = File>>(
+    rt: &R,
+    class: Class<'_>,
+    folder: RecordFolder,
+) -> Result<(), Fault> {
     match RecordState::new(rt.alloc(), class.lab()) {
         Ok(state) => {
             let told = told_whole(serve_seats(rt, class, folder, &state), &state);
@@ -197,9 +197,12 @@ fn serve_in_folder<
 
 // Opens the file of each seat in the folder, and serves a class that is recorded there. Returns an error if a file
 // can't be opened, or the class fails.
-fn serve_seats<
-    R: System + Files<File = File> + Net<Listener = TcpListener, Stream = TcpStream> + Sync,
->(rt: &R, class: Class<'_>, folder: RecordFolder, state: &RecordState) -> Result<(), ServerFault> {
+fn serve_seats<R: System + Files<File = File>>(
+    rt: &R,
+    class: Class<'_>,
+    folder: RecordFolder,
+    state: &RecordState,
+) -> Result<(), Fault> {
     match folder.open_seats(rt, class.lab(), state) {
         Ok(Seats { recorders, files }) => {
             let served = serve_synced(rt, class, recorders, files.as_slice(), state);
@@ -217,22 +220,19 @@ fn serve_seats<
 
 // Serves a class, while another thread syncs the files of its record. If no thread can be started, syncs them once, at
 // the end. Returns the error of the class.
-fn serve_synced<
-    R: System + Files<File = File> + Net<Listener = TcpListener, Stream = TcpStream> + Sync,
-    C: Observer + Send + Drop,
->(
+fn serve_synced<R: System + Files<File = File>, C: Observer + Send + Drop>(
     rt: &R,
     class: Class<'_>,
     observers: Observers<C>,
     files: &[File],
     state: &RecordState,
-) -> Result<(), ServerFault>
+) -> Result<(), Fault>
     requires as_many { length observers.others.items + 1 ≡ class }
 {
     thread::scope(
         thread::scope_env(),
         rt,
-        |scope| -> Result<(), ServerFault>
+        |scope| -> Result<(), Fault>
             requires { IsSync R.row × IsSend C.row × (length observers.others.items + 1 ≡ class) }
         {
             let is_synced = scope
@@ -247,9 +247,9 @@ fn serve_synced<
 
 // Returns the error of a class that was `served`, or else `Unrecorded` if a write to the record or a sync of its files
 // has failed, and otherwise `Ok`.
-fn told_whole(served: Result<(), ServerFault>, state: &RecordState) -> Result<(), ServerFault> {
+fn told_whole(served: Result<(), Fault>, state: &RecordState) -> Result<(), Fault> {
     if served.is_ok() && state.has_failed() {
-        Err(ServerFault::Unrecorded)
+        Err(Fault::Unrecorded)
     } else {
         served
     }
@@ -257,10 +257,11 @@ fn told_whole(served: Result<(), ServerFault>, state: &RecordState) -> Result<()
 
 // Serves a class until it is over, and writes the host's lines to standard output: the ports, the state after an
 // earlier journal, and the end. If a write ran out of memory, returns `Memory` instead of any other error.
-fn serve_ports<
-    R: System + Files<File = File> + Net<Listener = TcpListener, Stream = TcpStream> + Sync,
-    C: Observer + Send + Drop,
->(rt: &R, class: Class<'_>, observers: Observers<C>) -> Result<(), ServerFault>
+fn serve_ports<R: System + Files<File = File>, C: Observer + Send + Drop>(
+    rt: &R,
+    class: Class<'_>,
+    observers: Observers<C>,
+) -> Result<(), Fault>
     requires as_many { length observers.others.items + 1 ≡ class }
 {
     let mut writer = Retrying::new(io::writer(rt));
@@ -272,11 +273,12 @@ fn serve_ports<
 
 // Serves a class at its ports with its kind of journal: none, a plain file that is synced and watched, a file that
 // can't be synced, or the journal from which the class is resumed.
-fn serve_journaled<
-    R: System + Files<File = File> + Net<Listener = TcpListener, Stream = TcpStream> + Sync,
-    C: Observer + Send + Drop,
-    W: Write,
->(rt: &R, class: Class<'_>, observers: Observers<C>, writer: &mut W) -> Result<(), ServerFault>
+fn serve_journaled<R: System + Files<File = File>, C: Observer + Send + Drop, W: Write>(
+    rt: &R,
+    class: Class<'_>,
+    observers: Observers<C>,
+    writer: &mut W,
+) -> Result<(), Fault>
     requires as_many { length observers.others.items + 1 ≡ class }
 {
     let Class {
@@ -300,7 +302,7 @@ fn serve_journaled<
 }
 
 /// Drops the log of a class that has ended well. Returns `Ok`, or the error if the class failed.
-pub(crate) fn without_log<S: Drop>(ended: Result<Log<S>, ServerFault>) -> Result<(), ServerFault>
+pub(crate) fn without_log<S: Drop>(ended: Result<Log<S>, Fault>) -> Result<(), Fault>
     ensures { OnOk result (IsOk ended) }
 {
     match ended {

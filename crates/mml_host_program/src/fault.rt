@@ -1,8 +1,9 @@
-//! Errors that end the host early: one line on standard error and a status.
+//! Errors that end the program early: one line on standard error and a status.
 ghost use Rattle.std.specs.Prelude.{◌≡◌};
 ghost use Rattle.mml_program.specs.Faults.{of_journal_file};
-ghost use Rattle.mml_host_program.specs.Faults.{of_record};
+ghost use Rattle.mml_host_program.specs.Faults.{exit_status, of_record};
 
+use crate::judging::RecordRefusal;
 use mml_files::FileFault;
 use mml_hosting::HostFault;
 use mml_ids::Memory;
@@ -11,11 +12,11 @@ use mml_program::Fault as ProgramFault;
 use mml_resuming::ResumeFault;
 use thiserror::Error;
 
-/// Why the host ended before its work was done.
+/// Why the program ended before its work was done.
 #[derive(Debug, Drop, Error)]
-pub enum ServerFault {
-    /// An error that commands of `mml_program` have too. Such an error concerns the command line, the lab, the journal
-    /// or the output, or says that memory ran out.
+pub enum Fault {
+    /// An error that commands of `mml_program` have too. Such an error concerns the command line, the lab, the script, the
+    /// journal or the output, or says that memory ran out.
     #[error("{0}")]
     Common(ProgramFault),
     /// The host can't listen on a port.
@@ -42,103 +43,110 @@ pub enum ServerFault {
     /// The record's folder can't be made, kept or continued, or an entry wasn't written whole.
     #[error("record fault")]
     Unrecorded,
+    /// The record isn't one of this lab and this journal.
+    #[error("verify: {0}")]
+    Record(RecordRefusal),
+    /// A file of the record can't be opened or read, or is too large.
+    #[error("read fault: record")]
+    ReadRecord,
 }
 
-impl ServerFault {
-    /// Returns the exit status of the error: 2 if the lab is another one; 4 if a port or the record failed, or the
-    /// places don't fit the events; 5 if a window, files or threads are missing. An error of `mml_program` has the
-    /// same status as there.
-    pub fn status(&self) -> u8 {
+impl Fault {
+    /// Returns the exit status of the error: 2 if the lab is another one; 3 if the record is refused; 4 if the record can't
+    /// be read, a port or the record failed, or the places don't fit the events; 5 if a window, files or threads are
+    /// missing. An error of `mml_program` has the same status as there.
+    pub fn status(&self) -> u8
+        ensures { result ≡ exit_status self.now }
+    {
         match self {
-            ServerFault::Common(fault) => fault.status(),
-            ServerFault::AnotherLab => 2,
-            ServerFault::Listen
-            | ServerFault::Accept
-            | ServerFault::Astray
-            | ServerFault::Unrecorded => 4,
-            ServerFault::Place | ServerFault::FewFiles | ServerFault::FewThreads => 5,
+            Fault::Common(fault) => fault.status(),
+            Fault::AnotherLab => 2,
+            Fault::Record(_) => 3,
+            Fault::Listen | Fault::Accept | Fault::Astray | Fault::Unrecorded | Fault::ReadRecord =>
+                4,
+            Fault::Place | Fault::FewFiles | Fault::FewThreads => 5,
         }
     }
 }
 
-impl From<ProgramFault> for ServerFault {
-    ghost use Rattle.mml_host_program.specs.declared.fault.ServerFault.TheVariants.{Common};
+impl From<ProgramFault> for Fault {
+    ghost use Rattle.mml_host_program.specs.declared.fault.Fault.TheVariants.{Common};
 
     ghost from_gives = { λ fault e. e ≡ Common fault };
 
     // Wraps an error of `mml_program`.
-    fn from(fault: ProgramFault) -> ServerFault {
-        ServerFault::Common(fault)
+    fn from(fault: ProgramFault) -> Fault {
+        Fault::Common(fault)
     }
 }
 
-impl From<ListenFault> for ServerFault {
+impl From<ListenFault> for Fault {
     // Turns the fault of a port into the host's error: `Memory` if memory ran out, and otherwise `Listen`.
-    fn from(fault: ListenFault) -> ServerFault {
+    fn from(fault: ListenFault) -> Fault {
         match fault {
-            ListenFault::Refused => ServerFault::Listen,
-            ListenFault::Memory => ServerFault::Common(ProgramFault::Memory),
+            ListenFault::Refused => Fault::Listen,
+            ListenFault::Memory => Fault::Common(ProgramFault::Memory),
         }
     }
 }
 
 /// Returns the host's error for the fault of a journal's file: a journal fault, or `Memory`.
-pub(crate) fn of_journal(fault: FileFault) -> ServerFault
-    ensures { result ≡ ServerFault.Common (of_journal_file fault) }
+pub(crate) fn of_journal(fault: FileFault) -> Fault
+    ensures { result ≡ Fault.Common (of_journal_file fault) }
 {
-    ServerFault::Common(ProgramFault::from(fault))
+    Fault::Common(ProgramFault::from(fault))
 }
 
 /// Returns the host's error for the fault of a record's folder, or of a file in it: `Unrecorded`, or `Memory`.
-pub(crate) fn of_record(fault: FileFault) -> ServerFault
+pub(crate) fn of_record(fault: FileFault) -> Fault
     ensures { result ≡ of_record fault }
 {
     match fault {
-        FileFault::Refused => ServerFault::Unrecorded,
-        FileFault::Memory => ServerFault::Common(ProgramFault::Memory),
+        FileFault::Refused => Fault::Unrecorded,
+        FileFault::Memory => Fault::Common(ProgramFault::Memory),
     }
 }
 
-impl From<Memory> for ServerFault {
+impl From<Memory> for Fault {
     // Turns memory that ran out into the same error as in `mml_program`.
-    fn from(_memory: Memory) -> ServerFault
-        ensures { result ≡ ServerFault.Common ProgramFault.Memory }
+    fn from(_memory: Memory) -> Fault
+        ensures { result ≡ Fault.Common ProgramFault.Memory }
     {
-        ServerFault::Common(ProgramFault::Memory)
+        Fault::Common(ProgramFault::Memory)
     }
 }
 
-impl From<ResumeFault> for ServerFault {
+impl From<ResumeFault> for Fault {
     ghost use Rattle.mml_host_program.specs.Faults.{IsToldAs};
 
     ghost from_gives = { IsToldAs };
 
     // Turns the reason why a class wasn't resumed into the host's error: the audit's error, `Memory`, a journal fault
     // if the journal couldn't be cut, or the error of serving the class.
-    fn from(fault: ResumeFault) -> ServerFault {
+    fn from(fault: ResumeFault) -> Fault {
         match fault {
-            ResumeFault::Refused(why) => ServerFault::Common(ProgramFault::from(why)),
-            ResumeFault::Memory => ServerFault::Common(ProgramFault::Memory),
-            ResumeFault::Store => ServerFault::Common(ProgramFault::Journal),
-            ResumeFault::Host(fault) => ServerFault::from(fault),
+            ResumeFault::Refused(why) => Fault::Common(ProgramFault::from(why)),
+            ResumeFault::Memory => Fault::Common(ProgramFault::Memory),
+            ResumeFault::Store => Fault::Common(ProgramFault::Journal),
+            ResumeFault::Host(fault) => Fault::from(fault),
         }
     }
 }
 
-impl From<HostFault> for ServerFault {
+impl From<HostFault> for Fault {
     ghost use Rattle.mml_host_program.specs.Faults.{of_hosting};
 
     ghost from_gives = { λ fault e. e ≡ of_hosting fault };
 
     // Turns the reason why serving a class failed into the host's error. A halted journal becomes a journal fault.
-    fn from(fault: HostFault) -> ServerFault {
+    fn from(fault: HostFault) -> Fault {
         match fault {
-            HostFault::Memory => ServerFault::Common(ProgramFault::Memory),
-            HostFault::Place => ServerFault::Place,
-            HostFault::Undismissed => ServerFault::Accept,
-            HostFault::Astray => ServerFault::Astray,
-            HostFault::Halted => ServerFault::Common(ProgramFault::Journal),
-            HostFault::Write => ServerFault::Common(ProgramFault::Write),
+            HostFault::Memory => Fault::Common(ProgramFault::Memory),
+            HostFault::Place => Fault::Place,
+            HostFault::Undismissed => Fault::Accept,
+            HostFault::Astray => Fault::Astray,
+            HostFault::Halted => Fault::Common(ProgramFault::Journal),
+            HostFault::Write => Fault::Common(ProgramFault::Write),
         }
     }
 }

@@ -16,15 +16,6 @@ use std::alloc::Global;
 use std::io;
 use std::io::Write;
 
-/// Returns whether the command line is the subcommand `limits`, with nothing more. The first word is the program's
-/// name.
-pub fn is_for_limits(words: &[String]) -> bool {
-    match words.get(1) {
-        Some(word) => words.len() == 2 && word.as_str() == "limits",
-        None => false,
-    }
-}
-
 /// Prints the table of limits on standard output, one line for each limit: its name, the greatest value that is
 /// allowed, and its unit. Returns an error if the write fails, or memory runs out.
 pub fn print_limits<R: Print + AllocGlobal>(rt: &R) -> Result<(), ProgramFault> {

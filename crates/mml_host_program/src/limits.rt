@@ -1,5 +1,5 @@
 //! The check of the system's limits before a class begins.
-use crate::fault::ServerFault;
+use crate::fault::Fault;
 use mml_program::Fault as ProgramFault;
 use std::alloc::Global;
 use std::fs::File;
@@ -23,26 +23,26 @@ const THREADS: usize = 4;
 pub fn look_at_limits<R: Files<File = File> + Threads + Wait + Sync>(
     rt: &R,
     alloc: Global,
-) -> Result<(), ServerFault> {
+) -> Result<(), Fault> {
     let mut held = Vec::new(alloc);
     for _ in 0..FILES {
         match fs::open(rt, "/dev/null") {
             Ok(file) => {
                 if held.push(file).is_err() {
-                    return Err(ServerFault::Common(ProgramFault::Memory));
+                    return Err(Fault::Common(ProgramFault::Memory));
                 }
             }
             Err(error) if error.kind() == ErrorKind::OutOfMemory => {
-                return Err(ServerFault::Common(ProgramFault::Memory));
+                return Err(Fault::Common(ProgramFault::Memory));
             }
-            Err(_) => return Err(ServerFault::FewFiles),
+            Err(_) => return Err(Fault::FewFiles),
         }
     }
     drop(held);
     if has_threads(rt) {
         Ok(())
     } else {
-        Err(ServerFault::FewThreads)
+        Err(Fault::FewThreads)
     }
 }
 

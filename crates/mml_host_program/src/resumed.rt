@@ -5,7 +5,7 @@ ghost use Rattle.mml_host_program.specs.Telling.{ports_line, TellsResumed};
 
 use crate::beginning::{log_of, told_memory, write_listening};
 use crate::class::{Past, Ready, without_log};
-use crate::fault::ServerFault;
+use crate::fault::Fault;
 use crate::journal_watch::WatchedSink;
 use crate::old_file::OldFile;
 use crate::socket_class::SocketClass;
@@ -19,16 +19,17 @@ use mml_window::Log;
 use std::alloc::Global;
 use std::fs::File;
 use std::io::Write;
-use std::net::{Net, TcpListener, TcpStream};
 use std::rt::Files;
 
 impl<C: Observer + Send + Drop> Ready<C> {
     /// Serves a class that is resumed from the journal `past`, with a new host state. Returns the reason if the class
     /// isn't resumed, or fails. If a session ran out of memory, returns that error after the last line.
-    pub(crate) fn resume<
-        R: System + Files<File = File> + Net<Listener = TcpListener, Stream = TcpStream> + Sync,
-        W: Write,
-    >(self, rt: &R, past: Past<'_>, writer: &mut W) -> Result<(), ServerFault>
+    pub(crate) fn resume<R: System + Files<File = File>, W: Write>(
+        self,
+        rt: &R,
+        past: Past<'_>,
+        writer: &mut W,
+    ) -> Result<(), Fault>
         requires audited { IsAudited self.lab past.audited }
         requires as_many { length self.observers.others.items + 1 ≡ self.lab.sessions }
     {
@@ -43,30 +44,48 @@ impl<C: Observer + Send + Drop> Ready<C> {
     // serves the connections, and writes the last line. Returns the log; the last line says how many events the log
     // has. Returns the reason if the class isn't resumed, or fails. If a session ran out of memory, that is only noted
     // in the state.
-    fn go_on<
-        'a,
-        R: System + Files<File = File> + Net<Listener = TcpListener, Stream = TcpStream> + Sync,
-        W: Write,
-    >(
+    fn go_on<'a, R: System + Files<File = File>, W: Write>(
         self,
         rt: &'a R,
         state: &'a HostState,
         past: Past<'a>,
         writer: &mut W,
-    ) -> Result<Log<WatchedSink<'a>>, ServerFault>
+    ) -> Result<Log<WatchedSink<'a>>, Fault>
         requires audited { IsAudited self.lab past.audited }
         requires as_many { length self.observers.others.items + 1 ≡ self.lab.sessions }
         ensures { IfOk result (TellsResumed self.lab (λ _. None) past.entry.audited.bytes.now
             self.ports.port self.ports.desk (W.contents writer.old) (W.contents writer.new)) }
     {
-        let Opening { first, bell } = match opening_of(rt, state, &self.ports) {
-            Ok(opening) => opening,
+        match opening_of(rt, state, &self.ports) {
+            Ok(opening) => {
+                let log = self.go_on_opened(rt, state, past, &opening, writer);
+                drop(opening);
+                log
+            }
             Err(fault) => {
                 drop(self);
                 drop(past);
-                return Err(fault);
+                Err(fault)
             }
-        };
+        }
+    }
+
+    // Serves a class that is resumed from the journal `past`, in the host state `state`, after `opening` was made. Returns
+    // the same as `go_on`.
+    fn go_on_opened<'a, R: System + Files<File = File>, W: Write>(
+        self,
+        rt: &'a R,
+        state: &'a HostState,
+        past: Past<'a>,
+        opening: &Opening<'a, R>,
+        writer: &mut W,
+    ) -> Result<Log<WatchedSink<'a>>, Fault>
+        requires audited { IsAudited self.lab past.audited }
+        requires as_many { length self.observers.others.items + 1 ≡ self.lab.sessions }
+        requires first { opening.now.first.items ≡ ports_line self.ports.port self.ports.desk }
+        ensures { IfOk result (TellsResumed self.lab (λ _. None) past.entry.audited.bytes.now
+            self.ports.port self.ports.desk (W.contents writer.old) (W.contents writer.new)) }
+    {
         let Past {
             journal,
             audited,
@@ -79,22 +98,14 @@ impl<C: Observer + Send + Drop> Ready<C> {
             bytes: audited.bytes,
             watch,
         };
-        let log = self.go_on_after(rt, audited, store, first.as_slice(), state, &bell, writer);
-        drop(first);
-        drop(bell);
-        log
+        let first = opening.first.as_slice();
+        self.go_on_after(rt, audited, store, first, state, &opening.bell, writer)
     }
 
     // Serves a class that is resumed from the audited journal `past`, which `store` cuts to its whole lines. The
     // line `first`, which names the ports, is written together with the next line, about the state that the journal
     // leads to. Returns the log.
-    fn go_on_after<
-        'a,
-        R: System + Net<Listener = TcpListener, Stream = TcpStream> + Sync,
-        S: Sink + Send + Drop,
-        T: Store<S> + Drop,
-        W: Write,
-    >(
+    fn go_on_after<'a, R: System, S: Sink + Send + Drop, T: Store<S> + Drop, W: Write>(
         self,
         rt: &'a R,
         past: AuditedJournal<'_>,
@@ -103,7 +114,7 @@ impl<C: Observer + Send + Drop> Ready<C> {
         state: &'a HostState,
         bell: &EndBell<'a, R>,
         writer: &mut W,
-    ) -> Result<Log<S>, ServerFault>
+    ) -> Result<Log<S>, Fault>
         requires audited { IsAudited self.lab past }
         requires as_many { length self.observers.others.items + 1 ≡ self.lab.sessions }
         requires first { first.now ≡ ports_line self.ports.port self.ports.desk }
@@ -143,7 +154,7 @@ fn opening_of<'a, R: AllocGlobal>(
     rt: &'a R,
     state: &'a HostState,
     ports: &Ports,
-) -> Result<Opening<'a, R>, ServerFault>
+) -> Result<Opening<'a, R>, Fault>
     ensures { IfOk result (λ opening. opening.first.items ≡ ports_line ports.now.port ports.now.desk) }
 {
     let first = first_line(rt.alloc(), ports)?;
@@ -162,9 +173,9 @@ fn first_line(alloc: Global, ports: &Ports) -> Result<Vec<u8>, ProgramFault>
 
 // Returns the host's error for a class that wasn't resumed, or failed. If the journal couldn't be cut and memory had
 // run out (`lacked`), the error is `Memory`, and otherwise that of the fault.
-fn told_as(fault: ResumeFault, lacked: bool) -> ServerFault {
+fn told_as(fault: ResumeFault, lacked: bool) -> Fault {
     match fault {
-        ResumeFault::Store if lacked => ServerFault::Common(ProgramFault::Memory),
-        _ => ServerFault::from(fault),
+        ResumeFault::Store if lacked => Fault::Common(ProgramFault::Memory),
+        _ => Fault::from(fault),
     }
 }

@@ -5,18 +5,13 @@ use mml_journal::Sink;
 use mml_ports::{EndBell, Incoming, Port, ReplyWriter, SocketCutOff, SocketSession};
 use mml_session::{Observer, SessionTypes};
 use std::marker::PhantomData;
-use std::net::{Net, TcpListener, TcpStream};
 
 /// The types of a class that is served over sockets, with a runtime `R`, a journal's sink `S` and observers `C`. The
 /// type has no values.
 pub(crate) struct SocketClass<'a, R, S, C>(PhantomData<(&'a R, S, C)>);
 
-impl<
-    'a,
-    R: System + Net<Listener = TcpListener, Stream = TcpStream> + Sync,
-    S: Sink + Send + Drop,
-    C: Observer + Send + Drop,
-> SessionTypes for SocketClass<'a, R, S, C> {
+impl<'a, R: System, S: Sink + Send + Drop, C: Observer + Send + Drop> SessionTypes
+    for SocketClass<'a, R, S, C> {
     type Runtime = R;
 
     type Sink = S;
@@ -26,12 +21,8 @@ impl<
     type Writer = ReplyWriter<'a, R>;
 }
 
-impl<
-    'a,
-    R: System + Net<Listener = TcpListener, Stream = TcpStream> + Sync,
-    S: Sink + Send + Drop,
-    C: Observer + Send + Drop,
-> ClassTypes for SocketClass<'a, R, S, C> {
+impl<'a, R: System, S: Sink + Send + Drop, C: Observer + Send + Drop> ClassTypes
+    for SocketClass<'a, R, S, C> {
     type Kept = SocketSession<'a, R>;
 
     type Observer = C;

@@ -1,110 +1,173 @@
 //! Reading the words of the command line.
-ghost use Rattle.std.specs.Prelude.{MatchOption};
-ghost use Rattle.mml_host_program.specs.Words.{Names, NamesNone};
+ghost use Rattle.std.specs.Prelude.{◌≡◌, MatchOption, option_map};
+ghost use Rattle.clap.specs.Matches.{found_of};
+ghost use Rattle.mml_journal.specs.Words.{seen};
+ghost use Rattle.mml_host_program.specs.Ports.{Names, NamesNone};
+ghost use Rattle.mml_host_program.specs.Words.{tally_in, tally_wanted, verify_in, wanted_by, wanted_in, wanted_over};
 
 use clap::{ArgMatches, Command};
-use mml_program::{Fault as ProgramFault, match_words, subcommand_of, with_optional};
+use mml_program::{
+    Fault as ProgramFault, Task as ProgramTask, match_words, read_words as read_common_words,
+    subcommand_of, with_optional,
+};
 use mml_serving::read_port as read_some_port;
 use std::alloc::{AllocError, Global};
+
+// A subcommand: its name, the values that it requires in this order, and the values that may follow.
+type Subcommand = (
+    &'static str,
+    &'static [&'static str],
+    &'static [&'static str],
+);
+
+// The subcommands that only the program for people has. `mml_program` has the others.
+const SUBCOMMANDS: &[Subcommand] = &[
+    ("host", &["lab", "port", "desk"], &["journal", "record"]),
+    ("resume", &["lab", "port", "desk", "journal"], &["record"]),
+    ("verify", &["lab", "journal", "record"], &[]),
+    ("tally", &["lab", "journal"], &["record"]),
+    ("answer", &["lab"], &[]),
+    ("limits", &[], &[]),
+];
 
 /// The task that the command line asks for.
 #[derive(Drop)]
 pub enum Task<'a> {
+    /// A task of `mml_program`.
+    Common(ProgramTask<'a>),
     /// Serve a new class.
     Host(HostTask<'a>),
     /// Resume a class from its journal, and serve it.
     Resume(ResumeTask<'a>),
+    /// Judge what a class has left, or answer a script line by line.
+    Judge(JudgingTask<'a>),
+    /// Print the limits of a class.
+    Limits,
 }
 
-/// A lab and the two ports of its class; for 0, the system chooses a port. If a journal is named, the lines of granted
-/// events are written to it. If a record is named, the lines of each seat are written there.
+/// A lab and the two ports of its class; for 0, the system chooses a port. If a record is named, the lines of each seat
+/// are written there.
+#[derive(Drop)]
+pub struct ClassTask<'a> {
+    pub lab: &'a str,
+    pub port: u16,
+    pub desk: u16,
+    pub record: Option<&'a str>,
+}
+
+/// A new class. If a journal is named, the lines of granted events are written to it.
 #[derive(Drop)]
 pub struct HostTask<'a> {
-    pub lab: &'a str,
-    pub port: u16,
-    pub desk: u16,
+    pub class: ClassTask<'a>,
     pub journal: Option<&'a str>,
-    pub record: Option<&'a str>,
 }
 
-/// A lab and the two ports of its class, which is resumed: the journal has what was granted before, and will have what
-/// is granted from now on.
+/// A class that is resumed: the journal has what was granted before, and will have what is granted from now on.
 #[derive(Drop)]
 pub struct ResumeTask<'a> {
-    pub lab: &'a str,
-    pub port: u16,
-    pub desk: u16,
+    pub class: ClassTask<'a>,
     pub journal: &'a str,
-    pub record: Option<&'a str>,
 }
 
-/// Returns whether the words ask to serve a class, by the subcommand `host` or `resume`. The first word is the
-/// program's name.
-pub fn is_of_class(words: &[String]) -> bool {
-    match words.get(1) {
-        Some(word) => word.as_str() == "host" || word.as_str() == "resume",
-        None => false,
-    }
+/// A task that serves no connections.
+#[derive(Drop)]
+pub enum JudgingTask<'a> {
+    /// Answer the script on standard input over the lab in a file.
+    Answer { lab: &'a str },
+    /// Check the record of a class.
+    Verify(VerifyTask<'a>),
+    /// Print the tally of a journal.
+    Tally(TallyTask<'a>),
+    /// Print the tally of a journal together with a record.
+    TallyRecorded(VerifyTask<'a>),
+}
+
+/// The folder of a class's record, with its lab and its journal.
+#[derive(Drop)]
+pub struct VerifyTask<'a> {
+    pub lab: &'a str,
+    pub journal: &'a str,
+    pub folder: &'a str,
+}
+
+/// A lab, and the journal of one of its runs.
+#[derive(Drop)]
+pub struct TallyTask<'a> {
+    pub lab: &'a str,
+    pub journal: &'a str,
 }
 
 /// Returns the task that these words ask for; the first word is the program's name. Returns `CommandLine` if the words
 /// don't fit any task, and `Memory` if memory runs out.
 pub fn read_words<'a>(alloc: Global, words: &'a [String]) -> Result<Task<'a>, ProgramFault> {
-    let matches = match_words(command_line(alloc)?, words)?;
+    if !has_own_subcommand(words) {
+        return Ok(Task::Common(read_common_words(alloc, words)?));
+    }
+    let matches = match_words(command_line(alloc, SUBCOMMANDS)?, words)?;
     match matches.subcommand() {
         None => Err(ProgramFault::CommandLine),
         Some((name, values)) => task_of(name, values).ok_or(ProgramFault::CommandLine),
     }
 }
 
-// Returns the description of the command line, with the two subcommands that serve a class. Returns an error if memory
-// runs out.
-fn command_line<'a>(alloc: Global) -> Result<Command<'a>, AllocError> {
-    let whole = subcommand_of(alloc, "mml_host", &[])?;
-    let whole = whole.subcommand(host_words(alloc)?)?;
-    whole.subcommand(resume_words(alloc)?)
+// Returns whether the first word after the program's name is a subcommand that only the program for people has.
+fn has_own_subcommand(words: &[String]) -> bool {
+    match words.get(1) {
+        Some(word) => SUBCOMMANDS.iter().any(|it| it.0 == word.as_str()),
+        None => false,
+    }
 }
 
-// Returns the description of the subcommand `host`, with its values: a lab, two ports, and optionally a journal and a
-// record.
-fn host_words<'a>(alloc: Global) -> Result<Command<'a>, AllocError> {
-    let command = subcommand_of(alloc, "host", &["lab", "port", "desk"])?;
-    let command = with_optional(alloc, command, "journal")?;
-    with_optional(alloc, command, "record")
+// Returns the description of a command line with these subcommands. Returns an error if memory runs out.
+fn command_line<'a>(alloc: Global, subcommands: &[Subcommand]) -> Result<Command<'a>, AllocError> {
+    let mut command = subcommand_of(alloc, "mml", &[])?;
+    for (name, required, optional) in subcommands {
+        command = command.subcommand(subcommand_with(alloc, name, required, optional)?)?;
+    }
+    Ok(command)
 }
 
-// Returns the description of the subcommand `resume`, with its values: a lab, two ports, a journal, and optionally a
-// record.
-fn resume_words<'a>(alloc: Global) -> Result<Command<'a>, AllocError> {
-    let values = ["lab", "port", "desk", "journal"];
-    with_optional(alloc, subcommand_of(alloc, "resume", &values)?, "record")
+// Returns the description of a subcommand with this name, which requires the first values, and then may have the others.
+// Returns an error if memory runs out.
+fn subcommand_with<'a>(
+    alloc: Global,
+    name: &'a str,
+    required: &[&'a str],
+    optional: &[&'a str],
+) -> Result<Command<'a>, AllocError> {
+    let mut command = subcommand_of(alloc, name, required)?;
+    for value in optional {
+        command = with_optional(alloc, command, value)?;
+    }
+    Ok(command)
 }
 
 // Returns the task of the subcommand `name` with these values. Returns `None` if there is no such subcommand, a value
 // is missing, or a text isn't a port.
 fn task_of<'a>(name: &str, values: &ArgMatches<'a>) -> Option<Task<'a>> {
-    let lab = values.get_str("lab")?;
-    let port = read_port(values.get_str("port")?)?;
-    let desk = read_port(values.get_str("desk")?)?;
-    let journal = values.get_str("journal");
-    let record = values.get_str("record");
     match name {
         "host" => Some(Task::Host(HostTask {
-            lab,
-            port,
-            desk,
-            journal,
-            record,
+            class: class_task(values)?,
+            journal: values.get_str("journal"),
         })),
         "resume" => Some(Task::Resume(ResumeTask {
-            lab,
-            port,
-            desk,
-            journal: journal?,
-            record,
+            class: class_task(values)?,
+            journal: values.get_str("journal")?,
         })),
-        _ => None,
+        "limits" => Some(Task::Limits),
+        _ => Some(Task::Judge(judging_task(name, values)?)),
     }
+}
+
+// Returns the lab, the ports and the record of the class that these values name. Returns `None` if the lab or a port is
+// missing, or a text isn't a port.
+fn class_task<'a>(values: &ArgMatches<'a>) -> Option<ClassTask<'a>> {
+    Some(ClassTask {
+        lab: values.get_str("lab")?,
+        port: read_port(values.get_str("port")?)?,
+        desk: read_port(values.get_str("desk")?)?,
+        record: values.get_str("record"),
+    })
 }
 
 /// Returns the port that a text names: a number up to 65535 in decimal, without sign or leading zero. For 0 the system
@@ -118,5 +181,75 @@ pub fn read_port(text: &str) -> Option<u16>
     match read_some_port(text) {
         Some(port) => Some(port.get()),
         None => None,
+    }
+}
+
+// Returns the judging task of the subcommand `name` with these values. Returns `None` if it isn't the name of one, or a
+// value is missing.
+#[tactic(auto, unfolding(crate::specs::Words::wanted_in))]
+fn judging_task<'a>(name: &str, values: &ArgMatches<'a>) -> Option<JudgingTask<'a>>
+    ensures { option_map wanted_by result ≡ wanted_in name.now (found_of values.now) }
+{
+    let lab = values.get_str("lab")?;
+    judging_task_over(lab, name, values)
+}
+
+// Returns the task of the subcommand `name` with these values, over the lab in the file `lab`. Returns `None` if there
+// is no such subcommand, or a value is missing.
+#[tactic(auto, unfolding(crate::specs::Words::wanted_over))]
+fn judging_task_over<'a>(
+    lab: &'a str,
+    name: &str,
+    values: &ArgMatches<'a>,
+) -> Option<JudgingTask<'a>>
+    ensures { option_map wanted_by result ≡ wanted_over lab.now name.now (found_of values.now) }
+{
+    if name == "answer" {
+        Some(JudgingTask::Answer { lab })
+    } else if name == "verify" {
+        verify_over(lab, values)
+    } else if name == "tally" {
+        tally_over(lab, values)
+    } else {
+        None
+    }
+}
+
+// Returns the task of the subcommand `verify` with these values. Returns `None` if the journal or the record is
+// missing.
+#[tactic(auto, unfolding(crate::specs::Words::verify_in))]
+fn verify_over<'a>(lab: &'a str, values: &ArgMatches<'a>) -> Option<JudgingTask<'a>>
+    ensures { option_map wanted_by result ≡ verify_in lab.now (found_of values.now) }
+{
+    let journal = values.get_str("journal")?;
+    let folder = values.get_str("record")?;
+    Some(JudgingTask::Verify(VerifyTask {
+        lab,
+        journal,
+        folder,
+    }))
+}
+
+// Returns the task of printing the tally of the journal that these values name, together with a record if they name
+// one. Returns `None` if the journal is missing.
+#[tactic(auto, unfolding(crate::specs::Words::tally_in))]
+fn tally_over<'a>(lab: &'a str, values: &ArgMatches<'a>) -> Option<JudgingTask<'a>>
+    ensures { option_map wanted_by result ≡ tally_in lab.now (found_of values.now) }
+{
+    let journal = values.get_str("journal")?;
+    Some(tally_task(lab, journal, values.get_str("record")))
+}
+
+// Returns the task of printing a tally: of a journal alone, or together with the record in a folder if one is named.
+fn tally_task<'a>(lab: &'a str, journal: &'a str, folder: Option<&'a str>) -> JudgingTask<'a>
+    ensures { wanted_by result ≡ tally_wanted lab.now journal.now (seen folder.entry) }
+{
+    match folder {
+        Some(folder) => JudgingTask::TallyRecorded(VerifyTask {
+            lab,
+            journal,
+            folder,
+        }),
+        None => JudgingTask::Tally(TallyTask { lab, journal }),
     }
 }

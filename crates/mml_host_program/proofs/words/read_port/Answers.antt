@@ -1,5 +1,5 @@
 use Rattle.std.proofs.Common.{rules}
-use Rattle.mml_host_program.proofs.WordsLemmas.{names_none, zero_named}
+use Rattle.mml_host_program.proofs.PortsLemmas.{names_none, zero_named}
 use Rattle.mml_host_program.proofs.words.read_port.Goals as goal
 
 pub returns-then-eq : goal.returns-then-eq

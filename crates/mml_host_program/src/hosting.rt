@@ -1,0 +1,169 @@
+//! The subcommand `host`, which serves a new class.
+use crate::class::{Class, ClassJournal, serve_class};
+use crate::fault::{Fault, of_journal};
+use crate::journal_watch::{JournalWatch, Look};
+use crate::limits::look_at_limits;
+use crate::opening::open_ports_and_folder;
+use crate::system::System;
+use crate::words::{ClassTask, HostTask};
+use mml_files::{BegunJournal, LabFile, OpenJournal};
+use mml_lab::Lab;
+use mml_ports::{Ports, listen_at};
+use mml_program::{Fault as ProgramFault, lab_in, read_file};
+use mml_recording::RecordFolder;
+use std::fs::File;
+use std::net::{Net, TcpListener, TcpStream};
+use std::rt::Files;
+use std::time::Clock;
+
+/// Serves a new class, as the command line asks. `eye` checks the journal's file meanwhile. Returns the reason if the
+/// class can't begin, or fails. The order of the steps protects an existing journal: first the lab is read and the
+/// system's limits are checked, then the journal's file is opened, then both ports are opened, and only then the journal
+/// is begun. If a step before that fails, the file stays as it was.
+pub(crate) fn host<R: System + Files<File = File>, L: Look + Sync>(
+    rt: &R,
+    eye: &L,
+    task: HostTask<'_>,
+) -> Result<(), Fault> {
+    let bytes = read_file(rt, task.class.lab, ProgramFault::ReadLab)?;
+    host_lab(rt, eye, &task, bytes.as_slice())
+}
+
+// Serves a new class of the lab whose file has these bytes. Returns the reason if the class can't begin, or fails.
+fn host_lab<R: System + Files<File = File>, L: Look + Sync>(
+    rt: &R,
+    eye: &L,
+    task: &HostTask<'_>,
+    bytes: &[u8],
+) -> Result<(), Fault> {
+    let lab = lab_in(rt.alloc(), bytes)?;
+    match open_new(rt, task, bytes) {
+        Ok(opened) => host_opened(rt, eye, lab, opened),
+        Err(fault) => {
+            drop(lab);
+            Err(fault)
+        }
+    }
+}
+
+// What is opened for a new class: both ports, the begun journal with its path, and the record's folder, if they are
+// named.
+#[derive(Drop)]
+struct Opened<'a> {
+    journal: Option<(BegunJournal, &'a str)>,
+    ports: Ports,
+    folder: Option<RecordFolder>,
+}
+
+// Serves a new class of this lab, for which everything is open. Returns the reason if the class can't begin, or fails.
+fn host_opened<R: System + Files<File = File>, L: Look + Sync>(
+    rt: &R,
+    eye: &L,
+    lab: Lab,
+    opened: Opened<'_>,
+) -> Result<(), Fault> {
+    let Opened {
+        journal,
+        ports,
+        folder,
+    } = opened;
+    match journal {
+        None => serve_class(rt, Class::new(lab, ports, ClassJournal::None), folder, eye),
+        Some((BegunJournal::Other(file), _)) => {
+            serve_class(
+                rt,
+                Class::new(lab, ports, ClassJournal::Other(file)),
+                folder,
+                eye,
+            )
+        }
+        Some((BegunJournal::Plain(file), path)) => {
+            host_watched(rt, eye, lab, ports, folder, file, path)
+        }
+    }
+}
+
+// Serves a new class of this lab, whose journal is the plain file at `path`. Returns the reason if the system can't
+// identify the file, or the class can't begin, or fails.
+fn host_watched<R: System + Files<File = File>, L: Look + Sync>(
+    rt: &R,
+    eye: &L,
+    lab: Lab,
+    ports: Ports,
+    folder: Option<RecordFolder>,
+    file: File,
+    path: &str,
+) -> Result<(), Fault> {
+    match JournalWatch::new(path, &file) {
+        Ok(watch) => {
+            let class = Class::new(lab, ports, ClassJournal::Plain(file, &watch));
+            let served = serve_class(rt, class, folder, eye);
+            drop(watch);
+            served
+        }
+        Err(fault) => {
+            drop(lab);
+            drop(ports);
+            drop(folder);
+            drop(file);
+            Err(fault)
+        }
+    }
+}
+
+// Checks the system's limits, and opens what a new class needs: its ports, and its journal and the folder of its record,
+// if they are named. Without a journal there is no record. `lab` has the bytes of the lab's file. Returns an error if one
+// of these steps fails.
+fn open_new<'a, R: System + Files<File = File>>(
+    rt: &R,
+    task: &HostTask<'a>,
+    lab: &[u8],
+) -> Result<Opened<'a>, Fault> {
+    look_at_limits(rt, rt.alloc())?;
+    match task.journal {
+        Some(path) => begin_into(rt, &task.class, path, lab),
+        None => Ok(Opened {
+            journal: None,
+            ports: listen_at(rt, task.class.port, task.class.desk)?,
+            folder: None,
+        }),
+    }
+}
+
+// Opens what a new class with a journal needs: the journal's file at `path`, then both ports, then the record's folder
+// if one is named. Returns all of them. The journal is begun only after these steps. If its file is a plain one, the
+// file is emptied then: its earlier bytes stay under another name, and a copy of the lab's file, whose bytes are `lab`,
+// is written beside it. Returns the first error. If the file, the ports or the folder can't be opened, the journal's
+// file is as it was. If the journal can't be begun, the record's folder is restored.
+fn begin_into<
+    'a,
+    R: Files<File = File> + Net<Listener = TcpListener, Stream = TcpStream> + Clock + AllocGlobal,
+>(rt: &R, class: &ClassTask<'_>, path: &'a str, lab: &[u8]) -> Result<Opened<'a>, Fault> {
+    let journal = OpenJournal::open(rt, path, &[class.lab]).map_err(of_journal)?;
+    match open_ports_and_folder(rt, class, lab, None) {
+        Ok((ports, folder)) => {
+            let lab = LabFile {
+                path: class.lab,
+                bytes: lab,
+            };
+            match journal.begin_with_lab(rt, lab) {
+                Ok(journal) => Ok(Opened {
+                    journal: Some((journal, path)),
+                    ports,
+                    folder,
+                }),
+                Err(fault) => {
+                    if let Some(folder) = folder {
+                        folder.take_back(rt);
+                    }
+                    drop(ports);
+                    Err(of_journal(fault))
+                }
+            }
+        }
+        Err(fault) => {
+            journal.close_unchanged(rt);
+            Err(fault)
+        }
+    }
+}

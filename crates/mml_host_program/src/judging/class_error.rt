@@ -1,0 +1,60 @@
+//! Why the result of checking a class isn't written, and which error the program reports then.
+ghost use Rattle.std.specs.Prelude.{◌≡◌, true, false, Ok, Err, OnOk, IfErr, IsErrAnd};
+ghost use Rattle.mml_host_program.specs.Faults.{IsOfClass, IsOfRecord};
+
+use crate::fault::Fault;
+use crate::judging::record_refusal::RecordRefusal;
+use mml_audit::AuditFault;
+use mml_class::{ClassFault, SeatFault};
+use mml_program::{Fault as ProgramFault, memory_if_lacked};
+
+/// Why the result of checking a class wasn't written, or only in part.
+#[derive(Debug)]
+pub enum ClassError {
+    /// The journal doesn't pass the audit.
+    Audit(AuditFault),
+    /// The seats' texts aren't a record that fits the journal, or can't be read.
+    Record(ClassFault),
+    /// Memory ran out before anything was written.
+    Memory,
+    /// A write failed.
+    Write,
+}
+
+/// Returns the result of a subcommand, which is `Ok` if all was written (`written`). Otherwise returns the program's
+/// error, which is `Memory` if the writer ran out of memory (`lacked`).
+pub(crate) fn result_of(written: Result<(), ClassError>, lacked: bool) -> Result<(), Fault>
+    ensures ok { OnOk written (result ≡ Ok tt) }
+    ensures lacked { IfErr written (λ _. lacked ≡ true →
+        result ≡ Err (Fault.Common ProgramFault.Memory)) }
+    ensures error { IfErr written (λ error. lacked ≡ false → IsErrAnd result (IsOfClass error)) }
+{
+    match written {
+        Ok(()) => Ok(()),
+        Err(error) => Err(memory_if_lacked(fault_of(error), lacked)),
+    }
+}
+
+// Returns the program's error for the reason why the result of checking a class wasn't written.
+fn fault_of(error: ClassError) -> Fault
+    ensures { IsOfClass error result }
+{
+    match error {
+        ClassError::Audit(why) => Fault::Common(ProgramFault::from(why)),
+        ClassError::Record(why) => record_fault(why),
+        ClassError::Memory => Fault::Common(ProgramFault::Memory),
+        ClassError::Write => Fault::Common(ProgramFault::Write),
+    }
+}
+
+// Returns the program's error for texts that aren't the record of a class, or can't be read.
+fn record_fault(why: ClassFault) -> Fault
+    ensures { IsOfRecord why result }
+{
+    match why {
+        ClassFault::Entry { seat, bad } => Fault::Record(RecordRefusal::of(seat, bad)),
+        ClassFault::Places(amiss) => Fault::Record(RecordRefusal::of_places(amiss)),
+        ClassFault::Unread(SeatFault::Read) => Fault::ReadRecord,
+        ClassFault::Unread(SeatFault::Memory) => Fault::Common(ProgramFault::Memory),
+    }
+}

@@ -1,0 +1,38 @@
+//! What the subcommands `verify` and `tally` share: the audit at the beginning, and the write at the end.
+ghost use Rattle.std.specs.Prelude.{◌≡◌, ◌<◌, ℕ, true, length, take, IfErr, IfOk, MatchBool, OnOk, Err};
+ghost use Rattle.std.specs.Io.KnownBytes.{Appends};
+ghost use Rattle.mml_board.specs.Lists.{is_legal_in, world_in};
+ghost use Rattle.mml_audit.specs.Audit.{audited, is_audit_memory};
+ghost use Rattle.mml_audit.specs.AuditMeaning.{IsJournalOf};
+
+use crate::judging::class_error::ClassError;
+use mml_audit::{AuditFault, Audited, audit_events};
+use mml_lab::Lab;
+use mml_lines::put_all;
+use std::alloc::Global;
+use std::io::Write;
+
+/// Audits the text of a journal. Returns its events and the board that they lead to, or the reason why the text doesn't
+/// pass. Frees the text.
+pub(crate) fn audit_class(alloc: Global, lab: &Lab, journal: Vec<u8>) -> Result<Audited, AuditFault>
+    ensures journal { IfOk result (λ a. IsJournalOf lab.now a.events.items journal.items) }
+    ensures legal { IfOk result (λ a. is_legal_in lab.now a.events.items ≡ true) }
+    ensures board { IfOk result (λ a. a.board ≡ world_in lab.now a.events.items) }
+    ensures refused { IfErr result (λ why.
+        MatchBool (is_audit_memory why) (Unit {0}) (audited lab.now journal.items ≡ Err why)) }
+{
+    audit_events(alloc, lab, &journal)
+}
+
+/// Writes the text that `verify` or `tally` has made. Returns `Write` if a write fails, after which only a beginning of
+/// the text may have been written.
+pub(crate) fn write_class<W: Write>(text: &[u8], writer: &mut W) -> Result<(), ClassError>
+    ensures all { OnOk result (Appends (W.contents writer.old) (W.contents writer.new) text.now) }
+    ensures part { IfErr result (λ error. (error ≡ ClassError.Write) × ((n : ℕ) × (n < length text.now)
+        × Appends (W.contents writer.old) (W.contents writer.new) (take n text.now))) }
+{
+    match put_all(writer, text) {
+        Ok(()) => Ok(()),
+        Err(_) => Err(ClassError::Write),
+    }
+}
