@@ -42,7 +42,7 @@ class SetsUp(InClone):
         """Prints the expected time and the progress on standard error only, and then runs the command."""
         done = self.new()
         self.assertEqual(done.returncode, 0, done.stderr)
-        self.assertTrue(done.stdout.startswith("maths.toml: 4 nodes, 4 students; slips: "), done.stdout)
+        self.assertTrue(done.stdout.startswith("maths.toml: 4 nodes, 4 students; slips for printing: "), done.stdout)
         self.assertRegex(done.stderr, r"^mml: building mml_host, after proving 4 crates; .*\nmml: if nothing is proved yet, that takes ")
         self.assertIn("\nmml: 4 of 4 crates proved\n", done.stderr)
         self.assertEqual(self.made(), sorted(FIRST))
