@@ -34,7 +34,9 @@ impl Model for Network {
 }
 
 impl Network {
-    /// Returns the network with these neighbours and these registers of each node, both listed by rank.
+    /// Returns the network with these neighbours and these registers of each node, both listed by rank. Both lists must
+    /// have one entry for each node, and there may be at most 256 nodes. Links must join two different nodes in both
+    /// directions, and pointers must lead only to neighbours.
     pub fn of(neighbours: Vec<NodeSet>, registers: Vec<Regs>) -> Network
         requires { IsNetwork (record { neighbours = neighbours.items; registers = registers.items }) }
         ensures { result ≡ record { neighbours = neighbours.items; registers = registers.items } }
@@ -83,7 +85,7 @@ impl Network {
         self.registers.len() as u64
     }
 
-    /// Writes a node's registers, whose p must be null or a neighbour.
+    /// Sets a node's registers, whose p must be null or a neighbour.
     pub fn set_registers(&mut self, node: Rank, registers: Regs)
         requires node { node < length self.old.registers }
         requires linked { (j : ℕ) → registers.p ≡ Some j →
@@ -93,7 +95,7 @@ impl Network {
         self.registers[node.index() as usize] = registers;
     }
 
-    /// Links two different nodes.
+    /// Links two different nodes. Changes nothing if they are linked already.
     pub fn link(&mut self, a: Rank, b: Rank)
         requires a { a < length self.old.registers }
         requires b { b < length self.old.registers }
@@ -117,7 +119,7 @@ impl Network {
     }
 }
 
-/// Adds `b` to the neighbours of `a`.
+/// Adds `b` to the neighbours of `a`. `neighbours` has the neighbours of each node, by rank.
 fn link_one_way(neighbours: &mut [NodeSet], a: Rank, b: Rank)
     requires { a < length neighbours.old }
     ensures { neighbours.new ≡ with_neighbour neighbours.old a b }
@@ -126,7 +128,7 @@ fn link_one_way(neighbours: &mut [NodeSet], a: Rank, b: Rank)
     neighbours[a.index() as usize] = row;
 }
 
-/// Removes `b` from the neighbours of `a`.
+/// Removes `b` from the neighbours of `a`. `neighbours` has the neighbours of each node, by rank.
 fn cut_one_way(neighbours: &mut [NodeSet], a: Rank, b: Rank)
     requires { a < length neighbours.old }
     ensures { neighbours.new ≡ without_neighbour neighbours.old a b }
@@ -135,7 +137,8 @@ fn cut_one_way(neighbours: &mut [NodeSet], a: Rank, b: Rank)
     neighbours[a.index() as usize] = row;
 }
 
-/// Makes the pointer of `a` null if it was `b`, and changes nothing else.
+/// Sets the pointer of `a` to null if it leads to `b`, and otherwise changes nothing. `registers` has the registers of
+/// each node, by rank.
 fn unpoint(registers: &mut [Regs], a: Rank, b: Rank)
     requires { a < length registers.old }
     ensures { registers.new ≡ unpointed registers.old a b }
