@@ -41,8 +41,8 @@ impl Model for Lab {
 
 impl Lab {
     /// Returns the lab with these identifiers, this roster, this network at the beginning, at most `events` events, and
-    /// at most `sessions` connections at once. The parts must be valid, and the roster and the network must have as
-    /// many nodes as there are identifiers.
+    /// at most `sessions` connections at once. The roster and the network must have as many nodes as there are
+    /// identifiers. `events` must be from 1 to 100000, and `sessions` from 1 to 16.
     pub fn new(ids: IdTable, roster: Roster, network: Network, events: u64, sessions: u8) -> Lab
         requires { IsLab (record {
           ids = ids;
@@ -82,7 +82,8 @@ impl Lab {
         &self.roster
     }
 
-    /// Returns whether two nodes are linked at the beginning. Returns `false` if the rank `b` is past the last node.
+    /// Returns whether two nodes are linked at the beginning. The node `a` must exist. Returns `false` if the rank `b`
+    /// is past the last node.
     pub fn linked(&self, a: Rank, b: Rank) -> bool
         requires { a < length self.now.ids }
         ensures { result ≡ set.contains (neighbours_at self.now.network.neighbours a) b }
@@ -142,7 +143,7 @@ impl Lab {
     }
 }
 
-/// Returns how many links a network has.
+/// Returns how many links a network has. Counts each link once, at its end of higher rank.
 #[tactic(auto, unfolding(crate::specs::Labs::link_count))]
 pub fn link_count(network: &Network) -> u64
     ensures { result ≡ link_count network.now }

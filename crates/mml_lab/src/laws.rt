@@ -1,14 +1,16 @@
 //! Laws of the lab. Each is the contract of a function that does nothing.
 //!
 //! The rank of a node is its index in the rising order of identifiers. The roster has the teacher, the students, and
-//! the owners of each node.
+//! the owners of each node. It is valid (`IsRoster`) if there are at most 256 students, names and keys are well-formed,
+//! names differ, and all owners are students.
 ghost use Rattle.std.specs.Prelude.{◌≡◌, ◌↔◌, ℕ, ◌<◌, List, length, true, false, Contains, Some, None};
 ghost use Rattle.mml_lab.specs.declared.TheConstants.{MAX_NAME, MAX_KEY, MAX_EVENTS, MAX_SESSIONS, MAX_STUDENTS, MAX_OWNERS};
 ghost use Rattle.mml_lab.specs.declared.who.Who.{Who};
 ghost use Rattle.mml_lab.specs.Rosters.{RosterValue, IsRoster, principal, owns, owners_of, name_of, student_named, is_name, is_key};
 ghost use Rattle.mml_lab.specs.RosterMeaning.{IsKnownAs, IsName, IsKey};
 
-/// At most one participant has a given name and key, and `principal` finds that participant.
+/// In a valid roster, `principal` returns a participant exactly if that one has the given name and key. It returns
+/// `None` exactly if nobody has both.
 pub fn principal_is_the_one_known()
     ensures one { (r : RosterValue) (name key : List ℕ) (w : Who) → IsRoster r →
         (principal r name key ≡ Some w) ↔ IsKnownAs r w name key }
@@ -23,7 +25,8 @@ pub fn owns_means_owner()
     ensures teacher { (r : RosterValue) (i : ℕ) → owns r Who.Teacher i ≡ false }
 {}
 
-/// Looking up a student's name finds that student, and a student who is found by a name has that name.
+/// In a valid roster, looking up a student's name finds that student. In any roster, a student who is found by a name
+/// has that name.
 pub fn names_and_students_are_inverse()
     ensures student_of_name { (r : RosterValue) (s : ℕ) → IsRoster r → s < length r.students →
         student_named r (name_of r (Who.Student s)) ≡ Some s }

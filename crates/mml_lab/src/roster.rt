@@ -45,7 +45,9 @@ impl Model for Roster {
 
 impl Roster {
     /// Returns the roster with this teacher, the students' names and keys in the file's order, and the owners of each
-    /// node, by rank. Returns `Memory` if memory runs out.
+    /// node, by rank. Names and keys must be well-formed, and no two participants may have the same name. There may be
+    /// at most 256 students and 256 nodes, and each owner must be one of the students. Returns `Memory` if memory runs
+    /// out.
     pub fn new(
         alloc: Global,
         teacher: Account,
@@ -90,8 +92,8 @@ impl Roster {
         index.map(|index| Who::Student(Student::new(index as u16)))
     }
 
-    /// Returns the nodes that `who` owns: none for the teacher, and none for a student who isn't in the roster. Takes
-    /// the same steps for all students, whatever they own.
+    /// Returns the nodes that `who` owns: none for the teacher. A student who isn't in the roster gets the last set of
+    /// the list, which is empty. Takes the same steps for all students, whatever they own.
     pub fn owned(&self, who: Who) -> NodeSet
         ensures { (i : ℕ) → set.contains result i ≡ owns self.now who i }
     {
@@ -137,8 +139,8 @@ impl Roster {
     }
 }
 
-/// Returns whether `name` is `known` and `key` is `secret`. Compares both, even if the names differ, so that the time
-/// that it takes doesn't reveal whether the name exists.
+/// Returns whether `name` and `key` are the name `known` and the key `secret` of an account. Compares both, even if the
+/// names differ, so that the time that it takes doesn't reveal whether the name exists.
 fn are_name_and_key(name: &str, key: &str, known: &str, secret: &str) -> bool
     ensures { result ≡
         has_name_and_key name.now key.now (record { name = known.now; key = secret.now }) }
@@ -149,8 +151,8 @@ fn are_name_and_key(name: &str, key: &str, known: &str, secret: &str) -> bool
 }
 
 /// Returns the index of the student with this name and this key, from 0 in the file's order, or `None` if no student
-/// has both. Compares the name and the key of every student, so that a student's name takes the same steps as an
-/// unknown name of the same length.
+/// has both. Goes on after the student is found, and compares the name and the key of every student. So a student's
+/// name takes the same steps as an unknown name of the same length.
 fn student_with(students: &IndexMap<String, String>, name: &str, key: &str) -> Option<usize>
     ensures value { result ≡
         position (has_name_and_key name.now key.now) (map entry_account students.now.entries) }
