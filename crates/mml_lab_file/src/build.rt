@@ -1,7 +1,8 @@
 //! The lab of a file without an error.
 //!
 //! The rank of a node is its index in the rising order of identifiers. The registers of a node are its pointer p and m,
-//! which is true or false.
+//! which is true or false. A `RawNode` is a node as the file describes it. The map of students has each student's key
+//! under the student's name, in the file's order.
 ghost use Rattle.std.specs.Prelude.{◌≡◌, ◌≤◌, ◌==◌, map, length, IfOk, IfErr, option_copied, string_bytes, Ok};
 ghost use Rattle.std.specs.List.{find};
 ghost use Rattle.mml_ids.specs.Gives.{Gives};
@@ -23,7 +24,8 @@ use mml_lab::{Lab, LabFault, Roster, Student};
 use mml_rules::{Network, Regs};
 use std::alloc::Global;
 
-/// Makes the lab of a file that was checked. Returns `Memory` if memory runs out, the only error that can still occur.
+/// Returns the lab of a file whose contents passed the checks. Returns `Memory` if memory runs out, the only error that
+/// can still occur.
 #[tactic(auto, unfolding(crate::specs::inside::Checks::lab_with))]
 pub(crate) fn build(alloc: Global, checked: Checked) -> Result<Lab, LabFault>
     requires { IsLab (checked_view checked) }
@@ -81,7 +83,7 @@ pub(crate) fn registers(
     Ok(found)
 }
 
-/// Returns the registers of the node with the identifier `id`, or null and false if the file has no such node.
+/// Returns the registers of the node with the identifier `id`. If the file has no such node, p is null and m is false.
 fn registers_with(ids: &IdTable, nodes: &[RawNode], id: u64) -> Regs
     ensures { result ≡ registers_with ids.now (map node_view nodes.now) id }
 {
@@ -98,8 +100,8 @@ fn node_with(nodes: &[RawNode], id: u64) -> Option<&RawNode>
     nodes.iter().find(|node| number_of(node.id) == id)
 }
 
-/// Returns a node's registers as the file describes them. The pointer is the rank of the node that p names in the file,
-/// or null if p names no node.
+/// Returns a node's registers as the file describes them. The pointer is the rank of the node that the file's p names.
+/// It is null if p is left out or names no node.
 #[tactic(auto, unfolding(crate::specs::inside::Checks::rank_at))]
 fn registers_in(ids: &IdTable, node: &RawNode) -> Regs
     ensures { result ≡ registers_in ids.now (node_view node.now) }
@@ -128,8 +130,8 @@ pub(crate) fn owners(
     Ok(found)
 }
 
-/// Returns the owners of the node with the identifier `id`, or an empty list if the file has no such node. Returns
-/// `Memory` if memory runs out.
+/// Returns the owners of the node with the identifier `id`, in the file's order. Returns an empty list if the file has
+/// no such node, and `Memory` if memory runs out.
 fn owners_with(
     alloc: Global,
     students: &IndexMap<String, String>,
@@ -147,8 +149,8 @@ fn owners_with(
     }
 }
 
-/// Returns the students with the names in `names`, in order. Returns the first student for a name that no student has,
-/// but the checks of a file exclude this case. Returns `Memory` if memory runs out.
+/// Returns the students with the names in `names`, in order. For a name that no student has, returns the first student;
+/// the checks of a file exclude this case. Returns `Memory` if memory runs out.
 fn owners_in(
     alloc: Global,
     students: &IndexMap<String, String>,

@@ -1,6 +1,12 @@
 //! The checks that the contents of a lab file must pass.
 //!
-//! The rank of a node is its index in the rising order of identifiers.
+//! The rank of a node is its index in the rising order of identifiers. A `RawNode` is a node as the file describes it,
+//! and a link is the pair of the identifiers of its ends. Errors have the indices of nodes and links in the file's
+//! order, from 0. The map of students has each student's key under the student's name, in the file's order.
+//!
+//! Each function with the parameter `alloc` returns `Memory` if memory runs out. In a contract, `Gives` means that a
+//! function returns the result that a definition names, or `Memory`. The clause `tests` of a contract says which error
+//! is returned, if any. The other clauses say what `Ok` contains.
 ghost use Rattle.std.specs.Prelude.{◌≡◌, ◌≤◌, ◌&&◌, ◌∷◌, not, position, map, length, string_bytes, IfOk};
 ghost use Rattle.std.specs.List.{list_any};
 ghost use Rattle.std.specs.Ordering.{int_eq};
@@ -25,8 +31,8 @@ use mml_ids::{IdFault, IdTable, NodeSet};
 use mml_lab::{Account, Key, LabFault, MAX_EVENTS, MAX_SESSIONS, MAX_STUDENTS};
 use std::alloc::{AllocError, Global};
 
-/// Returns the number itself, or 0 if it is negative. 0 is no valid identifier, and no valid number of events or of
-/// sessions.
+/// Returns the number itself, or 0 if it is negative. Like 0, a negative number is no valid identifier, and no valid
+/// number of events or of sessions.
 pub(crate) fn number_of(number: i64) -> u64
     ensures { result ≡ number_of number }
 {
@@ -121,8 +127,8 @@ fn check_parts(
     })
 }
 
-/// Returns the table of the nodes' identifiers. Returns the error of the first node that has both keys `owner` and
-/// `owners`, or else the first error of the identifiers.
+/// Returns the table of the nodes' identifiers. Returns `BothOwners` for the first node that has both keys `owner` and
+/// `owners`, or else `Id` with the first error of the identifiers.
 #[tactic(auto, unfolding(crate::specs::Reading::identified))]
 fn identify(alloc: Global, nodes: &[RawNode]) -> Result<IdTable, LabFault>
     ensures tests { Gives is_lab_memory (λ _. tt {0}) result (identified (map node_view nodes.now)) }
@@ -132,8 +138,8 @@ fn identify(alloc: Global, nodes: &[RawNode]) -> Result<IdTable, LabFault>
     id_table(alloc, nodes)
 }
 
-/// Returns the students' names and keys in the file's order. Returns the error of the first name or key that isn't
-/// well-formed, the teacher's included, or else the error of the first name that occurs twice.
+/// Returns the map of the students. Returns `Name` for the first participant whose name or key isn't well-formed, or
+/// else `NameTwice` for the first whose name occurs before. The teacher comes before the students.
 #[tactic(auto, unfolding(crate::specs::Reading::enrolled))]
 fn enrol(
     alloc: Global,
@@ -149,9 +155,9 @@ fn enrol(
     students_map(alloc, teacher, students)
 }
 
-/// Returns `Ok(())` if all owners are students, and the two owners of a node are different students. Otherwise returns
-/// the error of the first node with an owner who isn't a student. If all owners are students, returns the error of the
-/// first node whose two owners are the same student.
+/// Checks that all owners are students, and that the two owners of a node are different students. Returns `NoOwner` for
+/// the first node with an owner who isn't a student, or else `OwnerTwice` for the first node whose two owners are the
+/// same student.
 #[tactic(auto, unfolding(crate::specs::Reading::owned))]
 fn check_owners(students: &IndexMap<String, String>, nodes: &[RawNode]) -> Result<(), LabFault>
     ensures { Gives is_lab_memory (λ u. u) result
@@ -169,7 +175,7 @@ fn student_count(students: &IndexMap<String, String>) -> usize
     students.len()
 }
 
-/// Returns `Ok(())`, or `Err` with the error if there is one. With `?`, the caller returns that error.
+/// Returns `Err(fault)` if there is an error, and otherwise `Ok(())`. With `?`, the caller returns that error.
 pub(crate) fn pass_unless(fault: Option<LabFault>) -> Result<(), LabFault>
     ensures { Gives is_lab_memory (λ u. u) result (pass_unless fault) }
 {
@@ -179,7 +185,7 @@ pub(crate) fn pass_unless(fault: Option<LabFault>) -> Result<(), LabFault>
     }
 }
 
-/// Returns the error of the first node that has both keys `owner` and `owners`, or `None` if no node has both.
+/// Returns `BothOwners` for the first node that has both keys `owner` and `owners`, or `None` if no node has both.
 #[tactic(auto, unfolding(crate::specs::Reading::both_fault))]
 fn both_fault(nodes: &[RawNode]) -> Option<LabFault>
     ensures { result ≡ both_fault (map node_view nodes.now) }
@@ -194,7 +200,7 @@ fn first_with_both(nodes: &[RawNode]) -> Option<usize>
     nodes.iter().position(|node| node.both)
 }
 
-/// Returns the table of the nodes' identifiers, or the first error of the identifiers.
+/// Returns the table of the nodes' identifiers, or `Id` with the first error of the identifiers.
 fn id_table(alloc: Global, nodes: &[RawNode]) -> Result<IdTable, LabFault>
     ensures tests { Gives is_lab_memory (λ _. tt {0}) result
         (pass_unless (ids_fault (map node_view nodes.now))) }
@@ -223,8 +229,8 @@ fn file_ids(alloc: Global, nodes: &[RawNode]) -> Result<Vec<u64>, AllocError>
     nodes.iter().map(|node| number_of(node.id)).collect(alloc)
 }
 
-/// Returns the error of the first name or key that isn't well-formed, or `None` if all are. The teacher's come before
-/// the students'.
+/// Returns `Name` for the first participant whose name or key isn't well-formed, or `None` if all are. The teacher
+/// comes before the students.
 #[tactic(auto, unfolding(crate::specs::Reading::forms_fault))]
 fn forms_fault(teacher: &Account, students: &[Account]) -> Option<LabFault>
     ensures { result ≡ forms_fault (account_view teacher.now ∷ map account_view students.now) }
@@ -232,7 +238,7 @@ fn forms_fault(teacher: &Account, students: &[Account]) -> Option<LabFault>
     first_malformed(teacher, students).map(LabFault::Name)
 }
 
-/// Returns the error of the first node with an owner who isn't a student, or `None` if all owners are students.
+/// Returns `NoOwner` for the first node with an owner who isn't a student, or `None` if all owners are students.
 #[tactic(auto, unfolding(crate::specs::Reading::no_owner_fault))]
 fn no_owner_fault(students: &IndexMap<String, String>, nodes: &[RawNode]) -> Option<LabFault>
     ensures { result ≡
@@ -241,7 +247,7 @@ fn no_owner_fault(students: &IndexMap<String, String>, nodes: &[RawNode]) -> Opt
     first_without_owner(students, nodes).map(LabFault::NoOwner)
 }
 
-/// Returns the error of the first node whose two owners are the same student, or `None` if there is no such node.
+/// Returns `OwnerTwice` for the first node whose two owners are the same student, or `None` if there is no such node.
 #[tactic(auto, unfolding(crate::specs::Reading::owner_twice_fault))]
 fn owner_twice_fault(nodes: &[RawNode]) -> Option<LabFault>
     ensures { result ≡ owner_twice_fault (map node_view nodes.now) }
@@ -294,8 +300,8 @@ fn are_one_twice(names: &[String]) -> bool
     names.len() == 2 && names[0] == names[1]
 }
 
-/// Returns the number, if it is from 1 to `greatest`. Otherwise returns the error that the value under `key` is out of
-/// its range.
+/// Returns the number, if it is from 1 to `greatest`. Otherwise returns `Limit(key)`; `key` is the key under which the
+/// number was found.
 fn check_range(greatest: u64, number: i64, key: Key) -> Result<u64, LabFault>
     ensures test { Gives is_lab_memory (λ _. tt {0}) result
         (need (is_within greatest number) (Limit key)) }
@@ -310,8 +316,8 @@ fn check_range(greatest: u64, number: i64, key: Key) -> Result<u64, LabFault>
     }
 }
 
-/// Checks the limits of a file. Returns the number of events (first) and of sessions (second). Returns the error of the
-/// first number that is out of its range. The order is events, sessions, students.
+/// Returns the number of events (first) and of sessions (second). Returns `Limit` for the first number that is out of
+/// its range, in the order events, sessions, students. `students` is the number of students.
 #[tactic(auto, unfolding(crate::specs::Reading::limited))]
 fn check_limits(bounds: RawLimits, students: usize) -> Result<(u64, u8), LabFault>
     ensures tests { Gives is_lab_memory (λ _. tt {0}) result
@@ -328,7 +334,7 @@ fn check_limits(bounds: RawLimits, students: usize) -> Result<(u64, u8), LabFaul
     }
 }
 
-/// Returns the error of the first node that points at a node that it isn't linked to, or `None` if there is no such
+/// Returns `BadPointer` for the first node that points at a node that it isn't linked to, or `None` if there is no such
 /// node.
 #[tactic(auto, unfolding(crate::specs::Reading::pointers_fault))]
 fn pointers_fault(links: &[(i64, i64)], nodes: &[RawNode]) -> Option<LabFault>
@@ -347,7 +353,7 @@ fn first_at_unlinked(links: &[(i64, i64)], nodes: &[RawNode]) -> Option<usize>
         .position(|node| points_at_unlinked(links, node))
 }
 
-/// Returns whether the node points at some node, and isn't linked to it.
+/// Returns whether the node points at some node, and isn't linked to it. Returns `false` if its p is left out.
 fn points_at_unlinked(links: &[(i64, i64)], node: &RawNode) -> bool
     ensures { result ≡ points_at_unlinked links.now (node_view node.now) }
 {

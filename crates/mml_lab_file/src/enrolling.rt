@@ -1,4 +1,7 @@
 //! The students of a file, by their names.
+//!
+//! The map of students has each student's key under the student's name, in the file's order. In a contract, `Gives`
+//! means that a function returns the result that a definition names, or `Memory` if memory runs out.
 ghost use Rattle.std.specs.Prelude.{◌≡◌, [], ◌∷◌, ◌++◌, map, string_bytes, None, ◌||◌, IfErr, OnOk, is_some, bytes_eq};
 ghost use Rattle.std.specs.Map.{lookup};
 ghost use Rattle.std.specs.String.{string_eq};
@@ -13,7 +16,7 @@ use indexmap::IndexMap;
 use mml_lab::{Account, LabFault};
 use std::alloc::Global;
 
-/// Returns whether a name is in use: it is the teacher's name `teacher`, or the name of a student who was read before.
+/// Returns whether a name is in use: it is the teacher's name `teacher`, or the name of a student in the map.
 fn is_taken(students: &IndexMap<String, String>, teacher: &str, name: &str) -> bool
     ensures { result ≡ (bytes_eq name.now teacher.now
         || is_some (lookup (λ k. bytes_eq name.now (string_bytes k)) students.now.entries)) }
@@ -21,8 +24,8 @@ fn is_taken(students: &IndexMap<String, String>, teacher: &str, name: &str) -> b
     name == teacher || students.contains_key(name)
 }
 
-/// Returns the students' names and keys in the file's order. Returns `NameTwice` with the index of the first student
-/// whose name the teacher or an earlier student has, and `Memory` if memory runs out.
+/// Returns the map of the students. Returns `NameTwice` for the first student whose name the teacher or an earlier
+/// student has, with the student's index, counted from 1. Returns `Memory` if memory runs out.
 pub(crate) fn students_map(
     alloc: Global,
     teacher: &Account,
@@ -38,7 +41,7 @@ pub(crate) fn students_map(
 }
 
 /// Puts the students' names and keys into an empty map, in order. Stops at the first student whose name the teacher or
-/// an earlier student has. Returns `NameTwice` with the index of this student, counted from 1. Returns `Memory` if
+/// an earlier student has, and returns `NameTwice` with this student's index, counted from 1. Returns `Memory` if
 /// memory runs out.
 fn fill(
     found: &mut IndexMap<String, String>,
@@ -60,7 +63,7 @@ fn fill(
     Ok(())
 }
 
-/// Puts a name that the map doesn't have yet, with its key, at the end of the map. Returns `Memory` if memory runs out.
+/// Appends a name with its key to the map, which must not have the name yet. Returns `Memory` if memory runs out.
 fn append(found: &mut IndexMap<String, String>, name: String, key: String) -> Result<(), LabFault>
     requires { get string_eq found.old name ≡ None }
     ensures entries { OnOk result (found.new.entries ≡ found.old.entries ++ (name, key) ∷ []) }

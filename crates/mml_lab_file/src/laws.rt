@@ -1,7 +1,8 @@
 //! Laws of the lab file. Each is the contract of a function that does nothing.
 //!
 //! The rank of a node is its index in the rising order of identifiers. The roster has the teacher, the students, and
-//! the owners of each node.
+//! the owners of each node. A `RawSpec` is the contents of a file; `lab_fault` returns its first error, and `lab_in`
+//! its lab.
 ghost use Rattle.std.specs.Prelude.{◌≡◌, ◌≢◌, ◌↔◌, ℕ, ℤ, pos, ◌<◌, ◌≤◌, List, length, true, All, Contains, Some, None, Ok, Err, slice_get, slice_index};
 ghost use Rattle.mml_ids.specs.Ids.{IsTable};
 ghost use Rattle.mml_ids.specs.declared.id_table.IdFault.TheVariants as id;
@@ -15,8 +16,8 @@ ghost use Rattle.mml_lab_file.specs.Reading.{lab_fault, lab_in, lab_of, linked, 
 ghost use Rattle.mml_lab_file.specs.LabMeaning.{Joins, HasLink, HasNode, IsNodeOf, IsLabOfFile, JoinNodes, IsLinkAgain, IsFirstLinkAgain, id_at};
 ghost use Rattle.mml_lab_file.specs.LabMeaning.{IsFirstAgain, AreDistinctBelow};
 
-/// The check of names finds an error exactly if some name occurs twice. The error has the index of the first name that
-/// occurs at a lower index, too.
+/// The check of names finds an error exactly if some name occurs twice. The error has the index of the first account
+/// whose name an earlier account has.
 pub fn name_twice_is_the_first()
     ensures fault { (accounts : List Account) (k : ℕ) →
         (name_twice accounts ≡ Some (fault.NameTwice k)) ↔ IsFirstAgain accounts k }
@@ -36,7 +37,8 @@ pub fn links_join_two_nodes()
 {}
 
 /// If each link joins two different nodes, the check of links finds an error exactly if some link occurs twice. The
-/// error has the index of the first link that occurs at a lower index, too.
+/// error has the index of the first link that joins the same nodes as an earlier one. The same holds if the file's
+/// first error is `LinkTwice`.
 pub fn link_twice_is_the_first()
     ensures fault { (raw : RawSpec) (k : ℕ) →
         (linked raw.nodes raw.links ≡ Err (fault.LinkTwice k))
@@ -69,7 +71,8 @@ pub fn links_are_counted()
         link_count (lab_in raw).network ≡ length raw.links }
 {}
 
-/// A node's registers are those of the file: p is null, or the rank of a node that it is linked to.
+/// A node's registers are those of the file. m is the same; p is null if it is left out, and otherwise the rank of the
+/// node that it names, to which the node is linked.
 pub fn registers_are_those_of_the_file()
     ensures m { (raw : RawSpec) (i : ℕ) (node : NodeSpec) → lab_fault raw ≡ None →
         IsNodeOf raw (lab_in raw) i node →
@@ -102,12 +105,14 @@ pub fn labs_have_owners()
         slice_index (owners_of lab.roster i) j ≢ slice_index (owners_of lab.roster i) k }
 {}
 
-/// Every lab that is read from bytes is lawful.
+/// Every lab that is read from bytes is valid (`IsLab`). Its roster and its network are valid and have as many nodes as
+/// there are identifiers, and no limit is exceeded.
 pub fn labs_are_lawful()
     ensures { (bytes : List ℕ) (lab : LabValue) → lab_of bytes ≡ Ok lab → IsLab lab }
 {}
 
-/// Bytes are read as a lab exactly if they are those of a file without an error, and the lab is that of the file.
+/// Bytes are read as a lab exactly if they are those of a file without an error, and the lab is the one that the file
+/// describes.
 pub fn labs_are_those_of_files()
     ensures { (bytes : List ℕ) (lab : LabValue) →
         (lab_of bytes ≡ Ok lab) ↔ ((raw : RawSpec) × IsLabOfFile bytes raw lab) }

@@ -1,6 +1,9 @@
-//! The checks of links, and the rows of neighbours by the ranks of the nodes.
+//! The checks of links, and the neighbours of each node by rank.
 //!
-//! The rank of a node is its index in the rising order of identifiers.
+//! The rank of a node is its index in the rising order of identifiers. A `RawNode` is a node as the file describes it,
+//! and a link is the pair of the identifiers of its ends. Errors have the index of a link in the file's order, from 0.
+//! In a contract, `Gives` means that a function returns the result that a definition names, or `Memory`. The clause
+//! `tests` of a contract says which error is returned, if any. The clause `rows` says what `Ok` contains.
 ghost use Rattle.std.specs.Prelude.{◌≡◌, ◌<◌, ◌==◌, ◌&&◌, ◌||◌, ℕ, None, position, map, length, IfSome, IfOk};
 ghost use Rattle.std.specs.List.{list_any};
 ghost use Rattle.std.specs.Option.{ForSome};
@@ -21,9 +24,10 @@ use mml_ids::{IdTable, NodeSet, Rank};
 use mml_lab::LabFault;
 use std::alloc::Global;
 
-/// Returns the set of neighbours of each node, by rank. If the links have errors, returns one of the first kind that
-/// occurs. The kinds are, in this order: an end that isn't a node, a link from a node to itself, and a link that occurs
-/// twice. Of several errors of this kind, returns that of the first link.
+/// Returns the set of neighbours of each node, by rank. `ids` must have the identifiers of the nodes. Returns `LinkEnd`
+/// for the first link with an end that isn't a node. If there is none, returns `Loop` for the first link from a node to
+/// itself. If there is none either, returns `LinkTwice` for the first link that joins the same nodes as a link before
+/// it. Returns `Memory` if memory runs out.
 #[tactic(auto, unfolding(crate::specs::Reading::linked))]
 pub(crate) fn neighbours(
     alloc: Global,
@@ -43,7 +47,7 @@ pub(crate) fn neighbours(
     neighbour_rows(alloc, ids, links)
 }
 
-/// Returns the error of the first link with an end that isn't a node, or `None` if all ends are nodes.
+/// Returns `LinkEnd` for the first link with an end that isn't a node, or `None` if all ends are nodes.
 #[tactic(auto, unfolding(crate::specs::Reading::ends_fault))]
 fn ends_fault(nodes: &[RawNode], links: &[(i64, i64)]) -> Option<LabFault>
     ensures { result ≡ ends_fault (map node_view nodes.now) links.now }
@@ -81,7 +85,7 @@ fn has_id(nodes: &[RawNode], id: i64) -> bool
     nodes.iter().any(|node| node.id == id)
 }
 
-/// Returns the error of the first link that joins a node to itself, or `None` if there is no such link.
+/// Returns `Loop` for the first link that joins a node to itself, or `None` if there is no such link.
 #[tactic(auto, unfolding(crate::specs::Reading::loops_fault))]
 fn loops_fault(links: &[(i64, i64)]) -> Option<LabFault>
     ensures { result ≡ loops_fault links.now }
@@ -103,8 +107,8 @@ fn is_loop(link: (i64, i64)) -> bool
     link.0 == link.1
 }
 
-/// Returns the set of neighbours of each node, by rank. Returns `LinkTwice` with the index of the first link that joins
-/// the same nodes as a link before it, and `Memory` if memory runs out.
+/// Returns the set of neighbours of each node, by rank. The ends of all links must be nodes. Returns `LinkTwice` for
+/// the first link that joins the same nodes as a link before it, and `Memory` if memory runs out.
 fn neighbour_rows(
     alloc: Global,
     ids: &IdTable,
@@ -128,8 +132,8 @@ fn neighbour_rows(
     Ok(rows)
 }
 
-/// Returns whether `a` and `b` are neighbours in `rows`, which has the neighbours of each node, by rank. `None` means
-/// no node, which has no neighbours.
+/// Returns whether `a` and `b` are neighbours in `rows`, which has the neighbours of each node, by rank. Returns
+/// `false` if one of them is `None`, which means no node.
 #[tactic(auto, unfolding(crate::specs::inside::Checks::are_near))]
 fn are_near(rows: &[NodeSet], a: Option<Rank>, b: Option<Rank>) -> bool
     requires { ForSome a (λ rank. rank < length rows.now) }
@@ -141,7 +145,7 @@ fn are_near(rows: &[NodeSet], a: Option<Rank>, b: Option<Rank>) -> bool
     }
 }
 
-/// Returns the rank of the node with an identifier, or `None` if there is no such node.
+/// Returns the rank of the node with the identifier `id`, or `None` if there is no such node.
 #[tactic(auto, unfolding(crate::specs::inside::Checks::rank_at))]
 pub(crate) fn rank_at(ids: &IdTable, id: i64) -> Option<Rank>
     ensures rank { result ≡ rank_at ids.now id }

@@ -1,7 +1,8 @@
 //! The contents of a lab file, read from its TOML.
 //!
-//! A `Key` names a key of the file in an error. Each function with the parameter `alloc` returns `LabFault::Memory` if
-//! memory runs out.
+//! The kind of a value is its type in TOML. A `Key` names a key of the file in an error. Each function with the
+//! parameter `alloc` returns `LabFault::Memory` if memory runs out. In a contract, `Gives` means that a function
+//! returns the result that a definition names, or `Memory` if memory runs out.
 ghost use Rattle.std.specs.Prelude.{◌≡◌, map, string_bytes, codes, Some, None, Ok, Err, option_map, ok_or};
 ghost use Rattle.mml_ids.specs.Gives.{Gives};
 ghost use Rattle.toml.specs.Data.{as_str, as_integer, as_bool, as_table, as_array, get_member};
@@ -19,15 +20,18 @@ use toml::{Table, Value};
 /// A node as the file describes it: its identifier, the names of its owners, and its registers.
 #[derive(Drop)]
 pub struct RawNode {
+    /// The identifier, which may be out of its range.
     pub id: i64,
     pub owners: Vec<String>,
     /// Whether the node has both keys, `owner` and `owners`.
     pub both: bool,
+    /// The identifier under the key `p`, or `None` if the key is left out.
     pub p: Option<i64>,
+    /// The truth value under the key `m`, or false if the key is left out.
     pub m: bool,
 }
 
-/// How many events and connections a file allows.
+/// How many events and connections a file allows. The numbers may be out of their ranges.
 #[derive(Clone, Copy)]
 pub struct RawLimits {
     pub events: i64,
@@ -136,9 +140,9 @@ fn array_at<'a>(table: &'a Table, name: &str, key: Key) -> Result<&'a Array, Lab
     array_of(value_at(table, name, key)?, key)
 }
 
-/// Returns the account of the teacher or of a student, whose table this is: the strings under the keys `name` and
-/// `key`. Returns the error of the first key that is missing or isn't a string; in this error, `key_of_name` stands for
-/// `name`, and `key_of_key` for `key`.
+/// Returns the account in the table of the teacher or of a student: the strings under the keys `name` and `key`.
+/// Returns `Missing` or `WrongKind` for the first of them that is missing or isn't a string. This error has
+/// `key_of_name` for the key `name`, and `key_of_key` for the key `key`.
 #[tactic(auto, unfolding(crate::specs::Shape::account_in))]
 fn account_at(
     alloc: Global,
@@ -154,8 +158,8 @@ fn account_at(
     Ok(Account { name, key })
 }
 
-/// Returns the account that an element of the file's array `student` describes: the student's name and key. Returns the
-/// first error of the element if it has one.
+/// Returns the account that an element of the file's array `student` describes: the student's name and key. Returns
+/// `WrongKind(Student)` if the element isn't a table, and otherwise the error of its name or key if there is one.
 #[tactic(auto, unfolding(crate::specs::Shape::student_of))]
 fn student(alloc: Global, value: &Value) -> Result<Account, LabFault>
     ensures { Gives is_lab_memory account_view result (student_of (view value.now)) }
@@ -256,8 +260,9 @@ fn optional_names(alloc: Global, table: &Table) -> Result<Option<Vec<String>>, L
     }
 }
 
-/// Returns the names of a node's owners: `owners`, the names under the key `owners`, or else `owner`, the name under
-/// the key `owner`. Returns `Missing(NodeOwner)` if both are `None`.
+/// Returns the names of a node's owners. `owner` is the value of the key `owner`, and `owners` that of the key
+/// `owners`; each is `None` if its key is left out. If there are both, returns `owners`; a later check refuses such a
+/// node. Returns `Missing(NodeOwner)` if both are left out.
 fn owner_names(
     alloc: Global,
     owner: Option<String>,
@@ -276,8 +281,9 @@ fn owner_names(
     Ok(names)
 }
 
-/// Returns the node that an element of the array `node` describes, or the first error of the element. m is false if its
-/// key is left out.
+/// Returns the node that an element of the array `node` describes. Returns `WrongKind(Node)` if the element isn't a
+/// table. Otherwise returns `WrongKind` or `Missing` for the first of its keys that is of another kind or missing. p
+/// and m may be left out; m is then false.
 #[tactic(auto, unfolding(crate::specs::Shape::node_of))]
 fn node(alloc: Global, value: &Value) -> Result<RawNode, LabFault>
     ensures { Gives is_lab_memory node_view result (node_of (view value.now)) }
@@ -349,7 +355,8 @@ fn links(alloc: Global, list: &Array) -> Result<Vec<(i64, i64)>, LabFault>
 }
 
 /// Returns the links under the key `links` of the file, each by the identifiers of its two ends. Returns no links if
-/// the key is left out. Returns an error if the value isn't an array of pairs of integers.
+/// the key is left out. Returns `WrongKind(Links)` if the value isn't an array, and `WrongKind(Link)` if an element
+/// isn't an array of two integers.
 fn links_at(alloc: Global, table: &Table) -> Result<Vec<(i64, i64)>, LabFault>
     ensures { Gives is_lab_memory (λ v. v.items) result
         (links_of (get_member (codes "links") (table_view table.now))) }
@@ -360,8 +367,8 @@ fn links_at(alloc: Global, table: &Table) -> Result<Vec<(i64, i64)>, LabFault>
     }
 }
 
-/// Returns the teacher's name and key, which are in the table `teacher` of the file. Returns the error of the first of
-/// the three keys `teacher`, `name` and `key` that is missing or of another kind.
+/// Returns the teacher's name and key, which are in the table `teacher` of the file. Returns `Missing` or `WrongKind`
+/// for the first of the keys `teacher`, `name` and `key` that is missing or of another kind.
 #[tactic(auto, unfolding(crate::specs::Shape::teacher_of))]
 fn teacher_at(alloc: Global, table: &Table) -> Result<Account, LabFault>
     ensures { Gives is_lab_memory account_view result (teacher_of (table_view table.now)) }
@@ -370,8 +377,8 @@ fn teacher_at(alloc: Global, table: &Table) -> Result<Account, LabFault>
     account_at(alloc, teacher, Key::TeacherName, Key::TeacherKey)
 }
 
-/// Reads the table of a lab file. Returns its contents, or the error of the first key that is missing or of another
-/// kind.
+/// Returns the contents of a lab file, whose table this is. Reads the keys in the order of `Key`. Returns `Missing` or
+/// `WrongKind` for the first one that is missing or of another kind.
 #[tactic(auto, unfolding(crate::specs::Shape::raw_of, crate::specs::Shape::students_of, crate::specs::Shape::nodes_of))]
 pub fn read_raw(alloc: Global, table: &Table) -> Result<RawLab, LabFault>
     ensures { Gives is_lab_memory raw_view result (raw_of (table_view table.now)) }
@@ -391,8 +398,8 @@ pub fn read_raw(alloc: Global, table: &Table) -> Result<RawLab, LabFault>
     })
 }
 
-/// Reads the bytes of a lab file. Returns its contents. Returns `NotToml` if the bytes aren't TOML, and otherwise the
-/// error of the first key that is missing or of another kind.
+/// Returns the contents of a lab file from its bytes. Returns `NotToml` if the bytes aren't TOML. Otherwise returns
+/// `Missing` or `WrongKind` for the first key that is missing or of another kind.
 #[tactic(auto, unfolding(crate::specs::Shape::spelled))]
 pub fn read_bytes(alloc: Global, bytes: &[u8]) -> Result<RawLab, LabFault>
     ensures { Gives is_lab_memory raw_view result (spelled bytes.now) }

@@ -11,7 +11,7 @@ use mml_lab::{Lab, LabFault, Roster, Student, Who};
 use std::alloc::Global;
 
 /// Returns whether the bytes are a lab file whose lab has the same identifiers, names, links, registers and owners as
-/// `lab`. Returns `false` if they are no lab file, and `Memory` if memory runs out.
+/// `lab`. Returns `false` if they aren't a lab file or the file has an error, and `Memory` if memory runs out.
 pub fn spells_same_lab(alloc: Global, lab: &Lab, bytes: &[u8]) -> Result<bool, Memory>
     ensures { IfOk result (λ same. IsTrue same ↔ SpellsSame lab.now bytes.now) }
 {
@@ -73,7 +73,8 @@ fn has_same_names(a: &Roster, b: &Roster) -> bool
     true
 }
 
-// Returns whether the node of this rank has the same registers, links and owners in both labs.
+// Returns whether the node of this rank has the same registers, links and owners in both labs. The labs must have the
+// same number of nodes and the same number of students.
 fn is_same_node(a: &Lab, b: &Lab, node: Rank) -> bool
     requires here { node < length a.now.ids }
     requires ids { length a.now.ids ≡ length b.now.ids }
@@ -86,7 +87,7 @@ fn is_same_node(a: &Lab, b: &Lab, node: Rank) -> bool
     has_same_links(a, b, node) && has_same_owners(a.roster(), b.roster(), node)
 }
 
-// Returns whether the node of this rank has the same links in both labs.
+// Returns whether the node of this rank has the same links in both labs, which must have the same number of nodes.
 fn has_same_links(a: &Lab, b: &Lab, node: Rank) -> bool
     requires here { node < length a.now.ids }
     requires ids { length a.now.ids ≡ length b.now.ids }
@@ -101,7 +102,8 @@ fn has_same_links(a: &Lab, b: &Lab, node: Rank) -> bool
     true
 }
 
-// Returns whether the node of this rank is owned by the same students in both rosters.
+// Returns whether the node of this rank is owned by the same students in both rosters, which must have the same number
+// of students.
 fn has_same_owners(a: &Roster, b: &Roster, node: Rank) -> bool
     requires { length a.now.students ≡ length b.now.students }
     ensures { IsTrue result ↔ HasSameOwners a.now b.now node }
@@ -114,7 +116,7 @@ fn has_same_owners(a: &Roster, b: &Roster, node: Rank) -> bool
     true
 }
 
-// Returns the participant who is the student with this index, from 0 in the file's order.
+// Returns the participant who is the student with this index, from 0 in the file's order. The index must be below 256.
 fn student_at(index: u64) -> Who
     requires { index < 256 }
     ensures { result ≡ Who.Student index }
