@@ -15,7 +15,7 @@ use mml_rules::Rule;
 use std::alloc::Global;
 use std::marker::Model;
 
-/// For each node its chosen move, if it has one. Contracts see the list.
+/// For each node its chosen move, if it has one. Contracts see the list of these, by rank.
 #[derive(Debug, Drop)]
 pub struct Choices {
     // the chosen move of each node, by rank
@@ -104,7 +104,8 @@ impl Choices {
     }
 }
 
-/// Drops the chosen moves from the list `rules`. `nodes` has the nodes that have one.
+/// Sets every entry of `rules`, the chosen moves by rank, to `None`. `nodes` must have exactly the nodes that have a
+/// chosen move.
 fn drop_each(rules: &mut [Option<Rule>], nodes: NodeSet)
     requires { AreChosen rules.old nodes }
     ensures { rules.new ≡ replicate (length rules.old) None }

@@ -3,6 +3,9 @@
 //! An act is a request for an event. A clause is a condition for it; a denial says which clause doesn't hold. A grant
 //! chooses a move for a node, a release drops it, and a close applies all chosen moves at once. A fault sets a node's
 //! registers, a link joins two nodes, and a cut removes a link.
+//!
+//! A node of an act is `None` if no node has the identifier that was asked for. Functions whose bodies don't read
+//! `owners` have it as a parameter because their contracts name it.
 ghost use Rattle.std.specs.Prelude.{◌≡◌, ◌<◌, length, IfSome, Option, Some};
 ghost use Rattle.std.specs.Option.{ok_or};
 ghost use Rattle.mml_board.specs.declared.act.Act.TheVariants as act;
@@ -16,7 +19,8 @@ use mml_lab::{Student, Who};
 use mml_rules::{Regs, Rule};
 
 /// Tries the clauses of an act, the conditions under which it is granted to `who`, in their order. Returns the granted
-/// event if all hold, and otherwise the denial of the first that doesn't. `owners` says who owns which node.
+/// event if all hold, and otherwise the denial of the first that doesn't. `owners` says who owns which node. If the act
+/// is a move, its node must be `None` or a node of the board.
 #[inline(always)]
 pub fn check<O: Owners>(owners: &O, board: &Board, who: Who, act: &Act) -> Result<Event, Denial>
     requires { AreThere (length board.now.network.registers) act.now }
@@ -34,7 +38,8 @@ pub fn check<O: Owners>(owners: &O, board: &Board, who: Who, act: &Act) -> Resul
 
 /// Returns the grant of a move if all four clauses hold. `who` must be a student who owns the node, and `at` the number
 /// of the current configuration. No move may be chosen for the node, and the rule must be applicable there. Otherwise
-/// returns the denial of the first clause that doesn't hold.
+/// returns the denial of the first clause that doesn't hold. A `rule` of `None`, a marriage with a node that doesn't
+/// exist, isn't applicable.
 fn check_move<O: Owners>(
     owners: &O,
     board: &Board,
@@ -59,6 +64,7 @@ fn check_move<O: Owners>(
     let number = board.number();
     need(at == number, Denial::Stale(number))?;
     need(board.chosen(i).is_none(), Denial::Chosen)?;
+    // A reference is used because the toolchain doesn't copy a value that contains a rank, even if its type is `Copy`.
     let rule = &named(rule, Denial::Guard)?;
     need(board.may_apply(i, *rule), Denial::Guard)?;
     Ok(Event::Grant {
@@ -68,8 +74,8 @@ fn check_move<O: Owners>(
     })
 }
 
-/// Returns the asker and the node. If `node` is `None`, returns a student who owns nothing, and some node: then the
-/// same test of the owner is made, and fails.
+/// Returns the participant and the node that the test of the owner gets: `who` and `node`. If `node` is `None`, returns
+/// a student who isn't in any roster, and the node of rank 0, so that the same test is made.
 fn asking(who: Who, node: Option<Rank>) -> (Who, Rank)
     ensures { IfSome node (λ i. result ≡ (who, i)) }
 {
@@ -91,7 +97,7 @@ fn check_close<O: Owners>(owners: &O, board: &Board, who: Who) -> Result<Event, 
 
 /// Returns the fault, which sets the node's registers to `p` and `m`, if three clauses hold: the teacher asks, the node
 /// exists, and `p` is null or a neighbour of the node. Otherwise returns the denial of the first clause that doesn't
-/// hold.
+/// hold. A `p` of `None` is null, and `Some(None)` is a node that doesn't exist.
 fn check_fault<O: Owners>(
     owners: &O,
     board: &Board,
@@ -104,6 +110,7 @@ fn check_fault<O: Owners>(
 {
     need(is_teacher(who), Denial::NotTeacher)?;
     let i = node.ok_or(Denial::NoNode)?;
+    // A reference is used because the toolchain doesn't copy a value that contains a rank, even if its type is `Copy`.
     let q = &pointer(p, Denial::BadRegister)?;
     need(board.may_point(i, *q), Denial::BadRegister)?;
     Ok(Event::Fault {
@@ -183,8 +190,8 @@ fn named(rule: Option<Rule>, denial: Denial) -> Result<Rule, Denial>
     }
 }
 
-/// Returns what a register is to point at: `None` for null, or a node. Returns `denial` if `p` is `Some(None)`, which
-/// names no node.
+/// Returns what the register p is to point at: `None` for null, or a node. Returns `denial` if `p` is `Some(None)`, a
+/// node that doesn't exist.
 fn pointer(p: Option<Option<Rank>>, denial: Denial) -> Result<Option<Rank>, Denial>
     ensures { result ≡ pointer p denial }
 {

@@ -1,7 +1,8 @@
 //! A close: the chosen moves are applied at once, so each effect is computed before one is written.
 //!
 //! The registers of a node are its pointer p and m, which is true or false. An effect is the registers of a node after
-//! its chosen move. The rank of a node is its index in the rising order of identifiers.
+//! its chosen move. The rank of a node is its index in the rising order of identifiers. A network is lawful if each
+//! link joins two different nodes in both directions, and pointers lead only to neighbours.
 ghost use Rattle.std.specs.Prelude.{◌≡◌, ℕ, ◌<◌, true, Some, length, if◌then◌else◌};
 ghost use Rattle.std.specs.FinSet as set;
 ghost use Rattle.mml_rules.specs.declared.rule.Rule.{Rule};
@@ -15,8 +16,8 @@ use crate::indexed_network::IndexedNetwork;
 use mml_ids::{NodeSet, Rank};
 use mml_rules::{Regs, Rule, Scene, effect};
 
-/// Applies all chosen moves to the network at once. `effects` is working memory for the new registers; its former
-/// contents don't matter.
+/// Applies all chosen moves to the network at once. The guard of each must hold at its node. `effects` is working
+/// memory for the new registers, with an entry for each node; its former contents don't matter.
 pub fn move_chosen(network: &mut IndexedNetwork, effects: &mut [Regs], chosen: &Choices)
     requires choices { length chosen.now ≡ length network.old.registers }
     requires room { length effects.old ≡ length network.old.registers }
@@ -35,7 +36,7 @@ pub fn move_chosen(network: &mut IndexedNetwork, effects: &mut [Regs], chosen: &
 }
 
 /// Computes the registers of each of `nodes` after its chosen move, and writes them into `effects`, by rank. `nodes`
-/// are the nodes that have a chosen move.
+/// are the nodes that have a chosen move, and the guard of each move must hold.
 fn compute_effects(network: &IndexedNetwork, effects: &mut [Regs], chosen: &Choices, nodes: NodeSet)
     requires choices { length chosen.now ≡ length network.now.registers }
     requires room { length effects.old ≡ length network.now.registers }
@@ -52,7 +53,8 @@ fn compute_effects(network: &IndexedNetwork, effects: &mut [Regs], chosen: &Choi
     }
 }
 
-/// Returns a node's registers after its chosen move `rule`, or unchanged if it has none.
+/// Returns the registers that a node has after its chosen move `rule`, whose guard must hold there. Returns its present
+/// registers if `rule` is `None`.
 fn moved(network: &IndexedNetwork, node: Rank, rule: Option<Rule>) -> Regs
     requires node { node < length network.now.registers }
     requires holds { (r : Rule) → rule ≡ Some r →
@@ -67,7 +69,8 @@ fn moved(network: &IndexedNetwork, node: Rank, rule: Option<Rule>) -> Regs
     }
 }
 
-/// Writes the new registers of each of `nodes`, which are in `effects` by rank, into the network.
+/// Writes the new registers of each of `nodes`, which are in `effects` by rank, into the network. Their pointers must
+/// be null or lead to neighbours.
 fn write_effects(network: &mut IndexedNetwork, effects: &[Regs], nodes: NodeSet)
     requires room { length effects.now ≡ length network.old.registers }
     requires within { (i : ℕ) → set.contains nodes i ≡ true → i < length network.old.registers }

@@ -1,7 +1,9 @@
 //! A network with an index: sets of nodes, by which a question about a node is answered in a few machine instructions.
 //!
 //! The rank of a node is its index in the rising order of identifiers. The registers of a node are its pointer p and m,
-//! which is true or false.
+//! which is true or false. The suitors of a node are the nodes that point at it. Its candidates are its neighbours of
+//! higher rank that point at no node and have m false. A network is lawful if each link joins two different nodes in
+//! both directions, and pointers lead only to neighbours.
 ghost use Rattle.std.specs.Prelude.{◌≡◌, ◌≢◌, ℕ, ◌<◌, length, true, Some, IfOk, if◌then◌else◌};
 ghost use Rattle.std.specs.FinSet as set;
 ghost use Rattle.mml_rules.specs.Rules.{is_candidate};
@@ -140,7 +142,7 @@ impl IndexedNetwork {
         self.network.set_registers(node, *registers);
     }
 
-    /// Links two different nodes.
+    /// Links two different nodes. The index stays as it is, since it depends only on registers.
     pub fn link(&mut self, a: Rank, b: Rank)
         requires a { a < length self.old.registers }
         requires b { b < length self.old.registers }
@@ -150,8 +152,8 @@ impl IndexedNetwork {
         self.network.link(a, b);
     }
 
-    /// Removes the link between two nodes, and sets the pointers along it to null. The pointers are set first, which
-    /// also updates the index.
+    /// Removes the link between two nodes, if there is one, and sets the pointers along it to null. The pointers are
+    /// set first, which also updates the index.
     pub fn cut(&mut self, a: Rank, b: Rank)
         requires a { a < length self.old.registers }
         requires b { b < length self.old.registers }
@@ -162,7 +164,7 @@ impl IndexedNetwork {
         self.network.cut(a, b);
     }
 
-    /// Makes the pointer of `a` null, and updates the index, if `a` points at `b`. Otherwise changes nothing.
+    /// Sets the pointer of `a` to null, and updates the index, if `a` points at `b`. Otherwise changes nothing.
     fn unpoint(&mut self, a: Rank, b: Rank)
         requires { a < length self.old.registers }
         ensures neighbours { self.new.neighbours ≡ self.old.neighbours }

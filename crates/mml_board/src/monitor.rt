@@ -1,7 +1,8 @@
 //! The privilege monitor: the set of privileged nodes, updated only near what changed.
 //!
 //! A node is privileged if some rule is enabled there. The rank of a node is its index in the rising order of
-//! identifiers.
+//! identifiers. A network is lawful if each link joins two different nodes in both directions, and pointers lead only
+//! to neighbours.
 ghost use Rattle.std.specs.Prelude.{◌≡◌, ℕ, ◌<◌, true, length, if◌then◌else◌};
 ghost use Rattle.std.specs.FinSet as set;
 ghost use Rattle.mml_rules.specs.Network.{configuration_of};
@@ -12,7 +13,7 @@ use crate::node_sets::with_or_without;
 use mml_ids::{NodeSet, Rank};
 use mml_rules::{Scene, enabled};
 
-/// Returns the privileged nodes. Tests each node of the network.
+/// Returns the set of the privileged nodes. Tests each node of the network.
 pub fn privileged_set(network: &IndexedNetwork) -> NodeSet
     ensures { result ≡ privileged_set (configuration_of network.now) }
 {
@@ -25,9 +26,9 @@ pub fn privileged_set(network: &IndexedNetwork) -> NodeSet
     nodes
 }
 
-/// Returns the privileged nodes after a change of the network. `privileged` is the set from before the change, and
-/// `changed` has the nodes whose registers or links have changed. Tests only the nodes in `changed` and their
-/// neighbours, and takes all other nodes from `privileged`.
+/// Returns the set of the privileged nodes after a change of the network. `privileged` is the set from before the
+/// change, and `changed` has all nodes whose registers or links have changed. Tests only the nodes in `changed` and
+/// their neighbours, and takes all other nodes from `privileged`.
 pub fn refresh(network: &IndexedNetwork, privileged: NodeSet, changed: NodeSet) -> NodeSet
     requires { (j : ℕ) → IsUntouched (configuration_of network.now) changed j →
         set.contains privileged j ≡ is_privileged_node (configuration_of network.now) j }
@@ -44,8 +45,8 @@ pub fn refresh(network: &IndexedNetwork, privileged: NodeSet, changed: NodeSet) 
     privileged
 }
 
-/// Returns the set `privileged` after testing each of `nodes` again. A node that is privileged now is added to the set,
-/// and one that isn't is removed from it.
+/// Returns the set `privileged` with each of `nodes` tested again: added if it is privileged now, and otherwise
+/// removed.
 fn refresh_each(network: &IndexedNetwork, privileged: NodeSet, nodes: NodeSet) -> NodeSet
     ensures { (j : ℕ) → set.contains result j ≡
         (if set.contains nodes j then is_privileged_node (configuration_of network.now) j
