@@ -15,15 +15,15 @@ use mml_rules::Rule;
 pub(crate) struct AskedNode {
     /// The node with the identifier, if there is one.
     pub(crate) found: Option<Rank>,
-    /// The asker, or a student who owns nothing if no node was found.
+    /// The asker, or a student who isn't in any roster if no node was found.
     pub(crate) who: Who,
     /// The node that was found, or another one.
     pub(crate) node: Rank,
 }
 
 /// Looks up the node with the identifier `id`, for which `who` asks. If there is none, returns another node and a
-/// student who owns nothing. The same tests are then made as for a node that `who` may not see. The caller denies the
-/// command, since `found` is `None`.
+/// student who isn't in any roster. The caller then makes the same tests as for a node that `who` may not see, and
+/// denies the command, since `found` is `None`.
 pub(crate) fn asked_for(ids: &IdTable, who: Who, id: u64) -> AskedNode
     ensures found { result.found ≡ rank_in ids.now id }
     ensures asked { IfSome result.found (λ i. (result.who ≡ who) × (result.node ≡ i)) }
@@ -41,8 +41,8 @@ pub(crate) fn asked_for(ids: &IdTable, who: Who, id: u64) -> AskedNode
     }
 }
 
-/// Returns the rule that is asked for, with the partner of a marriage looked up. Returns `None` if no node has the
-/// partner's identifier.
+/// Returns the rule that is asked for, with the partner of a marriage looked up. Returns `None` for a marriage if no
+/// node has the partner's identifier.
 pub(crate) fn rule_of(ids: &IdTable, asked: Asked) -> Option<Rule>
     ensures { result ≡ rule_of ids.now asked }
 {
@@ -54,8 +54,8 @@ pub(crate) fn rule_of(ids: &IdTable, asked: Asked) -> Option<Rule>
     }
 }
 
-/// Looks up the node at which the register p is to point. Returns `None` if `p` is `None`, which stands for null.
-/// Otherwise returns `Some` with the node that has the identifier, or with `None` if no node has it.
+/// Looks up the node at which the register p is to point. Returns `None` if the identifier `p` is `None`, which stands
+/// for null. Otherwise returns `Some` with the node that has the identifier, or with `None` if no node has it.
 pub(crate) fn pointer(ids: &IdTable, p: Option<u64>) -> Option<Option<Rank>>
     ensures { result ≡ option_map (rank_in ids.now) p }
 {

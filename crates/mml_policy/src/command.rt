@@ -12,11 +12,11 @@ pub enum Command {
     See { node: u64 },
     /// Shows a node as its owners see it, and the nodes linked to it.
     Look { node: u64 },
-    /// Chooses a move for a node, in the configuration with this number.
+    /// Chooses a move for a node, in the configuration with the number `at`.
     Move { node: u64, rule: Asked, at: u64 },
     /// Applies all chosen moves at once.
     Close,
-    /// Sets the registers of a node.
+    /// Sets the registers of a node. A `p` of `None` is null.
     Fault { node: u64, p: Option<u64>, m: bool },
     /// Makes a link.
     Link { a: u64, b: u64 },

@@ -6,7 +6,8 @@ use mml_board::Board;
 use mml_ids::IdTable;
 use mml_lab::Roster;
 
-/// The data by which a command is judged: a lab, and the current state of its run.
+/// The data by which a command is judged: a lab, and the current state of its run. The board must have as many nodes as
+/// there are identifiers.
 #[derive(Clone, Copy)]
 pub struct Course<'a> {
     /// The current world of the run.

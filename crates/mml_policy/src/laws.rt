@@ -1,12 +1,15 @@
 //! Laws of the policy. Each is the contract of a function that does nothing.
 //!
+//! A world is a network with its registers, its chosen moves, the number of its configuration, and the number of events
+//! so far. A grant chooses a move for a node, a release drops it, and a close applies all chosen moves at once. A fault
+//! sets a node's registers, a link joins two nodes, and a cut removes a link. The registers of a node are its pointer p
+//! and m, which is true or false. A node is privileged if some rule is enabled there.
+//!
 //! A command asks to be shown something (a see, a look or a report), or for an event. A command is granted if all its
 //! clauses, the conditions for it, hold; otherwise it is denied by the first that doesn't. This decision is the
 //! verdict. The ruling is the verdict, or a refusal in place of a grant. Such a refusal means that the lab allows no
-//! more events, or that the journal is halted. A grant chooses a move for a node, a release drops it, and a close
-//! applies all chosen moves at once. A fault sets a node's registers, a link joins two nodes, and a cut removes a link.
-//! The registers of a node are its pointer p and m, which is true or false. An event is legal if all clauses of its
-//! request hold. A node is privileged if some rule is enabled there.
+//! more events, or that the journal is halted, since a line couldn't be written to it. An event is legal if all clauses
+//! of its request hold.
 ghost use Rattle.std.specs.Prelude.{◌≡◌, ◌≢◌, ◌<◌, ◌↔◌, ◌⊎◌, ℕ, Bool, List, Option, None, Some, true, false, length, slice_index};
 ghost use Rattle.mml_rules.specs.declared.rule.Rule.{Rule};
 ghost use Rattle.mml_rules.specs.Configuration.{Configuration, IsLawful};
@@ -160,8 +163,8 @@ pub fn legal_events_are_granted()
         (verdict ids r w (asker e) (command_of ids w e) ≡ verdicts.Grant e) }
 {}
 
-/// Let a node be privileged and have no chosen move. A look shows the kind of the rule that is enabled there. Some rule
-/// of this kind is granted to each owner who asks for it with the number of the current configuration.
+/// Let a node be privileged and have no chosen move. Some rule of the kind that is enabled there is granted to each
+/// owner who asks for it with the number of the current configuration. A look shows this kind.
 pub fn privileged_nodes_are_granted()
     ensures { (ids : List ℕ) (r : RosterValue) (w : World) (i : ℕ) → IsTable ids →
         IsWorldOf ids w → i < size w → is_privileged (configuration w) i ≡ true →
@@ -210,9 +213,9 @@ pub fn rulings_name_nodes()
         (c : Command) → IsWorldOf ids w → IsRuled ids (ruling ids r limit is_halted w x c) }
 {}
 
-/// The identifiers of a lab are names of its nodes in the order of their ranks. So what the rules do with ranks they
-/// also do with identifiers, in the lab's network and in each world of its nodes. A number that is no identifier has no
-/// link and no pointer, and its m is false.
+/// The identifiers of a lab are names of its nodes in the order of their ranks. So the rules do the same with
+/// identifiers as with ranks, in the lab's network and in each world of its nodes. A number that is no identifier has
+/// no link and no pointer, and its m is false.
 pub fn identifiers_are_names()
     ensures lab { (lab : LabValue) → IsLab lab →
         IsRenamed (slice_index lab.ids) (configuration_of lab.network)

@@ -1,7 +1,8 @@
 //! What a look shows.
 //!
 //! The registers of a node are its pointer p and m, which is true or false. A chosen move is a rule that was granted
-//! for the node, and is to be applied by the next close.
+//! for the node, and is to be applied by the next close. A configuration is lawful if each link joins two different
+//! nodes in both directions, and pointers lead only to neighbours.
 ghost use Rattle.std.specs.Prelude.{◌≡◌, ◌<◌, length, IfOk};
 ghost use Rattle.mml_policy.specs.Shown.{look_of, near};
 
@@ -25,7 +26,7 @@ pub struct Look {
     pub near: Items<(Rank, Regs)>,
 }
 
-/// Returns a node as its owners see it: its registers, its chosen move, the rule that is enabled there, and its
+/// Returns what a look shows of a node: its registers, its chosen move, the rule that is enabled there, and its
 /// neighbours with their registers. Returns `Memory` if memory runs out.
 pub fn look_of(alloc: Global, board: &Board, node: Rank) -> Result<Look, Memory>
     requires { node < length board.now.network.registers }

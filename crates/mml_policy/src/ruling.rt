@@ -3,7 +3,8 @@
 //! A clause is a condition under which a request is granted; a denial names the first that doesn't hold. An act is a
 //! request for an event. The verdict on a command is its denial, or what it may do if all its clauses hold. The ruling
 //! is the verdict, or a refusal in place of a grant. Such a refusal means that the lab allows no more events, or that
-//! the journal is halted. The journal is halted if a line couldn't be written to it.
+//! the journal is halted. The journal is halted if a line couldn't be written to it. A course is a lab and the current
+//! state of its run; its board must have as many nodes as it has identifiers.
 ghost use Rattle.std.specs.Prelude.{◌≡◌, OnErr, IfOk, true};
 ghost use Rattle.mml_policy.specs.Courses.{NamesEachNode, ruling_in};
 ghost use Rattle.mml_policy.specs.Rulings.{event_of, is_look};
@@ -55,9 +56,11 @@ impl Ruling {
 }
 
 /// Returns the ruling on a command of `who`. If a clause doesn't hold, the ruling is the denial of the first that
-/// doesn't. If all hold, the ruling on a see or a look contains what is shown, and the ruling on a report is
-/// `Reported`; the caller makes the report. The ruling on an act is then `Full` if there are `limit` events already,
-/// and otherwise `Journal` if `is_halted` is set. In any other case it is the granted event with its effect. Only a
+/// doesn't. If all hold, the ruling on a see or a look contains what is shown. The ruling on a report is `Reported`,
+/// and the caller makes the report.
+///
+/// The ruling on an act whose clauses hold is `Full` if there are `limit` events already, and otherwise `Journal` if
+/// `is_halted` is set. In any other case it is the granted event with its effect, which the caller has to apply. Only a
 /// look allocates. Returns `Memory` if memory runs out.
 // `rule_on` isn't inlined. When it was, a hidden node took other steps than a node that doesn't exist.
 #[inline(never)]
