@@ -99,9 +99,10 @@ pub fn moves_are_reached()
 {}
 
 /// The comb (`comb_world`) of 4 nodes or more is a tree with one link less than nodes. Each node of the comb but the
-/// last is linked to a higher one. No legal list of grants, releases and closes applies more than 3 moves for each node
-/// and 2 for each link. If one student owns all nodes, some legal list of grants and closes applies one move less than
-/// that, or two less if the number of nodes is odd. The law doesn't say whether other trees allow more moves.
+/// last is linked to a higher one. By `moves_are_bounded`, no legal list of grants, releases and closes applies more
+/// than 3 moves for each node and 2 for each link. If one student owns all nodes, some legal list of grants and closes
+/// applies one move less than that, or two less if the number of nodes is odd. The law doesn't say whether other trees
+/// allow more moves.
 pub fn a_comb_takes_nearly_the_most_moves()
     ensures world { (n : ℕ) → 4 ≤ n → n ≤ MAX_NODES →
         IsWorld (comb_world n) × (size (comb_world n) ≡ n) }

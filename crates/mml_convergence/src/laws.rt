@@ -9,7 +9,8 @@
 //!
 //! A round is a list of events in which each node has its turn: at some point it isn't privileged, or a close applies
 //! its move. The potential of a node is a number that is computed from a configuration. The sum of all potentials falls
-//! in each step.
+//! in each step. A pair is two nodes that point at each other. The pairs are a maximal matching if each link has an end
+//! that is in a pair.
 ghost use Rattle.std.specs.Prelude.{◌≡◌, ℕ, ◌+◌, ◌*◌, ◌<◌, ◌≤◌, true, false, Option, None, Some, List, length};
 ghost use Rattle.std.specs.List.{list_all};
 ghost use Rattle.mml_ids.specs.Search.{count_below};

@@ -1,7 +1,8 @@
 //! The witnesses of open links.
 //!
 //! A node is privileged if some rule is enabled there. A link is open if neither of its ends is in a pair of nodes that
-//! point at each other. The rank of a node is its index in the rising order of identifiers.
+//! point at each other. The rank of a node is its index in the rising order of identifiers. A configuration is lawful
+//! if each link joins two different nodes in both directions, and pointers lead only to neighbours.
 ghost use Rattle.std.specs.Prelude.{◌≡◌, ◌<◌, true, false, length};
 ghost use Rattle.mml_rules.specs.declared.rule.Rule.{Rule};
 ghost use Rattle.mml_rules.specs.Rules.{is_married, guard, kind_of, enabled_kind};
@@ -15,8 +16,8 @@ use mml_ids::Rank;
 use mml_rules::{Kind, Scene};
 
 /// Returns the witness of a link between two free nodes (in no pair), `a` and the greater `b`. The witness is a
-/// privileged node, with the rule that is enabled there. So as long as there is such a link, the configuration isn't
-/// stable.
+/// privileged node, with the kind of the rule that is enabled there. So as long as there is such a link, the
+/// configuration isn't stable.
 pub fn certify(board: &Board, a: Rank, b: Rank) -> (Rank, Kind)
     requires lower { a < b }
     requires linked { (configuration board.now).linked a b ≡ true }
@@ -36,9 +37,9 @@ pub fn certify(board: &Board, a: Rank, b: Rank) -> (Rank, Kind)
 }
 
 /// Returns the witness of a link between two free nodes (in no pair), `a` and the greater `b`: a privileged node, and
-/// the rule that is enabled there. The witness is what `witness_from` returns for `a`, or else what it returns for `b`.
-/// If both calls return `None`, the witness is `a` with a seduction. `kinds` has the rule that is enabled at each node,
-/// by rank.
+/// the kind of the rule that is enabled there. The witness is what `witness_from` returns for `a`, or else what it
+/// returns for `b`. If both calls return `None`, the witness is `a`, at which a seduction is then enabled. `kinds` has
+/// the kind of the rule that is enabled at each node, by rank.
 #[tactic(auto, unfolding(crate::specs::Walk::certificate))]
 pub(crate) fn witness(board: &Board, kinds: &[Option<Kind>], a: Rank, b: Rank) -> (Rank, Kind)
     requires kinds { AreKinds (configuration board.now) kinds.now }
@@ -53,8 +54,8 @@ pub(crate) fn witness(board: &Board, kinds: &[Option<Kind>], a: Rank, b: Rank) -
 }
 
 /// Follows the pointers from `node` to the first node that is privileged or points at no node, as `end_of_walk` does.
-/// Returns this node with the rule that is enabled there. Returns `None` if no rule is enabled there, or if the rule is
-/// a seduction. `kinds` has the rule that is enabled at each node, by rank.
+/// Returns this node with the kind of the rule that is enabled there. Returns `None` if no rule is enabled there, or if
+/// the rule is a seduction. `kinds` has the kind of the rule that is enabled at each node, by rank.
 fn witness_from(board: &Board, kinds: &[Option<Kind>], node: Rank) -> Option<(Rank, Kind)>
     requires kinds { AreKinds (configuration board.now) kinds.now }
     requires node { node < length board.now.network.registers }
@@ -68,8 +69,9 @@ fn witness_from(board: &Board, kinds: &[Option<Kind>], node: Rank) -> Option<(Ra
 }
 
 /// Follows the pointers from `node` to the first node that is privileged or points at no node. Returns this node, with
-/// the rule that is enabled there, if one is. If there is no such node within as many steps as there are nodes, returns
-/// the node that the last step reached. `kinds` has the rule that is enabled at each node, by rank.
+/// the kind of the rule that is enabled there, or `None` if none is. If there is no such node within as many steps as
+/// there are nodes, returns the node that the last step reached. `kinds` has the kind of the rule that is enabled at
+/// each node, by rank.
 fn end_of_walk(board: &Board, kinds: &[Option<Kind>], node: Rank) -> (Rank, Option<Kind>)
     requires kinds { AreKinds (configuration board.now) kinds.now }
     requires node { node < length board.now.network.registers }

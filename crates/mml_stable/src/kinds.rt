@@ -1,6 +1,7 @@
 //! The rule that is enabled at each node, found once for the whole report.
 //!
-//! The rank of a node is its index in the rising order of identifiers.
+//! The rank of a node is its index in the rising order of identifiers. A configuration is lawful if each link joins two
+//! different nodes in both directions, and pointers lead only to neighbours.
 ghost use Rattle.std.specs.Prelude.{◌≡◌, ◌<◌, ◌≤◌, length};
 ghost use Rattle.mml_rules.specs.Rules.{enabled_kind};
 ghost use Rattle.mml_board.specs.World.{configuration};
@@ -13,7 +14,8 @@ use mml_rules::{Kind, Scene};
 /// The greatest number of nodes that a network may have, as the length of a list.
 pub(crate) const PLACES: usize = MAX_NODES as usize;
 
-/// Finds the rule that is enabled at each node, if one is, and writes it into `kinds`, by rank.
+/// Finds the kind of the rule that is enabled at each node, if one is, and writes it into `kinds`, by rank. `kinds`
+/// must have an entry for each node.
 #[tactic(auto, using(crate::proofs::KindsLemmas::one_found, std::proofs::lemmas::Bool::Decides::nat_tests))]
 pub(crate) fn find_kinds(board: &Board, kinds: &mut [Option<Kind>])
     requires room { length board.now.network.registers ≤ length kinds.old }
@@ -24,8 +26,8 @@ pub(crate) fn find_kinds(board: &Board, kinds: &mut [Option<Kind>])
     }
 }
 
-/// Returns the rule that is enabled at a node, if one is. The rule is looked up in `kinds`, which `find_kinds` has
-/// filled.
+/// Returns the kind of the rule that is enabled at a node, or `None` if none is. Looks it up in `kinds`, which
+/// `find_kinds` must have filled.
 #[inline(always)]
 pub(crate) fn kind_at(board: &Board, kinds: &[Option<Kind>], node: Rank) -> Option<Kind>
     requires node { node < length board.now.network.registers }

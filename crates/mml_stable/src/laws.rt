@@ -3,7 +3,8 @@
 //! The registers of a node are its pointer p and m, which is true or false. A node is privileged if some rule is
 //! enabled there. A configuration is stable if no node is privileged. A pair is two nodes that point at each other, and
 //! a free node is in no pair. A link is open if both its ends are free. Its witness is a privileged node that the
-//! report names for it. The rank of a node is its index in the rising order of identifiers.
+//! report names for it. The rank of a node is its index in the rising order of identifiers. The pairs are a maximal
+//! matching if each link has an end that is in a pair.
 ghost use Rattle.std.specs.Prelude.{◌≡◌, ◌↔◌, ◌⊎◌, ℕ, ◌<◌, true, false, Some, Contains};
 ghost use Rattle.mml_rules.specs.declared.rule.Kind.{Kind};
 ghost use Rattle.mml_rules.specs.Configuration.{Configuration, IsLawful};
@@ -17,8 +18,8 @@ ghost use Rattle.mml_stable.specs.Reports.{NamesNodes, pairs, free_nodes, privil
 ghost use Rattle.mml_stable.specs.Listed.{IsPairInOrder, IsFreeNode, IsPrivilegedBy, IsOpenLink, Rises, IsLinkBefore, IsMaximalMatching};
 ghost use Rattle.mml_stable.specs.Walk.{top, certificate, LeadsTo};
 
-/// A report says `stable` exactly if no node is privileged. Then the pairs are a maximal matching, and m is true
-/// exactly at the nodes that are in a pair.
+/// A report says `stable` exactly if no node is privileged. No node is in two pairs. If no node is privileged, the
+/// pairs are a maximal matching, and m is true exactly at the nodes that are in a pair.
 pub fn stable_is_maximal()
     ensures told { (c : Configuration) → (is_stable c ≡ true) ↔ IsStable c }
     ensures matching { (c : Configuration) → IsMatching c }
@@ -27,8 +28,8 @@ pub fn stable_is_maximal()
         (c.m i ≡ true) ↔ IsMarried c i }
 {}
 
-/// The pointers rise from a node that is free (in no pair) or has m false: each node on the way is greater than the one
-/// before. The way ends at a node that is privileged or points at no node.
+/// The pointers rise from a node that is free (in no pair) or has m false: each further node is greater than the one
+/// before, and has m false. The way ends at a node that is privileged or points at no node.
 pub fn walk_rises()
     ensures rises { (c : Configuration) (i j : ℕ) → IsLawful c → is_privileged c i ≡ false →
         (is_married c i ≡ false) ⊎ (c.m i ≡ false) → c.p i ≡ Some j →

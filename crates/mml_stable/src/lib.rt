@@ -1,8 +1,8 @@
-//! The stability report: the pairs, the free and the privileged nodes, the open links, and for each of
-//! these a privileged node as its witness.
+//! The stability report: the pairs, the free and the privileged nodes, and the open links, each with a privileged node
+//! as its witness.
 //!
-//! A node is privileged if some rule is enabled there. A free node is in no pair. A link is open if both its ends are
-//! free.
+//! A node is privileged if some rule is enabled there. A pair is two nodes that point at each other, and a free node is
+//! in no pair. A link is open if both its ends are free.
 #![tactic(auto)]
 
 mod certificate;

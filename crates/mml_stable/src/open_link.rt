@@ -4,7 +4,8 @@
 use mml_ids::Rank;
 use mml_rules::Kind;
 
-/// A link between two free nodes, the lower one first, and a privileged node that is its witness.
+/// A link between two free nodes, the lower one first. The witness is a privileged node, which shows that the
+/// configuration isn't stable.
 #[derive(Clone, Copy, Debug)]
 pub struct OpenLink {
     pub a: Rank,

@@ -2,7 +2,9 @@
 //!
 //! A node is privileged if some rule is enabled there. A free node is in no pair of nodes that point at each other. A
 //! link is open if both its ends are free. The witness of an open link is a privileged node that the report names for
-//! it. The rank of a node is its index in the rising order of identifiers.
+//! it. The rank of a node is its index in the rising order of identifiers. A configuration is lawful if each link joins
+//! two different nodes in both directions, and pointers lead only to neighbours. A world is lawful if its configuration
+//! is, and the guards of all chosen moves hold.
 ghost use Rattle.std.specs.Prelude.{◌≡◌, ℕ, ◌<◌, ◌++◌, length, true, IfOk, OnOk};
 ghost use Rattle.std.specs.FinSet as set;
 ghost use Rattle.mml_ids.specs.Sets.{those_below};
@@ -33,8 +35,8 @@ pub fn report(alloc: Global, board: &Board) -> Result<Report, Memory>
     report_lists(alloc, board)
 }
 
-/// Returns the report on the board's configuration. The contract of `report` says that the report names only nodes of
-/// the board; the contract of this function doesn't. Returns `Memory` if memory runs out.
+/// Returns the report on the board's configuration. `report` returns the result of this function, and adds to its
+/// contract that the report names only nodes of the board. Returns `Memory` if memory runs out.
 fn report_lists(alloc: Global, board: &Board) -> Result<Report, Memory>
     ensures { IfOk result (λ report. report ≡ report_of board.now) }
 {
@@ -56,8 +58,8 @@ fn report_lists(alloc: Global, board: &Board) -> Result<Report, Memory>
     })
 }
 
-/// Returns the pairs, two nodes that point at each other with the lower one first, in rising order. Returns `Memory` if
-/// memory runs out.
+/// Returns the pairs in rising order. A pair is two nodes that point at each other, the lower one first. Returns
+/// `Memory` if memory runs out.
 fn pairs(alloc: Global, board: &Board) -> Result<Vec<(Rank, Rank)>, Memory>
     ensures { IfOk result (λ all. all.items ≡ pairs (configuration board.now)) }
 {
@@ -93,8 +95,9 @@ fn free_nodes(alloc: Global, board: &Board) -> Result<(Vec<Rank>, NodeSet), Memo
     Ok((all, set))
 }
 
-/// Returns the privileged nodes in rising order, each with the rule that is enabled there. Also returns whether the
-/// list is empty. `kinds` has the rule that is enabled at each node, by rank. Returns `Memory` if memory runs out.
+/// Returns the privileged nodes in rising order, each with the kind of the rule that is enabled there. Also returns
+/// whether there are none, that is, whether the configuration is stable. `kinds` has the kind of the rule that is
+/// enabled at each node, by rank. Returns `Memory` if memory runs out.
 fn privileged_nodes(
     alloc: Global,
     board: &Board,
@@ -116,7 +119,7 @@ fn privileged_nodes(
 }
 
 /// Returns the greater ends of the open links (between two free nodes) whose lower end is `a`. Returns no nodes if `a`
-/// isn't free. `rest` has the free nodes whose ranks are at least that of `a`.
+/// isn't free. `rest` must have exactly the free nodes whose ranks are at least that of `a`.
 fn open_ends(board: &Board, rest: NodeSet, a: Rank) -> NodeSet
     requires a { a < length board.now.network.registers }
     requires rest { IsFreeFrom (configuration board.now) a rest }
@@ -132,8 +135,8 @@ fn open_ends(board: &Board, rest: NodeSet, a: Rank) -> NodeSet
     }
 }
 
-/// Returns the open link between `a` and `b`, with its witness. `kinds` has the rule that is enabled at each node, by
-/// rank.
+/// Returns the open link between `a` and `b`, with its witness. `kinds` has the kind of the rule that is enabled at
+/// each node, by rank.
 fn open_link(board: &Board, kinds: &[Option<Kind>], a: Rank, b: Rank) -> OpenLink
     requires kinds { AreKinds (configuration board.now) kinds.now }
     requires a { a < length board.now.network.registers }
@@ -144,8 +147,9 @@ fn open_link(board: &Board, kinds: &[Option<Kind>], a: Rank, b: Rank) -> OpenLin
     OpenLink { a, b, node, kind }
 }
 
-/// Appends the open links whose lower end is `a` to `all`, each with its witness. `ends` has their greater ends, and
-/// `kinds` has the rule that is enabled at each node, by rank. Returns `Memory` if memory runs out.
+/// Appends the open links whose lower end is `a` to `all`, each with its witness. `ends` must have exactly their
+/// greater ends. `kinds` has the kind of the rule that is enabled at each node, by rank. Returns `Memory` if memory
+/// runs out.
 fn put_open_links(
     all: &mut Vec<OpenLink>,
     board: &Board,
@@ -168,8 +172,9 @@ fn put_open_links(
     Ok(())
 }
 
-/// Returns the open links, which join two free nodes, in rising order, each with its witness. `free` has the free
-/// nodes, and `kinds` has the rule that is enabled at each node, by rank. Returns `Memory` if memory runs out.
+/// Returns the open links, which join two free nodes, in rising order, each with its witness. `free` must have exactly
+/// the free nodes. `kinds` has the kind of the rule that is enabled at each node, by rank. Returns `Memory` if memory
+/// runs out.
 fn open_links(
     alloc: Global,
     board: &Board,

@@ -3,7 +3,7 @@ use mml_ids::{Items, Rank};
 use mml_rules::Kind;
 
 /// The report on a configuration. Each list is in rising order. A node is privileged if some rule is enabled there. A
-/// free node is in no pair, and a link is open if both its ends are free.
+/// pair is two nodes that point at each other, a free node is in no pair, and a link is open if both its ends are free.
 #[derive(Debug, Drop)]
 pub struct Report {
     /// The number of the configuration.
