@@ -41,8 +41,8 @@ pub enum Line {
     Other,
 }
 
-/// How many lines each clause denied, and how many weren't requests. A clause is a condition for a request; a denial
-/// names the first that doesn't hold.
+/// How many lines each clause denied, from the first to the fourth, and how many lines weren't requests. A clause is a
+/// condition for a request; a denial names the first that doesn't hold.
 #[derive(Clone, Copy, Debug, PartialEq, Eq)]
 pub struct Denials {
     pub first: u64,
@@ -61,7 +61,8 @@ pub fn push_ask(asks: &mut Vec<Ask>, ask: &Ask) -> Result<(), Memory>
     Ok(())
 }
 
-/// Returns the lines that a student sent, in order. Returns `Memory` if memory runs out.
+/// Returns the lines that came while this student was known, in order. `asks` has the lines of everybody. Returns
+/// `Memory` if memory runs out.
 pub(crate) fn asks_by(alloc: Global, asks: &[Ask], student: Student) -> Result<Vec<Ask>, Memory>
     ensures { IfOk result (λ own. own.items ≡ asks_by student asks.now) }
 {
@@ -72,8 +73,8 @@ pub(crate) fn asks_by(alloc: Global, asks: &[Ask], student: Student) -> Result<V
     Ok(own.collect(alloc)?)
 }
 
-/// Returns whether a line was sent by this student. `who` is the student who was known when the line came, or `None` if
-/// none was.
+/// Returns whether a line came while this student was known. `who` is the student who was known when the line came, or
+/// `None` if none was.
 fn is_student(student: Student, who: Option<Student>) -> bool
     ensures { result ≡ is_student student who }
 {

@@ -2,7 +2,8 @@
 //!
 //! A node is privileged if some rule is enabled there. A grant chooses a move for a node, a release drops it, and a
 //! close applies all chosen moves at once. A fault sets a node's registers, a link joins two nodes, and a cut removes a
-//! link.
+//! link. The registers of a node are its pointer p and m, which is true or false. A node is married if it and another
+//! node point at each other.
 ghost use Rattle.std.specs.Prelude.{◌≡◌, ◌≤◌};
 ghost use Rattle.mml_ids.specs.declared.TheConstants.{MAX_NODES};
 ghost use Rattle.mml_convergence.specs.Rounds.{rounds_for};
@@ -34,7 +35,7 @@ pub fn bounds_of(board: &Board) -> Bounds
 }
 
 /// Returns the most moves, rounds and events that may come until no node is privileged, on `nodes` nodes with `links`
-/// links. Assumes that no fault, link or cut comes.
+/// links. Assumes that no fault, link or cut comes. Each move takes at most two events, its grant and a close.
 fn bounds_for(nodes: u64, links: u64) -> Bounds
     requires { nodes ≤ MAX_NODES }
     ensures { result ≡ bounds_for nodes links }
@@ -48,7 +49,7 @@ fn bounds_for(nodes: u64, links: u64) -> Bounds
 }
 
 /// Returns the most courtships that `nodes` unmarried nodes may have: n²/4 for n nodes, rounded down. A courtship is a
-/// pointer at a higher node that may still marry.
+/// pointer of an unmarried node at a higher unmarried node whose m is false.
 fn most_courtships(nodes: u64) -> u64
     requires { nodes ≤ MAX_NODES }
     ensures exact { result ≡ most_courtships nodes }

@@ -9,13 +9,13 @@ ghost use Rattle.mml_tally.specs.Moves.{ended_by, fate_of};
 use mml_board::Event;
 use mml_ids::Rank;
 
-/// What happens to a granted move. A grant chooses a move for a node. The next close applies it, unless a release, a
-/// fault, a link or a cut drops it before.
+/// What happens to a granted move. The next close applies it, unless a release, a fault, a link or a cut drops it
+/// before.
 #[derive(Clone, Copy, Debug, PartialEq, Eq)]
 pub enum Fate {
     /// The close at this place applies the move.
     Applied(u64),
-    /// The teacher releases the move.
+    /// A release drops the move.
     Released,
     /// A fault, a link or a cut drops the move.
     Dropped,

@@ -13,7 +13,7 @@ use mml_lab::Student;
 use mml_rules::{Kind, kind_of};
 use std::alloc::Global;
 
-/// A move that was granted, and what happened to it. A grant chooses a move for a node, and a close applies it.
+/// A move that was granted, and what happened to it.
 #[derive(Clone, Copy, Debug)]
 pub struct Move {
     /// The place of the move's grant.

@@ -2,7 +2,7 @@
 //!
 //! A participant is known on a connection from a granted hello to the bye. Lines of a participant may be missing if
 //! recording paused while the participant was known. Lines of every participant may be missing if an entry of the
-//! record says so.
+//! record says so. A record has the lines of sessions with their replies. Recording pauses when a budget is used up.
 ghost use Rattle.std.specs.Prelude.{◌≡◌, ◌++◌, length, OnOk};
 ghost use Rattle.mml_lab.specs.Rosters.{IsPrincipal};
 ghost use Rattle.mml_tally.specs.Lacking.{IsCounted, lacks, has_all_of, whole_name, whole_names, recorded_line};
@@ -12,7 +12,8 @@ use mml_ids::{Memory, Piece, Rank, put};
 use mml_lab::{Lab, Roster, Student, Who};
 
 impl Findings {
-    /// Returns whether lines of `who` may be missing in the record because recording paused while `who` was known.
+    /// Returns whether lines of `who` may be missing in the record because recording paused while `who` was known. If
+    /// `who` is a student, the student's index must be below 256.
     pub fn lacks(&self, who: Who) -> bool
         requires { IsCounted who }
         ensures { result ≡ lacks self.now who }
@@ -24,7 +25,7 @@ impl Findings {
     }
 
     /// Returns whether the record has all lines of `who`: no entry says that lines of anybody may be missing, or that
-    /// recording paused while `who` was known.
+    /// recording paused while `who` was known. If `who` is a student, the student's index must be below 256.
     pub fn has_all_of(&self, who: Who) -> bool
         requires { IsCounted who }
         ensures { result ≡ has_all_of self.now who }
@@ -73,6 +74,8 @@ fn put_if_whole(
 {
     // Called only for its contract, which the proof needs: there are at most as many students as a set has ranks.
     let _count = roster.student_count();
+    // A reference is used because the toolchain doesn't copy a value that contains a student, even if its type is
+    // `Copy`.
     let who = &who;
     if findings.has_all_of(*who) {
         put(out, &[Piece::Text(" "), Piece::Text(roster.name_of(*who))])

@@ -39,8 +39,8 @@ pub fn moves_are_applied_by_the_next_close()
         (fate_of i q es ≡ Fate.Applied p) ↔ IsNextClose i q p es }
 {}
 
-/// If the list of events is legal, all students together have as many applied moves as its closes apply. The tally's
-/// line of the run has the same number.
+/// If a lab's list of events is legal, the applied moves of all students together are as many as its closes apply. The
+/// tally's line of the run has the same number.
 pub fn students_apply_all_moves()
     ensures students { (lab : LabValue) (es : List Event) → IsLab lab →
         is_legal_list lab.roster (opening_of lab.network) es ≡ true →

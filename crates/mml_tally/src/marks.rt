@@ -44,8 +44,8 @@ pub struct Marks {
     pub shared: u64,
 }
 
-/// Counts a student's moves. `all` has the moves that the run's events grant to all students. Returns `Memory` if
-/// memory runs out.
+/// Returns the counts of a student's moves. `all` must have the moves that the run's events grant to all students.
+/// Returns `Memory` if memory runs out.
 pub fn marks_of(
     alloc: Global,
     roster: &Roster,
@@ -122,15 +122,16 @@ fn count_kind(all: &[Move], kind: Kind) -> u64
         .count() as u64
 }
 
-/// Returns whether two kinds of rules are the same.
+/// Returns whether two kinds of rules are the same. This is `==`, with the contract that the proofs of its callers
+/// need.
 pub(crate) fn is_kind(asked: Kind, kind: Kind) -> bool
     ensures { result ≡ is_kind asked kind }
 {
     asked == kind
 }
 
-/// Returns how many closes applied at least one of a student's moves. The moves come in the order of the closes that
-/// applied them, so a close is new if it differs from the last one.
+/// Returns how many closes applied at least one of a student's moves. The moves are in the order of their grants, so
+/// moves that the same close applied follow one another. A close is counted if it differs from the last one.
 fn count_applying_closes(own: &[Move]) -> u64
     ensures { result ≡ count_new 0 own.now }
 {
@@ -146,8 +147,8 @@ fn count_applying_closes(own: &[Move]) -> u64
     closes
 }
 
-/// Returns the place of the close that applied a move with this fate. If none did, returns `last`, the place of the
-/// close that applied a move before it.
+/// Returns the place of the close that applied a move with this fate, or `last` if none did. `last` is the place of the
+/// close that applied an earlier move, or 0.
 fn close_of(last: u64, fate: Fate) -> u64
     ensures { result ≡ close_of last fate }
 {

@@ -26,7 +26,7 @@ pub fn owners_of(alloc: Global, roster: &Roster, node: Rank) -> Result<Vec<Stude
     Ok(owners)
 }
 
-/// Returns whether several students own a node.
+/// Returns whether more than one student owns a node.
 pub fn is_shared(roster: &Roster, node: Rank) -> bool
     ensures { result ≡ is_shared roster.now node }
 {

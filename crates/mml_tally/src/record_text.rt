@@ -170,7 +170,7 @@ fn put_asked_at(
 }
 
 /// Appends the names of a node's owners, each with how many moves of each rule the owner asked for there. `id` is the
-/// node's identifier. Returns `Memory` if memory runs out.
+/// node's identifier, and `asks` has the lines of everybody. Returns `Memory` if memory runs out.
 fn put_askers(
     out: &mut Vec<u8>,
     alloc: Global,
@@ -201,8 +201,8 @@ fn put_findings(out: &mut Vec<u8>, findings: &Findings) -> Result<(), Memory>
     put(out, &[Piece::Text(whole_text(findings.whole))])
 }
 
-/// Returns the last word of the line `record`, with a space before it and a newline after it: `whole` if nothing was
-/// left out of the record, and else `cut`.
+/// Returns the end of the line `record`: ` whole` if nothing was left out of the record, and otherwise ` cut`, each
+/// with a newline.
 fn whole_text(is_whole: bool) -> &'static str
     ensures { result.now ≡ whole_text is_whole }
 {

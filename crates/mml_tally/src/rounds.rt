@@ -1,7 +1,8 @@
 //! The rounds of a run since its last fault, link or cut.
 //!
 //! A node is privileged if some rule is enabled there. A round is a list of events in which each node has its turn: at
-//! some point it isn't privileged, or a close applies its move.
+//! some point it isn't privileged, or a close applies its move. A list of events is legal if each event is allowed
+//! after the earlier ones.
 ghost use Rattle.std.specs.Prelude.{◌≡◌, ◌≤◌, ◌++◌, true, length, take, IfOk, OnOk};
 ghost use Rattle.mml_board.specs.World.{opening_of};
 ghost use Rattle.mml_board.specs.Events.{can_absorb, after};
@@ -17,8 +18,8 @@ use mml_lab::Lab;
 use mml_rules::Scene;
 use std::alloc::Global;
 
-/// Appends the line `rounds`: how many rounds ended since the last fault, link or cut. Returns `Memory` if memory runs
-/// out.
+/// Appends the line `rounds`: how many rounds of a lab's run ended since its last fault, link or cut. The events must
+/// be legal. Returns `Memory` if memory runs out.
 pub fn put_rounds(
     out: &mut Vec<u8>,
     alloc: Global,
@@ -35,8 +36,8 @@ pub fn put_rounds(
 }
 
 /// Returns how many rounds of a lab's run ended after its last fault, link or cut. A round ends as soon as each node
-/// has had its turn in it: at some point the node wasn't privileged, or a close applied its move. Returns `Memory` if
-/// memory runs out.
+/// has had its turn in it: at some point the node wasn't privileged, or a close applied its move. The events must be
+/// legal. Returns `Memory` if memory runs out.
 pub fn rounds_since(alloc: Global, lab: &Lab, events: &[Event]) -> Result<u64, Memory>
     requires { is_legal_in lab.now events.now ≡ true }
     ensures { IfOk result
@@ -48,7 +49,8 @@ pub fn rounds_since(alloc: Global, lab: &Lab, events: &[Event]) -> Result<u64, M
     Ok(count_rounds(lab, events, &mut board, since))
 }
 
-/// Applies the first `count` of the events to a board that is at the beginning of the run.
+/// Applies the first `count` events of a lab's run to a board that is at the beginning of the run. The events must be
+/// legal. `lab` is used only in the contract and its proof.
 fn replay(lab: &Lab, events: &[Event], board: &mut Board, count: usize)
     requires legal { is_legal_in lab.now events.now ≡ true }
     requires board { board.old ≡ opening_of lab.now.network }
@@ -57,13 +59,15 @@ fn replay(lab: &Lab, events: &[Event], board: &mut Board, count: usize)
 {
     // Called only for its contract, which the proof needs: the lab is lawful (`IsLab`).
     let _nodes = lab.node_count();
+    // The label names the loop in the proof.
     'events: for index in 0..count {
         board.apply(events[index]);
     }
 }
 
-/// Returns how many rounds the events after the first `since` ones have. `board` must be the state after the first
-/// `since` events. The later events are applied to the board.
+/// Returns how many rounds end in the events after the first `since` ones. `board` must be at the state after the first
+/// `since` events, and the later ones are applied to it. The events must be legal. `lab` is used only in the contract
+/// and its proof.
 fn count_rounds(lab: &Lab, events: &[Event], board: &mut Board, since: usize) -> u64
     requires legal { is_legal_in lab.now events.now ≡ true }
     requires board { board.old ≡ world_in lab.now (take since events.now) }
@@ -74,6 +78,7 @@ fn count_rounds(lab: &Lab, events: &[Event], board: &mut Board, since: usize) ->
     let _nodes = lab.node_count();
     let mut waiting = privileged_nodes(board);
     let mut rounds = 0;
+    // The label names the loop in the proof.
     'events: for index in since..events.len() {
         waiting = take_event(board, waiting, &events[index]);
         if waiting.len() == 0 {
@@ -84,8 +89,9 @@ fn count_rounds(lab: &Lab, events: &[Event], board: &mut Board, since: usize) ->
     rounds
 }
 
-/// Applies an event to the board. `waiting` has the nodes that wait for their turn in the round. Returns those that
-/// still wait: the event has applied no move of theirs, and they are privileged after it.
+/// Applies an event to the board. The event must be possible, and its place must fit in 64 bits. `waiting` has the
+/// nodes that wait for their turn in the round. Returns those that still wait: the event has applied no move of theirs,
+/// and they are privileged after it.
 fn take_event(board: &mut Board, waiting: NodeSet, event: &Event) -> NodeSet
     requires { can_absorb board.old event.now ≡ true }
     ensures board { board.new ≡ after board.old event.now }
@@ -106,7 +112,7 @@ fn moved_nodes(board: &Board, event: &Event) -> NodeSet
     }
 }
 
-/// Returns the nodes that are privileged.
+/// Returns the set of the privileged nodes.
 fn privileged_nodes(board: &Board) -> NodeSet
     ensures { result ≡ privileged_nodes board.now }
 {

@@ -30,7 +30,8 @@ pub struct Run {
     pub closes_since: u64,
 }
 
-/// Counts the events and the applied moves of a run. `granted` has the moves that the events grant.
+/// Returns the counts of a run, whose events these are. `granted` must have the moves that the events grant, each with
+/// what happened to it.
 pub fn run_of(events: &[Event], granted: &[Move]) -> Run
     requires { granted.now ≡ moves events.now }
     ensures { result ≡ run_of events.now }
@@ -98,7 +99,8 @@ fn is_change(event: &Event) -> bool
     )
 }
 
-/// Returns the place of the last fault, link or cut, or 0 if there is none. The first of the events has the place 1.
+/// Returns the place of the last fault, link or cut among the events, or 0 if there is none. The events are those of a
+/// run from its beginning, so the first has the place 1.
 pub(crate) fn last_change(events: &[Event]) -> usize
     ensures exact { result ≡ last_change 0 1 events.now }
     ensures within { result ≤ length events.now }
@@ -119,7 +121,7 @@ fn count_applied(moves: &[Move]) -> u64
     moves.iter().filter(|granted| is_applied(granted)).count() as u64
 }
 
-/// Returns whether the move was applied by a close whose place is greater than `since`.
+/// Returns whether a close whose place is greater than `since` applied the move.
 fn is_applied_after(granted: &Move, since: u64) -> bool
     ensures { result ≡ is_applied_after since granted.now }
 {

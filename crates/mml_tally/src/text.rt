@@ -55,7 +55,8 @@ pub(crate) fn put_granted(
 }
 
 /// Appends the last two lines of a tally: the most moves, rounds and events that may follow, and the counts of the run.
-/// `board` is the state after `events`, and `all` has the moves that they grant. Returns `Memory` if memory runs out.
+/// `board` is the state after `events`, and `all` must have the moves that they grant. Returns `Memory` if memory runs
+/// out.
 pub(crate) fn put_ends(
     out: &mut Vec<u8>,
     board: &Board,
@@ -178,7 +179,7 @@ fn put_node(
 }
 
 /// Appends the names of a node's owners, each with how many moves of each rule the owner was granted there. `there` has
-/// all moves at the node. Returns `Memory` if memory runs out.
+/// all moves that were granted at the node. Returns `Memory` if memory runs out.
 fn put_owners(
     out: &mut Vec<u8>,
     alloc: Global,
@@ -198,8 +199,8 @@ fn put_owners(
     Ok(())
 }
 
-/// Appends the name of an owner, after a space, and the number of moves of each rule. Returns `Memory` if memory runs
-/// out.
+/// Appends the name of an owner, after a space, and then how many moves there are of each rule. Returns `Memory` if
+/// memory runs out.
 pub(crate) fn put_owner(out: &mut Vec<u8>, name: &str, counts: &ByRule) -> Result<(), Memory>
     ensures { OnOk result (out.new.items ≡ out.old.items ++ owner_text name.now counts.now) }
 {
@@ -237,7 +238,7 @@ fn put_run(out: &mut Vec<u8>, board: &Board, run: &Run) -> Result<(), Memory>
     put(out, &[Piece::Text("\n")])
 }
 
-/// Returns the word `stable` if the board has no privileged node, and else `unstable`, with a space before it.
+/// Returns ` stable` if the board has no privileged node, and otherwise ` unstable`.
 fn stable_text(board: &Board) -> &'static str
     ensures { result.now ≡ stable_text (privileged_count (configuration board.now) == 0) }
 {
