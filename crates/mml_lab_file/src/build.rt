@@ -2,7 +2,8 @@
 //!
 //! The rank of a node is its index in the rising order of identifiers. The registers of a node are its pointer p and m,
 //! which is true or false. A `RawNode` is a node as the file describes it. The map of students has each student's key
-//! under the student's name, in the file's order.
+//! under the student's name, in the file's order. In a contract, `Gives` means that a function returns the result that
+//! a definition names, or `Memory` if memory runs out.
 ghost use Rattle.std.specs.Prelude.{◌≡◌, ◌≤◌, ◌==◌, map, length, IfOk, IfErr, option_copied, string_bytes, Ok};
 ghost use Rattle.std.specs.List.{find};
 ghost use Rattle.mml_ids.specs.Gives.{Gives};
@@ -46,8 +47,8 @@ pub(crate) fn build(alloc: Global, checked: Checked) -> Result<Lab, LabFault>
     Ok(Lab::new(ids, roster, network, events, sessions))
 }
 
-/// Returns the registers and the owners of each node, both by rank, as a checked file describes them. Returns `Memory`
-/// if memory runs out.
+/// Returns the registers (first) and the owners (second) of each node, both by rank, as a checked file describes them.
+/// There may be at most 256 students. Returns `Memory` if memory runs out.
 fn registers_and_owners(
     alloc: Global,
     checked: &Checked,
@@ -110,8 +111,8 @@ fn registers_in(ids: &IdTable, node: &RawNode) -> Regs
     Regs { p, m: node.m }
 }
 
-/// Returns the owners of each node, by rank. `nodes` are the nodes as the file has them. Returns `Memory` if memory
-/// runs out.
+/// Returns the owners of each node, by rank. `nodes` are the nodes as the file has them, and there may be at most 256
+/// students. Returns `Memory` if memory runs out.
 pub(crate) fn owners(
     alloc: Global,
     ids: &IdTable,
@@ -169,7 +170,7 @@ fn owners_in(
 }
 
 /// Returns the student with this name, or the first student if no student has it. The checks of a file exclude the
-/// second case.
+/// second case. There may be at most 256 students.
 fn student_named(students: &IndexMap<String, String>, name: &str) -> Student
     requires { length students.now.entries ≤ MAX_STUDENTS }
     ensures { result ≡ student_index (map entry_account students.now.entries) name.now }

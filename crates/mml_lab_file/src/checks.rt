@@ -6,7 +6,8 @@
 //!
 //! Each function with the parameter `alloc` returns `Memory` if memory runs out. In a contract, `Gives` means that a
 //! function returns the result that a definition names, or `Memory`. The clause `tests` of a contract says which error
-//! is returned, if any. The other clauses say what `Ok` contains.
+//! is returned, if any. The other clauses say what `Ok` contains. Most functions are small, because each computes one
+//! definition, or a part of one, that its contract names.
 ghost use Rattle.std.specs.Prelude.{◌≡◌, ◌≤◌, ◌&&◌, ◌∷◌, not, position, map, length, string_bytes, IfOk};
 ghost use Rattle.std.specs.List.{list_any};
 ghost use Rattle.std.specs.Ordering.{int_eq};
@@ -139,7 +140,7 @@ fn identify(alloc: Global, nodes: &[RawNode]) -> Result<IdTable, LabFault>
 }
 
 /// Returns the map of the students. Returns `Name` for the first participant whose name or key isn't well-formed, or
-/// else `NameTwice` for the first whose name occurs before. The teacher comes before the students.
+/// else `NameTwice` for the first who has the name of an earlier one. The teacher comes before the students.
 #[tactic(auto, unfolding(crate::specs::Reading::enrolled))]
 fn enrol(
     alloc: Global,
@@ -221,8 +222,8 @@ fn fault_of_ids(fault: IdFault) -> LabFault
     }
 }
 
-/// Returns the nodes' identifiers, in the file's order, with 0 in place of a negative one. Returns an error if memory
-/// runs out.
+/// Returns the nodes' identifiers, in the file's order, with 0 in place of a negative one. Returns `AllocError` if
+/// memory runs out.
 fn file_ids(alloc: Global, nodes: &[RawNode]) -> Result<Vec<u64>, AllocError>
     ensures { IfOk result (λ ids. ids.items ≡ map (λ node. number_of node.id) nodes.now) }
 {

@@ -3,7 +3,8 @@
 //! The rank of a node is its index in the rising order of identifiers. A `RawNode` is a node as the file describes it,
 //! and a link is the pair of the identifiers of its ends. Errors have the index of a link in the file's order, from 0.
 //! In a contract, `Gives` means that a function returns the result that a definition names, or `Memory`. The clause
-//! `tests` of a contract says which error is returned, if any. The clause `rows` says what `Ok` contains.
+//! `tests` of a contract says which error is returned, if any. The clause `rows` says what `Ok` contains. Most
+//! functions are small, because each computes one definition, or a part of one, that its contract names.
 ghost use Rattle.std.specs.Prelude.{◌≡◌, ◌<◌, ◌==◌, ◌&&◌, ◌||◌, ℕ, None, position, map, length, IfSome, IfOk};
 ghost use Rattle.std.specs.List.{list_any};
 ghost use Rattle.std.specs.Option.{ForSome};

@@ -1,7 +1,8 @@
 //! What the tally counts of a record's lines.
 //!
 //! A clause is a condition under which a request is granted; a denial names the first that doesn't hold. A participant
-//! is known on a connection from a granted hello to the bye.
+//! is known on a connection from a granted hello to the bye. A student's lines are those that came while the student
+//! was known.
 ghost use Rattle.std.specs.Prelude.{◌≡◌, ◌++◌, [], ◌∷◌, OnOk, IfOk, count_by};
 ghost use Rattle.mml_tally.specs.Marks.{is_kind};
 ghost use Rattle.mml_tally.specs.Asks.{is_student, asks_by, is_clause, is_malformed, is_move, denials_in, moves_asked, denials_of, moves_asked_by};
@@ -61,8 +62,7 @@ pub fn push_ask(asks: &mut Vec<Ask>, ask: &Ask) -> Result<(), Memory>
     Ok(())
 }
 
-/// Returns the lines that came while this student was known, in order. `asks` has the lines of everybody. Returns
-/// `Memory` if memory runs out.
+/// Returns a student's lines, in order. `asks` has the lines of everybody. Returns `Memory` if memory runs out.
 pub(crate) fn asks_by(alloc: Global, asks: &[Ask], student: Student) -> Result<Vec<Ask>, Memory>
     ensures { IfOk result (λ own. own.items ≡ asks_by student asks.now) }
 {
@@ -73,8 +73,8 @@ pub(crate) fn asks_by(alloc: Global, asks: &[Ask], student: Student) -> Result<V
     Ok(own.collect(alloc)?)
 }
 
-/// Returns whether a line came while this student was known. `who` is the student who was known when the line came, or
-/// `None` if none was.
+/// Returns whether a line is one of this student's. `who` is the student who was known when the line came, or `None` if
+/// none was.
 fn is_student(student: Student, who: Option<Student>) -> bool
     ensures { result ≡ is_student student who }
 {

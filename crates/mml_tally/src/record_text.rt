@@ -1,7 +1,8 @@
 //! The tally of a run with a record.
 //!
 //! A record has the lines of sessions with their replies. Recording pauses when a budget is used up. A clause is a
-//! condition under which a request is granted; a denial names the first that doesn't hold.
+//! condition under which a request is granted; a denial names the first that doesn't hold. A student's lines are those
+//! that came while the student was known on a connection, from a granted hello to the bye.
 ghost use Rattle.std.specs.Prelude.{◌≡◌, ◌<◌, ◌++◌, All, length, OnOk};
 ghost use Rattle.mml_tally.specs.RecordTexts.{denied_line, denied_text, askers_text, asked_line, asked_text, whole_text, record_line, record_text, recorded_run_text, recorded_text, turned_down_text};
 
@@ -35,10 +36,10 @@ pub struct Findings {
     pub lacking: NodeSet,
 }
 
-/// Appends the tally of a run of which there is a record. First come the lines that the tally of any run has, with the
-/// lines about the record before the last two of them. Then come the participants whose lines are all recorded, and at
-/// the end each student's refusals and denials. `board` is the state after `events`, and `asks` has the lines of the
-/// record. Returns `Memory` if memory runs out.
+/// Appends the tally of a run of which there is a record. First come the lines of students and nodes, the lines about
+/// the record, and the lines `bounds` and `run`. Then come the line with the participants whose lines are all recorded,
+/// and lines with each student's refusals and denials. `board` is the state after `events`, and `asks` has the lines of
+/// the record. Returns `Memory` if memory runs out.
 pub fn put_recorded_tally(
     out: &mut Vec<u8>,
     alloc: Global,
@@ -56,8 +57,8 @@ pub fn put_recorded_tally(
     put_turned_down(out, alloc, lab, asks)
 }
 
-/// Appends two lines for each student. The lines of the first group have how many of the student's lines were refused
-/// for each reason, and those of the second how many got each denial. Returns `Memory` if memory runs out.
+/// Appends a line for each student with how many of the student's lines were refused for each reason. Then appends a
+/// line for each student with how many got each denial. Returns `Memory` if memory runs out.
 fn put_turned_down(out: &mut Vec<u8>, alloc: Global, lab: &Lab, asks: &[Ask]) -> Result<(), Memory>
     ensures { OnOk result (out.new.items ≡ out.old.items ++ turned_down_text lab.now asks.now) }
 {
@@ -65,8 +66,8 @@ fn put_turned_down(out: &mut Vec<u8>, alloc: Global, lab: &Lab, asks: &[Ask]) ->
     put_named(out, alloc, lab, asks)
 }
 
-/// Appends the lines that the tally of any run has, with the lines about the record before the last two of them.
-/// Returns `Memory` if memory runs out.
+/// Appends the lines of students and nodes, the lines about the record, and the lines `bounds` and `run`. `board` is
+/// the state after `events`, and `asks` has the lines of the record. Returns `Memory` if memory runs out.
 fn put_recorded_run(
     out: &mut Vec<u8>,
     alloc: Global,

@@ -1,6 +1,7 @@
 //! The requests that were refused, by reason, and their lines in the tally.
 //!
-//! A refusal is a reply that says why a request was neither granted nor denied, for example `full` or `memory`.
+//! A refusal is a reply that says why a request was neither granted nor denied, for example `full` or `memory`. A
+//! student's lines are those that came while the student was known on a connection, from a granted hello to the bye.
 ghost use Rattle.std.specs.Prelude.{◌≡◌, ◌++◌, count_by, length, IfOk, OnOk};
 ghost use Rattle.mml_tally.specs.Refusals.{is_refused, refusals_in, refusals_of, refused_line, refused_text};
 

@@ -1,6 +1,7 @@
 //! How many of a student's lines got each denial, and the lines of the tally with these counts.
 //!
-//! A denial names the first clause, a condition for a request, that doesn't hold.
+//! A denial names the first clause, a condition for a request, that doesn't hold. A student's lines are those that came
+//! while the student was known on a connection, from a granted hello to the bye.
 ghost use Rattle.std.specs.Prelude.{◌≡◌, ◌++◌, count_by, length, IfOk, OnOk};
 ghost use Rattle.mml_tally.specs.StudentDenials.{is_named, named_in, named_of, denials_line, denials_text};
 
