@@ -230,7 +230,7 @@ pub fn identifiers_are_names()
 {}
 
 /// If the nodes get other names in the same order, and each name has the owners of its node, a node is visible to the
-/// same participants.
+/// same participants. `f` maps a node to its new name.
 pub fn visible_keeps_under_names()
     ensures { (f : ℕ → ℕ) (c d : Configuration) (r s : RosterValue) (x : Who) (i : ℕ) →
         IsRenamed f c d → ((j : ℕ) → j < c.size → owners_of s (f j) ≡ owners_of r j) →

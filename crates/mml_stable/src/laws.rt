@@ -76,7 +76,7 @@ pub fn stable_reports_list_a_maximal_matching()
 {}
 
 /// If the nodes get other names in the same order, each open link (between two free nodes) keeps its witness: the same
-/// node with the same rule.
+/// node with the same rule. `f` maps a node to its new name.
 #[tactic(auto, using(crate::proofs::WitnessNamesLemmas::witness_named))]
 pub fn witnesses_keep_under_names()
     ensures { (f : ℕ → ℕ) (c d : Configuration) (a b : ℕ) → IsLawful c → IsRenamed f c d →
