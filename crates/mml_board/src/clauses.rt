@@ -20,7 +20,8 @@ use mml_rules::{Regs, Rule};
 
 /// Tries the clauses of an act, the conditions under which it is granted to `who`, in their order. Returns the granted
 /// event if all hold, and otherwise the denial of the first that doesn't. `owners` says who owns which node. If the act
-/// is a move, its node must be `None` or a node of the board.
+/// is a move, its node must be `None` or a node of the board. The function is inlined, so that a caller that passes a
+/// known act tests only the clauses of that act.
 #[inline(always)]
 pub fn check<O: Owners>(owners: &O, board: &Board, who: Who, act: &Act) -> Result<Event, Denial>
     requires { AreThere (length board.now.network.registers) act.now }

@@ -9,7 +9,10 @@
 //!
 //! A round is a list of events in which each node has its turn: at some point it isn't privileged, or a close applies
 //! its move. The worlds `halves_world`, `crowd_world` and `comb_world` have networks with long runs, and registers from
-//! which these runs begin.
+//! which these runs begin. A configuration is lawful (`IsLawful`) if each link joins two different nodes in both
+//! directions, and pointers lead only to neighbours. A world is lawful (`IsWorld`) if its configuration is, and the
+//! guards of its chosen moves hold. `Rounds k w es` says that the list es, which begins in the world w, begins with k
+//! rounds, one after another.
 ghost use Rattle.std.specs.Prelude.{◌≡◌, ℕ, ◌+◌, ◌-◌, ◌*◌, ◌<◌, ◌≤◌, true, List, Option};
 ghost use Rattle.std.specs.List.{list_all};
 ghost use Rattle.mml_ids.specs.Search.{count_below};

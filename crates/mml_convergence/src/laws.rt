@@ -10,7 +10,10 @@
 //! A round is a list of events in which each node has its turn: at some point it isn't privileged, or a close applies
 //! its move. The potential of a node is a number that is computed from a configuration. The sum of all potentials falls
 //! in each step. A pair is two nodes that point at each other. The pairs are a maximal matching if each link has an end
-//! that is in a pair.
+//! that is in a pair. A configuration is lawful (`IsLawful`) if each link joins two different nodes in both directions,
+//! and pointers lead only to neighbours. A world is lawful (`IsWorld`) if its configuration is, and the guards of its
+//! chosen moves hold. `Rounds k w es` says that the list es, which begins in the world w, begins with k rounds, one
+//! after another.
 ghost use Rattle.std.specs.Prelude.{◌≡◌, ℕ, ◌+◌, ◌*◌, ◌<◌, ◌≤◌, true, false, Option, None, Some, List, length};
 ghost use Rattle.std.specs.List.{list_all};
 ghost use Rattle.mml_ids.specs.Search.{count_below};
@@ -45,8 +48,8 @@ pub fn m_changes_at_most_twice()
         is_legal_list r w es ≡ true → list_all is_of_step es ≡ true → changes_of_m i w es ≤ 2 }
 {}
 
-/// A step of moves whose guards hold lowers the sum of all nodes' potentials (numbers that `potential` defines) by at
-/// least the number of nodes that move. The sum is at most 2 for each link and 3 for each node.
+/// A step of moves whose guards hold lowers the sum of all nodes' potentials by at least the number of nodes that move.
+/// The sum is at most 2 for each link and 3 for each node.
 pub fn step_lowers_potential()
     ensures lower { (c : Configuration) (chosen : ℕ → Option Rule) → IsLawful c →
         AllHold c chosen →
@@ -72,9 +75,9 @@ pub fn closes_are_bounded()
         count_closes es ≤ 2 * link_count w.network + 3 * size w }
 {}
 
-/// The bound on all moves is 2 for each link and 3 for each node. This bound is reached on a triangle with a tail, a
-/// network with 4 links and 4 nodes. If one student owns all nodes, some legal list of grants and closes applies 20
-/// moves there.
+/// The bound on all moves is 2 for each link and 3 for each node. This bound is reached in `triangle_world`, a triangle
+/// with a tail, a network with 4 links and 4 nodes. If one student owns all nodes, the legal list `twenty_moves` of
+/// grants and closes applies 20 moves there.
 pub fn bound_is_reached()
     ensures roster { IsRoster sole_owner }
     ensures world { IsWorld triangle_world }
@@ -94,7 +97,7 @@ pub fn privileged_nodes_may_move()
         is_legal r w (Event.Grant s i rule) ≡ true) }
 {}
 
-/// Let a legal list of grants, releases and closes, from any world, have 2n rounds for n nodes. Then no node is
+/// Let a legal list of grants, releases and closes, from any world, begin with 2n rounds for n nodes. Then no node is
 /// privileged after the list, and the pairs are a maximal matching, however the moves are chosen. A list that ends with
 /// a privileged node has fewer than `rounds_for n` rounds, which are four for each two nodes and one for a node left
 /// over.
@@ -135,9 +138,9 @@ pub fn stable_is_final()
         is_of_step e ≡ true → is_legal r w e ≡ false }
 {}
 
-/// Two facts hold if each node has an owner. If no grant and no close is legal after a legal list, no node is
-/// privileged, and the pairs are a maximal matching. From every world, some legal list of grants and closes ends with
-/// no node privileged. Such a list has at most 4 events for each link and 6 for each node.
+/// Let each node have an owner. If no grant and no close is legal after a legal list, no node is privileged, and the
+/// pairs are a maximal matching. From every world, some legal list of grants and closes leads to a world in which no
+/// node is privileged. This list has at most 4 events for each link and 6 for each node.
 pub fn runs_end_stable()
     ensures ended { (r : RosterValue) (w : World) (es : List Event) → IsWorld w →
         EachHasOwner r (size w) → is_legal_list r w es ≡ true → IsOver r (world_of w es) →

@@ -9,7 +9,9 @@
 //! clauses, the conditions for it, hold; otherwise it is denied by the first that doesn't. This decision is the
 //! verdict. The ruling is the verdict, or a refusal in place of a grant. Such a refusal means that the lab allows no
 //! more events, or that the journal is halted, since a line couldn't be written to it. An event is legal if all clauses
-//! of its request hold.
+//! of its request hold. A configuration is lawful (`IsLawful`) if each link joins two different nodes in both
+//! directions, and pointers lead only to neighbours. `IsWorldOf ids w` says that the world w is lawful and has a node
+//! for each of the identifiers ids.
 ghost use Rattle.std.specs.Prelude.{◌≡◌, ◌≢◌, ◌<◌, ◌↔◌, ◌⊎◌, ℕ, Bool, List, Option, None, Some, true, false, length, slice_index};
 ghost use Rattle.mml_rules.specs.declared.rule.Rule.{Rule};
 ghost use Rattle.mml_rules.specs.Configuration.{Configuration, IsLawful};
@@ -46,8 +48,7 @@ ghost use Rattle.mml_policy.specs.Denied.{IsDecided, DeniesClose, DeniesFault, D
 ghost use Rattle.mml_policy.specs.Acts.{is_act};
 ghost use Rattle.mml_policy.specs.Shown.{see_of, look_of};
 
-/// A node is visible to the teacher, to its owners and to the owners of its neighbours, and to no one
-/// else.
+/// A node is visible to the teacher, to its owners and to the owners of its neighbours, and to no one else.
 pub fn visible_means_facts()
     ensures { (r : RosterValue) (c : Configuration) (x : Who) (i : ℕ) → IsLawful c →
         (is_visible r c x i ≡ true) ↔ IsVisible r c x i }
@@ -176,9 +177,9 @@ pub fn privileged_nodes_are_granted()
         ≡ verdicts.Grant (event.Grant s i rule)) }
 {}
 
-/// The reply to a student depends on nothing that is hidden from the student. If two worlds look the same to a student,
-/// each command of the student has the same ruling in both. The worlds after the command look the same to the student
-/// again.
+/// The reply to a student depends on nothing that is hidden from the student. If two worlds look the same to a student
+/// (`Alike`), each command of the student has the same ruling in both. The worlds after the command look the same to
+/// the student again.
 pub fn hidden_values_change_no_ruling()
     ensures ruling { (ids : List ℕ) (r : RosterValue) (limit : ℕ) (is_halted : Bool)
         (w v : World) (s : ℕ)

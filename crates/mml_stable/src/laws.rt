@@ -4,7 +4,8 @@
 //! enabled there. A configuration is stable if no node is privileged. A pair is two nodes that point at each other, and
 //! a free node is in no pair. A link is open if both its ends are free. Its witness is a privileged node that the
 //! report names for it. The rank of a node is its index in the rising order of identifiers. The pairs are a maximal
-//! matching if each link has an end that is in a pair.
+//! matching if each link has an end that is in a pair. A configuration is lawful (`IsLawful`) if each link joins two
+//! different nodes in both directions, and pointers lead only to neighbours.
 ghost use Rattle.std.specs.Prelude.{◌≡◌, ◌↔◌, ◌⊎◌, ℕ, ◌<◌, true, false, Some, Contains};
 ghost use Rattle.mml_rules.specs.declared.rule.Kind.{Kind};
 ghost use Rattle.mml_rules.specs.Configuration.{Configuration, IsLawful};

@@ -2,7 +2,7 @@
 //!
 //! A clause is a condition under which a request is granted; a denial names the first that doesn't hold. A participant
 //! is known on a connection from a granted hello to the bye. A student's lines are those that came while the student
-//! was known.
+//! was known. Most functions are small, because each computes one definition that its contract names.
 ghost use Rattle.std.specs.Prelude.{◌≡◌, ◌++◌, [], ◌∷◌, OnOk, IfOk, count_by};
 ghost use Rattle.mml_tally.specs.Marks.{is_kind};
 ghost use Rattle.mml_tally.specs.Asks.{is_student, asks_by, is_clause, is_malformed, is_move, denials_in, moves_asked, denials_of, moves_asked_by};

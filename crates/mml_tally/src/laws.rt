@@ -4,7 +4,8 @@
 //! node's registers, a link joins two nodes, and a cut removes a link. A granted move is applied by the next close,
 //! unless a release, a fault, a link or a cut drops it before. A mark is what the tally counts for a student. The place
 //! of an event is its number in the list of events, from 1. A node is privileged if some rule is enabled there. A list
-//! of events is legal if the rules allow each event after the earlier ones.
+//! of events is legal if the rules allow each event after the earlier ones. `IsLab` and `IsWorld` say that a lab and a
+//! world are valid.
 ghost use Rattle.std.specs.Prelude.{◌≡◌, ◌↔◌, ◌≤◌, ◌+◌, ℕ, true, List, length, map, count_by};
 ghost use Rattle.std.specs.List.{list_all};
 ghost use Rattle.mml_rules.specs.Matching.{IsStable};
@@ -101,8 +102,8 @@ pub fn granted_moves_have_one_fate()
         + count_by is_left (moves_by s (moves es)) }
 {}
 
-/// A student for whom the tally counts no close has no applied move. So the tally misses no close that applied a move
-/// of the student, not even if it is the last event.
+/// If the tally counts no close for a student, it counts no applied move of the student. So a student with an applied
+/// move has at least one close.
 pub fn who_has_no_close_has_no_applied_move()
     ensures { (r : RosterValue) (es : List Event) (s : ℕ) →
         (marks_of r es s).closes ≡ 0 → total (marks_of r es s).applied ≡ 0 }

@@ -3,7 +3,8 @@
 //! A grant chooses a move for a node, a release drops it, and a close applies all chosen moves at once. A fault sets a
 //! node's registers, a link joins two nodes, and a cut removes a link. The place of an event is its number in the list
 //! of events, from 1. A function that gets the granted moves as `all` doesn't get the events that grant them. Its
-//! contract holds for any list `es` of events that grants these moves.
+//! contract holds for any list `es` of events that grants these moves. Most functions are small, because each computes
+//! one definition that its contract names.
 ghost use Rattle.std.specs.Prelude.{◌≡◌, List, IfOk, count_by};
 ghost use Rattle.mml_board.specs.declared.event.Event.{Event};
 ghost use Rattle.mml_tally.specs.Moves.{moves};

@@ -2,6 +2,7 @@
 //!
 //! A refusal is a reply that says why a request was neither granted nor denied, for example `full` or `memory`. A
 //! student's lines are those that came while the student was known on a connection, from a granted hello to the bye.
+//! Most functions are small, because each computes one definition that its contract names.
 ghost use Rattle.std.specs.Prelude.{◌≡◌, ◌++◌, count_by, length, IfOk, OnOk};
 ghost use Rattle.mml_tally.specs.Refusals.{is_refused, refusals_in, refusals_of, refused_line, refused_text};
 

@@ -2,7 +2,7 @@
 //!
 //! A grant chooses a move for a node, a release drops it, and a close applies all chosen moves at once. A fault sets a
 //! node's registers, a link joins two nodes, and a cut removes a link. The place of an event is its number in the list
-//! of events, from 1.
+//! of events, from 1. Most functions are small, because each computes one definition that its contract names.
 ghost use Rattle.std.specs.Prelude.{◌≡◌, ◌≤◌, length, count_by};
 ghost use Rattle.mml_convergence.specs.Moves.{is_close};
 ghost use Rattle.mml_tally.specs.Moves.{moves};

@@ -1,7 +1,8 @@
 //! How many of a student's lines got each denial, and the lines of the tally with these counts.
 //!
 //! A denial names the first clause, a condition for a request, that doesn't hold. A student's lines are those that came
-//! while the student was known on a connection, from a granted hello to the bye.
+//! while the student was known on a connection, from a granted hello to the bye. Most functions are small, because each
+//! computes one definition that its contract names.
 ghost use Rattle.std.specs.Prelude.{◌≡◌, ◌++◌, count_by, length, IfOk, OnOk};
 ghost use Rattle.mml_tally.specs.StudentDenials.{is_named, named_in, named_of, denials_line, denials_text};
 

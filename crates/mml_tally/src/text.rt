@@ -96,9 +96,9 @@ fn put_student(out: &mut Vec<u8>, name: &str, marks: &Marks) -> Result<(), Memor
     put(out, &[Piece::Text("\n")])
 }
 
-/// Appends the counts of a student's moves as numbers: granted and applied moves of each rule, and closes that applied
-/// one. Then come the places of the first and the last grant, and the applied moves at nodes that others own too.
-/// Returns `Memory` if memory runs out.
+/// Appends the counts of a student's moves as numbers, each after a space. First come the granted and the applied moves
+/// of each rule, and the number of closes that applied one. Then come the places of the first and the last grant, and
+/// the number of applied moves at nodes that others own too. Returns `Memory` if memory runs out.
 fn put_marks(out: &mut Vec<u8>, marks: &Marks) -> Result<(), Memory>
     ensures { OnOk result (out.new.items ≡ out.old.items ++ marks_text marks.now) }
 {
@@ -144,8 +144,8 @@ pub(crate) fn put_numbers(out: &mut Vec<u8>, numbers: &[u64]) -> Result<(), Memo
     Ok(())
 }
 
-/// Appends a line for each node that several students own: how many moves of each rule each owner was granted there.
-/// `all` has the moves that the run's events grant. Returns `Memory` if memory runs out.
+/// Appends a line for each node that several students own, by rank: how many moves of each rule each owner was granted
+/// there. `all` has the moves that the run's events grant. Returns `Memory` if memory runs out.
 fn put_nodes(out: &mut Vec<u8>, alloc: Global, lab: &Lab, all: &[Move]) -> Result<(), Memory>
     ensures { OnOk result ((es : List Event) → all.now ≡ moves es →
         out.new.items ≡ out.old.items ++ nodes_text lab.now es (length lab.now.ids)) }
