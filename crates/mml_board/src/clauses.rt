@@ -96,9 +96,9 @@ fn check_close<O: Owners>(owners: &O, board: &Board, who: Who) -> Result<Event, 
     Ok(Event::Close)
 }
 
-/// Returns the fault, which sets the node's registers to `p` and `m`, if three clauses hold: the teacher asks, the node
-/// exists, and `p` is null or a neighbour of the node. Otherwise returns the denial of the first clause that doesn't
-/// hold. A `p` of `None` is null, and `Some(None)` is a node that doesn't exist.
+/// Returns the fault, which sets the node's registers to `p` and `m`, if three clauses hold. The teacher must ask, the
+/// node must exist, and `p` must be null or a neighbour of the node. Otherwise returns the denial of the first clause
+/// that doesn't hold. A `p` of `None` is null, and `Some(None)` is a node that doesn't exist.
 fn check_fault<O: Owners>(
     owners: &O,
     board: &Board,

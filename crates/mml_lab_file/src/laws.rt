@@ -71,8 +71,8 @@ pub fn links_are_counted()
         link_count (lab_in raw).network ≡ length raw.links }
 {}
 
-/// A node's registers are those of the file. m is the same; p is null if it is left out, and otherwise the rank of the
-/// node that it names, to which the node is linked.
+/// A node's registers are those of the file. m is the same, and p is null if the file leaves it out. Otherwise p is the
+/// rank of the node that the file names, and this node is a neighbour.
 pub fn registers_are_those_of_the_file()
     ensures m { (raw : RawSpec) (i : ℕ) (node : NodeSpec) → lab_fault raw ≡ None →
         IsNodeOf raw (lab_in raw) i node →

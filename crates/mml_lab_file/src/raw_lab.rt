@@ -282,8 +282,8 @@ fn owner_names(
 }
 
 /// Returns the node that an element of the array `node` describes. Returns `WrongKind(Node)` if the element isn't a
-/// table. Otherwise returns `WrongKind` or `Missing` for the first of its keys that is of another kind or missing. p
-/// and m may be left out; m is then false.
+/// table. Otherwise returns `WrongKind` or `Missing` for the first of its keys that is of another kind or missing. The
+/// keys `p` and `m` may be left out: p is then null, and m false.
 #[tactic(auto, unfolding(crate::specs::Shape::node_of))]
 fn node(alloc: Global, value: &Value) -> Result<RawNode, LabFault>
     ensures { Gives is_lab_memory node_view result (node_of (view value.now)) }

@@ -54,8 +54,8 @@ pub fn visible_means_facts()
         (is_visible r c x i ≡ true) ↔ IsVisible r c x i }
 {}
 
-/// A move is granted exactly if four facts hold. The asker owns the node, the number in the request is that of the
-/// current configuration, no move is chosen for the node, and the rule may be applied there. Otherwise the move is
+/// A move is granted exactly if four facts hold. The asker owns the node, and the number in the request is that of the
+/// current configuration. No move is chosen for the node, and the rule may be applied there. Otherwise the move is
 /// denied by the first of these facts that doesn't hold.
 pub fn a_move_takes_four_facts()
     ensures granted { (ids : List ℕ) (r : RosterValue) (w : World) (x : Who) (id : ℕ)

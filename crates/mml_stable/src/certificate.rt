@@ -36,9 +36,9 @@ pub fn certify(board: &Board, a: Rank, b: Rank) -> (Rank, Kind)
     witness(board, &kinds, a, b)
 }
 
-/// Returns the witness of a link between two free nodes (in no pair), `a` and the greater `b`: a privileged node, and
-/// the kind of the rule that is enabled there. The witness is what `witness_from` returns for `a`, or else what it
-/// returns for `b`. If both calls return `None`, the witness is `a`, at which a seduction is then enabled. `kinds` has
+/// Returns the witness of a link between two free nodes (in no pair), `a` and the greater `b`. The witness is a
+/// privileged node, with the kind of the rule that is enabled there. It is what `witness_from` returns for `a`, or else
+/// what it returns for `b`. If both calls return `None`, it is `a`, at which a seduction is then enabled. `kinds` has
 /// the kind of the rule that is enabled at each node, by rank.
 #[tactic(auto, unfolding(crate::specs::Walk::certificate))]
 pub(crate) fn witness(board: &Board, kinds: &[Option<Kind>], a: Rank, b: Rank) -> (Rank, Kind)

@@ -29,7 +29,7 @@ pub fn stable_is_maximal()
         (c.m i ≡ true) ↔ IsMarried c i }
 {}
 
-/// The pointers rise from a node that is free (in no pair) or has m false: each further node is greater than the one
+/// The pointers rise from a node that is free (in no pair) or has m false. Each further node is greater than the one
 /// before, and has m false. The way ends at a node that is privileged or points at no node.
 pub fn walk_rises()
     ensures rises { (c : Configuration) (i j : ℕ) → IsLawful c → is_privileged c i ≡ false →
