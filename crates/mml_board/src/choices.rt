@@ -2,7 +2,7 @@
 //!
 //! A chosen move is a rule that is to be applied at a node. A grant chooses it, and it stays chosen until it is
 //! released, or until a close, a fault, a link or a cut. The rank of a node is its index in the rising order of
-//! identifiers.
+//! identifiers. `rules` has the chosen move of each node, by rank, and `nodes` the set of the nodes that have one.
 ghost use Rattle.std.specs.Prelude.{◌≡◌, ℕ, ◌<◌, None, length, replicate, slice_set, is_some, IfOk};
 ghost use Rattle.std.specs.FinSet as set;
 ghost use Rattle.std.specs.List.{list_any};

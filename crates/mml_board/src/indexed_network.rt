@@ -4,6 +4,9 @@
 //! which is true or false. The suitors of a node are the nodes that point at it. Its candidates are its neighbours of
 //! higher rank that point at no node and have m false. A network is lawful if each link joins two different nodes in
 //! both directions, and pointers lead only to neighbours.
+//!
+//! The index is three parts: `suitors` has the suitors of each node, by rank; `free` has the nodes that point at no
+//! node; and `believing` has the nodes whose m is true.
 ghost use Rattle.std.specs.Prelude.{◌≡◌, ◌≢◌, ℕ, ◌<◌, length, true, Some, IfOk, if◌then◌else◌};
 ghost use Rattle.std.specs.FinSet as set;
 ghost use Rattle.mml_rules.specs.Rules.{is_candidate};

@@ -1,6 +1,8 @@
 //! The roster: who takes part, and who owns each node.
 //!
-//! The rank of a node is its index in the rising order of identifiers.
+//! The rank of a node is its index in the rising order of identifiers. `students` has each student's key under the
+//! student's name, in the file's order. `owned` has the set of the nodes that each student owns, by student, and an
+//! empty set at the end.
 ghost use Rattle.std.specs.Prelude.{◌≡◌, ◌<◌, ◌≤◌, length, map, position, slice_index_or, Some, None, IfSome, IsTrue, ◌&&◌, ℕ, IfOk, IfErr};
 ghost use Rattle.std.specs.FinSet as set;
 ghost use Rattle.mml_lab.specs.declared.who.Who.TheVariants.{Student as AStudent};
@@ -92,8 +94,8 @@ impl Roster {
         index.map(|index| Who::Student(Student::new(index as u16)))
     }
 
-    /// Returns the nodes that `who` owns: none for the teacher. A student who isn't in the roster gets the last set of
-    /// the list, which is empty. Takes the same steps for all students, whatever they own.
+    /// Returns the nodes that `who` owns: none for the teacher, and none for a student who isn't in the roster. Takes
+    /// the same steps for all students, whatever they own.
     pub fn owned(&self, who: Who) -> NodeSet
         ensures { (i : ℕ) → set.contains result i ≡ owns self.now who i }
     {

@@ -1,7 +1,7 @@
 //! Networks: links and registers.
 //!
 //! The registers of a node are its pointer p and m, which is true or false. The rank of a node is its index in the
-//! rising order of identifiers.
+//! rising order of identifiers. A network stores the neighbours and the registers of each node, by rank.
 ghost use Rattle.std.specs.FinSet as set;
 ghost use Rattle.std.specs.Prelude.{◌≡◌, ◌≢◌, ℕ, ◌<◌, length, true, Some, IfOk};
 ghost use Rattle.mml_rules.specs.Network.{neighbours_at, registers_at, IsNetwork, with_neighbour, without_neighbour, unpointed};

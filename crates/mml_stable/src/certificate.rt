@@ -1,8 +1,9 @@
 //! The witnesses of open links.
 //!
 //! A node is privileged if some rule is enabled there. A link is open if neither of its ends is in a pair of nodes that
-//! point at each other. The rank of a node is its index in the rising order of identifiers. A configuration is lawful
-//! if each link joins two different nodes in both directions, and pointers lead only to neighbours.
+//! point at each other. The kind of a rule is the rule without the partner that a marriage names. The rank of a node is
+//! its index in the rising order of identifiers. A configuration is lawful if each link joins two different nodes in
+//! both directions, and pointers lead only to neighbours.
 ghost use Rattle.std.specs.Prelude.{◌≡◌, ◌<◌, true, false, length};
 ghost use Rattle.mml_rules.specs.declared.rule.Rule.{Rule};
 ghost use Rattle.mml_rules.specs.Rules.{is_married, guard, kind_of, enabled_kind};

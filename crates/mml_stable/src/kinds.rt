@@ -1,7 +1,8 @@
-//! The rule that is enabled at each node, found once for the whole report.
+//! The kind of the rule that is enabled at each node, found once for the whole report.
 //!
-//! The rank of a node is its index in the rising order of identifiers. A configuration is lawful if each link joins two
-//! different nodes in both directions, and pointers lead only to neighbours.
+//! The kind of a rule is the rule without the partner that a marriage names. The rank of a node is its index in the
+//! rising order of identifiers. A configuration is lawful if each link joins two different nodes in both directions,
+//! and pointers lead only to neighbours.
 ghost use Rattle.std.specs.Prelude.{◌≡◌, ◌<◌, ◌≤◌, length};
 ghost use Rattle.mml_rules.specs.Rules.{enabled_kind};
 ghost use Rattle.mml_board.specs.World.{configuration};

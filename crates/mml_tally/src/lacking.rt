@@ -12,8 +12,9 @@ use mml_ids::{Memory, Piece, Rank, put};
 use mml_lab::{Lab, Roster, Student, Who};
 
 impl Findings {
-    /// Returns whether lines of `who` may be missing in the record because recording paused while `who` was known. If
-    /// `who` is a student, the student's index must be below 256.
+    /// Returns whether lines of `who` may be missing in the record because recording paused while `who` was known. The
+    /// set `lacking` has such students; a rank in it is a student's index. If `who` is a student, the index must be
+    /// below 256.
     pub fn lacks(&self, who: Who) -> bool
         requires { IsCounted who }
         ensures { result ≡ lacks self.now who }
