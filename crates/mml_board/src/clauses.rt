@@ -120,8 +120,8 @@ fn check_fault<O: Owners>(
     })
 }
 
-/// Returns the event that links two nodes if the teacher asks, both nodes exist, they differ, and they aren't linked.
-/// Otherwise returns the denial of the first of these clauses that doesn't hold.
+/// Returns the event that links the nodes `first` and `second` if the teacher asks, both nodes exist, they differ, and
+/// they aren't linked. Otherwise returns the denial of the first of these clauses that doesn't hold.
 fn check_link<O: Owners>(
     owners: &O,
     board: &Board,
@@ -139,8 +139,8 @@ fn check_link<O: Owners>(
     Ok(Event::Link { a, b })
 }
 
-/// Returns the event that removes a link if the teacher asks, both nodes exist, and they are linked. Otherwise returns
-/// the denial of the first of these clauses that doesn't hold.
+/// Returns the event that removes the link between the nodes `first` and `second` if the teacher asks, both nodes
+/// exist, and they are linked. Otherwise returns the denial of the first of these clauses that doesn't hold.
 fn check_cut<O: Owners>(
     owners: &O,
     board: &Board,
@@ -180,8 +180,7 @@ pub fn is_teacher(who: Who) -> bool
     matches!(who, Who::Teacher)
 }
 
-/// Returns the rule. Returns `denial` if `rule` is `None`, because no node has the identifier of the marriage's
-/// partner.
+/// Returns the rule, or the error `denial` if `rule` is `None`: no node has the identifier of the marriage's partner.
 fn named(rule: Option<Rule>, denial: Denial) -> Result<Rule, Denial>
     ensures { result ≡ ok_or rule denial }
 {

@@ -4,7 +4,8 @@ ghost use Rattle.mml_lab.specs.declared.lab_fault.LabFault.TheVariants.{Memory};
 use mml_ids::IdFault;
 use std::alloc::{AllocError, AllocFailed};
 
-/// The keys of a lab file, in the order in which they are read.
+/// The keys of a lab file, in the order in which they are read. A variant like `NodeOwner` is a key inside a table,
+/// here the key `owner` of an element of the array `node`.
 #[derive(Clone, Copy, Debug)]
 pub enum Key {
     /// `events`: the greatest number of events that a run may have.

@@ -49,7 +49,8 @@ pub struct RawLab {
     pub links: Vec<(i64, i64)>,
 }
 
-/// Returns the value under the key `name` of a table, or `None` if the table doesn't have the key.
+/// Returns the value under the key `name` of a table, or `None` if the table doesn't have the key. This is `get`, with
+/// the contract that the proofs of its callers need.
 fn find<'a>(table: &'a Table, name: &str) -> Option<&'a Value>
     ensures { option_map (λ v. view v.now) result ≡ get_member name.now (table_view table.now) }
 {

@@ -202,8 +202,8 @@ fn put_findings(out: &mut Vec<u8>, findings: &Findings) -> Result<(), Memory>
     put(out, &[Piece::Text(whole_text(findings.whole))])
 }
 
-/// Returns the end of the line `record`: ` whole` if nothing was left out of the record, and otherwise ` cut`, each
-/// with a newline.
+/// Returns the end of the line `record`: ` whole` if `is_whole`, that is, if nothing was left out of the record, and
+/// otherwise ` cut`. Both end with a newline.
 fn whole_text(is_whole: bool) -> &'static str
     ensures { result.now ≡ whole_text is_whole }
 {
