@@ -1,8 +1,9 @@
 //! The contents of a lab file, read from its TOML.
 //!
-//! The kind of a value is its type in TOML. A `Key` names a key of the file in an error. Each function with the
-//! parameter `alloc` returns `LabFault::Memory` if memory runs out. In a contract, `Gives` means that a function
-//! returns the result that a definition names, or `Memory` if memory runs out.
+//! The kind of a value is its type in TOML. A `Key` names a key of the file in an error. A function with the parameters
+//! `name` and `key` gets one key twice: as a text, and for an error. Each function with the parameter `alloc` returns
+//! `LabFault::Memory` if memory runs out. In a contract, `Gives` means that a function returns the result that a
+//! definition names, or `Memory` if memory runs out.
 ghost use Rattle.std.specs.Prelude.{◌≡◌, map, string_bytes, codes, Some, None, Ok, Err, option_map, ok_or};
 ghost use Rattle.mml_ids.specs.Gives.{Gives};
 ghost use Rattle.toml.specs.Data.{as_str, as_integer, as_bool, as_table, as_array, get_member};
