@@ -83,7 +83,8 @@ impl Choices {
         !is_empty(self.nodes)
     }
 
-    /// Makes `rule` the chosen move of a node. If `rule` is `None`, the node has no chosen move afterwards.
+    /// Makes `rule` the chosen move of a node, which must exist. If `rule` is `None`, the node has no chosen move
+    /// afterwards.
     pub fn choose(&mut self, node: Rank, rule: Option<Rule>)
         requires { node < length self.old }
         ensures { self.new ≡ slice_set self.old node rule }

@@ -112,8 +112,7 @@ impl IndexedNetwork {
         })
     }
 
-    /// Returns the nodes that a seduction of a node may choose: its higher neighbours that point at no node and have m
-    /// false.
+    /// Returns the candidates of a node, which must exist: the nodes that a seduction of it may choose.
     fn candidates(&self, node: Rank) -> NodeSet
         requires { node < length self.now.registers }
         ensures { (j : ℕ) → set.contains result j ≡
@@ -126,7 +125,7 @@ impl IndexedNetwork {
         unmarried.both(NodeSet::above(node))
     }
 
-    /// Writes a node's registers, whose p must be null or a neighbour, and updates the index.
+    /// Sets the registers of a node, which must exist, and updates the index. p must be null or a neighbour.
     pub fn set_registers(&mut self, node: Rank, registers: Regs)
         requires node { node < length self.old.registers }
         requires linked { (j : ℕ) → registers.p ≡ Some j →
@@ -145,7 +144,7 @@ impl IndexedNetwork {
         self.network.set_registers(node, *registers);
     }
 
-    /// Links two different nodes. The index stays as it is, since it depends only on registers.
+    /// Links two different nodes, which must exist. The index stays as it is, since it depends only on registers.
     pub fn link(&mut self, a: Rank, b: Rank)
         requires a { a < length self.old.registers }
         requires b { b < length self.old.registers }
@@ -155,8 +154,8 @@ impl IndexedNetwork {
         self.network.link(a, b);
     }
 
-    /// Removes the link between two nodes, if there is one, and sets the pointers along it to null. The pointers are
-    /// set first, which also updates the index.
+    /// Removes the link between two nodes, if there is one, and sets the pointers along it to null. The nodes must
+    /// exist. The pointers are set first, which also updates the index.
     pub fn cut(&mut self, a: Rank, b: Rank)
         requires a { a < length self.old.registers }
         requires b { b < length self.old.registers }

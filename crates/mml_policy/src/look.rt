@@ -26,8 +26,8 @@ pub struct Look {
     pub near: Items<(Rank, Regs)>,
 }
 
-/// Returns what a look shows of a node: its registers, its chosen move, the rule that is enabled there, and its
-/// neighbours with their registers. Returns `Memory` if memory runs out.
+/// Returns what a look shows of a node, which must exist: its registers, its chosen move, the rule that is enabled
+/// there, and its neighbours with their registers. Returns `Memory` if memory runs out.
 pub fn look_of(alloc: Global, board: &Board, node: Rank) -> Result<Look, Memory>
     requires { node < length board.now.network.registers }
     ensures { IfOk result (λ look. look ≡ look_of board.now node) }
@@ -42,7 +42,8 @@ pub fn look_of(alloc: Global, board: &Board, node: Rank) -> Result<Look, Memory>
     })
 }
 
-/// Returns the neighbours of a node in rising order, each with its registers. Returns `Memory` if memory runs out.
+/// Returns the neighbours of a node, which must exist, in rising order and each with its registers. Returns `Memory` if
+/// memory runs out.
 fn near(alloc: Global, board: &Board, node: Rank) -> Result<Vec<(Rank, Regs)>, Memory>
     requires { node < length board.now.network.registers }
     ensures { IfOk result (λ nodes. nodes.items ≡ near board.now node) }

@@ -85,7 +85,7 @@ impl Network {
         self.registers.len() as u64
     }
 
-    /// Sets a node's registers, whose p must be null or a neighbour.
+    /// Sets the registers of a node, which must exist. p must be null or a neighbour.
     pub fn set_registers(&mut self, node: Rank, registers: Regs)
         requires node { node < length self.old.registers }
         requires linked { (j : ℕ) → registers.p ≡ Some j →
@@ -95,7 +95,7 @@ impl Network {
         self.registers[node.index() as usize] = registers;
     }
 
-    /// Links two different nodes. Changes nothing if they are linked already.
+    /// Links two different nodes, which must exist. Changes nothing if they are linked already.
     pub fn link(&mut self, a: Rank, b: Rank)
         requires a { a < length self.old.registers }
         requires b { b < length self.old.registers }
@@ -106,7 +106,8 @@ impl Network {
         link_one_way(&mut self.neighbours, b, a);
     }
 
-    /// Removes the link between two nodes, if there is one, and sets the pointers along it to null.
+    /// Removes the link between two nodes, if there is one, and sets the pointers along it to null. The nodes must
+    /// exist.
     pub fn cut(&mut self, a: Rank, b: Rank)
         requires a { a < length self.old.registers }
         requires b { b < length self.old.registers }

@@ -27,8 +27,8 @@ pub(crate) fn find_kinds(board: &Board, kinds: &mut [Option<Kind>])
     }
 }
 
-/// Returns the kind of the rule that is enabled at a node, or `None` if none is. Looks it up in `kinds`, which
-/// `find_kinds` must have filled.
+/// Returns the kind of the rule that is enabled at a node, which must exist, or `None` if none is. Looks it up in
+/// `kinds`, which `find_kinds` must have filled.
 #[inline(always)]
 pub(crate) fn kind_at(board: &Board, kinds: &[Option<Kind>], node: Rank) -> Option<Kind>
     requires node { node < length board.now.network.registers }

@@ -62,7 +62,8 @@ fn put_students(out: &mut Vec<u8>, lab: &Lab, findings: &Findings) -> Result<(),
     Ok(())
 }
 
-/// Appends the name of `who`, after a space, if the record has all lines of `who`. Returns `Memory` if memory runs out.
+/// Appends the name of `who`, after a space, if the record has all lines of `who`, who must be in the roster. Returns
+/// `Memory` if memory runs out.
 fn put_if_whole(
     out: &mut Vec<u8>,
     roster: &Roster,

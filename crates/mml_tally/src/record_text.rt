@@ -170,8 +170,9 @@ fn put_asked_at(
     put(out, &[Piece::Text("\n")])
 }
 
-/// Appends the names of a node's owners, each with how many moves of each rule the owner asked for there. `id` is the
-/// node's identifier, and `asks` has the lines of everybody. Returns `Memory` if memory runs out.
+/// Appends the names of a node's owners, each with how many moves of each rule the owner asked for there. The owners
+/// must be in the roster. `id` is the node's identifier, and `asks` has the lines of everybody. Returns `Memory` if
+/// memory runs out.
 fn put_askers(
     out: &mut Vec<u8>,
     alloc: Global,

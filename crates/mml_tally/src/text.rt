@@ -179,8 +179,8 @@ fn put_node(
     put(out, &[Piece::Text("\n")])
 }
 
-/// Appends the names of a node's owners, each with how many moves of each rule the owner was granted there. `there` has
-/// all moves that were granted at the node. Returns `Memory` if memory runs out.
+/// Appends the names of a node's owners, each with how many moves of each rule the owner was granted there. The owners
+/// must be in the roster, and `there` has all moves that were granted at the node. Returns `Memory` if memory runs out.
 fn put_owners(
     out: &mut Vec<u8>,
     alloc: Global,
