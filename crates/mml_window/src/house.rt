@@ -1,6 +1,9 @@
 //! The name of a house for contracts, and the parts by which it publishes.
 //!
-//! A window is one session's view of the published events and board.
+//! A house is one run of a lab that threads share: its list of granted events, the board after them, and their journal.
+//! A window is one session's view of the published events and board. A ledger is a count that only contracts can read:
+//! a total, and shares whose amounts add up to it. It takes no bytes. A share consists of parts: a ledger has a fixed
+//! number of them.
 use crate::published::Published;
 use crate::seeing::{Publishing, View};
 use left_right::reader::{Reader, Reading};
@@ -24,6 +27,7 @@ pub trait House {
     ghost lab: { LabValue };
 }
 
+/// The name that stands for any house: the proof of each call chooses the lab and the name.
 impl House for Brand {
     ghost use Rattle.mml_window.specs.Houses.{no_name, no_lab};
 
@@ -42,7 +46,8 @@ pub(crate) type Entered<H> = Reading<Published, View, Publishing<H>>;
 /// The writer by which a house publishes its events.
 pub(crate) type Press<H> = Writer<Published, Event, View, Publishing<H>>;
 
-/// The ledger of a house, for contracts. It counts the acts that the house refused because its journal was halted.
+/// The first ledger of a house. It counts the acts that the house refused because its journal was halted. It has a part
+/// for each session of the lab.
 pub(crate) struct Halts<H: House> {
     of: PhantomData<H>,
 }
@@ -53,8 +58,8 @@ impl<H: House> Ledger for Halts<H> {
     ghost parts = { H.lab.sessions };
 }
 
-/// The second ledger of a house, for contracts. It counts the events that the house granted. It has a part for each event
-/// that the lab allows, and one more.
+/// The second ledger of a house. It counts the events that the house granted. It has a part for each event that the lab
+/// allows, and one more.
 pub(crate) struct Grants<H: House> {
     of: PhantomData<H>,
 }
@@ -67,14 +72,14 @@ impl<H: House> Ledger for Grants<H> {
     ghost parts = { H.lab.events + 1 };
 }
 
-/// The count of a house: how many acts were refused because the journal was halted. It takes no bytes.
+/// The total of the first ledger: how many acts the house refused because its journal was halted.
 pub(crate) type HaltCount<H> = Book<Halts<H>>;
 
-/// A part of this count: how many acts of one window were refused for this reason. It takes no bytes.
+/// A share of the first ledger: how many acts of one window were refused for this reason.
 pub(crate) type HaltShare<H> = Share<Halts<H>>;
 
-/// The count of the events that a house granted. It takes no bytes.
+/// The total of the second ledger: how many events the house granted.
 pub(crate) type GrantCount<H> = Book<Grants<H>>;
 
-/// A part of this count: how many events one window was granted. It takes no bytes.
+/// A share of the second ledger: how many events were granted to one window, or in one act.
 pub(crate) type GrantShare<H> = Share<Grants<H>>;

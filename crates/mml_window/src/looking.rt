@@ -1,8 +1,9 @@
 //! How a window's reader reads the published data.
 //!
 //! A house is one run of a lab that threads share: its list of granted events, the board after them, and their journal.
-//! A window is one session's view of the published events and board. The writer of the published data (`press`) has two
-//! copies of it, and slots for readers. A reader enters a copy to read it, and leaves it afterwards.
+//! A window is one session's view of the published events and board. The writer of the published data, `press`, has two
+//! copies of it, and slots for readers. A reader enters the copy that the writer doesn't change, reads it, and leaves
+//! it afterwards. The writer is gone once the house has ended.
 ghost use Rattle.std.specs.Prelude.{◌≡◌, true, length, IfSome, IfNone};
 ghost use Rattle.std.specs.Fn.{FnReturnsAt};
 ghost use Rattle.left_right.specs.Sides.{view};
@@ -102,6 +103,7 @@ pub(crate) fn look_for<H: House, R: Wait, F: Fn(&Published) -> bool>(
     ensures { (x : Published) × FnReturnsAt F.Fn is_sought x true
         × Saw H.lab (view_by reader.old) x (view_by reader.new) }
 {
+    // `rt.forever()` is the loop for which no end has to be proved. Only the `return` leaves it.
     'looks: for _ in rt.forever() {
         take_slot(press, reader);
         if let Some(reading) = enter(reader) {

@@ -1,6 +1,9 @@
 //! What readers have seen, for contracts.
 //!
 //! A house is one run of a lab that threads share: its list of granted events, the board after them, and their journal.
+//! Its writer publishes the events and the board, and readers enter what is published. A protocol says what holds of
+//! the published data and of what each reader has seen. An outcome says how a publication or an entry changes what the
+//! writer or the reader has seen.
 use crate::house::House;
 use crate::published::Published;
 use crossbeam_utils::rule::{Outcome, Protocol};

@@ -1,7 +1,7 @@
 //! The views of a board.
 //!
 //! A view is what a see, a look or a report shows. The board has the registers and the chosen moves after the events so
-//! far.
+//! far. A rank is the index of a node in the lab's list of identifiers.
 ghost use Rattle.std.specs.Prelude.{◌≡◌, ◌≢◌, length, IfOk, IfErr};
 ghost use Rattle.mml_policy.specs.declared.command.Command.TheVariants as command;
 ghost use Rattle.mml_policy.specs.declared.ruling.Ruling.TheVariants as rulings;
@@ -31,7 +31,7 @@ fn course_in<'a>(board: &'a Board, lab: &'a Lab) -> Course<'a>
 }
 
 /// Returns the registers of the node with the identifier `node`, if `who` may see it, and else `Denied` with the
-/// reason. Allocates nothing.
+/// reason. `board` must be a board of this lab. Allocates nothing.
 pub(crate) fn see_at(board: &Board, lab: &Lab, who: Who, node: u64) -> Result<See, SightFault>
     requires { length lab.now.ids ≡ length board.now.network.registers }
     ensures shows { Shows rulings.Seen (ruling_at lab.now board.now who (command.See node)) result }
@@ -45,7 +45,7 @@ pub(crate) fn see_at(board: &Board, lab: &Lab, who: Who, node: u64) -> Result<Se
 }
 
 /// Returns the node with the identifier `node` as its owners see it, if `who` owns it or is the teacher, and else
-/// `Denied` with the reason. Returns `Memory` if memory runs out.
+/// `Denied` with the reason. `board` must be a board of this lab. Returns `Memory` if memory runs out.
 pub(crate) fn look_at(
     alloc: Global,
     board: &Board,
@@ -66,8 +66,8 @@ pub(crate) fn look_at(
     }
 }
 
-/// Returns the report on the board's configuration, if `who` is the teacher, and else `Denied` with the reason. Returns
-/// `Memory` if memory runs out.
+/// Returns the report on the board's configuration, if `who` is the teacher, and else `Denied` with the reason. `board`
+/// must be a board of this lab. Returns `Memory` if memory runs out.
 pub(crate) fn report_at(
     alloc: Global,
     board: &Board,

@@ -1,7 +1,11 @@
 //! The check that the windows were granted all places (event numbers) after a first one, each once.
 //!
 //! A window is one session's view of the published events and board. The place of an event is its number in the list of
-//! events, from 1. A window keeps the places of the events that its session was granted.
+//! events, from 1. A window keeps the places of the events that its session was granted. A place is counted off when it
+//! is found as the next one of a window. A ledger is a count that only contracts can read: a total, and shares whose
+//! amounts add up to it. It takes no bytes.
+//!
+//! The loops run over indices, since their invariants speak of the windows before an index.
 ghost use Rattle.std.specs.Prelude.{◌≡◌, ℕ, ◌+◌, ◌<◌, ◌≤◌, [], ◌∷◌, length, All, MatchBool};
 ghost use Rattle.mml_lab.specs.declared.TheConstants.{MAX_SESSIONS};
 ghost use Rattle.mml_window.specs.Tallies.{times, told_of, IsEachOnceFrom};
@@ -47,8 +51,8 @@ pub(crate) fn is_each_once<H: House>(windows: &[Window<H>], first: u64, most: u6
     are_counted_off(windows, &cursors)
 }
 
-/// Changes nothing. Its contract says of each window that its acts that were refused because the journal was halted are
-/// among those that the house has counted.
+/// Changes nothing. It is called for its contract: of the acts that were refused because the journal was halted, each
+/// window has at most as many as `count`, the house's total.
 pub(crate) fn audit_halts<H: House>(windows: &mut Vec<Window<H>>, count: &mut HaltCount<H>)
     ensures windows { windows.new.items ≡ windows.old.items }
     ensures total { count.new.total ≡ count.old.total }
@@ -59,7 +63,7 @@ pub(crate) fn audit_halts<H: House>(windows: &mut Vec<Window<H>>, count: &mut Ha
     }
 }
 
-/// Adds the windows' parts of the count of granted events to `count`.
+/// Drops the windows, and adds their shares of the count of granted events to `count`.
 pub(crate) fn join_grants<H: House>(windows: Vec<Window<H>>, count: &mut GrantShare<H>)
     ensures { count.new.amount ≡ count.old.amount + length (told_of windows.items) }
 {

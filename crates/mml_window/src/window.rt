@@ -1,7 +1,10 @@
 //! Windows: the part of a house that belongs to each session.
 //!
-//! A window is one session's view of the published events and board. The place of an event is its number in the list of
-//! events, from 1. An act is a request for an event.
+//! A house is one run of a lab that threads share: its list of granted events, the board after them, and their journal.
+//! Its writer, `press`, publishes the events and the board. The writer has slots, and a window needs one to read. A
+//! window is one session's view of the published events and board. The place of an event is its number in the list of
+//! events, from 1. An act is a request for an event. The journal is halted if a line couldn't be written to it. A
+//! ledger is a count that only contracts can read: a total, and shares whose amounts add up to it. It takes no bytes.
 ghost use Rattle.std.specs.Prelude.{◌≡◌, ◌≢◌, ℕ, ◌+◌, ◌<◌, ◌≤◌, ◌++◌, ◌∷◌, [], length, drop, vec_capacity, IfOk, IfErr, IsTrue, IsFalse, MatchBool};
 ghost use mathlib.Core.List.{IsPrefix};
 ghost use Rattle.std.specs.Arc.{arc_value};
@@ -78,9 +81,9 @@ pub(crate) struct Seat {
 
 impl<H: House> Window<H> {
     /// Returns a window that is made of a seat (the lab, and room for places), and has seen nothing yet. It takes a
-    /// reader's slot of `press`, the writer of the published data, if one is free. `halts` is its part of the house's
-    /// count of acts that were refused because the journal was halted, and `grants` is its part of the count of granted
-    /// events.
+    /// slot of `press` if one is free; otherwise it takes one at a later act. `halts` is its share of the count of acts
+    /// that were refused because the journal was halted, and `grants` its share of the count of granted events. Neither
+    /// has counted anything yet.
     pub(crate) fn over(
         press: &Press<H>,
         seat: Seat,
@@ -126,9 +129,9 @@ impl<H: House> Window<H> {
         self.refused
     }
 
-    /// Keeps the event's place (number) if the answer to an act is a grant, and the reason if it is a refusal. After a
-    /// grant, first reads until the window has seen the event, the last one that `press` has published. `grant` counts
-    /// the event, if there is one, and becomes a part of the window's count.
+    /// Keeps what the answer to an act says. After a grant, first reads until the window has seen the granted event,
+    /// the last one that `press` has published. Then keeps the event's place (number). After a refusal, keeps the
+    /// reason. `grant` has counted the event if there is one, and is then merged into the window's share of this count.
     #[tactic(auto, using(crate::proofs::ClimbingLemmas::climbs_count))]
     pub(crate) fn keep<R: Wait>(
         &mut self,
@@ -154,6 +157,7 @@ impl<H: House> Window<H> {
                         self.places.push_reserved(*place);
                         self.grants.merge(grant);
                     }
+                    // After a grant, the granted event is published.
                     None => unreachable!(),
                 }
             }
@@ -266,7 +270,8 @@ impl<H: House> Window<H> {
         });
     }
 
-    /// Counts one more act of the window's session that was refused because the journal was halted.
+    /// Counts one more act of the window's session that was refused because the journal was halted. `count` is the
+    /// house's total of such acts.
     pub(crate) fn count_halt(&mut self, count: &mut HaltCount<H>)
         ensures window { self.new ≡ window_with self.old.seen self.old.places self.old.refused
             (self.old.halts + 1) }
@@ -275,7 +280,8 @@ impl<H: House> Window<H> {
         count.add(&mut self.halts, 1);
     }
 
-    /// Changes nothing. Its contract says that the window's acts are among those that the house has counted.
+    /// Changes nothing. It is called for its contract: of the acts that were refused because the journal was halted,
+    /// the window has at most as many as `count`, the house's total.
     pub(crate) fn audit_halts(&mut self, count: &mut HaltCount<H>)
         ensures window { self.new ≡ self.old }
         ensures total { count.new.total ≡ count.old.total }
@@ -284,7 +290,7 @@ impl<H: House> Window<H> {
         count.audit(&mut self.halts);
     }
 
-    /// Returns the window's part of the count of granted events.
+    /// Drops the window, and returns its share of the count of granted events.
     pub(crate) fn into_grants(self) -> GrantShare<H>
         ensures { result.amount ≡ length self.places }
     {
