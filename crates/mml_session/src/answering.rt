@@ -1,7 +1,9 @@
 //! Answering a line: its reply, who is known afterwards, and what the window has seen then.
 //!
-//! A window is one session's view of the published events and board. A command of a known account makes it read on. An
-//! account is known on a connection from its granted hello to its bye.
+//! A window is one session's view of the published events and board. It shows nothing any more once the house has
+//! ended. A command of a known account makes it read on. An account is known on a connection from its granted hello to
+//! its bye. A view is what a see, a look or a report shows; an act is a request for an event. A denial names the first
+//! condition of a request that doesn't hold; a refusal has another reason.
 ghost use Rattle.std.specs.Prelude.{◌≡◌, false, IfErr, IfSome, OnOk};
 ghost use Rattle.mml_lab.specs.Rosters.{IsPrincipal};
 ghost use Rattle.mml_policy.specs.declared.command.Command.TheVariants as command;
@@ -22,8 +24,8 @@ use std::sync::Wait;
 
 /// Answers one line of a connection. Puts the answer into `reply`, since a reply is too large to be returned without a
 /// costly copy. `known` is the participant who has said hello on this connection, if anybody has; `known` is updated if
-/// the line changes that. Returns `Closed`, and puts no reply, if a known participant asks for a view of a window that
-/// shows nothing any more.
+/// the line changes that. `scratch` is working memory for reading the line. Returns `Closed`, and puts no reply, if a
+/// known participant asks for a view of a window that shows nothing any more.
 pub(crate) fn answer_into<Rt: Wait, S: Sink + Drop, H: House>(
     setting: &Setting<'_, Rt, S, H>,
     window: &mut Window<H>,
@@ -40,6 +42,7 @@ pub(crate) fn answer_into<Rt: Wait, S: Sink + Drop, H: House>(
     ensures closed { IfErr result (λ _. (known.new ≡ known.old) × (window.new ≡ window.old)
         × IsView (standing known.old window.old) line.now) }
 {
+    // A copy, since the engine of `answer_line` is borrowed mutably, and sessions share `setting`.
     let mut engine = Setting {
         rt: setting.rt,
         alloc: setting.alloc,

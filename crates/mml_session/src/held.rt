@@ -1,6 +1,7 @@
 //! The output buffer of a session's replies.
 //!
-//! Replies are held in the buffer until they are written together.
+//! Replies are held in the buffer until they are written together. A short reply is built in the buffer itself, and a
+//! long one elsewhere. The observer of a session is called with how many replies were written.
 ghost use Rattle.std.specs.Prelude.{◌≡◌, ◌<◌, ◌≤◌, ◌++◌, [], length, take, IfOk, IfErr, OnOk, IsTrue, if◌then◌else◌};
 ghost use Rattle.std.specs.Io.KnownBytes.{Appends};
 ghost use Rattle.mml_session.specs.Holding.{IsHeldOrOut};
@@ -23,7 +24,8 @@ pub(crate) struct Held {
 }
 
 impl Held {
-    // Returns an empty buffer, with all the memory that it ever needs. Returns `Memory` if memory runs out.
+    // Returns an empty buffer, with all the memory that it ever needs: for `HELD_BYTES`, and a short reply that is
+    // built after them. Returns `Memory` if memory runs out.
     pub(crate) fn new(alloc: Global) -> Result<Held, Memory>
         ensures { IfOk result (λ held. held.bytes.items ≡ []) }
     {
@@ -33,9 +35,9 @@ impl Held {
         })
     }
 
-    // Appends a reply's line to the buffer. If there is no room for it, or `at_once` is set, writes the buffer and the
-    // line, and empties the buffer. If a write fails, empties the buffer, and returns how many bytes of the buffered
-    // lines and of this one were written. Afterwards the buffer has at most `HELD_BYTES`.
+    // Appends the line of a reply that was built elsewhere. If there is no room for it, or `at_once` is set, writes the
+    // buffer and the line, and empties the buffer. If a write fails, empties the buffer, and returns how many bytes of
+    // the buffered lines and of this one were written. Afterwards the buffer has at most `HELD_BYTES`.
     pub(crate) fn put<W: Write>(
         &mut self,
         line: &[u8],
@@ -63,9 +65,9 @@ impl Held {
         came
     }
 
-    // Writes all buffered lines and empties the buffer, if `at_once` is set or there are more than `HELD_BYTES`. If a
-    // write fails, empties the buffer, and returns how many bytes were written. Afterwards the buffer has at most
-    // `HELD_BYTES`.
+    // Writes all buffered lines and empties the buffer, if `at_once` is set or there are more than `HELD_BYTES`. There
+    // can be more after a reply was built in the buffer. If a write fails, empties the buffer, and returns how many
+    // bytes were written. Afterwards the buffer has at most `HELD_BYTES`.
     pub(crate) fn let_out_when_due<W: Write>(
         &mut self,
         at_once: bool,
@@ -111,6 +113,7 @@ impl Held {
         ensures { self.new.bytes.items
             ≡ (if result then self.old.bytes.items ++ line.now else self.old.bytes.items) }
     {
+        // Written so that no sum can overflow.
         if HELD_BYTES < line.len() || HELD_BYTES - line.len() < self.bytes.len() {
             return false;
         }

@@ -1,8 +1,10 @@
 //! Laws of turns and sessions. Each is the contract of a function that does nothing.
 //!
-//! A session is one connection from its first line to its end. A turn is the reply to one of its lines and the state
-//! after it. A window is one session's view of the published events and board. An account is known on a connection from
-//! its granted hello to its bye. The place of an event is its number in the list of events, from 1.
+//! A session is one connection from its first line to its end. A window is one session's view of the published events
+//! and board. An account is known on a connection from its granted hello to its bye. A standing is who is known on a
+//! connection, and the state of the session's window. A turn is the reply to one line of a session, and the standing
+//! after it. A talk is the answered lines of one session, with their replies. The place of an event is its number in
+//! the list of events, from 1. A flush writes all replies that were buffered.
 ghost use Rattle.std.specs.Prelude.{◌≡◌, ◌++◌, ◌+◌, ℕ, List, Option, Some, flat_map, length};
 ghost use mathlib.Core.List.{IsPrefix};
 ghost use Rattle.mml_lab.specs.Labs.{LabValue};
@@ -25,7 +27,8 @@ pub fn places_are_those_told()
         t.end.window.places ≡ st.window.places ++ flat_map places_in t.replies }
 {}
 
-/// A window counts the replies that are the refusal `journal`: one for each such reply, and none for another one.
+/// A window counts the replies that refuse an act since the journal is halted (`journal`): one for each such reply, and
+/// none for another one.
 pub fn refusals_for_the_journal_are_counted()
     ensures turn { (lab : LabValue) (st after : Standing) (t : LineTurn lab st after) →
         after.window.halts ≡ st.window.halts + halts_in t.reply }
@@ -48,8 +51,8 @@ pub fn one_reply_each()
         length t.replies ≡ length t.lines }
 {}
 
-/// If lines were answered and other bytes follow, the lines of the whole input begin with the answered ones. If no
-/// newline is among the other bytes, there are no further lines.
+/// If the lines of a talk were answered, and other bytes (`rest`) follow them, the lines of the whole input begin with
+/// the answered ones. If no newline is among the other bytes, there are no further lines.
 pub fn lines_of_a_talk()
     ensures first { (lab : LabValue) (st : Standing) (t : Talk lab st) (rest : List ℕ) →
         lines_of (bytes_read t ++ rest) ≡ t.lines ++ lines_of rest }
@@ -58,7 +61,7 @@ pub fn lines_of_a_talk()
 {}
 
 /// If a session ended because a write failed, the writer took all lines that earlier flushes wrote, and a beginning of
-/// the last flush. The rest of the last flush is missing, and it isn't empty. Before the last line, the last flush has
+/// the last flush. The rest of the last flush is missing, and it isn't empty. Without its last line, the last flush has
 /// at most 8192 bytes (`HELD_BYTES`), in at most 512 lines.
 pub fn a_broken_session_lacks_its_last_flush()
     ensures lacks { (lab : LabValue) (old new : WindowValue) (input left : Option (List ℕ)) (wrote wrote' : List ℕ)

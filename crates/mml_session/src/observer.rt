@@ -1,7 +1,7 @@
 //! Observers of sessions.
 //!
-//! A seat serves one connection after another, each through the seat's window. A gate is a point at which tests can
-//! stop a session.
+//! A seat serves one connection after another, each through the seat's window. `number` is always the number of the
+//! seat. A gate is a point at which tests can stop a session.
 ghost use Rattle.std.specs.Prelude.{◌≡◌, Option, None};
 ghost use Rattle.mml_session.specs.Records.{Kept, Records, entry_for, left};
 

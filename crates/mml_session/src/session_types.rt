@@ -17,8 +17,8 @@ pub trait SessionTypes {
     type Writer: Write;
 }
 
-/// The types of a session with a runtime `Rt`, a journal's sink `S`, and a connection whose ends are `R` and `W`. It has
-/// no values.
+/// The types of a session with a runtime `Rt`, a journal's sink `S`, and a connection whose ends are `R` and `W`. It
+/// has no values, since only its types are used.
 pub(crate) struct SessionOf<Rt, S, R, W>(PhantomData<(Rt, S, R, W)>);
 
 impl<Rt: Wait, S: Sink + Drop, R: Read, W: Write> SessionTypes for SessionOf<Rt, S, R, W> {
