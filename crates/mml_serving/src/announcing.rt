@@ -1,6 +1,7 @@
 //! The first and the last line that a server prints.
 //!
-//! A journal is halted if a line couldn't be written to it. From then on nothing is granted.
+//! The log is the result of a house (one run of a lab) that has ended: its events, and the board after them. A journal
+//! is halted if a line couldn't be written to it. From then on nothing is granted.
 ghost use Rattle.std.specs.Prelude.{◌≡◌, false, length, IfErr, OnOk};
 ghost use Rattle.std.specs.Io.KnownBytes.{Appends};
 ghost use Rattle.mml_ids.specs.Pieces.{joined};
@@ -14,7 +15,7 @@ use std::alloc::Global;
 use std::io::Write;
 
 /// Writes a server's first line, which names the port on which it listens. Returns `Memory`, and writes nothing, if
-/// memory runs out, or `Write` if the writer fails.
+/// memory runs out. Returns `Write` if the writer fails; a beginning of the line may then be written.
 pub fn write_listening<W: Write>(alloc: Global, port: u16, writer: &mut W) -> Result<(), ServeFault>
     ensures { OnOk result
         (Appends (W.contents writer.old) (W.contents writer.new) (listening_line port)) }
@@ -29,7 +30,7 @@ pub fn write_listening<W: Write>(alloc: Global, port: u16, writer: &mut W) -> Re
 
 /// Writes a server's last line: the number of events, and the number of the configuration that they led to. Returns
 /// `Halted` if the journal was halted, or `Memory` if memory runs out, and then writes nothing. Returns `Write` if the
-/// writer fails.
+/// writer fails; a beginning of the line may then be written.
 pub fn write_last<S, W: Write>(
     alloc: Global,
     log: &Log<S>,
@@ -48,7 +49,7 @@ pub fn write_last<S, W: Write>(
     write_done(alloc, events, log.board.number(), writer)
 }
 
-// Writes the last line of a server's output, which names the number of events and the number of the configuration.
+// Writes the last line of a server's output, which names the number of events and the `number` of the configuration.
 // Returns `Memory`, and writes nothing, if memory runs out, or `Write` if the writer fails.
 fn write_done<W: Write>(
     alloc: Global,
@@ -71,8 +72,8 @@ fn write_done<W: Write>(
     write_pieces(alloc, &pieces, writer)
 }
 
-// Joins these pieces into one text and writes it with a single write. Returns `Memory`, and writes nothing, if memory
-// runs out, or `Write` if the writer fails.
+// Joins these pieces into one text and writes it, so that the text isn't sent in pieces. Returns `Memory`, and writes
+// nothing, if memory runs out, or `Write` if the writer fails.
 fn write_pieces<W: Write>(alloc: Global, pieces: &[Piece], writer: &mut W) -> Result<(), ServeFault>
     ensures told { OnOk result
         (Appends (W.contents writer.old) (W.contents writer.new) (joined pieces.now)) }

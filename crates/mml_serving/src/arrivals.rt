@@ -1,4 +1,7 @@
 //! Sources of connections, and how connections are closed.
+//!
+//! A connection has a reading and a writing end. Both ends of a socket have a handle of the system. Bytes in memory can
+//! be an end, too, and have none.
 ghost use Rattle.std.specs.Prelude.{◌≡◌, List, [], ◌∷◌, None, Option, Some, MatchResult};
 ghost use Rattle.std.specs.Vec.Iter.{into_iter_items};
 ghost use Rattle.mml_serving.specs.Arriving.{Takes};
@@ -25,7 +28,7 @@ pub trait Arrivals<R: Read + Drop, W: Write + Drop> {
 
 /// The reading end of a connection, whose handle can be closed while the value lives on.
 pub trait LetGo: Read {
-    // The statement that the handle is closed. Bytes in memory have no handle.
+    // The statement that the handle is closed. Bytes in memory have no handle, so it says nothing of them.
     ghost IsLetGo: { Self → Type 0 } = { λ _. Unit {0} };
 
     /// Closes the connection's handle. Nothing more is read.
@@ -36,7 +39,8 @@ pub trait LetGo: Read {
 
 /// The writing end of a connection, which can signal to the other side that no more bytes follow.
 pub trait HangUp: Write {
-    // The statement that the connection is ended and the handle closed. Bytes in memory have neither.
+    // The statement that the connection is ended and the handle closed. Bytes in memory have neither, so it says
+    // nothing of them.
     ghost IsHungUp: { Self → Type 0 } = { λ _. Unit {0} };
 
     /// Ends the connection and closes its handle. Nothing more is written.

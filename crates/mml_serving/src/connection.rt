@@ -1,3 +1,6 @@
+//! Connections, and the sessions that were served on them.
+//!
+//! A session is one connection from its first line to its end.
 ghost use Rattle.std.specs.Prelude.{◌≡◌};
 ghost use Rattle.std.specs.List.{list_all};
 ghost use Rattle.mml_serving.specs.Serving.{had_memory};
@@ -5,8 +8,8 @@ ghost use Rattle.mml_serving.specs.Serving.{had_memory};
 use crate::socket::Socket;
 use mml_session::SessionEnd;
 
-/// The two ends of a connection, with its number. A gate, with which tests can stop sessions, is called with this
-/// number.
+/// The two ends of a connection, with its number, from 1 in the order in which connections come. A gate, with which
+/// tests can stop sessions, is called with this number.
 #[derive(Drop)]
 pub struct Connection<R: Drop, W: Drop> {
     pub number: u8,

@@ -8,8 +8,7 @@ use mml_journal::number_of as decimal_number_of;
 use mml_lab::MAX_SESSIONS;
 use std::num::{NonZeroU8, NonZeroU16};
 
-/// Returns the port number that a text is: from 1 to 65535 in decimal, without sign or leading zero. Returns `None` for
-/// any other text.
+/// Reads a port number: from 1 to 65535 in decimal, without sign or leading zero. Returns `None` for any other text.
 pub fn read_port(text: &str) -> Option<NonZeroU16>
     ensures { Reads non_zero_u16_get (2 ^ 16 - 1) text.now result }
 {
@@ -17,8 +16,8 @@ pub fn read_port(text: &str) -> Option<NonZeroU16>
     NonZeroU16::new(number as u16)
 }
 
-/// Returns the number of connections that a text is: in decimal, without sign or leading zero, from 1 to the most
-/// sessions that a lab may have. Returns `None` for any other text.
+/// Reads a number of connections: in decimal, without sign or leading zero, from 1 to the most sessions that a lab may
+/// have. Returns `None` for any other text.
 pub fn read_connections(text: &str) -> Option<NonZeroU8>
     ensures { Reads non_zero_u8_get MAX_SESSIONS text.now result }
 {
@@ -26,11 +25,11 @@ pub fn read_connections(text: &str) -> Option<NonZeroU8>
     NonZeroU8::new(number as u8)
 }
 
-// Returns the number that a text is: from 1 to `most` in decimal, without sign or leading zero. Returns `None` for any
-// other text.
+// Reads a number from 1 to `most` in decimal, without sign or leading zero. Returns `None` for any other text.
 fn number_of(text: &str, most: u64) -> Option<u64>
     ensures { Reads (λ n. n) most text.now result }
 {
+    // The outer `None` means that the text is no decimal number, and the inner one that it has more than 64 bits.
     let spelled = decimal_number_of(text.as_bytes())?;
     let number = spelled?;
     if 0 < number && number <= most {

@@ -1,6 +1,8 @@
 //! Connections, each served in a thread of its own through a window of its own, as they come.
 //!
-//! A window is one session's view of the published events and board. A seat is a connection with its window.
+//! A window is one session's view of the published events and board. A seat is a connection with its window. A window
+//! is fresh if it has seen nothing and was granted nothing. A pledge is the contract of a thread's result, which the
+//! thread that joins it can rely on.
 ghost use Rattle.std.specs.Prelude.{◌≡◌, ◌≢◌, ◌<◌, ◌≤◌, ◌+◌, [], ◌∷◌, All, IfOk, OnOk, length, map};
 ghost use Rattle.mml_window.specs.Windows.{window};
 ghost use Rattle.mml_serving.specs.Arriving.{Takes};
@@ -42,10 +44,10 @@ type HandleOf<Y, H> = PromisedHandle<
     ConnectionPledge<<Y as SessionTypes>::Reader, <Y as SessionTypes>::Writer>,
 >;
 
-/// Serves the next `connections` connections, each in a thread of its own and through one of `windows`. Returns the
-/// used windows, and how the sessions ended, both in the order in which the connections came. Returns an error if
-/// accepting a connection or starting a thread fails, or memory runs out. All threads have ended when it returns, even
-/// after an error.
+/// Serves the next `connections` connections of `arrivals`, each in a thread of its own and through one of `windows`.
+/// Returns the used windows, and how the sessions ended, both in the order in which the connections came. Returns an
+/// error if accepting a connection or starting a thread fails, or memory runs out. All threads have ended when it
+/// returns, even after an error. `gate` can pause the sessions, for tests.
 pub(crate) fn serve_all<
     Y: ServerTypes,
     H: House + Send + Sync,
@@ -97,7 +99,8 @@ struct Shared<'s, Y: ServerTypes, H: House> {
 impl<'s, Y: ServerTypes + 's, H: House + Send + Sync + 's> Shared<'s, Y, H> {
     // Accepts the next `connections` connections, and serves each in a thread of its own. Waits until all threads have
     // ended, and returns the used windows and the ended sessions, both in the order in which the connections came.
-    // Returns an error, without waiting, if accepting a connection or starting a thread fails, or memory runs out.
+    // Returns an error if accepting a connection or starting a thread fails, or memory runs out. It doesn't wait for
+    // the threads then: the end of `scope` does.
     fn serve_each<E, A: Arrivals<Y::Reader, Y::Writer> + Drop>(
         &self,
         scope: &Scope<'s, E>,
@@ -126,7 +129,7 @@ impl<'s, Y: ServerTypes + 's, H: House + Send + Sync + 's> Shared<'s, Y, H> {
     }
 
     // Starts a thread that serves the connection of a seat, and returns the thread's handle. Returns `Memory` if no
-    // thread could be made.
+    // thread could be made. The connection isn't served then.
     fn serve_apart<E>(
         &self,
         scope: &Scope<'s, E>,
@@ -165,8 +168,8 @@ impl<H: House, R: Read + Drop, W: Write + Drop> Promise<(Window<H>, EndedSession
     ghost kept_by = { λ pledge t. IsServed H.lab R.remaining W.contents pledge.0.value t.1 t.0 };
 }
 
-// Accepts the next connection, and takes a window for it from the list. Returns both, with the connection's `number`.
-// Returns an error if no connection could be accepted.
+// Accepts the next connection, and takes a window for it from the list, which must not be empty. Returns both, with the
+// connection's `number`. Returns an error if no connection could be accepted.
 fn next_seat<H: House, R: Read + Drop, W: Write + Drop, A: Arrivals<R, W>>(
     arrivals: &mut A,
     windows: &mut Vec<Window<H>>,
@@ -219,9 +222,9 @@ fn accept_fault(kind: ErrorKind) -> SeatingFault
     }
 }
 
-// Serves the connection of a seat, and closes it as soon as its session has ended. So neither the other side nor the
-// system has to wait for other sessions. Returns the seat's window, and how the session ended with the connection's two
-// ends.
+// Serves the connection of a seat, and closes both of its ends as soon as its session has ended. So neither the other
+// side nor the system has to wait for other sessions. Returns the seat's window, and how the session ended, with the
+// connection's two ends.
 fn serve_seated<Y: ServerTypes, H: House>(
     rt: &Y::Runtime,
     alloc: Global,
@@ -264,8 +267,8 @@ fn serve_seated<Y: ServerTypes, H: House>(
     (window, EndedSession { end, connection })
 }
 
-// Waits until all threads have ended. Returns their windows and their sessions, both in the order of the threads.
-// Returns `Memory`, without waiting, if memory for the two lists runs out.
+// Waits until all threads have ended. Returns their windows and their sessions, both in the order of `handles`. Returns
+// `Memory`, without waiting, if memory for the two lists runs out.
 fn join_all<Rt: Threads, H: House, R: Read + Drop, W: Write + Drop>(
     rt: &Rt,
     alloc: Global,

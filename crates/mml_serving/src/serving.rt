@@ -2,7 +2,9 @@
 //! line.
 //!
 //! A house is one run of a lab that threads share: its list of granted events, the board after them, and their journal.
-//! A window is one session's view of the published events and board.
+//! A window is one session's view of the published events and board. The type `H` is the name of a house, and only
+//! contracts use it. A sink is the destination of the journal's bytes. The place of an event is its number in the list
+//! of events, from 1. The log of a house is its result, with its events, board and sink.
 ghost use Rattle.std.specs.Prelude.{◌≡◌, ◌<◌, ◌≤◌, ◌+◌, ◌-◌, ◌^◌, ◌++◌, Err, None, true, false, length, IfOk, IfErr, OnOk};
 ghost use Rattle.std.specs.List.{list_all};
 ghost use Rattle.std.specs.Io.KnownBytes.{Appends};
@@ -57,7 +59,7 @@ pub enum ServeFault {
 }
 
 /// Serves the next `connections` connections of a listener in a new house of the lab, as `serve_house_on` does, and
-/// drops the result of the house.
+/// drops the result of the house. Returns why the house failed, if it did.
 pub fn serve_on<Rt: Threads + Wait + Sync, S: Sink + Send + Drop, G: Gate + Sync, W: Write>(
     rt: &Rt,
     alloc: Global,
@@ -83,11 +85,11 @@ pub fn serve_on<Rt: Threads + Wait + Sync, S: Sink + Send + Drop, G: Gate + Sync
     }
 }
 
-/// Serves the next `connections` connections of a listener in a new house of the lab. Then writes the last line: the
-/// number of events, and the configuration that they led to. Returns the result of the house, or why it failed. If
-/// accepting fails, the connections that had come are still served to their ends. If memory ran out in a session or a
-/// socket, returns `Memory`, even though the last line was written. The contract can't speak of a socket's bytes; see
-/// `serve_arrivals`.
+/// Serves the next `connections` connections of a listener in a new house of the lab, whose journal goes to `sink`.
+/// Then writes the last line to `writer`: the number of events, and the configuration that they led to. `gate` can
+/// pause the sessions, for tests. Returns the result of the house, or why it failed. If accepting fails, the
+/// connections that had come are still served to their ends. If memory ran out in a session or a socket, returns
+/// `Memory`, even though the last line was written. The contract can't speak of a socket's bytes; see `serve_arrivals`.
 pub fn serve_house_on<Rt: Threads + Wait + Sync, S: Sink + Send + Drop, G: Gate + Sync, W: Write>(
     rt: &Rt,
     alloc: Global,
@@ -133,9 +135,10 @@ pub fn serve_house_on<Rt: Threads + Wait + Sync, S: Sink + Send + Drop, G: Gate 
 }
 
 /// Serves the first `connections` connections that arrive, each in a thread and through a window of its own. Opens a
-/// house for them, ends it when all sessions have ended, and then writes the last line. If there is no fault, the house
-/// has one legal list of events, and each reply is that of the rules after a beginning of it. The places that the
-/// replies name are those of its events, each once.
+/// house for them, whose journal goes to `sink`. Ends it when all sessions have ended, and then writes the last line to
+/// `writer`. Returns the result of the house, or why it failed. If there is no fault, the house has one legal list of
+/// events, and each reply is that of the rules after a beginning of it. The places that the replies name are those of
+/// its events, each once.
 pub fn serve_arrivals<Y: ServerTypes, A: Arrivals<Y::Reader, Y::Writer> + Drop, O: Write>(
     rt: &Y::Runtime,
     alloc: Global,
@@ -174,7 +177,7 @@ pub fn serve_arrivals<Y: ServerTypes, A: Arrivals<Y::Reader, Y::Writer> + Drop, 
 }
 
 // Serves the next `connections` connections in the new house `blank`, and ends the house. Returns its log and the ended
-// sessions, or why the house failed.
+// sessions, or why the house failed. To end the house, all its windows are needed, also those that no connection used.
 fn serve_in_house<Y: ServerTypes, H: House + Send + Sync, A: Arrivals<Y::Reader, Y::Writer> + Drop>(
     rt: &Y::Runtime,
     alloc: Global,
@@ -211,8 +214,8 @@ fn serve_in_house<Y: ServerTypes, H: House + Send + Sync, A: Arrivals<Y::Reader,
     }
 }
 
-/// Ends a house that has failed, and returns `fault`. Ignores the result of ending it, so that no other fault is
-/// reported.
+/// Ends a house that has failed, since a desk can't just be dropped, and returns `fault`. Ignores the result of ending
+/// it, so that no other fault is reported.
 pub fn end_for<Rt: Wait, S: Sink + Drop, H: House, F>(
     fault: F,
     rt: &Rt,

@@ -1,4 +1,7 @@
 //! One end of a connection over a socket.
+//!
+//! `Retrying` is a reader or writer that retries after a signal, and remembers whether memory ran out. Lingering means
+//! to wait for a short time, after the last write, until the other side has read everything.
 ghost use Rattle.std.specs.Prelude.{◌≡◌, ◌≢◌, true, false, None};
 
 use crate::arrivals::{HangUp, LetGo};
@@ -67,7 +70,7 @@ impl HangUp for Socket {
     ghost IsHungUp = { λ socket. socket.end.inner.0 ≡ None };
 
     // Shuts down the writing side, then waits until the other side has ended too, for at most the turns of `linger`,
-    // and closes the handle.
+    // and closes the handle. Does nothing if the handle is closed already.
     fn hang_up(&mut self) {
         if let Some(stream) = self.end.inner.0.take() {
             linger(stream, &AtomicBool::new(false));
@@ -77,8 +80,8 @@ impl HangUp for Socket {
 
 /// Ends a connection without losing what was written to it. Shuts down the writing side, and then reads and drops what
 /// the other side still sends, in at most 64 turns of 15 milliseconds and 1024 bytes. Closing a socket with unread
-/// bytes would discard what it still has to send. Stops early if the other side has ended or is gone, or once
-/// `is_hurried` is set. Then closes the handle.
+/// bytes would discard what it still has to send. Stops early if the other side has ended or is gone, or once another
+/// thread sets `is_hurried`. Then closes the handle.
 pub fn linger(stream: TcpStream, is_hurried: &AtomicBool) {
     let mut stream = stream;
     let turn = Some(Duration::from_millis(TURN));
