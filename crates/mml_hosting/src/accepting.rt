@@ -1,6 +1,8 @@
 //! Sources of connections, and how connections end.
 //!
 //! A house is one run of a lab that threads share: its list of granted events, the board after them, and their journal.
+//! It has two ports. At the one port, the desk, the teacher connects, and the teacher's bye there ends the house. A
+//! seat serves one connection after another.
 ghost use Rattle.std.specs.Prelude.{List, None, Option};
 ghost use Rattle.mml_hosting.specs.Bringing.{Brings};
 

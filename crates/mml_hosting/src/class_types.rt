@@ -1,7 +1,8 @@
 //! The types of a class, bundled into one type parameter.
 //!
-//! A seat serves one connection after another. A house is one run of a lab that threads share: its list of granted
-//! events, the board after them, and their journal.
+//! A class is a house whose connections come and go. A house is one run of a lab that threads share: its list of
+//! granted events, the board after them, and their journal. It has two ports. At the one port, the desk, the teacher
+//! connects. A seat serves one connection after another.
 use crate::accepting::{Accept, Bell, CutOff};
 use crate::hosted::Hosted;
 use crate::replies::Observed;

@@ -1,6 +1,7 @@
 //! Marks: flags that the threads of a port share, one for each seat. A set mark says that the seat's thread has ended.
 //!
-//! A seat serves one connection after another, each through the seat's window.
+//! A seat serves one connection after another, each in a thread and through the seat's window. `marks` has the mark of
+//! the seat with the number n at the index n.
 ghost use Rattle.std.specs.Prelude.{IfSome, slice_get};
 ghost use Rattle.mml_hosting.specs.Marks.{Says};
 

@@ -1,8 +1,15 @@
 //! A port: it accepts connections as they come, and serves each in a seat that is free.
 //!
 //! A seat serves one connection after another, each in a thread. A seat is busy while it serves one, and otherwise
-//! free. The window of a seat is what its sessions have seen of the list of events. A cut-off is the means by which
-//! another thread ends a connection.
+//! free. The window of a seat is what its sessions have seen of the list of events. The mark of a seat is a flag that
+//! is set once its thread has ended. A cut-off is the means by which another thread ends a connection. The bell is the
+//! signal by which these threads wake the house. A pledge is the contract of a thread's result, which the thread that
+//! joins it can rely on. The desk is the port at which the teacher's bye ends the house.
+//!
+//! In contracts, `terms` bundles what they are about: the lab, the events from before the house was opened, and what
+//! was sent, read, recorded and kept. Clauses with `g` and `h` count the seats and their connections: none is lost or
+//! doubled when seats move between lists. The loops over busy seats run over indices, since their invariants speak of
+//! the seats before an index.
 ghost use Rattle.std.specs.Prelude.{◌≡◌, ◌<◌, ◌≤◌, ◌+◌, ◌^◌, ℕ, true, false, All, IfOk, IfErr, IfSome, IfNone, [], vec_len, vec_capacity};
 ghost use Rattle.mml_hosting.specs.Seats.{IsReady, IsSeat, ServesIn, came_to, terms};
 ghost use Rattle.mml_hosting.specs.Ports.{ServesPort, TurnsOthersAway};
@@ -83,8 +90,8 @@ type HandleOf<Y, H> = PromisedHandle<
     >,
 >;
 
-// Returns the index of the first busy seat whose thread has ended, as the marks say. Returns `None` if all threads
-// are still running.
+// Returns the index of the first busy seat whose thread has ended, as the marks say. Returns `None` if all threads are
+// still running.
 fn first_done<Y: ClassTypes, H: Begun, M: Mark>(
     busy: &Vec<BusyOf<Y, H>>,
     marks: &[M],
@@ -125,9 +132,9 @@ fn join_one<Y: ClassTypes, H: Begun>(
     seat
 }
 
-// Returns the index of the busy seat to wait for next. With marks, this is the first seat whose thread has ended, or
-// `None` if all threads are still running. Without marks, it is the first seat of the list, or `None` if the list is
-// empty.
+// Returns the index of the busy seat whose thread is to be joined next. With `marks`, this is the first seat whose
+// thread has ended, or `None` if all threads are still running. Without `marks`, it is the first seat of the list,
+// whose thread may still run, or `None` if the list is empty.
 fn next_to_join<Y: ClassTypes, H: Begun, M: Mark>(
     busy: &Vec<BusyOf<Y, H>>,
     marks: Option<&[M]>,
@@ -144,8 +151,8 @@ fn next_to_join<Y: ClassTypes, H: Begun, M: Mark>(
     }
 }
 
-// Moves the seats whose threads have ended from `busy` to `free`. Without marks, waits for all threads, and moves all
-// seats. All connections must have been cut off before in this case.
+// Moves the seats whose threads have ended from `busy` to `free`. Without `marks`, waits for all threads, and moves all
+// seats. All connections must have been cut off before in this case, so that their threads end.
 fn gather<Y: ClassTypes, H: Begun, M: Mark>(
     rt: &Y::Runtime,
     free: &mut Vec<SeatOf<Y, H>>,
@@ -253,7 +260,7 @@ impl<'s, Y: ClassTypes + 's, H: Begun + Send + Sync + 's> Shared<'s, Y, H> {
     // Starts a thread that serves a connection (`ends`) in a seat, and returns the thread's handle. The thread rings
     // the bell when the session has ended. If no thread can be made, serves the connection in this thread, and returns
     // the seat as an error. In this case a connection that isn't at the desk is cut off before it is served, so that
-    // later connections needn't wait for it.
+    // later connections needn't wait for it. `cut_off` is the means for that.
     fn serve_apart<E>(
         &self,
         scope: &Scope<'s, E>,
@@ -294,13 +301,14 @@ impl<'s, Y: ClassTypes + 's, H: Begun + Send + Sync + 's> Shared<'s, Y, H> {
                 if !is_desk {
                     cut_off.cut_off();
                 }
+                // No thread can be made, so the thread's closure is called here.
                 Err((refused.value)())
             }
         }
     }
 
     // Takes back the seats whose threads have ended. Then serves a connection (`ends`) in the free seat that
-    // `next_free` returns, in a thread of its own. Turns the connection away if no seat is free. `cut_off` is the means
+    // `next_free` returns, in a thread of its own. Turns the connection away if there is none. `cut_off` is the means
     // to end the connection from the port's thread.
     fn take_in<E>(
         &self,
@@ -357,6 +365,7 @@ impl<'s, Y: ClassTypes + 's, H: Begun + Send + Sync + 's> Shared<'s, Y, H> {
         let mut busy = Vec::with_capacity(self.alloc, free.len())?;
         // Allocates nothing. By its contract the list has room for each seat that is put back.
         free.reserve(0)?;
+        // `forever` is the loop for which no end has to be proved. `break` leaves it.
         for _ in self.rt.forever() {
             match arrivals.accept_next() {
                 Accepted::Came(ends, cut_off) => self.take_in(

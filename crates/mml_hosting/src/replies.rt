@@ -1,6 +1,7 @@
 //! Observers of a connection's replies, and of the end of its session.
 //!
-//! A seat serves one connection after another, each through the seat's window.
+//! A seat serves one connection after another, each through the seat's window. A seat's observer is for all its
+//! sessions, and a reply observer for one connection.
 ghost use Rattle.std.specs.Prelude.{◌≡◌};
 
 use mml_codec::Reply;

@@ -1,7 +1,9 @@
 //! Seats: windows through which one connection after another is served.
 //!
 //! A window is one session's view of the published events and board. The desk is the port at which the teacher's bye
-//! ends the class.
+//! ends the class. The mark of a seat is a flag that is set once the thread that serves in it has ended. In contracts,
+//! `terms` bundles what they are about: the lab, the events from before the house was opened, and what was sent, read,
+//! recorded and kept.
 ghost use Rattle.std.specs.Prelude.{◌≡◌, ◌&&◌};
 ghost use Rattle.mml_session.specs.Records.{EndedRecorded};
 ghost use Rattle.mml_hosting.specs.Seats.{IsReady, ServesIn, is_teachers_bye, terms};
@@ -84,9 +86,9 @@ pub struct Seat<H: Begun, K: Drop, C: Drop> {
     pub is_dismissed: bool,
 }
 
-/// Serves a connection in a seat, and closes its writing end. Then sets the seat's mark, since the thread won't wait
-/// for anything any more. Returns the seat, with what is kept of the session, and with whether the teacher's bye ended
-/// the session at the desk.
+/// Serves a connection (`ends`) in a seat, and closes its writing end. Then sets the seat's mark in `marks`, since the
+/// thread won't wait for anything any more. The seat must have memory for the record of one more session. Returns the
+/// seat, with what is kept of the session, and with whether the teacher's bye ended the session at the desk.
 pub fn serve_in<Y: ClassTypes, H: Begun>(
     setting: &Setting<'_, Y::Runtime, Y::Sink, H>,
     seat: SeatOf<Y, H>,
