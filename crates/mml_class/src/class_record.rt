@@ -1,7 +1,9 @@
 //! The record of a class: the texts of all seats, one each.
 //!
 //! A seat serves one connection after another, each through the seat's window. The text of a seat has its lines with
-//! their replies. The place of an event is its number in the list of events, from 1.
+//! their replies. `number` is always the number of a seat, from 1, and `events` is the list of events of the class's
+//! journal. The place of an event is its number in this list, from 1. A text grants an event if a reply in it names the
+//! event's place.
 ghost use Rattle.std.specs.Prelude.{◌≡◌, ℕ, List, Option, None, Some, true, IfOk, IfErr, IfSome, OnOk};
 ghost use Rattle.mml_board.specs.Lists.{is_legal_in};
 ghost use Rattle.mml_class.specs.Begun.{begun_in};
@@ -62,10 +64,10 @@ impl From<SeatFault> for ClassFault {
     }
 }
 
-/// Checks that the texts of all seats are the record of a class with this list of events. First reads how many events
-/// came before the record, and then the text of each seat. At last checks that each event is granted once. Returns the
-/// first fault that is found. If `with_asks` is set, also returns what each line asked; each text is then read into
-/// memory as a whole.
+/// Checks that the texts of all seats are the record of a class with this list of events, which must be legal. First
+/// reads how many events came before the record, and then the text of each seat. At last checks that each event is
+/// granted once. Returns the first fault that is found. If `with_asks` is set, also returns what each line asked; each
+/// text is then read into memory as a whole.
 pub fn read_class<R: Read + Drop, S: Seats<R>>(
     alloc: Global,
     lab: &Lab,
@@ -110,9 +112,9 @@ pub fn read_class<R: Read + Drop, S: Seats<R>>(
     }
 }
 
-// Returns the first fault in the places that records grant. A fault is a place that isn't from `begun` + 1 to `count`,
-// or one that is granted twice. If the records are `whole`, a place that is granted nowhere is a fault, too. Returns
-// `None` if there is no fault, and `Memory` if memory runs out.
+// Returns the first fault in the places that records grant: a place that isn't from `begun` + 1 to `count`, or one that
+// is granted twice. If the records are `whole`, a place that is granted nowhere is a fault, too. Returns `None` if
+// there is no fault, and `Memory` if memory runs out.
 fn find_amiss(
     alloc: Global,
     places: &[u64],
@@ -152,9 +154,9 @@ fn stated_begun(text: &[u8]) -> Result<u64, SeatFault>
     }
 }
 
-// Checks the record of one seat. Adds its summary to `findings`, appends the places that it grants to `granted`, and,
-// if `with_asks` is set, appends what its lines asked to `asks`. Returns the record's first bad entry, or why it can't
-// be read.
+// Checks the record of the seat with this number. Adds its summary to `findings`, appends the places that it grants to
+// `granted`, and, if `with_asks` is set, appends what its lines asked to `asks`. Returns `Entry` with the record's
+// first bad entry, or `Unread` with the reason why it can't be read.
 fn read_seat<R: Read + Drop, S: Seats<R>>(
     alloc: Global,
     lab: &Lab,
@@ -186,7 +188,7 @@ fn read_seat<R: Read + Drop, S: Seats<R>>(
 
 // Checks whether a seat's text is a record, and returns the verdict. Appends the places that it grants to `granted`. If
 // `with_asks` is set, reads the text as a whole, and if it is a record, appends what its lines asked to `asks`.
-// Otherwise reads the text piece by piece.
+// Otherwise reads the text piece by piece. Returns `Read` if the text can't be read, and `Memory` if memory runs out.
 fn read_text<R: Read + Drop>(
     alloc: Global,
     lab: &Lab,
@@ -211,7 +213,7 @@ fn read_text<R: Read + Drop>(
 }
 
 // Checks whether a seat's text, which is in memory, is a record, and returns the verdict. Appends the places that it
-// grants to `granted`, and, if it is a record, what its lines asked to `asks`.
+// grants to `granted`, and, if it is a record, what its lines asked to `asks`. Returns `Memory` if memory runs out.
 fn read_asked(
     alloc: Global,
     lab: &Lab,

@@ -20,8 +20,8 @@ pub enum Misgranted {
     Nowhere(u64),
 }
 
-// Returns a list of flags, one for each place from 0 to `count`, none of which is set. Returns `Memory` if memory runs
-// out.
+// Returns a list of flags, one for each place from 0 to `count`, none of which is set. The flag at 0 is never used.
+// Returns `Memory` if memory runs out.
 fn no_marks(alloc: Global, count: u64) -> Result<Vec<bool>, Memory>
     ensures length { IfOk result (λ marks. length marks.items ≡ count + 1) }
     ensures unset { IfOk result (λ marks. (p : ℕ) → marked marks.items p ≡ 0) }
@@ -35,7 +35,8 @@ fn no_marks(alloc: Global, count: u64) -> Result<Vec<bool>, Memory>
 }
 
 // Sets the flag of a place that a record grants, and returns `None`. If the place isn't above `begun`, has no flag, or
-// its flag is set already, sets nothing, and returns what is wrong with the place.
+// its flag is set already, sets nothing, and returns what is wrong with the place. `begun` is how many events came
+// before the record.
 fn mark(marks: &mut Vec<bool>, begun: u64, place: u64) -> Option<Misgranted>
     ensures { IsMarked begun place marks.old.items marks.new.items result }
 {

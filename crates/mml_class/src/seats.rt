@@ -1,7 +1,7 @@
 //! The source of the texts of a class's record.
 //!
 //! A seat serves one connection after another, each through the seat's window. A seat's text has the lines of its
-//! sessions with their replies.
+//! sessions with their replies. One more text states how many events came before the record.
 ghost use Rattle.std.specs.Prelude.{◌≡◌, ℕ, List, Option, Some, IfOk, IfSome};
 
 use mml_ids::Memory;
@@ -36,12 +36,13 @@ pub trait Seats<R: Read> {
     // The bytes of the record of the seat with a number; `None` if contracts can't name them.
     ghost text: { Self → ℕ → Option (List ℕ) };
 
-    /// Opens the text with the number of events before the record. Returns a reader at its beginning, or why it can't
-    /// be opened.
+    /// Opens the text with the number of events before the record. Returns a reader at its beginning, or `Read` or
+    /// `Memory` if it can't be opened.
     fn open_begun(&self) -> Result<R, SeatFault>
         ensures { IfOk result (λ reader. IfSome (begun self.now) (λ bytes. R.remaining reader ≡ Some bytes)) };
 
-    /// Opens the record of the seat with this number. Returns a reader at its beginning, or why it can't be opened.
+    /// Opens the record of the seat with this number. Returns a reader at its beginning, or `Read` or `Memory` if it
+    /// can't be opened.
     fn open_seat(&self, number: u8) -> Result<R, SeatFault>
         ensures { IfOk result (λ reader. IfSome (text self.now number) (λ bytes. R.remaining reader ≡ Some bytes)) };
 }
