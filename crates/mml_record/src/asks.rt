@@ -1,8 +1,9 @@
 //! What the lines of a record asked, which clauses denied them, and why they were refused.
 //!
 //! A record has entries: a line with its reply, a session's end, or a note that something is left out. An entry says
-//! how many events its session had seen. A clause is a condition for a request; a denial names the first that doesn't
-//! hold. A refusal has another reason, for example that memory ran out.
+//! how many events its session had seen. A participant is known on a connection from a granted hello to the bye. A
+//! clause is a condition for a request; a denial names the first that doesn't hold. A refusal has another reason, for
+//! example that memory ran out. A tally counts the lines of each student by these.
 ghost use Rattle.std.specs.Prelude.{◌≡◌, ◌++◌, List, ℕ, true, bytes_eq, IfOk, IfSome, OnOk};
 ghost use Rattle.mml_ids.specs.Lines.{ended};
 ghost use Rattle.mml_lab.specs.Rosters.{IsPrincipal};
@@ -67,7 +68,7 @@ fn line_of_request(request: &Request) -> Line
 }
 
 // Reads a digit from the front of `rest`, and returns its value. For a byte that is no digit, returns the byte minus
-// the byte `0`, but at least 0. Returns `None` if `rest` is `None` or empty.
+// the byte `0`, but at least 0. Returns `None` if there is no `rest`, or it is empty.
 fn digit_first(rest: Option<&[u8]>) -> Option<u8>
     ensures { result ≡ digit_first (seen rest.entry) }
 {
@@ -77,7 +78,7 @@ fn digit_first(rest: Option<&[u8]>) -> Option<u8>
 }
 
 // Returns the number of the clause in a reply's text, or `None` if the reply is no denial. Only the first byte of the
-// number is read, by `digit_first`, since clauses have one digit.
+// number is read, since clauses have one digit.
 fn clause_told(text: &[u8]) -> Option<u8>
     ensures { result ≡ clause_told text.now }
 {
@@ -86,7 +87,7 @@ fn clause_told(text: &[u8]) -> Option<u8>
     digit_first(rest)
 }
 
-// Returns whether the reply `text` is the refusal for memory.
+// Returns whether the reply `text`, without its newline, is the refusal for memory.
 fn is_memory(text: &[u8]) -> bool
     ensures { result ≡ bytes_eq text.now memory_text }
 {
@@ -156,10 +157,9 @@ fn student_of(known: Option<Who>) -> Option<Student>
     }
 }
 
-// Reads a line and its reply `text`. Returns what the tally counts of them: the student who was known before the line,
-// what the line asks, and the clause and the name of the denial in the reply, or the reason of the refusal. Also
-// returns who is known after the line: `known` as before if the reply is the refusal for memory. Returns `Memory` if
-// memory runs out in this call.
+// Reads a line and its reply `text`, both without newlines. Returns what the tally counts of them: the student who was
+// known before the line, what the line asks, and how the reply denies or refuses it. Also returns who is known after
+// the line: `known` as before if the reply is the refusal for memory. Returns `Memory` if memory runs out in this call.
 #[tactic(auto, unfolding(crate::specs::Asks::known_after))]
 fn ask_and_known(
     alloc: Global,

@@ -1,6 +1,8 @@
 //! The limit on how much is recorded.
 //!
-//! An account is known on a connection from its granted hello to its bye.
+//! A participant is known on a connection from a granted hello to the bye. A budget has an account for each
+//! participant, in which it counts the bytes that are recorded while this participant is known. One more account is for
+//! all who aren't known.
 ghost use Rattle.std.specs.Prelude.{◌≡◌, ◌||◌, Bool, false};
 ghost use Rattle.mml_session.specs.Turns.{is_hello};
 
@@ -44,7 +46,8 @@ pub trait Budget {
         ensures greeted { greeted self.new ≡ greeted self.old };
 
     /// Returns whether the text of a session's end, of this many `bytes`, may be written. If so, charges it to the
-    /// account of whoever is known, or to the common account of those who aren't known.
+    /// account of whoever is known, or to the common account of those who aren't known. A recorder calls `forget`
+    /// afterwards.
     fn takes_end(&mut self, bytes: u64) -> bool;
 
     /// Forgets who was known. Called at the end of a session.

@@ -1,5 +1,6 @@
 //! Finds the members of a denial's text that name its clause and its name. The clause is the first member of the reply,
-//! or the second after `at`, and the name follows it.
+//! or the second after `at`, and the name follows it. So a denial begins like `{"clause":1,"deny":"hidden"` or
+//! `{"at":7,"clause":2,"deny":"stale"`.
 ghost use Rattle.std.specs.Prelude.{◌≡◌};
 ghost use Rattle.mml_journal.specs.Words.{seen};
 ghost use Rattle.mml_record.specs.DenialMembers.{after_comma, denial_members, from_clause, if_clause};
@@ -19,7 +20,8 @@ fn if_clause(members: &[u8]) -> Option<&[u8]>
     }
 }
 
-// Returns the members after the first comma, if the first of these is `clause`, and otherwise `None`.
+// Returns the members after the first comma, if the first of these is `clause`. Otherwise returns `None`, also if there
+// is no comma.
 #[tactic(auto, unfolding(crate::specs::DenialMembers::after_comma))]
 fn after_comma(members: &[u8]) -> Option<&[u8]>
     ensures { seen result ≡ after_comma members.now }

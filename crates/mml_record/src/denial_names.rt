@@ -1,5 +1,6 @@
 //! Finds the names of denials in the replies of a record, for those denials that a known student can get. In a reply
-//! the name follows the number of the clause (see `denial_members`).
+//! the name follows the number of the clause, as in `"clause":1,"deny":"hidden"` (see `denial_members`). A member of a
+//! reply is a key with its value.
 ghost use Rattle.std.specs.Prelude.{◌≡◌};
 ghost use Rattle.mml_record.specs.DenialNames.{denial_word, denial_after, denial_told};
 
@@ -32,8 +33,8 @@ fn denial_word(member: &[u8]) -> Option<StudentDenial>
     }
 }
 
-// Returns the denial that the second of `members` names. Returns `None` if there is no comma, or the second member
-// names none of the listed denials.
+// Returns the denial that the second of `members` names; the first is the clause. Returns `None` if there is no comma,
+// or the second member names none of the listed denials.
 #[tactic(auto, unfolding(crate::specs::DenialNames::denial_after))]
 fn denial_after(members: &[u8]) -> Option<StudentDenial>
     ensures { result ≡ denial_after members.now }
