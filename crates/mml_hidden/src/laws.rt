@@ -1,9 +1,16 @@
-//! Laws about what a student can't learn. Each is the contract of a function that does nothing. Two labs are twins if
-//! they differ at most in the links and registers at the beginning. Two worlds are alike for a student if they agree in
-//! all that the student may see, and in the numbers of events and configurations. Two states of a hall are alike if
-//! their worlds are, the same participants are known on its connections, and both journals are halted or neither. A
-//! turn is the effect of one line; in a plain turn nothing goes wrong. A hall is the engine that answers the lines of
-//! numbered connections.
+//! Laws about what a student can't learn. Each is the contract of a function that does nothing.
+//!
+//! A world is a network with its registers, its chosen moves, the number of its configuration, and the number of events
+//! so far. Two labs are twins if they differ at most in the links and registers at the beginning. Two worlds are alike
+//! for a student if they agree in all that the student may see, and in the numbers of events and configurations.
+//!
+//! A hall is the engine that answers the lines of numbered connections. A state of a hall has a world, who is known on
+//! each connection, and whether the journal is halted, because a line couldn't be written to it. Two states are alike
+//! if their worlds are, the same participants are known on their connections, and both journals are halted or neither.
+//! A turn is the effect of one line. A mishap is that memory runs out, or that a write to the journal fails; in a plain
+//! turn there is none. A transcript has the lines of a script with their replies, from a hall's first state.
+//!
+//! In the contracts, `s` is the student, `w` and `v` are worlds, `st` and `su` are states, and `k` is a connection.
 ghost use Rattle.std.specs.Prelude.{◌≡◌, ◌↔◌, ◌<◌, ℕ, Bool, List, Option, true, false, length, map};
 ghost use Rattle.mml_rules.specs.declared.regs.Regs.{Regs};
 ghost use Rattle.mml_rules.specs.declared.rule.Rule.{Rule};
@@ -54,7 +61,7 @@ pub fn hidden_values_change_no_reply_line()
 /// Take states of two twin labs, which differ at most in the links and registers at the beginning. Suppose that the
 /// states are alike for a student, and that she or nobody is known on a connection. Then a line on this connection gets
 /// the same reply line in both, and the states afterwards are alike again. The same mishap (memory that ran out or a
-/// failed write) must befall both turns.
+/// failed write), or none, must befall both turns.
 pub fn hidden_values_change_no_turn()
     ensures line { (lab other : LabValue) (s : ℕ) (st su : State) (mishap : Mishap) (k : ℕ)
         (line : List ℕ) → AreTwins lab other → StatesAlike lab s st su →
@@ -116,8 +123,8 @@ pub fn hidden_values_change_no_script()
 
 /// Like `hidden_values_change_no_script`, but with mishaps (memory runs out, or a write fails), the same for the same
 /// lines in both runs. Each line of somebody else must keep the worlds alike for the student, and leave both journals
-/// halted or neither. If nobody else is ever known on a connection, all of its output is the same. The states at the
-/// end are alike.
+/// halted or neither. Take the connections for which `some` is true. If nobody else is ever known on them, all of their
+/// output is the same. The states at the end are alike.
 pub fn hidden_values_change_no_script_with_mishaps()
     ensures connections { (lab other : LabValue) (s : ℕ) (st su : State) (some : ℕ → Bool)
         (bs : List BefallenLine) → AreTwins lab other → StatesAlike lab s st su →
@@ -166,7 +173,7 @@ pub fn runs_begin_alike()
 {}
 
 /// A run in which no reply is the refusal for memory or for the journal is the run of plain turns, in which no mishap
-/// happens.
+/// happens. It has their replies and their end.
 pub fn unhindered_runs_are_plain()
     ensures { (lab : LabValue) (st : State) (lines : List RequestLine) (rs : List Reply)
         (end : State) → Run lab st lines rs end → AreUnhindered rs →
