@@ -2,7 +2,9 @@
 //! nothing.
 //!
 //! A class is a house whose connections come and go. A seat serves one connection after another. Each of them asks
-//! through the seat's window, which is a view of the published events and board.
+//! through the seat's window, which is a view of the published events and board. A seat's recorder writes the record of
+//! the seat: the lines of its sessions, with their replies. A record fits a list of events if the rules give its
+//! replies after those events. The log of a house is its result, with all its events.
 ghost use Rattle.std.specs.Prelude.{◌≡◌, ◌<◌, ◌≤◌, ◌++◌, ℕ, List, length, Option, Some};
 ghost use Rattle.std.specs.List.{AllByRecursion, AllZip};
 ghost use Rattle.mml_lab.specs.Labs.{LabValue};
@@ -43,11 +45,10 @@ pub fn a_class_is_a_house<S, K, C, R, W>()
         × IsEachOnceFrom (length r.begun) (length house.log.events) (named_by sessions) }
 {}
 
-/// If the recorders of a class were empty at the beginning, the sessions of each seat have changed its recorder from
-/// empty to what it has kept. The sessions have changed the seat's window from the events before the class to its final
-/// state. So what each recorder has kept is the text of a record that fits the class's one list of events, or a
-/// beginning of that text. The last clause says that the assumption holds if each recorder that the class is given is
-/// empty.
+/// Suppose that the recorders of a class were empty at the beginning. Then each has recorded the sessions of its seat.
+/// They led the seat's window from the events before the class to its final state. So what each recorder has kept is
+/// the text of a record that fits the class's one list of events, or a beginning of that text. The last clause says
+/// that the assumption holds if each recorder that the class is given is empty.
 pub fn a_class_has_recorded_seats<S, K, C, R, W>()
     ensures seats { (begun : List Event) (given : ℕ → Option Kept) (lab : LabValue)
         (sink : S → Option (List ℕ)) (remaining : R → Option (List ℕ)) (contents : W → Option (List ℕ))

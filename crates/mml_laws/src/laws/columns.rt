@@ -1,7 +1,9 @@
 //! The columns of a tally. Each law is the contract of a function that does nothing.
 //!
 //! A clause is a condition for a request; a denial names the first that doesn't hold. The tally counts a student's
-//! denied lines by clause and by the name of the denial.
+//! denied lines by clause and by the name of the denial. The record of a class has the lines of all seats with their
+//! replies; a seat serves one connection after another. A participant has greeted on a connection from a granted hello
+//! to the bye.
 ghost use Rattle.std.specs.Prelude.{◌≡◌, ◌==◌, ◌+◌, ◌++◌, ◌∷◌, [], ℕ, List, true, codes, length, count_by};
 ghost use Rattle.mml_lab.specs.Labs.{LabValue};
 ghost use Rattle.mml_board.specs.declared.event.Event.{Event};
@@ -25,8 +27,10 @@ ghost use Rattle.mml_class.specs.Classes.{IsClassRecord};
 
 /// The lines of a tally have these columns, in this order. A student's line has the granted moves by rule, the applied
 /// moves by rule, and the number of closes that applied one. Then the line has the places of the first and the last
-/// grant, and the applied moves at shared nodes. The line of a student's denials by clause has those of clauses 1 to 4,
-/// and then the number of lines that were no request. The line of a student's refusals has those for `journal`,
+/// grant, and the applied moves at shared nodes. An owner of a node has moves by rule. The line `bounds` has the most
+/// moves, rounds and events that may follow. The line `run` has the number of events, that of the configuration,
+/// whether it is stable, and the counts of the run. The line of a student's denials by clause has those of clauses 1 to
+/// 4, and then the number of lines that were no request. The line of a student's refusals has those for `journal`,
 /// `memory` and `full`. The line that counts each of a student's denials has those of clause 1 first, and then those of
 /// clauses 2, 3 and 4.
 pub fn tallies_have_these_columns()

@@ -1,9 +1,10 @@
 //! How runs end. Each law is the contract of a function that does nothing.
 //!
 //! A house is one run of a lab that threads share: its list of granted events, the board after them, and their journal.
-//! A node is privileged if some rule is enabled there. A grant chooses a move for a node, a release drops it, and a
-//! close applies all chosen moves at once. A fault sets a node's registers, a link joins two nodes, and a cut removes a
-//! link. The place of an event is its number in the list of events, from 1.
+//! A house is full if it has as many events as the lab allows, and halted if a line couldn't be written to the journal.
+//! The log of a house is its result. A node is privileged if some rule is enabled there. A grant chooses a move for a
+//! node, a release drops it, and a close applies all chosen moves at once. A fault sets a node's registers, a link
+//! joins two nodes, and a cut removes a link. The place of an event is its number in the list of events, from 1.
 ghost use Rattle.std.specs.Prelude.{◌≡◌, ◌+◌, ◌*◌, ◌<◌, ◌≤◌, ℕ, true, false, List, ◌++◌, length, Option, Ok};
 ghost use Rattle.std.specs.List.{list_all};
 ghost use Rattle.mml_rules.specs.Matching.{IsStable};

@@ -1,4 +1,6 @@
 //! The errors of lab files. Each law is the contract of a function that does nothing.
+//!
+//! A lab file has keys with values, for example the nodes, the links and the students of a lab.
 ghost use Rattle.std.specs.Prelude.{◌≡◌, Some};
 ghost use Rattle.mml_lab.specs.declared.lab_fault.LabFault.{LabFault};
 ghost use Rattle.mml_lab_file.specs.Reading.{lab_fault};

@@ -1,6 +1,7 @@
 //! The participant who is known on a connection. Each law is the contract of a function that does nothing.
 //!
-//! An account is known on a connection from its granted hello to its bye.
+//! An account is known on a connection from its granted hello to its bye. A session is one connection from its first
+//! line to its end; a hall is the engine that answers the lines of numbered connections.
 ghost use Rattle.std.specs.Prelude.{◌≡◌, ◌⊎◌, ℕ, List, Some, None, Ok};
 ghost use Rattle.mml_lab.specs.declared.who.Who.{Who};
 ghost use Rattle.mml_lab.specs.Labs.{LabValue};

@@ -1,6 +1,8 @@
 //! How a house (one run of a lab) halts. Each law is the contract of a function that does nothing.
 //!
-//! The journal is halted if a line couldn't be written to it. From then on nothing is granted.
+//! The journal is halted if a line couldn't be written to it. From then on nothing is granted. The book of a house has
+//! its list of events and its journal. An act is a request for an event. A sink is the destination of the journal's
+//! bytes, and a put is a write to it. A window is what the sessions of a seat have seen of the events.
 ghost use Rattle.std.specs.Prelude.{◌≡◌, ◌⊎◌, ◌<◌, ℕ, List, Option, true, false};
 ghost use Rattle.std.specs.List.{AllByRecursion};
 ghost use Rattle.mml_lab.specs.declared.who.Who.{Who};

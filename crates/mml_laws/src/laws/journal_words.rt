@@ -1,7 +1,8 @@
 //! The words of the journal. Each law is the contract of a function that does nothing.
 //!
 //! A grant chooses a move for a node, a release drops it, and a close applies all chosen moves at once. A fault sets a
-//! node's registers, a link joins two nodes, and a cut removes a link.
+//! node's registers, a link joins two nodes, and a cut removes a link. The place of an event is its number in the list
+//! of events, from 1.
 ghost use Rattle.std.specs.Prelude.{◌≡◌, ◌∷◌, ℕ, List, decimal};
 ghost use Rattle.mml_lab.specs.Rosters.{RosterValue};
 ghost use Rattle.mml_board.specs.declared.event.Event.{Event};

@@ -1,7 +1,8 @@
 //! What commands show. Each law is the contract of a function that does nothing.
 //!
 //! The registers of a node are its pointer p and m, which is true or false. A world is a network with its registers,
-//! its chosen moves, the number of its configuration, and the number of events so far.
+//! its chosen moves, the number of its configuration, and the number of events so far. The ruling on a command is what
+//! it shows, or why it is denied or refused, or the event that it grants.
 ghost use Rattle.std.specs.Prelude.{◌≡◌, ◌↔◌, ◌⊎◌, ℕ, Bool, true, Some, List};
 ghost use Rattle.mml_ids.specs.Ids.{rank_in};
 ghost use Rattle.mml_rules.specs.Configuration.{IsLawful};

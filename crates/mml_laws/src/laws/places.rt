@@ -1,6 +1,8 @@
 //! The places (numbers of events) in replies. Each law is the contract of a function that does nothing.
 //!
-//! The place of an event is its number in the list of events, from 1.
+//! The place of an event is its number in the list of events, from 1. A hall is the engine that answers the lines of
+//! numbered connections. A session is one connection from its first line to its end. A window is a session's view of
+//! the list of events. A participant is known on a connection from a granted hello to the bye.
 ghost use Rattle.std.specs.Prelude.{◌≡◌, ◌+◌, ◌≤◌, ℕ, true, List, length, flat_map};
 ghost use Rattle.std.specs.List.{range_with_len};
 ghost use mathlib.Core.List.{IsPrefix};

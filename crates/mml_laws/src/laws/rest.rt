@@ -2,7 +2,8 @@
 //!
 //! A run is at rest if no node is privileged, that is, if no rule is enabled at any node. A grant chooses a move for a
 //! node, a release drops it, and a close applies all chosen moves at once. A fault sets a node's registers, a link
-//! joins two nodes, and a cut removes a link.
+//! joins two nodes, and a cut removes a link. A list of events is legal if each event is allowed in the world after the
+//! earlier ones.
 ghost use Rattle.std.specs.Prelude.{◌≡◌, ℕ, ◌+◌, ◌<◌, ◌≤◌, true, List, length, Ok};
 ghost use Rattle.std.specs.List.{list_all};
 ghost use Rattle.mml_rules.specs.Matching.{IsStable};

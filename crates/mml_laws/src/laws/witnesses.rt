@@ -1,7 +1,7 @@
 //! The witnesses of open links. Each law is the contract of a function that does nothing.
 //!
-//! A node is privileged if some rule is enabled there. A link is open if neither of its ends is in a pair of nodes that
-//! point at each other.
+//! A node is privileged if some rule is enabled there. A node's pointer is the neighbour that its register p names, or
+//! null. A link is open if neither of its ends is in a pair of nodes that point at each other.
 ghost use Rattle.std.specs.Prelude.{◌≡◌, ℕ, true};
 ghost use Rattle.mml_rules.specs.declared.rule.Kind.{Kind};
 ghost use Rattle.mml_rules.specs.Configuration.{Configuration, IsLawful};
