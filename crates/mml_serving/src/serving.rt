@@ -176,8 +176,8 @@ pub fn serve_arrivals<Y: ServerTypes, A: Arrivals<Y::Reader, Y::Writer> + Drop, 
     }
 }
 
-// Serves the next `connections` connections in the new house `blank`, and ends the house. Returns its log and the ended
-// sessions, or why the house failed. To end the house, all its windows are needed, also those that no connection used.
+// Serves the next `connections` connections in the new house `blank`, and ends the house with all its windows, also
+// those that no connection used. Returns its log and the ended sessions, or why the house failed.
 fn serve_in_house<Y: ServerTypes, H: House + Send + Sync, A: Arrivals<Y::Reader, Y::Writer> + Drop>(
     rt: &Y::Runtime,
     alloc: Global,

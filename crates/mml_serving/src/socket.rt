@@ -1,7 +1,7 @@
 //! One end of a connection over a socket.
 //!
 //! `Retrying` is a reader or writer that retries after a signal, and remembers whether memory ran out. Lingering means
-//! to wait for a short time, after the last write, until the other side has read everything.
+//! to wait for a short time, after the last write, until the other side ends the connection too.
 ghost use Rattle.std.specs.Prelude.{◌≡◌, ◌≢◌, true, false, None};
 
 use crate::arrivals::{HangUp, LetGo};
