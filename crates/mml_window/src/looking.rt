@@ -103,7 +103,7 @@ pub(crate) fn look_for<H: House, R: Wait, F: Fn(&Published) -> bool>(
     ensures { (x : Published) × FnReturnsAt F.Fn is_sought x true
         × Saw H.lab (view_by reader.old) x (view_by reader.new) }
 {
-    // `rt.forever()` is the loop for which no end has to be proved. Only the `return` leaves it.
+    // For a loop over `rt.forever()`, no end has to be proved. Only the `return` leaves it.
     'looks: for _ in rt.forever() {
         take_slot(press, reader);
         if let Some(reading) = enter(reader) {

@@ -320,8 +320,8 @@ impl<H: House> Window<H> {
         }
     }
 
-    /// Returns whether the index `cursor` is past the last of the window's places (event numbers). At the end of a
-    /// house, places are counted off; then all places of the window are.
+    /// Returns whether the index `cursor` is past the last of the window's places (event numbers). Then all of them are
+    /// counted off, as `is_next` explains.
     pub(crate) fn is_counted_off(&self, cursor: usize) -> bool
         ensures { MatchBool result (drop cursor self.now.places ≡ [])
             ((p : ℕ) × (0 < times p (drop cursor self.now.places))) }
