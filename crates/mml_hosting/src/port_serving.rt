@@ -175,9 +175,9 @@ fn gather<Y: ClassTypes, H: Begun, M: Mark>(
     }
 }
 
-// Takes the last of the free seats, with memory for the record of one more session, and returns it. Returns `None` if
-// no seat is free. Also returns `None`, and leaves the seat in the list, if the teacher's bye has ended its service, or
-// memory runs out.
+// Takes the last of the free seats, makes it ready for one more session, and returns it. Returns `None` if no seat is
+// free. Also returns `None`, and leaves the seat in the list, if the teacher's bye has ended its service, or memory
+// runs out.
 fn next_free<Y: ClassTypes, H: Begun>(free: &mut Vec<SeatOf<Y, H>>) -> Option<SeatOf<Y, H>>
     requires seats { All (IsSeat (terms H.lab H.begun H.given Y.Reader.remaining Y.Writer.contents Y.Observer.kept Y.Kept.shows)) free.old.items }
     ensures ready { IfSome result (IsReady (terms H.lab H.begun H.given Y.Reader.remaining Y.Writer.contents Y.Observer.kept Y.Kept.shows)) }
@@ -308,8 +308,8 @@ impl<'s, Y: ClassTypes + 's, H: Begun + Send + Sync + 's> Shared<'s, Y, H> {
     }
 
     // Takes back the seats whose threads have ended. Then serves a connection (`ends`) in the free seat that
-    // `next_free` returns, in a thread of its own. Turns the connection away if there is none. `cut_off` is the means
-    // to end the connection from the port's thread.
+    // `next_free` returns, as `serve_apart` does. Turns the connection away if there is none. `cut_off` is the means to
+    // end the connection from the port's thread.
     fn take_in<E>(
         &self,
         scope: &Scope<'s, E>,
@@ -365,7 +365,7 @@ impl<'s, Y: ClassTypes + 's, H: Begun + Send + Sync + 's> Shared<'s, Y, H> {
         let mut busy = Vec::with_capacity(self.alloc, free.len())?;
         // Allocates nothing. By its contract the list has room for each seat that is put back.
         free.reserve(0)?;
-        // `forever` is the loop for which no end has to be proved. `break` leaves it.
+        // For a loop over `forever()`, no end has to be proved. `break` leaves it.
         for _ in self.rt.forever() {
             match arrivals.accept_next() {
                 Accepted::Came(ends, cut_off) => self.take_in(
