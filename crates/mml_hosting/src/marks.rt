@@ -1,4 +1,5 @@
-//! Marks: flags that the threads of a port share, one for each seat. A set mark says that the seat's thread has ended.
+//! Marks: flags that the threads of a port share, one for each seat. A set mark says that the seat's thread has ended,
+//! or is about to end without waiting for anything.
 //!
 //! A seat serves one connection after another, each in a thread and through the seat's window. `marks` has the mark of
 //! the seat with the number n at the index n.

@@ -1,10 +1,11 @@
 //! A port: it accepts connections as they come, and serves each in a seat that is free.
 //!
 //! A seat serves one connection after another, each in a thread. A seat is busy while it serves one, and otherwise
-//! free. The window of a seat is what its sessions have seen of the list of events. The mark of a seat is a flag that
-//! is set once its thread has ended. A cut-off is the means by which another thread ends a connection. The bell is the
-//! signal by which these threads wake the house. A pledge is the contract of a thread's result, which the thread that
-//! joins it can rely on. The desk is the port at which the teacher's bye ends the house.
+//! free. The window of a seat is what its sessions have seen of the list of events. The mark of a seat is a flag: it is
+//! set when the seat's thread has ended, or is about to end without waiting for anything. A cut-off is the means by
+//! which another thread ends a connection. The bell is the signal by which these threads wake the house. A pledge is
+//! the contract of a thread's result, which the thread that joins it can rely on. The desk is the port at which the
+//! teacher's bye ends the house.
 //!
 //! In contracts, `terms` bundles what they are about: the lab, the events from before the house was opened, and what
 //! was sent, read, recorded and kept. Clauses with `g` and `h` count the seats and their connections: none is lost or

@@ -13,7 +13,7 @@ pub trait ReplyObserver {
     /// Notes a reply to the connection, before the reply's bytes are written.
     fn note_reply(&mut self, reply: &Reply);
 
-    /// Is called when the connection's session has ended, as `ending` says, before the connection is closed.
+    /// Notes that the connection's session has ended, as `ending` says, before the connection is closed.
     fn note_end(&mut self, ending: &Ending);
 }
 
