@@ -67,8 +67,8 @@ fn line_of_request(request: &Request) -> Line
     }
 }
 
-// Reads a digit from the front of `rest`, and returns its value. For a byte that is no digit, returns the byte minus
-// the byte `0`, but at least 0. Returns `None` if there is no `rest`, or it is empty.
+// Reads a digit from the front of `rest`, and returns its value. For a byte that is no digit, which no reply has there,
+// returns the byte minus the byte `0`, but at least 0. Returns `None` if there is no `rest`, or it is empty.
 fn digit_first(rest: Option<&[u8]>) -> Option<u8>
     ensures { result ≡ digit_first (seen rest.entry) }
 {
