@@ -138,10 +138,12 @@ impl<'s, Y: ServerTypes + 's, H: House + Send + Sync + 's> Shared<'s, Y, H> {
         requires fresh { seat.window ≡ window [] [] }
         ensures { IfOk result (λ handle. handle.promise.0.value ≡ seat.connection) }
     {
+        // The thread's closure captures these, since they live as long as the scope; the borrow of `self` needn't.
         let rt = self.rt;
         let alloc = self.alloc;
         let desk = self.desk;
         let gate = self.gate;
+        // For contracts: the connection as the thread gets it.
         let pledge = ConnectionPledge(Snapshot::of(&seat.connection));
         match scope.spawn_with(
             pledge,
