@@ -258,10 +258,10 @@ struct Shared<'s, Y: ClassTypes, H: Begun> {
 }
 
 impl<'s, Y: ClassTypes + 's, H: Begun + Send + Sync + 's> Shared<'s, Y, H> {
-    // Starts a thread that serves a connection (`ends`) in a seat, and returns the thread's handle. The thread rings
-    // the bell when the session has ended. If no thread can be made, serves the connection in this thread, and returns
-    // the seat as an error. In this case a connection that isn't at the desk is cut off before it is served, so that
-    // later connections needn't wait for it. `cut_off` is the means for that.
+    // Resets the seat's mark, starts a thread that serves a connection (`ends`) in the seat, and returns the thread's
+    // handle. The thread rings the bell when the session has ended. If no thread can be made, serves the connection in
+    // this thread, and returns the seat as an error. In this case a connection that isn't at the desk is cut off before
+    // it is served, so that later connections needn't wait for it. `cut_off` is the means for that.
     fn serve_apart<E>(
         &self,
         scope: &Scope<'s, E>,
@@ -276,6 +276,7 @@ impl<'s, Y: ClassTypes + 's, H: Begun + Send + Sync + 's> Shared<'s, Y, H> {
         ensures rung { IfErr result (λ s. Y.Bell.IsRung self.now.bell.now s.is_dismissed) }
         ensures cut_off { IfErr result (λ _. seat.is_desk ≡ false → Y.CutOff.IsCutOff cut_off.now) }
     {
+        // The thread's closure captures these, since they live as long as the scope; the borrow of `self` needn't.
         let rt = self.rt;
         let alloc = self.alloc;
         let desk = self.desk;
@@ -283,6 +284,7 @@ impl<'s, Y: ClassTypes + 's, H: Begun + Send + Sync + 's> Shared<'s, Y, H> {
         let marks = self.marks;
         let is_desk = seat.is_desk;
         set_mark(marks, seat.record.number, false);
+        // For contracts: the seat and the ends as the thread gets them.
         let pledge = SeatPledge(Snapshot::of(&seat), Snapshot::of(&ends));
         match scope.spawn_with(
             pledge,
