@@ -1,8 +1,9 @@
 //! Which moves are chosen. Each law is the contract of a function that does nothing.
 //!
 //! A grant chooses a move for a node, a release drops it, and a close applies all chosen moves at once. A fault sets a
-//! node's registers, a link joins two nodes, and a cut removes a link. A list of events is legal if each event is
-//! allowed in the world after the earlier ones.
+//! node's registers, a link joins two nodes, and a cut removes a link. A world is a network with its registers, its
+//! chosen moves, the number of its configuration, and the number of events so far. A list of events is legal if each
+//! event is allowed in the world after the earlier ones.
 ghost use Rattle.std.specs.Prelude.{◌≡◌, ◌↔◌, ℕ, true, Some, List};
 ghost use Rattle.mml_rules.specs.declared.rule.Rule.{Rule};
 ghost use Rattle.mml_lab.specs.Labs.{LabValue, IsLab};

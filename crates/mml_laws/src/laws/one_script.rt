@@ -1,7 +1,8 @@
 //! A house answers as one script does. Each law is the contract of a function that does nothing.
 //!
 //! A house is one run of a lab that threads share. A seat of it serves one connection after another. A script has
-//! request lines of several connections. A hall answers them in one thread, one after another.
+//! request lines of several connections. A hall answers them in one thread, one after another. A journal is halted if a
+//! line couldn't be written to it; whatever would be granted is then refused as `journal`.
 ghost use Rattle.std.specs.Prelude.{◌≡◌, ◌++◌, ℕ, false, List, [], length, Option};
 ghost use Rattle.std.specs.List.{AllByRecursion};
 ghost use mathlib.Core.List.{IsPrefix};
