@@ -65,9 +65,9 @@ impl From<SeatFault> for ClassFault {
 }
 
 /// Checks that the texts of all seats are the record of a class with this list of events, which must be legal. First
-/// reads how many events came before the record, and then the text of each seat. At last checks that each event is
-/// granted once. Returns the first fault that is found. If `with_asks` is set, also returns what each line asked; each
-/// text is then read into memory as a whole.
+/// reads how many events came before the record, and then the text of each seat. At last checks that no event is
+/// granted twice, and, if the texts leave nothing out, that each is granted. Returns the first fault that is found. If
+/// `with_asks` is set, also returns what each line asked; each text is then read into memory as a whole.
 pub fn read_class<R: Read + Drop, S: Seats<R>>(
     alloc: Global,
     lab: &Lab,
