@@ -3,7 +3,8 @@
 //! A seat serves one connection after another, each through the seat's window. The text of a seat has its lines with
 //! their replies. `number` is always the number of a seat, from 1, and `events` is the list of events of the class's
 //! journal. The place of an event is its number in this list, from 1. A text grants an event if a reply in it names the
-//! event's place.
+//! event's place. In contracts, `start` and `texts` are the texts that `seats` opens. They say nothing of texts that
+//! can't be named there.
 ghost use Rattle.std.specs.Prelude.{◌≡◌, ℕ, List, Option, None, Some, true, IfOk, IfErr, IfSome, OnOk};
 ghost use Rattle.mml_board.specs.Lists.{is_legal_in};
 ghost use Rattle.mml_class.specs.Begun.{begun_in};
