@@ -10,7 +10,7 @@
 //! In contracts, `terms` bundles what they are about: the lab, the events from before the house was opened, and what
 //! was sent, read, recorded and kept. Clauses with `g` and `h` count the seats and their connections: none is lost or
 //! doubled when seats move between lists. The loops over busy seats run over indices, since their invariants speak of
-//! the seats before an index.
+//! the seats before an index. Clauses with lengths and capacities say that no list has to grow.
 ghost use Rattle.std.specs.Prelude.{◌≡◌, ◌<◌, ◌≤◌, ◌+◌, ◌^◌, ℕ, true, false, All, IfOk, IfErr, IfSome, IfNone, [], vec_len, vec_capacity};
 ghost use Rattle.mml_hosting.specs.Seats.{IsReady, IsSeat, ServesIn, came_to, terms};
 ghost use Rattle.mml_hosting.specs.Ports.{ServesPort, TurnsOthersAway};
