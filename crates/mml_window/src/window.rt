@@ -4,7 +4,8 @@
 //! Its writer, `press`, publishes the events and the board. The writer has slots, and a window needs one to read. A
 //! window is one session's view of the published events and board. The place of an event is its number in the list of
 //! events, from 1. An act is a request for an event. The journal is halted if a line couldn't be written to it. A
-//! ledger is a count that only contracts can read: a total, and shares whose amounts add up to it. It takes no bytes.
+//! ledger is a count that only contracts can read: a total, and shares whose amounts add up to it. It takes no bytes. A
+//! clause `nodes` says that a result names only nodes of the lab.
 ghost use Rattle.std.specs.Prelude.{◌≡◌, ◌≢◌, ℕ, ◌+◌, ◌<◌, ◌≤◌, ◌++◌, ◌∷◌, [], length, drop, vec_capacity, IfOk, IfErr, IsTrue, IsFalse, MatchBool};
 ghost use mathlib.Core.List.{IsPrefix};
 ghost use Rattle.std.specs.Arc.{arc_value};
