@@ -1,4 +1,6 @@
 //! The parts of a connection that its threads share.
+//!
+//! The parts of a connection are its reader, its writer, and its cut-off, by which another thread ends it.
 use crate::crowd::Crowd;
 use crate::end_reason::EndReason;
 use crate::shared_socket::SharedSocket;

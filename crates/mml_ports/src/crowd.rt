@@ -1,7 +1,8 @@
 //! The connections that are served at a port, and which of them has to leave if a new one needs a seat.
 //!
-//! A seat serves one connection after another, each through the seat's window. A guest is a connection that is served.
-//! A stranger is a guest whose hello wasn't granted and who isn't leaving; at the desk only the teacher's hello counts.
+//! A seat is a part of the server that serves one connection after another. A guest is a connection that is served in a
+//! seat. A stranger is a guest whose hello wasn't granted and who isn't leaving; at the desk only the teacher's hello
+//! counts. The partings of a port are the connections that have left their seats and aren't closed yet.
 ghost use Rattle.std.specs.Prelude.{◌<◌, IfSome, vec_len};
 
 use crate::end_reason::EndReason;
@@ -38,14 +39,15 @@ struct Guest {
 }
 
 impl Guest {
-    // Returns whether the guest is a stranger: whether its hello wasn't granted (at the desk, only the teacher's
-    // counts), and it isn't leaving.
+    // Returns whether the guest is a stranger: its hello wasn't granted (at the desk, only the teacher's counts), and
+    // it isn't leaving.
     fn is_stranger(&self) -> bool {
         self.greeting.is_none() && !self.is_leaving
     }
 
-    // Returns whether the guest is a stranger who may be sent away: one who was answered or denied, or has been here
-    // for `GRACE` milliseconds. A stranger whose hello was denied needs no seat to wait for the delayed reply.
+    // Returns whether the guest is a stranger who may be sent away at the time `now`: one who was answered or denied,
+    // or has been here for `GRACE` milliseconds. A stranger whose hello was denied needs no seat to wait for the
+    // delayed reply.
     fn may_go(&self, now: Instant) -> bool {
         self.is_stranger()
             && (self.socket.is_answered.load(Ordering::SeqCst)
@@ -112,7 +114,7 @@ impl Crowd {
     }
 
     /// Notes that the hello of the connection with this number was granted to `who`, so that it is no stranger any
-    /// more.
+    /// more. Does nothing if the connection isn't in the list of guests.
     pub fn note_greeting<Rt: Wait>(&self, rt: &Rt, number: u64, who: Who) {
         let mut guests = self.guests.lock(rt);
         if let Some(at) = index_of_guest(&guests, number)
@@ -122,7 +124,8 @@ impl Crowd {
         }
     }
 
-    /// Removes the connection with this number from the guests, so that its seat is free again.
+    /// Removes the connection with this number from the guests, so that its seat is free again. Does nothing if it
+    /// isn't in the list.
     pub fn note_left<Rt: Wait>(&self, rt: &Rt, number: u64) {
         let mut guests = self.guests.lock(rt);
         if let Some(at) = index_of_guest(&guests, number) {
@@ -130,7 +133,7 @@ impl Crowd {
         }
     }
 
-    /// Notes whether a new connection waits for a seat.
+    /// Notes whether a new connection waits for a seat (`is_wanted`).
     pub fn note_wanted(&self, is_wanted: bool) {
         self.is_wanted.store(is_wanted, Ordering::SeqCst);
     }
@@ -157,9 +160,9 @@ impl Crowd {
         count_strangers(guests) >= (self.seats / STRANGERS).max(1)
     }
 
-    // Sends away the first stranger for whom `may_go` is true, if strangers hold all the seats that they may, or if no
-    // seat is free and nobody is leaving. Without the second case, a few strangers could keep the last seats until
-    // their deadlines.
+    // Sends away the first stranger for whom `may_go` is true at the time `now`. Does so only if strangers hold all the
+    // seats that they may, or if no seat is free and nobody is leaving. Without the second case, a few strangers could
+    // keep the last seats until their deadlines.
     fn let_stranger_go<Rt: Wait>(&self, rt: &Rt, guests: &mut Vec<Guest>, now: Instant) {
         let is_full = guests.len() >= self.seats && !is_one_leaving(guests);
         if (is_full || self.is_share_taken(guests))
@@ -170,19 +173,19 @@ impl Crowd {
         }
     }
 
-    /// Returns whether a guest is leaving, or a connection that has left isn't closed yet.
+    /// Returns whether a guest is leaving, or a connection that has left its seat isn't closed yet.
     pub fn is_parting<Rt: Wait>(&self, rt: &Rt) -> bool {
         let is_leaving = is_one_leaving(&self.guests.lock(rt));
-        // The guests are checked first, since a guest whose denial is sent later joins the partings before it leaves
-        // the list of guests.
+        // The guests are checked first: a guest whose denial is sent later joins the partings before it leaves the list
+        // of guests. In this order it can't be missed.
         is_leaving || !self.partings.is_empty(rt)
     }
 
     /// Returns whether there is a seat for a new connection: one is free, and strangers don't hold all that they may.
-    /// If there is none, tries to free one, and returns `false`. First sends away a stranger, if `let_stranger_go`
-    /// finds one. Then sends away the last guest whose participant has too many seats, if three conditions hold.
-    /// Strangers don't hold all the seats that they may. New connections have waited for `MOMENT` or longer; `wanted`
-    /// is how long. And nobody is leaving.
+    /// If there is none, sends away at most one guest, and returns `false`. The first choice is a stranger, by
+    /// `let_stranger_go`. The second is the last guest whose participant has too many seats, by `one_too_many`. That
+    /// guest is sent away only if strangers don't hold all that they may, nobody is leaving, and new connections have
+    /// waited for `MOMENT`. `wanted` is how long they have waited.
     pub fn finds_room<Rt: Wait>(&self, rt: &Rt, now: Instant, wanted: Duration) -> bool {
         let mut guests = self.guests.lock(rt);
         let is_share_taken = self.is_share_taken(&guests);
@@ -214,7 +217,7 @@ fn index_of_guest(guests: &Vec<Guest>, number: u64) -> Option<usize>
     None
 }
 
-// Returns how many of the guests (the connections served in a seat) are strangers, as `is_stranger` says.
+// Returns how many of the guests are strangers.
 fn count_strangers(guests: &Vec<Guest>) -> usize {
     let mut count = 0usize;
     for index in 0..guests.len() {
@@ -225,7 +228,7 @@ fn count_strangers(guests: &Vec<Guest>) -> usize {
     count
 }
 
-// Returns the index of the first stranger who may be sent away, or `None` if there is no such guest.
+// Returns the index of the first stranger who may be sent away at the time `now`, or `None` if there is no such guest.
 fn first_who_may_go(guests: &Vec<Guest>, now: Instant) -> Option<usize> {
     for index in 0..guests.len() {
         if guests[index].may_go(now) {
@@ -246,7 +249,7 @@ fn is_one_leaving(guests: &Vec<Guest>) -> bool {
 }
 
 // Returns the index of the last guest whose participant has more than `SEATS_OF_A_NAME` seats, or `None` if no
-// participant has more. Seats of guests who are leaving aren't counted.
+// participant has more. For each guest, counts the seats of its participant, without those of guests who are leaving.
 fn one_too_many(guests: &Vec<Guest>) -> Option<usize> {
     let mut found = None;
     for index in 0..guests.len() {

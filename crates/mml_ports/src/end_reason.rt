@@ -1,6 +1,6 @@
 //! The lines by which the other side learns why its connection is ended. These lines aren't replies of a session.
 //!
-//! A seat serves one connection after another.
+//! A seat is a part of the server that serves one connection after another.
 use mml_hosting::BUSY;
 
 /// Why the host ends a connection.

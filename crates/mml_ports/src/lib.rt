@@ -1,6 +1,6 @@
 //! The ports of a host, which accept connections over sockets, let them wait for seats, and close them after they left.
 //!
-//! A seat serves one connection after another, each through the seat's window.
+//! A seat is a part of the server that serves one connection after another.
 #![tactic(auto)]
 
 mod connection;

@@ -1,6 +1,6 @@
 //! Connections that have left their seats (or never had one) and aren't closed yet.
 //!
-//! A seat serves one connection after another, each through the seat's window. The turn of a denial is the time before
+//! A seat is a part of the server that serves one connection after another. The turn of a denial is the time before
 //! which it isn't sent.
 use crate::end_reason::EndReason;
 use std::alloc::Global;
@@ -36,10 +36,10 @@ struct Parting {
 }
 
 impl Parting {
-    // Does the next step for the connection if the step is due, and otherwise returns the connection unchanged. If
-    // everything was sent, closes the connection, and returns `None`. If not, sends the denial of its hello and the
-    // line of `Busy`, and shuts down its writing side. Then returns the connection, to be closed later, or `None` if
-    // `closing` has closed it already.
+    // Does the next step for the connection if the step is due at the time `now`, and otherwise returns the connection
+    // unchanged. If everything was sent, closes the connection, and returns `None`. If not, sends the denial of its
+    // hello and the line of `Busy`, and shuts down its writing side. Then returns the connection, to be closed later,
+    // or `None` if `closing` has closed it already.
     fn step(self, now: Instant) -> Option<Parting> {
         if now < self.next {
             return Some(self);
@@ -175,6 +175,7 @@ impl Partings {
         let Ok(now) = Instant::now(rt) else {
             return;
         };
+        // Goes once around the list: each connection is taken from the front, and put back at the end if it stays.
         for _ in 0..all.len() {
             if let Some(first) = all.pop_front()
                 && let Some(parting) = first.step(now)

@@ -1,9 +1,10 @@
-//! A host's port, which accepts connections and chooses the next to be served. Contracts can't name the bytes of
+//! A host's port, which accepts connections and chooses the next to be served. Contracts say nothing about the bytes of
 //! sockets.
 //!
-//! A seat serves one connection after another, each through the seat's window. A newcomer is a connection that waits
-//! for a seat, and a guest is one that has a seat. The host has two ports: the desk, which is the teacher's, and the
-//! students' port.
+//! A seat is a part of the server that serves one connection after another. A newcomer is a connection that waits for a
+//! seat, and a guest is one that has a seat. The crowd of a port has the list of its guests, and its partings: the
+//! connections that have left their seats and aren't closed yet. The host's state is what its threads have noted. The
+//! host has two ports: the desk, which is the teacher's, and the students' port.
 use crate::connection::SharedConnection;
 use crate::crowd::Crowd;
 use crate::end_reason::EndReason;
@@ -52,15 +53,16 @@ struct Newcomer<'a, Rt> {
 }
 
 impl<'a, Rt: Clock + Wait + Eprint> Newcomer<'a, Rt> {
-    // Closes the newcomer's connection, after sending the reason: `why`, or the one that was kept before.
+    // Ends the newcomer's connection with the reason `why`, or the one that was kept before. The port's partings send
+    // the reason, and close the connection some milliseconds later.
     fn turn_away(self, why: EndReason) {
         let mut newcomer = self;
         newcomer.connection.note_end_reason(why);
         newcomer.writer.hang_up();
     }
 
-    // Returns what the newcomer has sent, without taking it from the socket. Checks the socket only until a line is
-    // found. The first check makes the socket's reads non-blocking.
+    // Returns what the newcomer has sent, without taking it from the socket. Once a line is found, the socket isn't
+    // checked any more. The first check makes the socket's reads non-blocking.
     fn peek(&mut self) -> Peeked {
         let SharedConnection {
             rt,
@@ -133,7 +135,7 @@ impl<'a, Rt: Clock + Wait + Eprint> Port<'a, Rt> {
     }
 
     // Returns whether a blocking accept would delay other work: a newcomer waits, a guest is leaving, or a connection
-    // that has left isn't closed yet.
+    // that has left its seat isn't closed yet.
     fn is_hurried(&self) -> bool {
         !self.waiting.is_empty() || self.crowd.is_parting(self.rt)
     }
@@ -203,10 +205,10 @@ impl<'a, Rt: Clock + Wait + Eprint> Port<'a, Rt> {
         }
     }
 
-    // Returns the next newcomer to serve, if there is a seat for it. Otherwise, the crowd first sends a guest away if
-    // one must leave, and the first newcomer is turned away if it has waited for half a second. Then returns `None`.
-    // Notes in the crowd whether a newcomer waits for a seat. Returns `None` also if there are no newcomers, or the
-    // clock fails.
+    // Returns the next newcomer to serve, if there is a seat for it, and otherwise `None`. If there is no seat,
+    // `Crowd::finds_room` tries to free one, and the first newcomer is turned away if it has waited for half a second.
+    // Notes in the crowd whether a newcomer waits for a seat, and in `wanted_since` since when. Also returns `None` if
+    // there are no newcomers, or the clock fails.
     fn admit_next(&mut self) -> Option<SocketAccepted<'a, Rt>> {
         let Some(first) = self.waiting.front() else {
             self.wanted_since = None;
@@ -234,8 +236,9 @@ impl<'a, Rt: Clock + Wait + Eprint> Port<'a, Rt> {
         None
     }
 
-    // Returns the index of the newcomer to turn away if too many wait. The choice is the first newcomer that has sent
-    // no line although it had time for one, or else the first that hasn't sent a hello, or else the first of all.
+    // Returns the index of the newcomer to turn away at the time `now` if too many wait. The first choice is the first
+    // newcomer that has sent no line although it had time for one. The second is the first that hasn't sent a hello,
+    // and the last is the first of all.
     fn first_to_drop(&mut self, now: Instant) -> usize {
         let mut first_without_hello = None;
         for index in 0..self.waiting.len() {
@@ -252,8 +255,8 @@ impl<'a, Rt: Clock + Wait + Eprint> Port<'a, Rt> {
         first_without_hello.unwrap_or(0)
     }
 
-    // Returns the index of the newcomer to serve next. The choice is the first newcomer that has sent a hello, or else
-    // the first that has sent another line, or else the first of all.
+    // Returns the index of the newcomer to serve next. The first choice is the first newcomer that has sent a hello.
+    // The second is the first that has sent another line, and the last is the first of all.
     fn first_to_speak(&mut self) -> usize {
         let mut first_with_line = None;
         for index in 0..self.waiting.len() {
@@ -271,8 +274,9 @@ impl<'a, Rt: Clock + Wait + Eprint> Port<'a, Rt> {
     }
 
     // Takes the newcomer that `first_to_speak` chooses from the queue, adds it to the crowd's guests, and returns it,
-    // to be served from `now` on. Returns `None` if there are no newcomers. If memory runs out, notes that in the
-    // host's state: the newcomer is served, but isn't counted as a guest.
+    // to be served from `now` on. Makes its socket's reads blocking again if `peek` has changed that. Returns `None` if
+    // there are no newcomers. If memory runs out, notes that in the host's state: the newcomer is served, but isn't
+    // counted as a guest.
     fn take_next(&mut self, now: Instant) -> Option<SocketAccepted<'a, Rt>> {
         // A single newcomer is chosen without a check.
         let index = if self.waiting.len() > 1 {
@@ -317,8 +321,8 @@ impl<'a, Rt: Clock + Wait + Eprint> Port<'a, Rt> {
 
     // Prepares the next accept after one that failed with this kind of error. If memory ran out, notes that. If the
     // system refused the accept, frees descriptors: closes connections that were sent everything, and turns the first
-    // newcomer away. Afterwards waits until more than `ended` sessions have ended, for at most a tenth of a second.
-    // Doesn't wait if a signal or the other side broke off the accept.
+    // newcomer away. Then waits for at most a tenth of a second until a session ends. `ended` is how many had ended
+    // before the accept. Doesn't wait if a signal or the other side broke off the accept.
     fn put_off(&mut self, kind: ErrorKind, ended: u64) {
         match kind {
             ErrorKind::OutOfMemory => self.state.note_memory(self.rt),
@@ -341,9 +345,9 @@ impl<'a, Rt: Clock + Wait + Eprint> Accept<
     ReplyWriter<'a, Rt>,
     SocketCutOff<'a, Rt>,
 > for Port<'a, Rt> {
-    // Sends the denials that are due, and returns the next newcomer to serve, if there is a seat. If nobody can be
-    // served at once, first accepts one more connection and adds it to the queue. Returns `Nobody` if there is still no
-    // seat, or the accept fails, and `Over` once the host is over.
+    // Sends the denials that are due, and returns the next newcomer to serve, if there is a seat for it. If nobody can
+    // be served at once, first accepts one more connection and adds it to the queue. Returns `Nobody` if there is still
+    // no seat, or the accept fails. Once the host is over, turns all newcomers away, and returns `Over`.
     fn accept_next(&mut self) -> SocketAccepted<'a, Rt> {
         let ended = self.state.ended_count(self.rt);
         if self.state.is_over(self.rt) {
@@ -386,9 +390,8 @@ pub struct EndBell<'a, Rt> {
 
 impl<'a, Rt: Net<Listener = TcpListener, Stream = TcpStream> + Clock + Wait> Bell
     for EndBell<'a, Rt> {
-    // Counts a session that has ended. If `is_dismissed` is set, the class is over, by the teacher's bye or because a
-    // port can't be served. Then notes that the host is over, closes the spare descriptor, and wakes the accepts at
-    // both ports.
+    // Counts a session that has ended. `is_dismissed` says whether the class is over, by the teacher's bye or because a
+    // port can't be served. If it is, notes that, closes the spare descriptor, and wakes the accepts at both ports.
     fn ring(&self, is_dismissed: bool) {
         self.state.note_end(self.rt, is_dismissed);
         if is_dismissed {

@@ -97,8 +97,9 @@ impl SharedSocket {
         *self.end_reason.lock(rt)
     }
 
-    /// Makes reads and writes of the socket blocking or non-blocking. Returns `false` if the stream was taken out, or
-    /// the system refuses. Called only before the connection is served: `peek` needs reads that don't block.
+    /// Makes reads and writes of the socket blocking if `is_waiting` is set, and otherwise non-blocking. Returns
+    /// `false` if the stream was taken out, or the system refuses. Called only before the connection is served: `peek`
+    /// needs reads that don't block.
     pub(crate) fn set_waiting<Rt: Wait>(&self, rt: &Rt, is_waiting: bool) -> bool {
         let stream = self.stream.read(rt);
         match &*stream {
@@ -123,7 +124,8 @@ impl SharedSocket {
     }
 
     /// Ends the connection from another thread than its own. `why` becomes the reason unless there is one already.
-    /// Nothing more is read, no reply begins to be written, and a write that is under way is broken off.
+    /// Nothing more is read, no reply begins to be written, and a write that is under way is broken off. Doesn't close
+    /// the connection: its own thread does that.
     pub(crate) fn end_with<Rt: Wait>(&self, rt: &Rt, why: EndReason) {
         self.begin_end(rt, why);
         let how = if self.is_writing.load(Ordering::SeqCst) {
@@ -158,7 +160,9 @@ impl SharedSocket {
             });
     }
 
-    /// Notes that a write begins. Returns whether it may begin: `false` if another thread is ending the connection.
+    /// Notes that a write begins. Returns whether it may begin: `false` if another thread is ending the connection. The
+    /// note comes before the check: if `end_with` is called after the check, it finds the note, and breaks off the
+    /// write.
     pub(crate) fn begin_write(&self) -> bool {
         self.is_writing.store(true, Ordering::SeqCst);
         !self.is_ending.load(Ordering::SeqCst)

@@ -76,7 +76,8 @@ impl<'a, Rt: Clock + Wait> SocketReader<'a, Rt> {
     }
 
     // Returns how long a read may still wait, or `None` if it may wait for ever. After the hello, a line that hasn't
-    // begun has its whole time. Returns the error `TimedOut` if the deadline has passed, or another if the clock fails.
+    // begun has its whole time, so the socket's timeout needn't be changed for each read. Returns the error `TimedOut`
+    // if the deadline has passed, or another if the clock fails.
     fn time_left(&self) -> io::Result<Option<Duration>> {
         if self.may_stay && !self.is_in_line {
             return Ok(self.patience);
@@ -101,7 +102,8 @@ impl<'a, Rt: Clock + Wait> SocketReader<'a, Rt> {
     }
 
     // Reads bytes that have come, or come before the deadline, and returns how many. Sets the socket's read timeout
-    // only if it changes.
+    // only if it changes. Returns an error if the deadline passes, the clock or the read fails, or the connection is
+    // closed.
     fn read_in_time(&mut self, buf: &mut [u8]) -> io::Result<usize>
         ensures { ReadsAtMost result buf.new }
     {
@@ -122,7 +124,8 @@ impl<'a, Rt: Clock + Wait> SocketReader<'a, Rt> {
     }
 
     // Reads bytes that have come, or come before the deadline, but none after the end of the line, and returns how
-    // many. The function is used before the hello is granted, so that what follows the hello is read later.
+    // many. For that, looks at the bytes before it takes them from the socket. The function is used before the hello is
+    // granted, so that what follows the hello is read later. Returns the same errors as `read_in_time`.
     fn read_line_in_time(&mut self, buf: &mut [u8]) -> io::Result<usize>
         ensures { ReadsAtMost result buf.new }
     {
@@ -160,7 +163,7 @@ impl<'a, Rt: Clock + Wait> SocketReader<'a, Rt> {
         self.first == FirstLine::Other && !self.is_in_line
     }
 
-    // Notes whether the bytes that were read end within a line, and how the first line begins.
+    // Notes whether the `bytes` that were read end within a line, and how the first line begins.
     fn note_bytes(&mut self, bytes: &[u8]) {
         if let Some(last) = bytes.last() {
             self.is_in_line = *last != b'\n';
@@ -173,8 +176,8 @@ impl<'a, Rt: Clock + Wait> SocketReader<'a, Rt> {
 
 impl<'a, Rt: Clock + Wait> Read for SocketReader<'a, Rt> {
     // Reads bytes before the deadline of the hello or of the line, and returns how many. If the deadline passes, keeps
-    // `Late` as the reason of the end. Returns 0 if nothing more is to be read: the connection is being ended, or the
-    // class is dismissed.
+    // `Late` as the reason of the end, and returns an error. Returns 0 if nothing more is to be read: the connection is
+    // being ended, too many of its hellos were denied, its first line was no JSON object, or the class is dismissed.
     fn read(&mut self, buf: &mut [u8]) -> io::Result<usize> {
         let socket = &self.connection.socket;
         socket.is_served.store(true, Ordering::SeqCst);

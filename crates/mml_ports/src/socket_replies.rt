@@ -1,7 +1,8 @@
 //! What the replies to a connection say about it: that a line was answered, whether a hello was granted or denied, and
 //! the teacher's bye. And what the end of its session says: whether a line was too long.
 //!
-//! A stranger is a connection on which no hello was granted; at the desk only the teacher's counts.
+//! A stranger is a connection on which no hello was granted; at the desk only the teacher's counts. The crowd of a port
+//! is the list of the connections that are served there. The desk is the port for the teacher.
 use crate::connection::SharedConnection;
 use crate::end_reason::EndReason;
 use mml_board::Denial;
@@ -13,8 +14,8 @@ use std::sync::Wait;
 use std::sync::atomic::Ordering;
 
 /// The observer of the replies to a connection. The observer notes that a line was answered, for the connection's
-/// reader. For the connection's writer and the port's crowd, the observer notes whose hello was granted, which hellos
-/// were denied, the teacher's bye, and that the session was ended by a line that was too long.
+/// reader. For the connection's writer and the port's crowd, it notes whose hello was granted, and which hellos were
+/// denied. It also notes the teacher's bye, and that the session was ended by a line that was too long.
 #[derive(Drop)]
 pub struct SocketReplies<'a, Rt> {
     connection: SharedConnection<'a, Rt>,
@@ -51,7 +52,7 @@ impl<'a, Rt: Wait> SocketReplies<'a, Rt> {
 impl<'a, Rt: Wait> ReplyObserver for SocketReplies<'a, Rt> {
     // Notes that a line was answered, and what the reply means for the connection. The first granted hello is handled
     // by `note_greeting`. Until a hello is granted, a denial of a hello's name and key is counted, and the writer will
-    // delay it. The reply to the teacher's bye at the desk is noted as the one that dismisses the class.
+    // delay it. If the reply is to the teacher's bye at the desk, notes that the next write dismisses the class.
     fn note_reply(&mut self, reply: &Reply) {
         let socket = &self.connection.socket;
         socket.is_line_answered.store(true, Ordering::SeqCst);

@@ -1,8 +1,9 @@
 //! The writing end of a connection. This end delays denials of hellos, and sends the reason when the connection ends.
 //!
-//! The turn of a denial is the time before which it isn't sent. A stranger is a connection on which no hello was
-//! granted; at the desk only the teacher's counts. The seat of a connection is the part of the server that serves it,
-//! and then other connections.
+//! The turn of a denial is the time before which it isn't sent. A seat is a part of the server that serves one
+//! connection after another. The crowd of a port has the list of the connections that are served there, and its
+//! partings: those that have left their seats and aren't closed yet. A stranger is a connection on which no hello was
+//! granted; at the desk, the teacher's port, only the teacher's counts.
 ghost use Rattle.std.specs.Prelude.{◌≡◌};
 ghost use Rattle.std.specs.Io.{WritesAtMost};
 
@@ -46,8 +47,9 @@ pub struct SocketWriter<'a, Rt> {
 
 impl<'a, Rt: Clock + Wait + Eprint> SocketWriter<'a, Rt> {
     // Counts a denial of a name and key before it is sent, and prints the count on standard error if
-    // `HostState::note_denial` returns it. Has the crowd make room for a new connection, waits until the denial's turn
-    // as `wait_for_turn` does, and returns that turn. Returns an error if the clock fails.
+    // `HostState::note_denial` returns it. If a new connection waits, lets the crowd send a stranger away, which may be
+    // this connection. Waits until the denial's turn as `wait_for_turn` does, and returns that turn. Returns an error
+    // if the clock fails.
     fn delay_denial(&self) -> io::Result<Instant> {
         let SharedConnection {
             rt,
@@ -67,8 +69,8 @@ impl<'a, Rt: Clock + Wait + Eprint> SocketWriter<'a, Rt> {
         Ok(turn)
     }
 
-    // Notes that a reply was sent. If the connection is a stranger, it may now be sent away, if a new connection needs
-    // its seat.
+    // Notes that a reply was sent. If the connection is a stranger, it may now be sent away, so the crowd is asked to
+    // make room for a new connection.
     fn note_answered(&self) {
         let SharedConnection {
             rt,
@@ -84,8 +86,8 @@ impl<'a, Rt: Clock + Wait + Eprint> SocketWriter<'a, Rt> {
 
     // Waits until the turn of a denial, in two parts. In the second part, the last half second, another thread can end
     // the wait by ending the connection: then the port keeps the denial, and sends it at its turn (`postpone_denial`).
-    // In the first part no thread can end the wait. So the port never keeps a denial for longer than half a second.
-    // Returns an error if the clock fails.
+    // In the first part no thread can end the wait, so that the port never keeps a denial for longer than half a
+    // second. Returns an error if the clock fails.
     fn wait_for_turn(&self, turn: Instant) -> io::Result<()> {
         let rt = self.connection.rt;
         let wait = turn.duration_since(Instant::now(rt)?);
@@ -96,8 +98,8 @@ impl<'a, Rt: Clock + Wait + Eprint> SocketWriter<'a, Rt> {
     }
 
     // Writes as many bytes as the other side takes within `WRITE_LIMIT`, and returns how many. Returns an error if the
-    // socket was closed, or refuses the write. If the other side took fewer than all within the limit, later writes
-    // fail.
+    // socket was closed, or refuses the write, or the clock fails. If the other side took fewer than all within the
+    // limit, later writes fail (`is_deaf`).
     fn write_now(&mut self, buf: &[u8]) -> io::Result<usize>
         ensures { WritesAtMost result buf.now }
     {
@@ -117,8 +119,8 @@ impl<'a, Rt: Clock + Wait + Eprint> SocketWriter<'a, Rt> {
     }
 
     // Leaves the denial to the port if the connection is being ended because there is no seat. Keeps the denial's turn,
-    // at which the port sends it, and returns all bytes of `buf` as written. Returns `BrokenPipe` for any other reply,
-    // or if there is another reason for the end.
+    // at which the port sends it, and returns the length of `buf`, as if all was written. Returns `BrokenPipe` for any
+    // other reply, or if there is another reason for the end.
     fn postpone_denial(&mut self, buf: &[u8]) -> io::Result<usize>
         ensures { WritesAtMost result buf.now }
     {
@@ -143,10 +145,10 @@ impl<'a, Rt: Clock + Wait + Eprint> SocketWriter<'a, Rt> {
         Ok(taken)
     }
 
-    // Closes a connection, whose stream this is, or passes it to the port to be closed. If a denial is still to be
-    // sent, the port sends it at its turn. If the connection leaves for a new one, or was never served, the port sends
-    // it the reason, if there is one. Otherwise this function sends the reason, and lingers, so that the other side can
-    // read what was sent.
+    // Closes a connection, whose stream this is, or passes it to the port's partings to be closed. If a denial is still
+    // to be sent, the partings send it at its turn. If the connection leaves for a new one, or was never served, they
+    // send it the reason for the end, if there is one. Otherwise this function sends the reason, and lingers, so that
+    // the other side can read what was sent.
     fn close_or_pass_on(&self, stream: TcpStream) {
         let SharedConnection {
             rt,
@@ -178,9 +180,9 @@ impl<'a, Rt: Clock + Wait + Eprint> SocketWriter<'a, Rt> {
 }
 
 impl<'a, Rt: Clock + Wait + Eprint> Write for SocketWriter<'a, Rt> {
-    // Writes bytes, and returns how many were sent. Delays a denial of a name and key until its turn. If the bytes end
-    // with the reply to the teacher's bye, that dismisses the class. Fails if the other side took nothing for too long,
-    // or the connection is being ended, unless the bytes are a denial that the port sends later.
+    // Writes bytes, and returns how many were sent. First waits for the turn if the bytes are a denial of a name and
+    // key. If the bytes end with the reply to the teacher's bye, that dismisses the class. Fails if the other side took
+    // nothing for too long, or the connection is being ended, unless the bytes are a denial that the port sends later.
     fn write(&mut self, buf: &[u8]) -> io::Result<usize> {
         if self.is_deaf {
             return Err(Error::from(ErrorKind::TimedOut));
@@ -265,7 +267,7 @@ impl<'a, Rt: Clock + Wait + Eprint + Sync> Observed for ReplyWriter<'a, Rt> {
 
 impl<'a, Rt: Clock + Wait + Eprint> HangUp for ReplyWriter<'a, Rt> {
     // Closes the connection as `close_or_pass_on` does, if it isn't closed yet. A connection that was never served is
-    // also removed from the crowd (the list of the port's connections) here.
+    // also removed from the crowd here.
     fn hang_up(&mut self) {
         let writer = &self.end.inner;
         let SharedConnection {

@@ -1,6 +1,8 @@
 //! The state of a host that its threads share.
 //!
-//! The host has two ports: the desk, which is the teacher's, and the students' port.
+//! The host has two ports: the desk, which is the teacher's, and the students' port. The crowd of a port has the list
+//! of the connections that are served there. The turn of a denial is the time before which it isn't sent. A seat is a
+//! part of the server that serves one connection after another.
 use crate::crowd::Crowd;
 use mml_lab::Lab;
 use std::alloc::Global;
@@ -48,7 +50,8 @@ pub struct HostState {
 }
 
 impl HostState {
-    /// Returns the state of a host of the lab, before anything was noted. One of the lab's sessions is for the desk.
+    /// Returns the state of a host of the lab, before anything was noted. The desk has one seat, and the students' port
+    /// has a seat for each other session of the lab.
     pub fn new(alloc: Global, lab: &Lab) -> HostState {
         HostState {
             notes: Mutex::new(Notes {

@@ -1,6 +1,7 @@
 //! The two ports of a class, on which the host listens before the journal is begun.
 //!
-//! The host has two ports: the desk, which is the teacher's, and the students' port.
+//! The host has two ports: the desk, which is the teacher's, and the students' port. The bell is rung when a session
+//! ends.
 use crate::port::{EndBell, Port};
 use crate::state::HostState;
 use libc::net::listen;
@@ -79,7 +80,7 @@ pub fn listen_at<R: Clock + Net<Listener = TcpListener, Stream = TcpStream>>(
 }
 
 // Waits for at most a second for the first connection to a listener and returns it, or `None` if none has come, or it
-// couldn't be accepted. Returns an error if the listener can't be made non-blocking.
+// couldn't be accepted. Leaves the listener non-blocking. Returns an error if the listener can't be made non-blocking.
 fn first_within<R: Clock>(rt: &R, listener: &TcpListener) -> io::Result<Option<TcpStream>> {
     listener.set_nonblocking(true)?;
     for _ in 0..FIRST_CHECKS {
@@ -118,9 +119,9 @@ fn on_this_machine(port: u16) -> SocketAddr {
     SocketAddr::from((Ipv4Addr::LOCALHOST, port))
 }
 
-/// Returns the bell that is rung when a session ends, and that wakes the accepts at both ports when the host is over.
-/// The bell holds a spare descriptor, a copy of the desk's listener. Returns an error if the system refuses the copy,
-/// or memory runs out.
+/// Returns the bell of a host with this state and these ports. When a session has ended, the bell counts it in the
+/// state. When the host is over, it also wakes the accepts at both ports. The bell holds a spare descriptor, a copy of
+/// the desk's listener. Returns an error if the system refuses the copy, or memory runs out.
 pub fn bell_of<'a, R>(
     rt: &'a R,
     state: &'a HostState,
