@@ -2,8 +2,8 @@
 //!
 //! A record has entries: a line with its reply, a session's end, or a note that something is left out. An account is
 //! known on a connection from its granted hello to its bye. Each account has a budget, the number of bytes that its
-//! entries may have. All connections on which nobody is known share one budget. A seat serves one connection after
-//! another.
+//! entries may have. All connections on which nobody is known share one budget. A seat is a part of the server that
+//! serves one connection after another.
 ghost use Rattle.std.specs.Prelude.{◌≡◌, is_some};
 
 use mml_codec::Reply;
@@ -56,8 +56,8 @@ impl Budgets {
         })
     }
 
-    // Returns the counter of the bytes that were recorded of the participant with this account. For `None`, returns the
-    // counter of all connections on which nobody is known.
+    // Returns the counter of the bytes that were recorded of the participant whose account has this index. For `None`,
+    // and for an index without an account, returns the counter of all connections on which nobody is known.
     fn spent_by(&self, account: Option<usize>) -> &AtomicU64 {
         match account {
             Some(index) => match self.accounts.get(index) {
@@ -138,8 +138,8 @@ impl SeatBudget {
     }
 
     // Returns what happens to an entry that exceeds the budget of the account with the index `index`, and notes that an
-    // entry of this account was refused. The entry of a hello is still written (`Last`) if it is the first that is
-    // refused; recording pauses after it. Any other entry is `Refused`.
+    // entry of this account was refused. If the entry is that of a granted hello, and the first that is refused, it is
+    // still written (`Last`); recording pauses after it. Any other entry is `Refused`.
     fn refuse(&self, index: usize) -> Taking {
         match self.budgets.accounts.get(index) {
             Some(account) => {
@@ -198,8 +198,9 @@ impl Budget for SeatBudget {
         }
     }
 
-    // Returns whether the entry of a session's end may be written, and charges it if so. The entries may then exceed
-    // `BUDGET` by up to `ENDS` bytes, so that ends are still written when other entries no longer are.
+    // Returns whether the entry of a session's end, which has this many `bytes`, may be written, and charges it if so.
+    // The entries may then exceed `BUDGET` by up to `ENDS` bytes, so that ends are still written when other entries no
+    // longer are.
     fn takes_end(&mut self, bytes: u64) -> bool {
         self.charge(bytes, BUDGET + ENDS)
     }

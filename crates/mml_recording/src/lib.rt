@@ -1,6 +1,6 @@
-//! The folder in which a class is recorded: one file for each seat, and the files that one needs to read them.
+//! The folder in which a class is recorded: one file for each seat, and the files that are needed to read them.
 //!
-//! A seat serves one connection after another, each through the seat's window.
+//! A seat is a part of the server that serves one connection after another.
 #![tactic(auto)]
 
 mod budgets;
