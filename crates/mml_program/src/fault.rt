@@ -1,4 +1,7 @@
 //! Errors that end the program early: one line on standard error and a status.
+//!
+//! The place of an event is its number in the list of events, from 1. An audit checks whether a text is the journal of
+//! a run of a lab.
 ghost use Rattle.std.specs.Prelude.{◌≡◌, ◌≢◌, ◌⊎◌, true, false};
 ghost use Rattle.std.specs.IoError.{error_kind};
 ghost use Rattle.mml_program.specs.declared.fault.Fault.TheVariants.{Memory};
@@ -68,7 +71,8 @@ pub enum Fault {
 impl Fault {
     /// Returns the exit status of the error: 1 if the command line isn't understood; 2 if the lab, the script or the
     /// number of connections is refused; 3 if an audit fails; 4 if a read, a write, the journal or the network failed,
-    /// or the places don't fit the events; 5 if memory ran out or a reader's slot is missing.
+    /// or the places that were given don't fit the events; 5 if memory ran out, or a slot for a reader of the events is
+    /// missing.
     pub fn status(&self) -> u8
         ensures { result ≡ status_of self.now }
     {
@@ -89,7 +93,9 @@ impl Fault {
     }
 }
 
-/// Returns the error `Memory` if a reader or writer ran out of memory (`lacked`), and otherwise `fault`.
+/// Returns the error `Memory` if a reader or writer ran out of memory (`lacked`), and otherwise `fault`. The fault
+/// alone may say only that a read or a write failed, and not why. `F` is `Fault` itself, or an error type that wraps
+/// it.
 pub fn memory_if_lacked<F: From<Fault> + Drop>(fault: F, lacked: bool) -> F
     ensures memory { lacked ≡ true → F.from_gives Memory result }
     ensures other { lacked ≡ false → result ≡ fault }
@@ -101,7 +107,8 @@ pub fn memory_if_lacked<F: From<Fault> + Drop>(fault: F, lacked: bool) -> F
     }
 }
 
-/// Returns the error `Memory` if `error`, that of a read or write, says that memory ran out, and otherwise `other`.
+/// Returns the error `Memory` if `error`, the system's error of a call, says that memory ran out, and otherwise
+/// `other`.
 pub fn memory_or(error: &IoError, other: Fault) -> Fault
     ensures memory { error_kind error.now ≡ ErrorKind.OutOfMemory → result ≡ Fault.Memory }
     ensures either { (result ≡ other) ⊎ (result ≡ Fault.Memory) }

@@ -1,4 +1,7 @@
 //! Why a lab file or a journal is refused, in the words of the error lines.
+//!
+//! A lab file describes a class: its network, its participants and its limits. A journal has a line for each granted
+//! event of a run.
 ghost use Rattle.mml_program.specs.Faults.{IsOfAudit};
 
 use mml_audit::AuditFault;

@@ -1,6 +1,9 @@
 //! The work of the subcommands, over any readers and writers.
 //!
-//! A sink is the destination of the journal's bytes.
+//! A lab describes a class: its network, its participants and its limits. A configuration is the network with its
+//! registers. It is stable if no node is privileged, that is, if no rule is enabled. A board is the state of a run
+//! after some events. An audit checks whether a text is the journal of a run of a lab. A sink is the destination of the
+//! journal's bytes, and is fresh if it has none yet.
 ghost use Rattle.std.specs.Prelude.{◌<◌, ◌-◌, ◌^◌, ◌∷◌, [], codes, decimal, OnOk};
 ghost use Rattle.std.specs.List.{concat};
 ghost use Rattle.std.specs.Io.KnownBytes.{Appends};
@@ -39,7 +42,8 @@ pub fn write_size<W: Write>(alloc: Global, lab: &Lab, writer: &mut W) -> Result<
 }
 
 /// Audits the text of a journal, and writes the line with the number of its events and the configuration that they lead
-/// to. If the text isn't a journal of the lab, writes nothing, and returns the audit's error.
+/// to. If the text isn't a journal of the lab, writes nothing, and returns the audit's error. Returns `Write` if the
+/// write fails, and `Memory` if memory runs out.
 pub fn write_audit<W: Write>(
     alloc: Global,
     lab: &Lab,
@@ -54,7 +58,8 @@ pub fn write_audit<W: Write>(
 }
 
 // Writes the line about a journal that passed the audit: the number of its events, the number of the configuration, and
-// whether that is stable. Returns `Write` if the write fails, and `Memory` if memory runs out.
+// whether that is stable. `board` is the state after these events. Returns `Write` if the write fails, and `Memory` if
+// memory runs out.
 fn write_world<W: Write>(alloc: Global, board: &Board, writer: &mut W) -> Result<(), Fault>
     ensures { OnOk result
         (Appends (W.contents writer.old) (W.contents writer.new) (world_line board.now)) }
@@ -66,7 +71,7 @@ fn write_world<W: Write>(alloc: Global, board: &Board, writer: &mut W) -> Result
     }
 }
 
-// Writes a line with the number of events that led to the board and the number of its configuration. The line ends with
+// Writes a line with the number of events that led to `board` and the number of its configuration. The line ends with
 // `end`, which has its newline. Returns `Write` if the write fails, and `Memory` if memory runs out.
 fn write_ended<W: Write>(
     alloc: Global,
@@ -88,8 +93,8 @@ fn write_ended<W: Write>(
     write_pieces(alloc, &pieces, writer)
 }
 
-/// Joins these pieces into one text and writes it with a single write. Returns `Write` if the write fails, and `Memory`
-/// if memory runs out.
+/// Joins these pieces, which are texts and numbers, into one text, and writes it by one call of `write_all`. Returns
+/// `Write` if the write fails, and `Memory` if memory runs out.
 pub fn write_pieces<W: Write>(alloc: Global, pieces: &[Piece], writer: &mut W) -> Result<(), Fault>
     ensures { OnOk result
         (Appends (W.contents writer.old) (W.contents writer.new) (joined pieces.now)) }
@@ -104,9 +109,9 @@ pub fn write_pieces<W: Write>(alloc: Global, pieces: &[Piece], writer: &mut W) -
     }
 }
 
-/// Answers the lines of a script, and returns the hall (the lab's state) after the last one. Replies are buffered, and
-/// all are written before each read. The journal's lines of granted events are put into the sink. If the script ends
-/// early, returns the reason why.
+/// Answers the lines of a script from `reader`, and returns the hall after the last one: the state of the run and of
+/// its connections. Replies are buffered, and all are written before each read. The journal's lines of granted events
+/// are put into the sink. If the script ends early, returns the reason why.
 pub fn answer_script<R: Read, W: Write, S: Sink + Drop>(
     alloc: Global,
     lab: Lab,

@@ -1,6 +1,8 @@
 //! From the command line to the work that it asks for.
 //!
-//! A sink is the destination of the journal's bytes. The journal is halted if a line couldn't be written to it.
+//! A lab describes a class: its network, its participants and its limits. The journal of a run has a line for each
+//! granted event, and a sink is the destination of its bytes. A sink is fresh if it has no bytes yet. The journal is
+//! halted if a line couldn't be written to it. A house is one run of a lab that threads share.
 ghost use Rattle.std.specs.Prelude.{◌<◌, ◌≤◌, ◌-◌, ◌^◌, IfOk};
 ghost use Rattle.mml_journal.specs.Taken.{IsFresh};
 ghost use Rattle.mml_program.specs.Serving.{TellsServed};
@@ -45,7 +47,7 @@ pub fn run<
 
 /// Does what a task asks for. Returns the error that ended the work, if one did. The order of the steps protects an
 /// existing journal. First the lab is read, then the journal's file is opened, and then the script is read or the port
-/// taken. Only then a new journal is begun, and the earlier bytes are kept under another name. If a step before that
+/// opened. Only then a new journal is begun, and the earlier bytes are kept under another name. If a step before that
 /// fails, the file stays as it was.
 pub fn run_task<
     R: Files<File = File>
@@ -195,8 +197,8 @@ struct Service {
 }
 
 // Prints the line with the port, serves the connections of the service, and prints the last line, which has the numbers
-// of events and of the configuration. The journal's lines go to the sink. If a write ran out of memory, returns
-// `Memory` instead of any other error.
+// of events and of the configuration. The journal's lines go to the sink. Returns the reason if the server failed. If a
+// write ran out of memory, returns `Memory` instead of any other error.
 fn serve_listener<
     R: Net<Listener = TcpListener, Stream = TcpStream>
         + Threads
@@ -222,8 +224,8 @@ fn serve_listener<
 }
 
 // Writes the line with the port to `writer`, serves the connections, and writes the last line, which has the numbers of
-// events and of the configuration. The journal's lines go to the sink. Returns the result of the house (its run), or the
-// reason if the server failed.
+// events and of the configuration. The journal's lines go to the sink. Returns the result of the house, or the reason
+// if the server failed.
 fn serve_lines<R: Threads + Wait + Sync + AllocGlobal, S: Sink + Send + Drop, W: Write>(
     rt: &R,
     lab: Lab,
@@ -265,7 +267,7 @@ fn listen<R: Net<Listener = TcpListener, Stream = TcpStream>>(
 
 /// Prepares the process, and returns the words of the command line. Opens the null device for each standard stream that
 /// is closed, so that no other file gets its descriptor; returns `Write` if that fails. Returns `Memory` if the
-/// system's limit of stacks is too small, or memory runs out.
+/// system's limit on stacks is too small, or memory runs out. Returns `CommandLine` if a word isn't UTF-8.
 pub fn begin_program<R: Env + Files<File = File> + AllocGlobal>(
     rt: &R,
 ) -> Result<Vec<String>, Fault> {

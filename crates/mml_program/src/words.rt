@@ -1,4 +1,6 @@
 //! Reading the words of the command line.
+//!
+//! A lab file describes a class: its network, its participants and its limits. Values are the words after a subcommand.
 
 use crate::fault::Fault;
 use clap::error::ErrorKind;
@@ -51,7 +53,8 @@ pub fn read_words<'a>(alloc: Global, words: &'a [String]) -> Result<Task<'a>, Fa
 }
 
 /// Returns the values that the words have for `command`; the first word is the program's name. Returns `CommandLine` if
-/// the words don't fit the command. Words that begin with `-` are refused here, since clap would accept `-` and `--`.
+/// the words don't fit the command, and `Memory` if memory runs out. Words that begin with `-` are refused here, since
+/// clap would accept `-` and `--`.
 pub fn match_words<'a>(command: Command<'a>, words: &'a [String]) -> Result<ArgMatches<'a>, Fault> {
     if words.iter().skip(1).any(|word| word.starts_with('-')) {
         return Err(Fault::CommandLine);
