@@ -1,4 +1,10 @@
-//! A class that begins: from its first line of output to its last.
+//! A new class: from its first line of output to its last.
+//!
+//! A house is one run of a lab that threads share, and its log is its result at the end. The host's state is what the
+//! threads that serve the class have noted. A bell is rung when a session ends, and wakes the threads of the ports at
+//! the end of the class. A sink is the destination of the journal's bytes, and is fresh if it has none yet. The
+//! observers, one for each seat of the host, record the sessions, or do nothing. A seat serves one connection after
+//! another. Values are dropped by calls of `drop` before a function returns, which keeps the proofs short.
 ghost use Rattle.std.specs.Prelude.{◌≡◌, ◌<◌, ◌+◌, ◌-◌, ◌^◌, IfOk, OnOk, length};
 ghost use Rattle.std.specs.Io.KnownBytes.{Appends};
 ghost use Rattle.mml_journal.specs.Taken.{IsFresh};
@@ -20,8 +26,9 @@ use std::io::Write;
 use std::sync::Wait;
 
 impl<C: Observer + Send + Drop> Ready<C> {
-    /// Serves a new class with a new host state. Granted events go to the journal's `sink`. Returns the reason if the
-    /// class can't begin, or fails. If a session ran out of memory, returns that error after the last line.
+    /// Serves a new class with a new host state. Granted events go to the journal's `sink`, and the host's lines to
+    /// `writer`. Returns the reason if the class can't begin, or fails. If a session ran out of memory, returns that
+    /// error after the last line.
     pub(crate) fn start<R: System, S: Sink + Send + Drop, W: Write>(
         self,
         rt: &R,
@@ -69,8 +76,9 @@ impl<C: Observer + Send + Drop> Ready<C> {
         }
     }
 
-    // Serves the connections with this host state and bell until the class is over, and writes the last line. Returns
-    // the log. If a session ran out of memory, that is only noted in the state.
+    // Serves the connections with this host state and bell until the class is over, and writes the last line. Granted
+    // events go to the journal's `sink`. Returns the log, or the reason if the class fails. If a session ran out of
+    // memory, that is only noted in the state.
     fn serve_to_the_end<'a, R: System, S: Sink + Send + Drop, W: Write>(
         self,
         rt: &'a R,
@@ -104,8 +112,8 @@ impl<C: Observer + Send + Drop> Ready<C> {
     }
 }
 
-// Writes the first line of a class that is served at these ports. Returns the ports' bell, or an error if the write
-// fails, memory runs out, or the system refuses the bell's descriptor.
+// Writes the first line of a class that is served at these ports. Returns the bell that counts ended sessions in
+// `state`. Returns an error if the write fails, memory runs out, or the system refuses the bell's descriptor.
 fn announce<'a, R: AllocGlobal, W: Write>(
     rt: &'a R,
     state: &'a HostState,
@@ -119,8 +127,8 @@ fn announce<'a, R: AllocGlobal, W: Write>(
     Ok(bell_of(rt, state, ports)?)
 }
 
-/// Returns the error of a class that was `served`, or else `Memory` if the host's state notes that memory ran out, and
-/// otherwise `Ok`.
+/// Returns what the program reports for a class that was `served`: its error, or else `Memory` if the host's state
+/// notes that memory ran out, and otherwise `Ok`.
 pub(crate) fn told_memory<R: Wait>(
     served: Result<(), Fault>,
     rt: &R,
@@ -133,7 +141,7 @@ pub(crate) fn told_memory<R: Wait>(
     }
 }
 
-/// Returns the log of a house (one run of a lab) whose class has ended, and drops the records of its seats.
+/// Returns the log of a house whose class has ended, and drops what its seats have kept.
 pub(crate) fn log_of<S: Drop, K: Drop, C: Drop>(house: Hosted<S, K, C>) -> Log<S>
     ensures { result ≡ house.log }
 {

@@ -1,4 +1,11 @@
 //! Serving a class whose ports are open, with its journal and its record.
+//!
+//! The journal of a class has a line for each granted event. The record of a class has the lines of its connections and
+//! the replies. The watch of a journal's file says whether another program has removed or changed the file, and an eye
+//! makes its checks. The observers, one for each seat of the host, record the sessions, or do nothing. A seat serves
+//! one connection after another. In contracts, a `Class` is the number of its lab's sessions. Each function that serves
+//! a class returns the reason if the class can't begin or be resumed, or fails. Values are dropped by calls of `drop`
+//! before a function returns, which keeps the proofs short.
 ghost use Rattle.std.specs.Prelude.{◌≡◌, ◌+◌, IsOk, OnOk, length};
 ghost use Rattle.std.specs.Thread.{IsSync, IsSend};
 ghost use Rattle.mml_host_program.specs.Classes.{IsAuditedIn};
@@ -55,8 +62,8 @@ impl<'a> ClassJournal<'a> {
     }
 }
 
-/// A class that is ready to be served: its lab, its ports and its journal. A journal from which the class is resumed has
-/// passed the audit for this lab. Contracts see only the number of sessions that the lab allows.
+/// A class that is ready to be served: its lab, its ports and its journal. A journal from which the class is resumed
+/// has passed the audit for this lab. Contracts see only the number of sessions that the lab allows.
 #[derive(Drop)]
 pub(crate) struct Class<'a> {
     lab: Lab,
@@ -76,7 +83,8 @@ impl<'a> Model for Class<'a> {
 }
 
 impl<'a> Class<'a> {
-    /// Returns the class with this lab, these ports and this journal.
+    /// Returns the class with this lab, these ports and this journal. If the class is resumed, the journal has passed
+    /// the audit for this lab.
     pub(crate) fn new(lab: Lab, ports: Ports, journal: ClassJournal<'a>) -> Class<'a>
         requires audited { IsAuditedIn lab journal }
         ensures { result ≡ lab.sessions }
@@ -110,8 +118,7 @@ pub(crate) struct Ready<C: Drop> {
 }
 
 /// Serves a class until it is over. Records it if there is a folder. If the class's journal is a plain file, lets `eye`
-/// check that file meanwhile. Returns the reason if the class can't begin or be resumed, fails, isn't recorded
-/// completely, or lost its journal's file.
+/// check that file meanwhile. Also returns an error if something wasn't recorded, or the journal's file was lost.
 pub(crate) fn serve_class<R: System + Files<File = File>, L: Look + Sync>(
     rt: &R,
     class: Class<'_>,
@@ -124,8 +131,9 @@ pub(crate) fn serve_class<R: System + Files<File = File>, L: Look + Sync>(
     }
 }
 
-// Serves a class, while another thread watches the journal's file. If no thread can be started, checks the file once,
-// at the end. Returns the error of the class, or else a journal fault if the file was lost.
+// Serves a class, while another thread lets `eye` check the journal's file, whose watch this is. If no thread can be
+// started, checks the file once, at the end. Returns the error of the class, or else a journal fault if the file was
+// removed or changed.
 fn serve_watched<R: System + Files<File = File>, L: Look + Sync>(
     rt: &R,
     class: Class<'_>,
@@ -151,7 +159,7 @@ fn serve_watched<R: System + Files<File = File>, L: Look + Sync>(
     watch.end()
 }
 
-// Serves a class, and records it if there is a folder.
+// Serves a class, and records it in this folder if there is one.
 fn serve_recorded<R: System + Files<File = File>>(
     rt: &R,
     class: Class<'_>,
@@ -163,7 +171,7 @@ fn serve_recorded<R: System + Files<File = File>>(
     }
 }
 
-// Serves a class without recording it.
+// Serves a class without recording it, with observers that do nothing.
 fn serve_unrecorded<R: System + Files<File = File>>(rt: &R, class: Class<'_>) -> Result<(), Fault> {
     match no_observers(rt.alloc(), class.lab()) {
         Ok(observers) => serve_ports(rt, class, observers),
@@ -195,8 +203,8 @@ fn serve_in_folder<R: System + Files<File = File>>(
     }
 }
 
-// Opens the file of each seat in the folder, and serves a class that is recorded there. Returns an error if a file
-// can't be opened, or the class fails.
+// Opens the file of each seat in the folder, and serves a class that is recorded there. `state` is the record's: failed
+// writes are noted there. Returns an error if a file can't be opened, or the class fails.
 fn serve_seats<R: System + Files<File = File>>(
     rt: &R,
     class: Class<'_>,
@@ -218,8 +226,8 @@ fn serve_seats<R: System + Files<File = File>>(
     }
 }
 
-// Serves a class, while another thread syncs the files of its record. If no thread can be started, syncs them once, at
-// the end. Returns the error of the class.
+// Serves a class, while another thread syncs the files of its record. `observers` write these files, and `state` is the
+// record's. If no thread can be started, syncs the files once, at the end. Returns the error of the class.
 fn serve_synced<R: System + Files<File = File>, C: Observer + Send + Drop>(
     rt: &R,
     class: Class<'_>,
@@ -245,8 +253,8 @@ fn serve_synced<R: System + Files<File = File>, C: Observer + Send + Drop>(
     )
 }
 
-// Returns the error of a class that was `served`, or else `Unrecorded` if a write to the record or a sync of its files
-// has failed, and otherwise `Ok`.
+// Returns what the program reports for a class that was `served`: its error, or else `Unrecorded` if a write to the
+// record or a sync of its files has failed, and otherwise `Ok`. `state` is the record's.
 fn told_whole(served: Result<(), Fault>, state: &RecordState) -> Result<(), Fault> {
     if served.is_ok() && state.has_failed() {
         Err(Fault::Unrecorded)
@@ -255,8 +263,8 @@ fn told_whole(served: Result<(), Fault>, state: &RecordState) -> Result<(), Faul
     }
 }
 
-// Serves a class until it is over, and writes the host's lines to standard output: the ports, the state after an
-// earlier journal, and the end. If a write ran out of memory, returns `Memory` instead of any other error.
+// Serves a class until it is over, and prints the host's lines: the ports, the state after an earlier journal, and the
+// end. If a write ran out of memory, returns `Memory` instead of any other error.
 fn serve_ports<R: System + Files<File = File>, C: Observer + Send + Drop>(
     rt: &R,
     class: Class<'_>,
@@ -272,7 +280,7 @@ fn serve_ports<R: System + Files<File = File>, C: Observer + Send + Drop>(
 }
 
 // Serves a class at its ports with its kind of journal: none, a plain file that is synced and watched, a file that
-// can't be synced, or the journal from which the class is resumed.
+// can't be synced, or the journal from which the class is resumed. `writer` gets the host's lines.
 fn serve_journaled<R: System + Files<File = File>, C: Observer + Send + Drop, W: Write>(
     rt: &R,
     class: Class<'_>,

@@ -15,8 +15,8 @@ use thiserror::Error;
 /// Why the program ended before its work was done.
 #[derive(Debug, Drop, Error)]
 pub enum Fault {
-    /// An error that commands of `mml_program` have too. Such an error concerns the command line, the lab, the script, the
-    /// journal or the output, or says that memory ran out.
+    /// An error that commands of `mml_program` have too. Such an error concerns the command line, the lab, the script,
+    /// the journal or the output, or says that memory ran out.
     #[error("{0}")]
     Common(ProgramFault),
     /// The host can't listen on a port.
@@ -52,9 +52,9 @@ pub enum Fault {
 }
 
 impl Fault {
-    /// Returns the exit status of the error: 2 if the lab is another one; 3 if the record is refused; 4 if the record can't
-    /// be read, a port or the record failed, or the places don't fit the events; 5 if a window, files or threads are
-    /// missing. An error of `mml_program` has the same status as there.
+    /// Returns the exit status of the error: 2 if the lab is another one; 3 if the record is refused; 4 if the record
+    /// can't be read, a port or the record failed, or the places don't fit the events; 5 if a window, files or threads
+    /// are missing. An error of `mml_program` has the same status as there.
     pub fn status(&self) -> u8
         ensures { result ≡ exit_status self.now }
     {

@@ -1,4 +1,9 @@
 //! The subcommand `host`, which serves a new class.
+//!
+//! A lab describes a class: its network, its participants and its limits. The journal of a class has a line for each
+//! granted event. The record of a class has the lines of its connections and the replies. The watch of a journal's file
+//! says whether another program has removed or changed the file, and an eye makes its checks. Values are dropped by
+//! calls of `drop` before a function returns, which keeps the proofs short.
 use crate::class::{Class, ClassJournal, serve_class};
 use crate::fault::{Fault, of_journal};
 use crate::journal_watch::{JournalWatch, Look};
@@ -18,8 +23,8 @@ use std::time::Clock;
 
 /// Serves a new class, as the command line asks. `eye` checks the journal's file meanwhile. Returns the reason if the
 /// class can't begin, or fails. The order of the steps protects an existing journal: first the lab is read and the
-/// system's limits are checked, then the journal's file is opened, then both ports are opened, and only then the journal
-/// is begun. If a step before that fails, the file stays as it was.
+/// system's limits are checked, then the journal's file is opened, then both ports are opened, and only then the
+/// journal is begun. If a step before that fails, the file stays as it was.
 pub(crate) fn host<R: System + Files<File = File>, L: Look + Sync>(
     rt: &R,
     eye: &L,
@@ -29,7 +34,8 @@ pub(crate) fn host<R: System + Files<File = File>, L: Look + Sync>(
     host_lab(rt, eye, &task, bytes.as_slice())
 }
 
-// Serves a new class of the lab whose file has these bytes. Returns the reason if the class can't begin, or fails.
+// Serves a new class of the lab whose file has these `bytes`, as `host` does. Returns the reason if the class can't
+// begin, or fails.
 fn host_lab<R: System + Files<File = File>, L: Look + Sync>(
     rt: &R,
     eye: &L,
@@ -55,7 +61,8 @@ struct Opened<'a> {
     folder: Option<RecordFolder>,
 }
 
-// Serves a new class of this lab, for which everything is open. Returns the reason if the class can't begin, or fails.
+// Serves a new class of this lab, for which everything in `opened` is open. Returns the reason if the class can't
+// begin, or fails.
 fn host_opened<R: System + Files<File = File>, L: Look + Sync>(
     rt: &R,
     eye: &L,
@@ -83,8 +90,8 @@ fn host_opened<R: System + Files<File = File>, L: Look + Sync>(
     }
 }
 
-// Serves a new class of this lab, whose journal is the plain file at `path`. Returns the reason if the system can't
-// identify the file, or the class can't begin, or fails.
+// Serves a new class of this lab, whose journal is the plain `file` at `path`, and has the file watched. Returns the
+// reason if the system can't identify the file, or the class can't begin, or fails.
 fn host_watched<R: System + Files<File = File>, L: Look + Sync>(
     rt: &R,
     eye: &L,
@@ -111,9 +118,9 @@ fn host_watched<R: System + Files<File = File>, L: Look + Sync>(
     }
 }
 
-// Checks the system's limits, and opens what a new class needs: its ports, and its journal and the folder of its record,
-// if they are named. Without a journal there is no record. `lab` has the bytes of the lab's file. Returns an error if one
-// of these steps fails.
+// Checks the system's limits, and opens what a new class needs: its ports, and its journal and the folder of its
+// record, if they are named. Without a journal there is no record. `lab` has the bytes of the lab's file. Returns an
+// error if one of these steps fails.
 fn open_new<'a, R: System + Files<File = File>>(
     rt: &R,
     task: &HostTask<'a>,

@@ -1,5 +1,9 @@
 //! Commands that serve no connections: `verify` and `tally` check the record and the journal of a class, and `answer`
 //! answers a script line by line.
+//!
+//! The journal of a class has a line for each granted event. The record of a class has the lines of its connections and
+//! the replies. The tally has counts of what happened in a run. Values are dropped by calls of `drop` before a function
+//! returns, which keeps the proofs short.
 
 mod answering;
 mod class_error;
@@ -50,8 +54,9 @@ fn judge_journal<R: Files + Print + AllocGlobal>(rt: &R, task: TallyTask<'_>) ->
     result_of(written, writer.lacked_memory)
 }
 
-// Checks the record of a class against its journal, and prints the tally of both (`is_tallied`), or else what was found.
-// Returns an error if the lab, the journal or the record is refused or can't be read, a write fails, or memory runs out.
+// Checks the record of a class against its journal, and prints the tally of both (`is_tallied`), or else what was
+// found. Returns an error if the lab, the journal or the record is refused or can't be read, a write fails, or memory
+// runs out.
 fn judge_record<R: Files<File = File> + Print + AllocGlobal>(
     rt: &R,
     task: VerifyTask<'_>,
@@ -70,8 +75,8 @@ fn judge_record<R: Files<File = File> + Print + AllocGlobal>(
     result_of(written, writer.lacked_memory)
 }
 
-// Returns the lab in a file, and the text of the journal in another file. Returns an error if the lab is refused, a file
-// can't be read, or memory runs out.
+// Returns the lab in a file, and the text of the journal in another file. Returns an error if the lab is refused, a
+// file can't be read, or memory runs out.
 fn read_run<R: Files + AllocGlobal>(
     rt: &R,
     lab: &str,

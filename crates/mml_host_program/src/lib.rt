@@ -1,5 +1,5 @@
-//! The commands of the program for people: those of `mml_program`, those that serve a class, those that judge what a class
-//! has left, and the table of limits.
+//! The commands of the program for people: those of `mml_program`, those that serve a class, those that judge what a
+//! class has left, and the table of limits.
 #![tactic(auto)]
 
 mod beginning;

@@ -1,4 +1,6 @@
 //! The table of the limits of a class, as lines for other programs.
+//!
+//! A seat's file has what a host records of the connections that one seat serves. An entry is a line with its reply.
 ghost use Rattle.std.specs.Prelude.{◌≡◌, ◌++◌, OnOk};
 ghost use Rattle.std.specs.Io.KnownBytes.{Appends};
 ghost use Rattle.mml_host_program.specs.Limits.{limit_line, network_limits, class_limits, text_limits, record_limits, deadlines, limits_text};

@@ -17,9 +17,9 @@ const FILES: usize = 7;
 // journal, and one for a connection at each port.
 const THREADS: usize = 4;
 
-/// Checks whether the system allows the files and threads that a class needs at least. Opens so many files and starts
-/// so many threads, and closes and ends them again. Returns `FewFiles` or `FewThreads` if the system allows fewer, or
-/// `Memory` if memory runs out.
+/// Checks whether the system allows the files and threads that a class needs at least. For that, opens so many files
+/// and starts so many threads, and closes and ends them again. Returns `FewFiles` or `FewThreads` if the system allows
+/// fewer, or `Memory` if memory runs out.
 pub fn look_at_limits<R: Files<File = File> + Threads + Wait + Sync>(
     rt: &R,
     alloc: Global,
@@ -46,7 +46,8 @@ pub fn look_at_limits<R: Files<File = File> + Threads + Wait + Sync>(
     }
 }
 
-// Returns whether `THREADS` threads can exist at the same time. Starts them, and lets none end before all are started.
+// Returns whether `THREADS` threads can exist at the same time. Starts them, and lets none end before all are started:
+// each takes the lock of `door`, which this function holds meanwhile.
 fn has_threads<R: Threads + Wait + Sync>(rt: &R) -> bool {
     let door = Mutex::new(());
     thread::scope(thread::scope_env(), rt, |scope| -> bool {

@@ -1,4 +1,7 @@
 //! What every class opens before it is served: its ports, and the folder of its record.
+//!
+//! The record of a class has the lines of its connections and the replies. Values are dropped by calls of `drop` before
+//! a function returns, which keeps the proofs short.
 use crate::fault::{Fault, of_record};
 use crate::words::ClassTask;
 use mml_ports::{Ports, listen_at};
@@ -8,8 +11,9 @@ use std::net::{Net, TcpListener, TcpStream};
 use std::rt::Files;
 use std::time::Clock;
 
-/// Opens the ports, and then the record's folder, if one is named. The record is begun, or it is continued if the class
-/// is resumed after this many `events`. `lab` has the bytes of the lab's file. Returns an error if one of these fails.
+/// Opens the ports of the class, and then the record's folder, if one is named. `lab` has the bytes of the lab's file.
+/// If `events` is `None`, the class is new, and its record is begun. Otherwise the class is resumed after this many
+/// events, and its record is continued. Returns the ports and the folder, or an error if one of them can't be opened.
 pub(crate) fn open_ports_and_folder<
     R: Files<File = File> + Net<Listener = TcpListener, Stream = TcpStream> + Clock + AllocGlobal,
 >(
@@ -28,8 +32,9 @@ pub(crate) fn open_ports_and_folder<
     }
 }
 
-// Opens the record's folder at `path`, if there is a path, and begins or continues the record. Returns an error if that
-// fails.
+// Opens the record's folder at `path`, if there is a path, and begins or continues the record, as
+// `open_ports_and_folder` says. Returns the folder, `None` if there is no path, or an error if the folder can't be
+// opened.
 fn open_folder<R: Files<File = File> + Clock + AllocGlobal>(
     rt: &R,
     path: Option<&str>,

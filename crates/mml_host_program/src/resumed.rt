@@ -1,4 +1,11 @@
 //! A class that is resumed: from the end of its journal to its last line of output.
+//!
+//! A house is one run of a lab that threads share, and its log is its result at the end. The host's state is what the
+//! threads that serve the class have noted. A bell is rung when a session ends, and wakes the threads of the ports at
+//! the end of the class. A sink is the destination of the journal's bytes, and a store returns the sink that appends to
+//! the old journal. The observers, one for each seat of the host, record the sessions, or do nothing. A seat serves one
+//! connection after another. Values are dropped by calls of `drop` before a function returns, which keeps the proofs
+//! short.
 ghost use Rattle.std.specs.Prelude.{◌≡◌, ◌+◌, IfOk, None, length};
 ghost use Rattle.mml_resuming.specs.Resuming.{IsAudited};
 ghost use Rattle.mml_host_program.specs.Telling.{ports_line, TellsResumed};
@@ -22,8 +29,9 @@ use std::io::Write;
 use std::rt::Files;
 
 impl<C: Observer + Send + Drop> Ready<C> {
-    /// Serves a class that is resumed from the journal `past`, with a new host state. Returns the reason if the class
-    /// isn't resumed, or fails. If a session ran out of memory, returns that error after the last line.
+    /// Serves a class that is resumed from the journal `past`, with a new host state. The host's lines go to `writer`.
+    /// Returns the reason if the class isn't resumed, or fails. If a session ran out of memory, returns that error
+    /// after the last line.
     pub(crate) fn resume<R: System + Files<File = File>, W: Write>(
         self,
         rt: &R,
@@ -41,9 +49,8 @@ impl<C: Observer + Send + Drop> Ready<C> {
     }
 
     // Serves a class that is resumed from the journal `past`, in the host state `state`: writes the first two lines,
-    // serves the connections, and writes the last line. Returns the log; the last line says how many events the log
-    // has. Returns the reason if the class isn't resumed, or fails. If a session ran out of memory, that is only noted
-    // in the state.
+    // serves the connections, and writes the last line. Returns the log whose events the last line counts. Returns the
+    // reason if the class isn't resumed, or fails. If a session ran out of memory, that is only noted in the state.
     fn go_on<'a, R: System + Files<File = File>, W: Write>(
         self,
         rt: &'a R,
@@ -70,8 +77,8 @@ impl<C: Observer + Send + Drop> Ready<C> {
         }
     }
 
-    // Serves a class that is resumed from the journal `past`, in the host state `state`, after `opening` was made. Returns
-    // the same as `go_on`.
+    // Does what `go_on` does, after `opening` was made: the first line and the bell. Makes the store, by which the file
+    // of the journal is cut to its whole lines.
     fn go_on_opened<'a, R: System + Files<File = File>, W: Write>(
         self,
         rt: &'a R,
@@ -102,9 +109,9 @@ impl<C: Observer + Send + Drop> Ready<C> {
         self.go_on_after(rt, audited, store, first, state, &opening.bell, writer)
     }
 
-    // Serves a class that is resumed from the audited journal `past`, which `store` cuts to its whole lines. The
-    // line `first`, which names the ports, is written together with the next line, about the state that the journal
-    // leads to. Returns the log.
+    // Serves a class that is resumed from the audited journal `past`, which `store` cuts to its whole lines. The line
+    // `first`, which names the ports, is written together with the next line, about the state that the journal leads
+    // to. Returns the log, or the reason if the class isn't resumed, or fails.
     fn go_on_after<'a, R: System, S: Sink + Send + Drop, T: Store<S> + Drop, W: Write>(
         self,
         rt: &'a R,

@@ -1,4 +1,4 @@
-//! The types of a class that is served over sockets.
+//! The types of a class that is served over sockets, bundled as one type parameter.
 use crate::system::System;
 use mml_hosting::ClassTypes;
 use mml_journal::Sink;
@@ -6,8 +6,8 @@ use mml_ports::{EndBell, Incoming, Port, ReplyWriter, SocketCutOff, SocketSessio
 use mml_session::{Observer, SessionTypes};
 use std::marker::PhantomData;
 
-/// The types of a class that is served over sockets, with a runtime `R`, a journal's sink `S` and observers `C`. The
-/// type has no values.
+/// The types of a class that is served over sockets, with a runtime `R`, a journal's sink `S` and observers `C`. No
+/// value of this type is made.
 pub(crate) struct SocketClass<'a, R, S, C>(PhantomData<(&'a R, S, C)>);
 
 impl<'a, R: System, S: Sink + Send + Drop, C: Observer + Send + Drop> SessionTypes

@@ -4,8 +4,8 @@ use std::sync::Wait;
 use std::thread::Threads;
 use std::time::Clock;
 
-/// The parts of the system that serving a class needs, apart from files. Threads share the value. Files aren't included,
-/// because a thread can't be given the bound `Files` of a type parameter.
+/// The parts of the system that serving a class needs, apart from files. Threads share the value. Files aren't
+/// included, because a thread can't be given the bound `Files` of a type parameter.
 pub trait System: Net<Listener = TcpListener, Stream = TcpStream>
     + Threads
     + Wait

@@ -1,4 +1,7 @@
 //! Reading the words of the command line.
+//!
+//! Values are the words after a subcommand. The tasks that serve no connections are read by several small functions.
+//! The contract of each cites a definition of its own, which its proof unfolds.
 ghost use Rattle.std.specs.Prelude.{◌≡◌, MatchOption, option_map};
 ghost use Rattle.clap.specs.Matches.{found_of};
 ghost use Rattle.mml_journal.specs.Words.{seen};
@@ -127,8 +130,8 @@ fn command_line<'a>(alloc: Global, subcommands: &[Subcommand]) -> Result<Command
     Ok(command)
 }
 
-// Returns the description of a subcommand with this name, which requires the first values, and then may have the others.
-// Returns an error if memory runs out.
+// Returns the description of a subcommand with this name, which requires the first values, and then may have the
+// others. Returns an error if memory runs out.
 fn subcommand_with<'a>(
     alloc: Global,
     name: &'a str,
@@ -159,8 +162,8 @@ fn task_of<'a>(name: &str, values: &ArgMatches<'a>) -> Option<Task<'a>> {
     }
 }
 
-// Returns the lab, the ports and the record of the class that these values name. Returns `None` if the lab or a port is
-// missing, or a text isn't a port.
+// Returns the class that these values name: its lab, its ports, and the folder of its record. Returns `None` if the lab
+// or a port is missing, or a text isn't a port.
 fn class_task<'a>(values: &ArgMatches<'a>) -> Option<ClassTask<'a>> {
     Some(ClassTask {
         lab: values.get_str("lab")?,
@@ -184,8 +187,8 @@ pub fn read_port(text: &str) -> Option<u16>
     }
 }
 
-// Returns the judging task of the subcommand `name` with these values. Returns `None` if it isn't the name of one, or a
-// value is missing.
+// Returns the task of the subcommand `name` with these values, if it is a task that serves no connections. Returns
+// `None` if it isn't, or a value is missing.
 #[tactic(auto, unfolding(crate::specs::Words::wanted_in))]
 fn judging_task<'a>(name: &str, values: &ArgMatches<'a>) -> Option<JudgingTask<'a>>
     ensures { option_map wanted_by result ≡ wanted_in name.now (found_of values.now) }
@@ -194,8 +197,7 @@ fn judging_task<'a>(name: &str, values: &ArgMatches<'a>) -> Option<JudgingTask<'
     judging_task_over(lab, name, values)
 }
 
-// Returns the task of the subcommand `name` with these values, over the lab in the file `lab`. Returns `None` if there
-// is no such subcommand, or a value is missing.
+// Returns the same as `judging_task`, for values whose lab is the file `lab`.
 #[tactic(auto, unfolding(crate::specs::Words::wanted_over))]
 fn judging_task_over<'a>(
     lab: &'a str,
@@ -215,8 +217,8 @@ fn judging_task_over<'a>(
     }
 }
 
-// Returns the task of the subcommand `verify` with these values. Returns `None` if the journal or the record is
-// missing.
+// Returns the task of the subcommand `verify` with these values, for the lab in the file `lab`. Returns `None` if the
+// journal or the record is missing.
 #[tactic(auto, unfolding(crate::specs::Words::verify_in))]
 fn verify_over<'a>(lab: &'a str, values: &ArgMatches<'a>) -> Option<JudgingTask<'a>>
     ensures { option_map wanted_by result ≡ verify_in lab.now (found_of values.now) }
@@ -230,8 +232,8 @@ fn verify_over<'a>(lab: &'a str, values: &ArgMatches<'a>) -> Option<JudgingTask<
     }))
 }
 
-// Returns the task of printing the tally of the journal that these values name, together with a record if they name
-// one. Returns `None` if the journal is missing.
+// Returns the task of printing the tally of the journal that these values name, for the lab in the file `lab`. If they
+// name a record, the tally is of both. Returns `None` if the journal is missing.
 #[tactic(auto, unfolding(crate::specs::Words::tally_in))]
 fn tally_over<'a>(lab: &'a str, values: &ArgMatches<'a>) -> Option<JudgingTask<'a>>
     ensures { option_map wanted_by result ≡ tally_in lab.now (found_of values.now) }
@@ -240,7 +242,8 @@ fn tally_over<'a>(lab: &'a str, values: &ArgMatches<'a>) -> Option<JudgingTask<'
     Some(tally_task(lab, journal, values.get_str("record")))
 }
 
-// Returns the task of printing a tally: of a journal alone, or together with the record in a folder if one is named.
+// Returns the task of printing the tally of the `journal`, or of the journal and the record in the `folder` if one is
+// named.
 fn tally_task<'a>(lab: &'a str, journal: &'a str, folder: Option<&'a str>) -> JudgingTask<'a>
     ensures { wanted_by result ≡ tally_wanted lab.now journal.now (seen folder.entry) }
 {

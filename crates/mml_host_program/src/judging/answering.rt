@@ -1,4 +1,6 @@
 //! A script whose lines are answered as they come.
+//!
+//! A script is a list of request lines, each after the number of its connection.
 use crate::fault::Fault;
 use mml_ends::Retrying;
 use mml_journal::NullSink;

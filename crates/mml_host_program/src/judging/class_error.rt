@@ -1,4 +1,6 @@
 //! Why the result of checking a class isn't written, and which error the program reports then.
+//!
+//! The result is what `verify` or `tally` prints about the journal and the record of a class.
 ghost use Rattle.std.specs.Prelude.{◌≡◌, true, false, Ok, Err, OnOk, IfErr, IsErrAnd};
 ghost use Rattle.mml_host_program.specs.Faults.{IsOfClass, IsOfRecord};
 

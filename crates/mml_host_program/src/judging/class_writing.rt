@@ -1,4 +1,7 @@
 //! What the subcommands `verify` and `tally` share: the audit at the beginning, and the write at the end.
+//!
+//! The journal of a class has a line for each granted event. An audit checks whether a text is the journal of a run of
+//! a lab. A board is the state of a run after some events.
 ghost use Rattle.std.specs.Prelude.{◌≡◌, ◌<◌, ℕ, true, length, take, IfErr, IfOk, MatchBool, OnOk, Err};
 ghost use Rattle.std.specs.Io.KnownBytes.{Appends};
 ghost use Rattle.mml_board.specs.Lists.{is_legal_in, world_in};
@@ -12,8 +15,8 @@ use mml_lines::put_all;
 use std::alloc::Global;
 use std::io::Write;
 
-/// Audits the text of a journal. Returns its events and the board that they lead to, or the reason why the text doesn't
-/// pass. Frees the text.
+/// Audits the text `journal`, and frees it. Returns its events and the board that they lead to. Returns the reason if
+/// the text doesn't pass, or `AuditFault::Memory` if memory runs out.
 pub(crate) fn audit_class(alloc: Global, lab: &Lab, journal: Vec<u8>) -> Result<Audited, AuditFault>
     ensures journal { IfOk result (λ a. IsJournalOf lab.now a.events.items journal.items) }
     ensures legal { IfOk result (λ a. is_legal_in lab.now a.events.items ≡ true) }

@@ -1,4 +1,6 @@
-//! The folder of a record.
+//! The folder of a record, from which the check of a class reads.
+//!
+//! The folder has a file for each seat, and the file `begun` with the number of events before the record.
 ghost use Rattle.std.specs.Prelude.{◌≡◌, ◌≢◌, ◌++◌, codes, decimal, string_bytes, IfOk};
 ghost use Rattle.std.specs.IoError.{error_kind};
 

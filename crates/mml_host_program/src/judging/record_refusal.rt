@@ -1,4 +1,7 @@
 //! Why a record is refused.
+//!
+//! The record of a class has a text for each seat. An entry has a line and its reply, a session's end, or a note that
+//! something is left out. The place of an event is its number in the list of events, from 1.
 ghost use Rattle.mml_host_program.specs.Refusals.{IsOfEntry, IsOfPlace};
 
 use mml_class::Misgranted;

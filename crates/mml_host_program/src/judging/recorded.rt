@@ -1,7 +1,10 @@
 //! The tally of a journal together with the record of its class.
 //!
-//! The record of a class has a text for each seat, with the lines that were answered there and their replies. The
-//! journal has a line for each granted event.
+//! The record of a class has a text for each seat, with the lines that were answered there and their replies. A seat
+//! served one connection after another. The journal has a line for each granted event, and an audit checks it. In
+//! contracts, `start` is the text with the number of events before the record, and `texts` has the text of each seat.
+//! The findings of a record are its summary, and its asks are what its lines asked for. A round is a list of events in
+//! which each node has its turn. A board is the state of a run after some events.
 ghost use Rattle.std.specs.Prelude.{◌≡◌, ◌++◌, ℕ, List, true, IfErr, IfOk, OnOk};
 ghost use Rattle.mml_board.specs.Lists.{is_legal_in, world_in};
 ghost use Rattle.mml_audit.specs.AuditMeaning.{IsJournalOf};
@@ -45,7 +48,7 @@ pub fn tally_class<R: Read + Drop, S: Seats<R>, W: Write>(
 }
 
 // Audits a journal and checks the record of its class. Returns the text of the tally of both, or the reason if one is
-// refused.
+// refused, a text can't be read, or memory runs out.
 fn tallied_text<R: Read + Drop, S: Seats<R>>(
     alloc: Global,
     lab: &Lab,
@@ -66,7 +69,8 @@ fn tallied_text<R: Read + Drop, S: Seats<R>>(
 }
 
 // Checks the record of a class against the events of its journal, which lead to `board`. Returns the text of the tally
-// of both, or the reason if the texts are no record or can't be read.
+// of both. Returns the reason if the texts are no record or can't be read, or memory runs out. In the contract, `bytes`
+// is any journal of these events.
 fn text_beside<R: Read + Drop, S: Seats<R>>(
     alloc: Global,
     lab: &Lab,
@@ -83,14 +87,15 @@ fn text_beside<R: Read + Drop, S: Seats<R>>(
         IsJournalOf lab.now events.now bytes → Tell (S.begun seats.now) (S.text seats.now) start texts →
         IfErr result (IsUntold lab.now bytes start texts) }
 {
+    // `true`: the asks of the lines are returned, too.
     match read_class(alloc, lab, events, true, seats) {
         Ok(class) => text_of(alloc, lab, board, events, &class.findings, &class.asks),
         Err(why) => Err(ClassError::Record(why)),
     }
 }
 
-// Returns the text of the tally of these events, which lead to `board`, with the findings of a record and what its
-// lines asked. Returns `Memory` if memory runs out.
+// Returns the text of the tally of these events, which lead to `board`, with the findings and the asks of a record.
+// Returns `Memory` if memory runs out.
 fn text_of(
     alloc: Global,
     lab: &Lab,
@@ -112,8 +117,8 @@ fn text_of(
     }
 }
 
-// Appends the lines of the tally of these events, which lead to `board`, with the findings of a record and what its
-// lines asked, and then the line about rounds. Returns `Memory` if memory runs out.
+// Appends the lines of the tally of these events, which lead to `board`, with the findings and the asks of a record,
+// and then the line about rounds. Returns `Memory` if memory runs out.
 fn put_lines(
     out: &mut Vec<u8>,
     alloc: Global,

@@ -1,4 +1,7 @@
 //! The tally of a journal: counts of what happened in a run, as lines for other programs.
+//!
+//! The journal has a line for each granted event, and an audit checks it. A board is the state of a run after some
+//! events. A round is a list of events in which each node has its turn.
 ghost use Rattle.std.specs.Prelude.{◌≡◌, ◌++◌, true, IfErr, IfOk, OnOk};
 ghost use Rattle.mml_board.specs.Lists.{is_legal_in};
 ghost use Rattle.mml_tally.specs.Rounds.{rounds_line};
@@ -33,7 +36,8 @@ pub fn write_tally<W: Write>(
     write_class(&text, writer)
 }
 
-// Audits a journal. Returns the text of the tally of its events, or the reason if the journal doesn't pass.
+// Audits a journal. Returns the text of the tally of its events, or the reason if the journal doesn't pass, or memory
+// runs out.
 fn tally_of(alloc: Global, lab: &Lab, journal: Vec<u8>) -> Result<Vec<u8>, ClassError>
     ensures told { IfOk result (λ text. IsTally lab.now journal.items text.items) }
     ensures untold { IfErr result (HasNoTally lab.now journal.items) }

@@ -1,7 +1,9 @@
 //! The check of a class's record against its journal.
 //!
-//! The record of a class has a text for each seat, with the lines that were answered there and their replies. The
-//! journal has a line for each granted event.
+//! The record of a class has a text for each seat, with the lines that were answered there and their replies. A seat
+//! served one connection after another. The journal has a line for each granted event, and an audit checks it. In
+//! contracts, `start` is the text with the number of events before the record, and `texts` has the text of each seat.
+//! The findings of a record are its summary.
 ghost use Rattle.std.specs.Prelude.{◌≡◌, ◌++◌, ℕ, List, true, IfErr, IfOk, OnOk};
 ghost use Rattle.mml_board.specs.Lists.{is_legal_in};
 ghost use Rattle.mml_audit.specs.AuditMeaning.{IsJournalOf};
@@ -19,8 +21,9 @@ use mml_tally::{Findings, put_recorded};
 use std::alloc::Global;
 use std::io::{Read, Write};
 
-/// Audits a journal, checks the seats' texts as the record of its class, and writes what was found. If the journal or
-/// the record is refused, writes nothing and returns the reason.
+/// Audits a journal, checks the texts of `seats` as the record of its class, and writes what was found. If the journal
+/// or the record is refused, a text can't be read, or memory runs out, writes nothing and returns the reason. Returns
+/// `Write` if a write fails, after which a beginning of the text may have been written.
 pub fn verify_class<R: Read + Drop, S: Seats<R>, W: Write>(
     alloc: Global,
     lab: &Lab,
@@ -42,7 +45,7 @@ pub fn verify_class<R: Read + Drop, S: Seats<R>, W: Write>(
 }
 
 // Audits a journal and checks the record of its class. Returns the lines about what was found, or the reason if the
-// journal or the record is refused.
+// journal or the record is refused, a text can't be read, or memory runs out.
 fn verified_text<R: Read + Drop, S: Seats<R>>(
     alloc: Global,
     lab: &Lab,
@@ -63,7 +66,8 @@ fn verified_text<R: Read + Drop, S: Seats<R>>(
 }
 
 // Checks the record of a class against the events of its journal. Returns the lines about what was found, or the reason
-// if the texts are no record or can't be read.
+// if the texts are no record or can't be read, or memory runs out. In the contract, `bytes` is any journal of these
+// events.
 fn text_beside<R: Read + Drop, S: Seats<R>>(
     alloc: Global,
     lab: &Lab,
@@ -78,6 +82,7 @@ fn text_beside<R: Read + Drop, S: Seats<R>>(
         IsJournalOf lab.now events.now bytes → Tell (S.begun seats.now) (S.text seats.now) start texts →
         IfErr result (IsUntold lab.now bytes start texts) }
 {
+    // `false`: the asks of the lines aren't needed.
     match read_class(alloc, lab, events, false, seats) {
         Ok(class) => text_of(alloc, lab, &class, events.len() as u64),
         Err(why) => Err(ClassError::Record(why)),
@@ -115,8 +120,8 @@ fn put_begun(text: &mut Vec<u8>, begun: u64) -> Result<(), Memory>
     put(text, &pieces)
 }
 
-// Appends the lines about a correct record: the numbers of its sessions, lines and events, whose lines are all
-// recorded, and how many events came before it. Returns `Memory` if memory runs out.
+// Appends the lines about a correct record: the numbers of its sessions, lines and events, the participants whose lines
+// are all recorded, and how many events came before it. Returns `Memory` if memory runs out.
 fn put_verified(
     text: &mut Vec<u8>,
     lab: &Lab,
