@@ -1,5 +1,5 @@
-//! A smaller program than the one that people run: it checks lab files, answers scripts and serves connections over them,
-//! and audits journals.
+//! A smaller program than the one that people run: it checks lab files, answers scripts and serves connections over
+//! them, and audits journals.
 #![tactic(auto)]
 
 use std::process::ExitCode;
