@@ -1,4 +1,7 @@
 //! Participants, commands and answers over the path of three: nodes 1, 2 and 3 in a row (`labs::PATH_OF_THREE`).
+//!
+//! A move by a rule, such as Seduction, is chosen when it is granted. A close is an event that applies all chosen
+//! moves, and makes the next configuration.
 ghost use Rattle.std.specs.Prelude.{◌≡◌, true};
 ghost use Rattle.mml_policy.specs.Acts.{is_act};
 

@@ -1,4 +1,8 @@
-//! How a house (one run of a lab) has ended, in a form that tests can compare.
+//! How a house has ended, in a form that tests can compare.
+//!
+//! A house is one run of a lab that threads share. Its log is its result: the list of events, the board after them, and
+//! the journal's sink. There is no log if the windows of its sessions don't have exactly one place for each event
+//! (`Astray`).
 use mml_journal::{MemorySink, Sink};
 use mml_window::{Astray, Log};
 
@@ -16,7 +20,7 @@ pub enum Ending {
     Astray(Astray),
 }
 
-/// Returns how a house has ended, by the result of ending it: the counts of its log, or its `Astray`.
+/// Returns how a house has ended, by `end`, the result of ending it: the counts of its log, or its `Astray`.
 pub fn ending_of<S: Sink>(end: &Result<Log<S>, Astray>) -> Ending {
     match end {
         Ok(log) => Ending::Log {

@@ -1,6 +1,7 @@
 //! Pseudo-random numbers for tests.
 
-/// Pseudo-random numbers: the same first state leads to the same numbers each time.
+/// Pseudo-random numbers of a linear congruential generator: the same first `state` leads to the same numbers each
+/// time.
 #[derive(Drop)]
 pub struct Numbers {
     pub state: u64,

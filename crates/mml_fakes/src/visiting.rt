@@ -1,7 +1,9 @@
-//! Opening a house (one run of a lab), using it through two windows, and ending it.
+//! Opening a house, using it through two windows, and ending it.
 //!
-//! A window is one session's view of the published events. The path of three is the lab of nodes 1, 2 and 3 in a row
-//! (`labs::PATH_OF_THREE`). A sink is the destination of the journal's bytes. A put is a write to the sink.
+//! A house is one run of a lab that threads share. A window is one session's view of the published events. At the desk
+//! of a house sessions ask for events. The type `H` is the name of a house, and only contracts use it. The path of
+//! three is the lab of nodes 1, 2 and 3 in a row (`labs::PATH_OF_THREE`). A sink is the destination of the journal's
+//! bytes, and is fresh if it has none yet. A put is a write to the sink.
 ghost use Rattle.std.specs.Prelude.{◌≡◌, ◌-◌, ◌^◌, ◌<◌, ◌≤◌, length};
 ghost use Rattle.mml_journal.specs.Taken.{IsFresh};
 ghost use Rattle.mml_window.specs.Houses.{house_of};
@@ -37,7 +39,7 @@ pub trait Visit<S: Sink> {
     fn visit<H: House, R: Wait>(self, pair: &mut Pair<'_, S, H, R>) -> Self::Outcome;
 }
 
-/// Makes a visit through the last two of these windows, and returns its result. The last window is the visit's first
+/// Makes a visit through the last two of these `windows`, and returns its result. The last window is the visit's first
 /// window, and the one before it is the second. Afterwards puts the first window back, and then the second, so that
 /// they have swapped their positions in the list. Returns `None` if memory runs out before both are put back. Also
 /// returns `None` if there are fewer than two windows; then none is left.

@@ -1,7 +1,8 @@
 //! A window of a house together with its desk.
 //!
-//! A house is one run of a lab that threads share. A window is one session's view of the published events, and at the
-//! desk sessions ask for events. A gate is a point at which tests can stop a session.
+//! A house is one run of a lab that threads share. A window is one session's view of the published events. At the desk
+//! sessions ask for events, and an act is a request for one. The type `H` is the name of a house, and only contracts
+//! use it. A gate is a point at which tests can stop a session.
 ghost use Rattle.std.specs.Prelude.{◌≡◌, true};
 ghost use Rattle.mml_policy.specs.Acts.{is_act};
 
@@ -15,7 +16,7 @@ use mml_window::{Answer, Desk, House, Window};
 use std::alloc::Global;
 use std::sync::Wait;
 
-/// A window of a house (one run of a lab), and what is needed to ask for acts through it.
+/// A window of a house, and what is needed to ask for acts through it.
 #[derive(Drop)]
 pub struct WindowAtDesk<'a, S: Sink, H: House, R: Wait> {
     pub rt: &'a R,
