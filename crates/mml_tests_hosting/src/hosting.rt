@@ -1,5 +1,7 @@
-//! Tests of a house (one run of a lab) that serves one connection after another at two ports: the desk's and the
-//! students'. The teacher's bye at the desk ends the house.
+//! Tests of a house that serves one connection after another at two ports: the desk's and the students'. The teacher's
+//! bye at the desk ends the house.
+//!
+//! A house is one run of a lab that threads share. A close is an event that applies all chosen moves.
 use crate::texts::{Count, Left, TextClass, Texts, Timed, cycle_of_six, sent_to};
 use mml_fakes::lines;
 use mml_fakes::scripts::{CLOSED_JOURNAL, NOTHING_CLOSED, ONE_CLOSED, TESS_CLOSES};
@@ -124,7 +126,8 @@ fn host_in_memory<'a, R: Threads + Wait + Sync>(
     )
 }
 
-/// Returns whether the connection of each of these talks got exactly the replies that it should.
+/// Returns whether the connection of each of these talks got exactly the replies that it should. `left` is the result
+/// of the house.
 fn are_answered(left: &Left, talks: &[Talk]) -> bool {
     let mut number = 0u64;
     for (_, _, replies) in talks {

@@ -1,6 +1,8 @@
 //! Tests of classes that are resumed from a journal, or refused.
 //!
-//! The host has two ports: the desk, which is the teacher's, and the students' port.
+//! The host has two ports: the desk, which is the teacher's, and the students' port. A sink is the destination of the
+//! journal's bytes, and a store returns the sink that appends to an old journal. Each function that returns a `Fail`
+//! does so if memory runs out.
 ghost use Rattle.std.specs.Prelude.{◌≡◌, ◌<◌, ◌-◌, ◌^◌, IfSome};
 
 use crate::texts::{Count, Left, TextClass, Texts, Timed, cycle_of_six, sent_to};
@@ -63,7 +65,8 @@ const LONG: &str = "1 0 grant ana 1 seduction
 struct Shelf(Global);
 
 impl Store<MemorySink> for Shelf {
-    // Returns a new sink in memory that has the bytes `whole`. Returns `None` if memory runs out.
+    // Returns a new sink in memory that has the bytes `whole`, which are the whole lines of the old journal. Returns
+    // `None` if memory runs out.
     fn shorten_to(self, whole: &[u8]) -> Option<MemorySink>
         ensures holds { IfSome result (λ sink. sink.bytes ≡ whole.now) }
         ensures countable { IfSome result (λ sink. sink.failures < 2 ^ 64 - 1) }
@@ -174,8 +177,8 @@ fn a_class_goes_on_where_its_journal_stopped(rt: HostRuntime) -> Result<(), Fail
     Ok(())
 }
 
-/// Returns whether a class that should be resumed from the journal `old`, with this limit of events, is refused for the
-/// reason `wanted`, and prints nothing.
+/// Returns whether a class is refused that should be resumed from the journal `old`, with this limit of `events`. The
+/// reason must be `wanted`, and nothing may be printed.
 fn is_refused<R: Threads + Wait + Sync>(
     rt: &R,
     alloc: Global,

@@ -1,4 +1,7 @@
 //! Connections in memory, which send given texts when given numbers of sessions have ended.
+//!
+//! A house is one run of a lab that threads share. It serves connections at two ports: the desk, which is the
+//! teacher's, and the students' port. Its bell is rung when a session ends.
 ghost use Rattle.std.specs.Prelude.{Some};
 ghost use Rattle.std.specs.Vec.Iter.{into_iter_items};
 ghost use Rattle.mml_hosting.specs.Bringing.{Brings};
@@ -37,7 +40,7 @@ impl Count {
 }
 
 impl Bell for Count {
-    // Counts one more ring, whether or not the class is over.
+    // Counts one more ring. The parameter, which says whether the class is over, isn't needed here.
     fn ring(&self, _is_dismissed: bool) {
         self.0.fetch_add(1, Ordering::SeqCst);
     }
@@ -145,8 +148,8 @@ fn ends_of(alloc: Global, timed: &Timed<'_>) -> Result<TextEnds, AllocError> {
 impl<'a> Accept<VecDeque<u8>, NumberedWriter, Nothing> for Texts<'a> {
     ghost to_come = { λ t. Some (into_iter_items t.coming) };
 
-    // Waits until as many sessions have ended as the next connection needs (or gives up after many checks), and returns
-    // that connection. Returns `Over` if no connection is left.
+    // Returns the next connection, when as many sessions have ended as it needs, or when `wait_for` has given up.
+    // Returns `Over` if no connection is left.
     fn accept_next(&mut self) -> Accepted<VecDeque<u8>, NumberedWriter, Nothing>
         ensures { Brings (Some (into_iter_items self.old.coming))
             (Some (into_iter_items self.new.coming)) result }
@@ -161,13 +164,15 @@ impl<'a> Accept<VecDeque<u8>, NumberedWriter, Nothing> for Texts<'a> {
     }
 }
 
-/// Returns a lab of six nodes in a cycle, with at most `events` events and three sessions.
+/// Returns a lab of six nodes in a cycle, with at most `events` events and three sessions. Returns an error if memory
+/// runs out.
 pub fn cycle_of_six(alloc: Global, events: u64) -> Result<Lab, Fail> {
     let text = cycle(alloc, 6, events, 3)?;
     Ok(read_lab(alloc, text.as_bytes())?)
 }
 
-/// The types of a class over connections in memory, with a journal in memory and no record. The type has no values.
+/// The types of a class over connections in memory, with a journal in memory and no record. No value of this type is
+/// made.
 pub struct TextClass<'a, R>(PhantomData<&'a R>);
 
 impl<'a, R: Threads + Wait + Sync> SessionTypes for TextClass<'a, R> {
@@ -197,7 +202,8 @@ impl<'a, R: Threads + Wait + Sync> ClassTypes for TextClass<'a, R> {
 /// The result of a house over connections in memory, with a journal in memory and no record.
 pub type Left = Hosted<MemorySink, ServedSession<VecDeque<u8>, NumberedWriter>, NoObserver>;
 
-/// Returns the bytes that were sent to the connection with this number, or `None` if the connection wasn't served.
+/// Returns the bytes that the house sent to the connection with this number, or `None` if the connection wasn't served.
+/// `left` is the result of the house.
 pub fn sent_to(left: &Left, number: u64) -> Option<&[u8]> {
     for record in left.at_desk.iter().chain(left.others.iter()) {
         for session in record.sessions.iter() {

@@ -1,8 +1,9 @@
 //! Tests that ask for the acts of a stored run through a window, while one request for memory after another is refused.
 //!
-//! The stored run has ten acts, over the path of three: nodes 1, 2 and 3 in a row. A visit is what a test does through
-//! two windows of a house. The parameter `is_there` of a function says whether the library that refuses requests is
-//! loaded. An act is a request for an event.
+//! An act is a request for an event. The place of an event is its number in the list of events, from 1. The stored run
+//! has ten acts, over the path of three: nodes 1, 2 and 3 in a row. A house is one run of a lab that threads share. A
+//! visit is what a test does through two windows of a house. The type `H` is the name of a house, and only contracts
+//! use it. The parameter `is_there` of a function says whether the library that refuses requests is loaded.
 use super::MOST;
 use super::library::{is_there, refuse, was_none_refused};
 use mml_fakes::ten_acts::{ACTS, act, asker, number_before};
@@ -13,9 +14,8 @@ use std::alloc::Global;
 use std::sync::Wait;
 use std::test::Fail;
 
-/// Returns `true` if an answer grants an act at this place. Returns `false` if the answer is that memory ran out, and
-/// `was_none` is `false`, which means that a request for memory was indeed refused. Returns `None` for any other
-/// answer.
+/// Returns `true` if an answer grants an act at this place. Returns `false` if the answer is that memory ran out, and a
+/// request for memory was indeed refused (`was_none` is `false`). Returns `None` for any other answer.
 fn granted_or_refused(answer: &Answer, place: u64, was_none: bool) -> Option<bool> {
     match answer {
         Answer::Granted { place: granted, .. } => (*granted == place).then_some(true),
@@ -26,7 +26,7 @@ fn granted_or_refused(answer: &Answer, place: u64, was_none: bool) -> Option<boo
 
 /// Asks for the act of the stored run at this place, while the nth request for memory is refused. Returns `true` if the
 /// act was granted. Returns `false` if it was refused for memory, and the window's configuration is as before. Returns
-/// `None` in any other case. `is_there` says whether the library that refuses requests is loaded.
+/// `None` in any other case.
 fn ask_with_refusal<H: House, R: Wait>(
     at_desk: &mut WindowAtDesk<'_, NullSink, H, R>,
     place: u64,

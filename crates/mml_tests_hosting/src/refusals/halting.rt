@@ -1,7 +1,8 @@
 //! Tests of a grant over a sink in memory, while one request for memory after another is refused. If the sink itself
 //! runs out of memory, the journal is halted; otherwise the hall stays as it was.
 //!
-//! A hall is the server of one thread. The parameter `is_there` of a function says whether the library that refuses
+//! A hall is the server of one thread. A sink is the destination of the journal's bytes. The journal is halted if a
+//! line couldn't be written to it. The parameter `is_there` of a function says whether the library that refuses
 //! requests is loaded.
 use super::MOST;
 use super::library::{is_there, refuse, was_none_refused};
@@ -16,8 +17,8 @@ use std::alloc::Global;
 use std::test::Fail;
 
 /// Answers a request of connection 1, while the nth request for memory is refused (none for 0). Returns the reply line,
-/// and whether no request for memory was refused. Returns `None` if the lab has no session, or the line can't be
-/// written. `is_there` says whether the library that refuses requests is loaded.
+/// and whether no request for memory was refused. Returns `None` if the lab has no session, which `Hall::answer`
+/// requires, or the line can't be written.
 fn answer_with_refusal(
     alloc: Global,
     hall: &mut Hall<MemorySink>,
@@ -88,7 +89,7 @@ fn stays_halted(alloc: Global, hall: &mut Hall<MemorySink>, is_there: bool) -> b
 
 /// Says hello as ana and moves node 1, while the nth request for memory of the move is refused. Returns the outcome,
 /// and whether no request was refused. Returns `None` if the reply or the hall is wrong, or a halted hall doesn't stay
-/// halted. `is_there` says whether the library that refuses requests is loaded.
+/// halted.
 fn grant_in(
     alloc: Global,
     hall: &mut Hall<MemorySink>,

@@ -1,7 +1,8 @@
 //! Tests that replies are written into memory that was reserved before, while each request for memory is refused. The
 //! lab has 256 nodes in a row.
 //!
-//! A hall is the server of one thread, which answers scripts.
+//! A hall is the server of one thread, which answers scripts. Each function that returns a `Fail` or an `AllocError`
+//! does so if memory runs out.
 use super::library::{is_there, refuse, refuse_all};
 use mml_codec::{REPLY_ROOM, write_reply};
 use mml_fakes::line;
@@ -81,8 +82,9 @@ const AFTER: &[(u8, &str, &str)] = &[
     (1, line!(bye), line!(left)),
 ];
 
-/// Answers a connection's request, and writes the reply line into `out`, while each request for memory is refused.
-/// Returns `Memory` if the line needs more memory than `out` has, or the lab has no such connection.
+/// Answers a connection's request. Then writes the reply line into `out`, in place of what it had, while each request
+/// for memory is refused. Returns `Memory` if the line needs more memory than `out` has, or the lab has no such
+/// connection.
 fn answer_without_memory(
     alloc: Global,
     hall: &mut Hall<NullSink>,

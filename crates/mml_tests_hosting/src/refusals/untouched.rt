@@ -1,8 +1,11 @@
 //! Tests of calls that request no memory: views, and acts that are denied, exceed the limit of events, or come when the
 //! journal is halted.
 //!
-//! The stored run has ten acts, over the path of three: nodes 1, 2 and 3 in a row. A visit is what a test does through
-//! two windows of a house. An act is a request for an event. A view is what a see, a look or a report shows.
+//! An act is a request for an event. A view is what a see, a look or a report shows. The place of an event is its
+//! number in the list of events, from 1. The stored run has ten acts, over the path of three: nodes 1, 2 and 3 in a
+//! row. A house is one run of a lab that threads share. A visit is what a test does through two windows of a house. The
+//! type `H` is the name of a house, and only contracts use it. The library counts requests for memory. If it isn't
+//! loaded (`is_there` is `false`), only answers are checked.
 use super::library::{is_there, refuse, was_none_made};
 use mml_fakes::labs::PATH_OF_THREE;
 use mml_fakes::ten_acts::{act, asker};
@@ -15,8 +18,7 @@ use std::sync::Wait;
 use std::test::Fail;
 
 /// Asks through the window for the act of the stored run at this place. Returns whether it is refused as `wanted` (or
-/// denied, if `wanted` is `None`), and no memory was requested for it. Without the library (`is_there` is `false`)
-/// requests can't be counted, and only the answer is checked.
+/// denied, if `wanted` is `None`), and no memory was requested for it.
 fn takes_none<H: House, R: Wait>(
     at_desk: &mut WindowAtDesk<'_, MemorySink, H, R>,
     place: u64,
@@ -34,7 +36,7 @@ fn takes_none<H: House, R: Wait>(
 }
 
 /// Returns whether the window shows configuration 0, and a see of node 2 to the teacher, and no memory was requested
-/// for that. Without the library (`is_there` is `false`) requests can't be counted, and only the views are checked.
+/// for that.
 fn views_take_none<H: House, R: Wait>(
     at_desk: &mut WindowAtDesk<'_, MemorySink, H, R>,
     is_there: bool,
