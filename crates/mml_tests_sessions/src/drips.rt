@@ -1,7 +1,9 @@
 //! Tests of a house over a sink that stores one byte in each put, and fails after each possible number of bytes.
 //!
-//! The ten acts are those of a stored run over the path of three: nodes 1, 2 and 3 in a row. A visit is what a test
-//! does through two windows of a house. An act is a request for an event. A put is a write to the sink.
+//! An act is a request for an event. The place of an event is its number in the list of events, from 1. The ten acts
+//! are those of a stored run over the path of three: nodes 1, 2 and 3 in a row. A house is one run of a lab that
+//! threads share. A visit is what a test does through two windows of a house. The type `H` is the name of a house, and
+//! only contracts use it. A sink is the destination of the journal's bytes, and a put is a write to it.
 use mml_fakes::scripts::{TEN_LINES, ended_lines};
 use mml_fakes::ten_acts::{ACTS, act, asker, number_before};
 use mml_fakes::{Drip, Ending, Pair, Visit, WindowAtDesk, ending_of, visit_path};
@@ -29,6 +31,7 @@ fn answers_ten_acts<H: House, R: Wait>(
 ) -> bool {
     for place in 1..=ACTS {
         let answer = at_desk.ask(asker(place), &act(place));
+        // The configuration after this act is the one before the next, as long as acts are granted.
         let number = number_before(last.min(place.saturating_add(1)));
         if !is_right_answer(&answer, place, last) || at_desk.window.number() != Ok(number) {
             return false;

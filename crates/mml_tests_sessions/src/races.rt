@@ -1,7 +1,9 @@
 //! Tests of sessions in threads of their own, which wait for each other at lines and replies. The sessions read byte by
 //! byte, so that each reply is written before the next line is read.
 //!
-//! A house is one run of a lab that threads share.
+//! A house is one run of a lab that threads share. A gate is a point at which tests can stop a session. A close is an
+//! event that applies all chosen moves. A sink is the destination of the journal's bytes, and is fresh if it has none
+//! yet.
 mod bytewise;
 mod locked;
 mod steps;
@@ -45,7 +47,8 @@ fn arrivals_of<'a>(alloc: Global, scripts: &[&'a str]) -> Result<IntoIter<Ends<'
     Ok(coming.into_iter())
 }
 
-/// Returns the lab file of the path of three with sixteen sessions, in which ben and ana own node 2.
+/// Returns the lab file of the path of three with sixteen sessions, in which ben and ana own node 2. Returns an error
+/// if memory runs out.
 fn document_of_sixteen(alloc: Global) -> Result<String, AllocError> {
     let file = PATH_OF_THREE.replacen(alloc, "sessions = 4", "sessions = 16", 1)?;
     file.replacen(alloc, "owner = \"ben\"", "owners = [\"ben\", \"ana\"]", 1)

@@ -1,5 +1,7 @@
 //! A test of connections over sockets of this machine, which are numbered as they come: a gate sees their numbers. The
 //! clients connect and send before the server accepts, so the system buffers what they send and get.
+//!
+//! A gate is a point at which tests can stop a session.
 use mml_fakes::labs::PATH_OF_THREE;
 use mml_fakes::lines;
 use mml_fakes::meeting::wait_for;

@@ -1,7 +1,8 @@
 //! Tests of one session: how it ends if its reader or its writer fails, and which events have happened then.
 //!
-//! A visit is what a test does through two windows of a house. The path of three is the lab of nodes 1, 2 and 3 in a
-//! row.
+//! A house is one run of a lab that threads share. A visit is what a test does through two windows of a house. The type
+//! `H` is the name of a house, and only contracts use it. The path of three is the lab of nodes 1, 2 and 3 in a row. A
+//! close is an event that applies all chosen moves.
 use mml_fakes::scripts::{ANA_GRANTED, ANA_MOVES, ANA_WELCOME};
 use mml_fakes::{
     Ending, FakeReader, FakeWriter, Pair, Visit, ending_of, is_first_close, line, lines, visit_path,
@@ -239,6 +240,7 @@ fn writes_at<R: Wait>(rt: &R, alloc: Global, step: usize) -> Result<Option<usize
     let reader = ana_moving(step);
     let (served, is_ended) = serve(rt, alloc, reader, FakeWriter::patient(alloc))?;
     let is_well = is_ended && served.writer.taken.as_slice() == ANA_GRANTED.as_bytes();
+    // A patient writer starts with `usize::MAX` writes that will succeed.
     Ok(is_well.then_some(usize::MAX - served.writer.good))
 }
 

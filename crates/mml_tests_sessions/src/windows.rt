@@ -1,7 +1,9 @@
-//! Tests of the windows of one house (one run of a lab) in one thread, also if some are missing at its end.
+//! Tests of the windows of one house in one thread, also if some are missing at its end.
 //!
-//! A visit is what a test does through two windows of a house. The place of an event is its number in the list of
-//! events, from 1. A sink is the destination of the journal's bytes.
+//! A house is one run of a lab that threads share. A window is one session's view of the published events. A visit is
+//! what a test does through two windows of a house. The type `H` is the name of a house, and only contracts use it. The
+//! book of a house has its events and their journal, and the desk is the book with its lock. The place of an event is
+//! its number in the list of events, from 1. A sink is the destination of the journal's bytes.
 ghost use Rattle.std.specs.Prelude.{◌≡◌, length};
 ghost use Rattle.mml_window.specs.Houses.{house_of};
 
@@ -229,8 +231,8 @@ fn refuses_the_second<H: House, R: Wait>(
 }
 
 /// Takes the book out of a house whose sink fails at its second line. Returns the result of `refuses_the_second` for
-/// it, and how the house has ended. No event was granted through the windows of this house. Returns `Memory` if memory
-/// runs out.
+/// it, and how the house has ended. Through the windows of this house no event was granted, so they have no places.
+/// Returns `Memory` if memory runs out.
 fn decides_alone<H: House, R: Wait>(
     rt: &R,
     alloc: Global,
@@ -244,8 +246,8 @@ fn decides_alone<H: House, R: Wait>(
     Ok((holds, ending_of(&book.finish_from(rt, windows, 0))))
 }
 
-/// Checks that a book decides rightly without its lock. A book is the granted events and their journal. Also checks
-/// that a house doesn't leave a log if no window has the place of its event.
+/// Checks that a book decides rightly without its lock. Also checks that a house doesn't leave a log if no window has
+/// the place of its event.
 #[test]
 fn a_book_decides_alone(rt: HostRuntime) -> Result<(), Fail> {
     let blank = open_path(&rt, rt.alloc(), Some(2))?;

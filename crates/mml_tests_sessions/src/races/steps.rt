@@ -1,5 +1,7 @@
 //! A gate that counts each session's steps, and makes sessions wait for each other. The steps are the first line, the
 //! first reply, the second line, and so on.
+//!
+//! A gate is called when a session has read a line, and when it has written the reply.
 use mml_fakes::meeting::wait_for;
 use mml_session::{Gate, Point};
 use std::alloc::{AllocError, Global};
