@@ -1,4 +1,7 @@
 //! Lab files that several tests share, and labs and boards that are read from them.
+//!
+//! A lab file describes a class: its network, its participants and its limits. A board is the state of a run after some
+//! events.
 use mml_board::Board;
 use mml_lab::{Lab, MAX_EVENTS, MAX_SESSIONS};
 use mml_lab_file::read_lab;

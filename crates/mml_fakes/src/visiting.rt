@@ -64,8 +64,8 @@ pub fn visit_windows<V: Visit<S> + Drop, S: Sink + Drop, H: House, R: Wait>(
 /// granted events was missing.
 pub type Visited<T, S> = (Option<T>, Result<Log<S>, Astray>);
 
-/// Starts the opened house `blank`, makes a visit through two of its windows, and ends the house. Returns the result of
-/// the visit, and how the house has ended. Returns an error if memory runs out at the start.
+/// Starts the opened house `blank`, whose name is `H`, makes a visit through two of its windows, and ends the house.
+/// Returns the result of the visit, and how the house has ended. Returns an error if memory runs out at the start.
 pub fn visit_house<V: Visit<S> + Drop, S: Sink + Drop, H: House, R: Wait>(
     rt: &R,
     alloc: Global,

@@ -144,6 +144,7 @@ fn serve_watched<R: System + Files<File = File>, L: Look + Sync>(
     thread::scope(
         thread::scope_env(),
         rt,
+        // The closure states what its proof needs: that threads may share `R` and `L`.
         |scope| -> Result<(), Fault>
             requires { IsSync R.row × IsSync L.row }
         {
@@ -240,6 +241,8 @@ fn serve_synced<R: System + Files<File = File>, C: Observer + Send + Drop>(
     thread::scope(
         thread::scope_env(),
         rt,
+        // The closure states what its proof needs: that threads may share `R`, and a thread may be given a `C`, and how
+        // many observers there are.
         |scope| -> Result<(), Fault>
             requires { IsSync R.row × IsSend C.row × (length observers.others.items + 1 ≡ class) }
         {

@@ -1,4 +1,8 @@
 //! Errors that end the program early: one line on standard error and a status.
+//!
+//! The journal of a class has a line for each granted event, and is halted if a line couldn't be written to it. The
+//! record of a class has the lines of its connections and the replies. The place of an event is its number in the list
+//! of events, from 1.
 ghost use Rattle.std.specs.Prelude.{◌≡◌};
 ghost use Rattle.mml_program.specs.Faults.{of_journal_file};
 ghost use Rattle.mml_host_program.specs.Faults.{exit_status, of_record};
@@ -53,8 +57,9 @@ pub enum Fault {
 
 impl Fault {
     /// Returns the exit status of the error: 2 if the lab is another one; 3 if the record is refused; 4 if the record
-    /// can't be read, a port or the record failed, or the places don't fit the events; 5 if a window, files or threads
-    /// are missing. An error of `mml_program` has the same status as there.
+    /// can't be read, a port or the record failed, or the places that were given don't fit the events; 5 if the desk
+    /// has no window, or the system allows too few files or threads. An error of `mml_program` has the same status as
+    /// there.
     pub fn status(&self) -> u8
         ensures { result ≡ exit_status self.now }
     {

@@ -1,4 +1,6 @@
 //! The parts of the system that serving a class needs.
+//!
+//! A trait bundles them, so that functions have one bound in place of eight.
 use std::net::{Net, TcpListener, TcpStream};
 use std::sync::Wait;
 use std::thread::Threads;

@@ -1,7 +1,8 @@
 //! Tests of a house that serves one connection after another at two ports: the desk's and the students'. The teacher's
 //! bye at the desk ends the house.
 //!
-//! A house is one run of a lab that threads share. A close is an event that applies all chosen moves.
+//! A house is one run of a lab that threads share. A close is an event that applies all chosen moves. An assertion
+//! inside a loop would need a loop invariant, so loops are in functions whose result a test asserts.
 use crate::texts::{Count, Left, TextClass, Texts, Timed, cycle_of_six, sent_to};
 use mml_fakes::lines;
 use mml_fakes::scripts::{CLOSED_JOURNAL, NOTHING_CLOSED, ONE_CLOSED, TESS_CLOSES};

@@ -3,7 +3,7 @@
 //!
 //! A house is one run of a lab that threads share. A gate is a point at which tests can stop a session. A close is an
 //! event that applies all chosen moves. A sink is the destination of the journal's bytes, and is fresh if it has none
-//! yet.
+//! yet. An assertion inside a loop would need a loop invariant, so loops are in functions whose result a test asserts.
 mod bytewise;
 mod locked;
 mod steps;

@@ -109,8 +109,9 @@ struct HouseResult {
     has_journal: bool,
 }
 
-/// Starts a house, asks for a move and a close in it, and ends it. If `with_all` is set, ends it with all its windows,
-/// and otherwise without the last one, through which ana moved. Returns the result, or `Memory` if memory runs out.
+/// Starts the house `blank`, whose name is `H`, asks for a move and a close in it, and ends it. If `with_all` is set,
+/// ends it with all its windows, and otherwise without the last one, through which ana moved. Returns the result, or
+/// `Memory` if memory runs out.
 fn in_house<H: House, R: Wait>(
     rt: &R,
     alloc: Global,
@@ -183,8 +184,9 @@ fn is_closed<H: House>(alloc: Global, window: &mut Window<H>) -> bool {
         && matches!(report, Err(SightFault::Closed))
 }
 
-/// Ends a house without one of its windows, which was never used. Returns whether that window is closed then (`None` if
-/// there was no window), and how the house has ended. Returns `Memory` if memory runs out.
+/// Starts the house `blank`, whose name is `H`, and ends it without one of its windows, which was never used. Returns
+/// whether that window is closed then (`None` if there was no window), and how the house has ended. Returns `Memory` if
+/// memory runs out.
 fn is_closed_after<H: House, R: Wait>(
     rt: &R,
     alloc: Global,
@@ -230,9 +232,9 @@ fn refuses_the_second<H: House, R: Wait>(
         && book.events().len() == 1
 }
 
-/// Takes the book out of a house whose sink fails at its second line. Returns the result of `refuses_the_second` for
-/// it, and how the house has ended. Through the windows of this house no event was granted, so they have no places.
-/// Returns `Memory` if memory runs out.
+/// Starts the house `blank`, whose name is `H` and whose sink fails at its second line, and takes the book out of it.
+/// Returns the result of `refuses_the_second` for the book, and how the house has ended. Through the windows of this
+/// house no event was granted, so they have no places. Returns `Memory` if memory runs out.
 fn decides_alone<H: House, R: Wait>(
     rt: &R,
     alloc: Global,

@@ -3,7 +3,8 @@
 //! An act is a request for an event. The place of an event is its number in the list of events, from 1. The stored run
 //! has ten acts, over the path of three: nodes 1, 2 and 3 in a row. A house is one run of a lab that threads share. A
 //! visit is what a test does through two windows of a house. The type `H` is the name of a house, and only contracts
-//! use it. The parameter `is_there` of a function says whether the library that refuses requests is loaded.
+//! use it. The parameter `is_there` of a function says whether the library that refuses requests is loaded. An
+//! assertion inside a loop would need a loop invariant, so loops are in functions whose result a test asserts.
 use super::MOST;
 use super::library::{is_there, refuse, was_none_refused};
 use mml_fakes::ten_acts::{ACTS, act, asker, number_before};

@@ -3,7 +3,8 @@
 //!
 //! A hall is the server of one thread. A sink is the destination of the journal's bytes. The journal is halted if a
 //! line couldn't be written to it. The parameter `is_there` of a function says whether the library that refuses
-//! requests is loaded.
+//! requests is loaded. An assertion inside a loop would need a loop invariant, so loops are in functions whose result a
+//! test asserts.
 use super::MOST;
 use super::library::{is_there, refuse, was_none_refused};
 use mml_codec::{JOURNAL_LINE, MEMORY_LINE, write_reply};

@@ -2,7 +2,8 @@
 //! lab has 256 nodes in a row.
 //!
 //! A hall is the server of one thread, which answers scripts. Each function that returns a `Fail` or an `AllocError`
-//! does so if memory runs out.
+//! does so if memory runs out. An assertion inside a loop would need a loop invariant, so loops are in functions whose
+//! result a test asserts.
 use super::library::{is_there, refuse, refuse_all};
 use mml_codec::{REPLY_ROOM, write_reply};
 use mml_fakes::line;

@@ -1,6 +1,7 @@
 //! Tests of what `check`, `audit` and `script` write, over writers that fail after given numbers of writes or flushes.
 //!
-//! The path of three is the lab of nodes 1, 2 and 3 in a row.
+//! The path of three is the lab of nodes 1, 2 and 3 in a row. An assertion inside a loop would need a loop invariant,
+//! so loops are in functions whose result a test asserts.
 use mml_fakes::labs::{PATH_OF_THREE, boxed_lab};
 use mml_fakes::scripts::{FIRST_LOOK, FIRST_LOOK_REPLIES, TEN_LINES};
 use mml_fakes::{FakeWriter, lines};

@@ -1,4 +1,6 @@
 //! Tests of the command line's words, of reading whole files, and of beginning a journal's file.
+//!
+//! A journal has a line for each granted event of a run, and a sink is the destination of its bytes.
 use mml_ends::hold_streams;
 use mml_fakes::scripts::ANA_JOURNAL;
 use mml_files::OpenJournal;

@@ -1,4 +1,6 @@
 //! Tests of reading the command line.
+//!
+//! An assertion inside a loop would need a loop invariant, so loops are in functions whose result a test asserts.
 use mml_program::read_words;
 use std::alloc::Global;
 use std::test::Fail;

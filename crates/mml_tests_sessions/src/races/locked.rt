@@ -1,6 +1,8 @@
 //! A test of a slow put. The put holds the lock until another session waits for the lock, and a third one was answered.
 //!
-//! An act is a request for an event. A view is what a see, a look or a report shows. A put is a write to the sink.
+//! An act is a request for an event. A view is what a see, a look or a report shows. A put is a write to the sink,
+//! which is the destination of the journal's bytes. The lock is that of the list of events: an act takes it, and a view
+//! doesn't.
 use super::steps::{Hold, Holds, Steps};
 use super::{ANA_GRANTED, ANA_MOVES, are_answered, serve};
 use mml_fakes::lines;
