@@ -2,7 +2,8 @@
 //!
 //! A seat is a part of the server that serves one connection after another. A guest is a connection that is served in a
 //! seat. A stranger is a guest whose hello wasn't granted and who isn't leaving; at the desk only the teacher's hello
-//! counts. The partings of a port are the connections that have left their seats and aren't closed yet.
+//! counts. The partings of a port are the connections that have left their seats and aren't closed yet. A parameter
+//! `guests` is the list of guests, which the caller has locked.
 ghost use Rattle.std.specs.Prelude.{◌<◌, IfSome, vec_len};
 
 use crate::end_reason::EndReason;

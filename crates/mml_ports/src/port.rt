@@ -321,8 +321,9 @@ impl<'a, Rt: Clock + Wait + Eprint> Port<'a, Rt> {
 
     // Prepares the next accept after one that failed with this kind of error. If memory ran out, notes that. If the
     // system refused the accept, frees descriptors: closes connections that were sent everything, and turns the first
-    // newcomer away. Then waits for at most a tenth of a second until a session ends. `ended` is how many had ended
-    // before the accept. Doesn't wait if a signal or the other side broke off the accept.
+    // newcomer away. Then waits until a session ends, but at most for a tenth of a second, or for 5 milliseconds if the
+    // port `is_hurried`. `ended` is how many sessions had ended before the accept. Doesn't wait if a signal or the
+    // other side broke off the accept.
     fn put_off(&mut self, kind: ErrorKind, ended: u64) {
         match kind {
             ErrorKind::OutOfMemory => self.state.note_memory(self.rt),

@@ -1,7 +1,7 @@
 //! A connection's socket: one descriptor, which the connection's reader, its writer and its cut-off share.
 //!
-//! The host has two ports: the desk, which is the teacher's, and the students' port. A seat serves one connection after
-//! another.
+//! A cut-off is the means by which another thread ends the connection. The host has two ports: the desk, which is the
+//! teacher's, and the students' port. A seat is a part of the server that serves one connection after another.
 use crate::end_reason::EndReason;
 use mml_codec::{Request, read_request};
 use std::alloc::Global;
@@ -124,8 +124,8 @@ impl SharedSocket {
     }
 
     /// Ends the connection from another thread than its own. `why` becomes the reason unless there is one already.
-    /// Nothing more is read, no reply begins to be written, and a write that is under way is broken off. Doesn't close
-    /// the connection: its own thread does that.
+    /// Nothing more is read, no reply begins to be written, and a write that is under way is broken off. If none is
+    /// under way, the writing side stays open, so that the connection's own thread can still send the reason.
     pub(crate) fn end_with<Rt: Wait>(&self, rt: &Rt, why: EndReason) {
         self.begin_end(rt, why);
         let how = if self.is_writing.load(Ordering::SeqCst) {

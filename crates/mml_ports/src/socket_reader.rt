@@ -1,6 +1,7 @@
 //! The reading end of a connection, which has a deadline for each line.
 //!
-//! The host has two ports: the desk, which is the teacher's, and the students' port.
+//! The host has two ports: the desk, which is the teacher's, and the students' port. The class is dismissed when the
+//! reply to the teacher's bye at the desk was sent.
 ghost use Rattle.std.specs.Prelude.{◌≤◌, length};
 ghost use Rattle.std.specs.Io.{ReadsAtMost};
 
@@ -177,7 +178,8 @@ impl<'a, Rt: Clock + Wait> SocketReader<'a, Rt> {
 impl<'a, Rt: Clock + Wait> Read for SocketReader<'a, Rt> {
     // Reads bytes before the deadline of the hello or of the line, and returns how many. If the deadline passes, keeps
     // `Late` as the reason of the end, and returns an error. Returns 0 if nothing more is to be read: the connection is
-    // being ended, too many of its hellos were denied, its first line was no JSON object, or the class is dismissed.
+    // being ended, too many of its hellos were denied, its first line doesn't begin like a JSON object, or the class is
+    // dismissed. Returns an error if the clock or the read fails.
     fn read(&mut self, buf: &mut [u8]) -> io::Result<usize> {
         let socket = &self.connection.socket;
         socket.is_served.store(true, Ordering::SeqCst);

@@ -27,8 +27,8 @@ impl<'a, Rt: Wait> SocketReplies<'a, Rt> {
         SocketReplies { connection }
     }
 
-    // Notes that the hello of `who` was granted. The connection is then no stranger any more, except at the desk, where
-    // only the teacher's hello counts.
+    // Notes that the hello of `who` was granted, and whether this is the teacher's connection at the desk. The
+    // connection is then no stranger any more, except at the desk, where only the teacher's hello counts.
     fn note_greeting(&self, who: Who) {
         let SharedConnection {
             rt,

@@ -3,7 +3,8 @@
 //! The turn of a denial is the time before which it isn't sent. A seat is a part of the server that serves one
 //! connection after another. The crowd of a port has the list of the connections that are served there, and its
 //! partings: those that have left their seats and aren't closed yet. A stranger is a connection on which no hello was
-//! granted; at the desk, the teacher's port, only the teacher's counts.
+//! granted; at the desk, the teacher's port, only the teacher's counts. The class is dismissed when the reply to the
+//! teacher's bye at the desk was sent.
 ghost use Rattle.std.specs.Prelude.{◌≡◌};
 ghost use Rattle.std.specs.Io.{WritesAtMost};
 
@@ -132,9 +133,9 @@ impl<'a, Rt: Clock + Wait + Eprint> SocketWriter<'a, Rt> {
         Ok(buf.len())
     }
 
-    // Writes bytes that end with the reply to the teacher's bye, which dismisses the class, and returns how many were
-    // sent. Holds the lock of `HostState::is_dismissed` meanwhile: a reader that has read something waits for this
-    // lock, to know whether the class is dismissed. Returns an error if the write fails.
+    // Writes bytes that end with the reply to the teacher's bye, and returns how many were sent. If all were, the class
+    // is dismissed. Holds the lock of `HostState::is_dismissed` meanwhile: a reader that has read something waits for
+    // this lock, to know whether the class is dismissed. Returns an error if the write fails.
     fn write_farewell(&mut self, buf: &[u8]) -> io::Result<usize>
         ensures { WritesAtMost result buf.now }
     {
