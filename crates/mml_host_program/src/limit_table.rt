@@ -1,6 +1,7 @@
 //! The table of the limits of a class, as lines for other programs.
 //!
 //! A seat's file has what a host records of the connections that one seat serves. An entry is a line with its reply.
+//! Each function that appends to `out` returns `Memory` if memory runs out.
 ghost use Rattle.std.specs.Prelude.{◌≡◌, ◌++◌, OnOk};
 ghost use Rattle.std.specs.Io.KnownBytes.{Appends};
 ghost use Rattle.mml_host_program.specs.Limits.{limit_line, network_limits, class_limits, text_limits, record_limits, deadlines, limits_text};
@@ -28,7 +29,8 @@ pub fn print_limits<R: Print + AllocGlobal>(rt: &R) -> Result<(), ProgramFault> 
     }
 }
 
-/// Writes the table of limits. Returns `Write` if the write fails, or `Memory` if memory runs out.
+/// Writes the table of limits, as `print_limits` describes it. Returns `Write` if the write fails, or `Memory` if
+/// memory runs out.
 pub fn write_limits<W: Write>(alloc: Global, writer: &mut W) -> Result<(), ProgramFault>
     ensures { OnOk result (Appends (W.contents writer.old) (W.contents writer.new) limits_text) }
 {
@@ -42,7 +44,7 @@ pub fn write_limits<W: Write>(alloc: Global, writer: &mut W) -> Result<(), Progr
     }
 }
 
-/// Appends the lines of all limits. Returns `Memory` if memory runs out, as the other functions of this file do.
+/// Appends the lines of all limits.
 fn put_limits(out: &mut Vec<u8>) -> Result<(), Memory>
     ensures { OnOk result (out.new.items ≡ out.old.items ++ limits_text) }
 {
