@@ -1,7 +1,8 @@
 //! Reading the words of the command line.
 //!
 //! Values are the words after a subcommand. The tasks that serve no connections are read by several small functions.
-//! The contract of each cites a definition of its own, which its proof unfolds.
+//! The contract of each cites a definition of its own, which its proof unfolds. The program for people is `mml_host`;
+//! the smaller `mml_server` has only the subcommands of `mml_program`.
 ghost use Rattle.std.specs.Prelude.{◌≡◌, MatchOption, option_map};
 ghost use Rattle.clap.specs.Matches.{found_of};
 ghost use Rattle.mml_journal.specs.Words.{seen};

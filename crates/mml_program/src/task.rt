@@ -2,7 +2,8 @@
 //!
 //! A lab describes a class: its network, its participants and its limits. The journal of a run has a line for each
 //! granted event, and a sink is the destination of its bytes. A sink is fresh if it has no bytes yet. The journal is
-//! halted if a line couldn't be written to it. A house is one run of a lab that threads share.
+//! halted if a line couldn't be written to it. A house is one run of a lab that threads share. A hall has the state of
+//! a run that answers a script.
 ghost use Rattle.std.specs.Prelude.{◌<◌, ◌≤◌, ◌-◌, ◌^◌, IfOk};
 ghost use Rattle.mml_journal.specs.Taken.{IsFresh};
 ghost use Rattle.mml_program.specs.Serving.{TellsServed};
@@ -29,7 +30,7 @@ use std::sync::Wait;
 use std::thread::Threads;
 use std::{env, io};
 
-/// Does what the command line asks for. Returns the error that ended the work, if one did.
+/// Prepares the process, and does what the command line asks for. Returns the error that ended the work, if one did.
 pub fn run<
     R: Env
         + Files<File = File>
