@@ -2,7 +2,8 @@
 //! bye at the desk ends the house.
 //!
 //! A house is one run of a lab that threads share. A close is an event that applies all chosen moves. An assertion
-//! inside a loop would need a loop invariant, so loops are in functions whose result a test asserts.
+//! inside a loop would need a loop invariant, so loops are in functions whose result a test asserts. A talk is one
+//! connection of a test: whether it comes to the desk's port, what it sends, and which replies it should get.
 use crate::texts::{Count, Left, TextClass, Texts, Timed, cycle_of_six, sent_to};
 use mml_fakes::lines;
 use mml_fakes::scripts::{CLOSED_JOURNAL, NOTHING_CLOSED, ONE_CLOSED, TESS_CLOSES};

@@ -54,7 +54,8 @@ fn document_of_sixteen(alloc: Global) -> Result<String, AllocError> {
     file.replacen(alloc, "owner = \"ben\"", "owners = [\"ben\", \"ana\"]", 1)
 }
 
-/// Returns the lab of the file `document_of_sixteen`: the path of three with sixteen sessions.
+/// Returns the lab of the file `document_of_sixteen`: the path of three with sixteen sessions. Returns an error if
+/// memory runs out.
 fn lab_of_sixteen(alloc: Global) -> Result<Lab, Fail> {
     let file = document_of_sixteen(alloc)?;
     Ok(read_lab(alloc, file.as_bytes())?)

@@ -53,7 +53,8 @@ fn client<R: Net<Listener = TcpListener, Stream = TcpStream>>(
 }
 
 /// Serves two connections of a listener over the path of three. The second one waits until the first has had two
-/// replies. Returns whether the server ended without an error, and wrote exactly `last`.
+/// replies. Returns whether the server ended without an error, and wrote exactly `last`. Returns `false` if the lab has
+/// fewer than two sessions, which `serve_on` requires.
 fn is_served<R: Threads + Wait + Sync>(
     rt: &R,
     alloc: Global,

@@ -57,7 +57,7 @@ impl<'a> Visit<MemorySink> for Session<'a> {
 
 /// Serves a session over the path of three, and then asks for the teacher's close. Returns the session's result, and
 /// whether the house ended rightly: with a move and its close if the close applied a move, and otherwise with no event.
-/// Returns an error if there were fewer than two windows, or one couldn't be put back.
+/// Returns an error if memory runs out, or there were fewer than two windows.
 fn serve<'a, R: Wait>(
     rt: &R,
     alloc: Global,
@@ -150,9 +150,9 @@ fn ana_moving(step: usize) -> FakeReader<'static> {
     reader
 }
 
-/// Serves `ANA_MOVES` with a writer that fails after `good` bytes. Returns whether exactly these bytes are written, and
-/// the session ends with `WriteFault`, or with `End` if these are all bytes. The move must stay granted: the close
-/// applies it even if its reply wasn't written.
+/// Serves `ANA_MOVES` with a writer that stores one byte in each write, and fails after `good` bytes. Returns whether
+/// exactly these bytes are written, and the session ends with `WriteFault`, or with `End` if these are all bytes. The
+/// move must stay granted: the close applies it even if its reply wasn't written.
 fn tells_a_write<R: Wait>(rt: &R, alloc: Global, good: usize) -> Result<bool, Fail> {
     let reader = ana_moving(usize::MAX);
     let mut writer = FakeWriter::failing_after(good, alloc);

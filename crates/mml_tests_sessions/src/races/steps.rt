@@ -1,7 +1,9 @@
 //! A gate that counts each session's steps, and makes sessions wait for each other. The steps are the first line, the
 //! first reply, the second line, and so on.
 //!
-//! A gate is called when a session has read a line, and when it has written the reply.
+//! A gate is called when a session has read a line, and when it has written the reply. A hold names a connection, one
+//! of its steps (from 0 on), another connection, and a number of steps. The first connection waits at that step until
+//! the other one has come to that many steps.
 use mml_fakes::meeting::wait_for;
 use mml_session::{Gate, Point};
 use std::alloc::{AllocError, Global};
@@ -105,8 +107,8 @@ impl<'a> Steps<'a> {
                 .all(|come| come.load(Ordering::SeqCst) == steps)
     }
 
-    /// Counts the next step of a connection, and makes the connection wait there as `holds` says. Counts one more in
-    /// `misled` if the connection comes to a line when it should come to a reply, or the other way round. For a
+    /// Counts the next step of a connection, and makes the connection wait there as `holds` says. The even steps, from
+    /// 0, are lines, and the odd ones replies. Counts one more in `misled` if `point` is of the other kind. For a
     /// connection that doesn't exist, nothing is counted, and the step is `u64::MAX`.
     pub fn come(&self, connection: u8, point: Point) {
         let step = match self.count_of(connection) {
