@@ -39,6 +39,7 @@ impl<'a> Visit<MemorySink> for Session<'a> {
     type Outcome = Served<'a>;
 
     // Serves the session through the first window, and then asks for the teacher's close through the second one.
+    // Returns how the session ended, its reader and writer, and whether the close applied the session's move.
     fn visit<H: House, R: Wait>(self, pair: &mut Pair<'_, MemorySink, H, R>) -> Served<'a> {
         let Session {
             mut reader,

@@ -79,7 +79,7 @@ impl Visit<MemorySink> for MoveAndClose {
     type Outcome = bool;
 
     // Asks for the move and the close, checks the views through the first window, and asks for the move again through
-    // the second.
+    // the second. Returns whether all is as it should be.
     fn visit<H: House, R: Wait>(self, pair: &mut Pair<'_, MemorySink, H, R>) -> bool {
         grants_both(pair) && sees_the_close(&mut pair.one) && meets_the_close(&mut pair.two)
     }

@@ -68,8 +68,8 @@ impl Visit<NullSink> for Acts {
     /// How often acts were refused altogether, or `None` if an act was answered wrongly or never granted.
     type Outcome = Option<usize>;
 
-    // Asks for the ten acts in their order through the first window, and returns how often they were refused
-    // altogether.
+    // Asks for the ten acts in their order through the first window. Returns how often they were refused altogether, or
+    // `None` if an act was answered wrongly or never granted.
     fn visit<H: House, R: Wait>(self, pair: &mut Pair<'_, NullSink, H, R>) -> Option<usize> {
         let mut refused = 0usize;
         for place in 1..=ACTS {
@@ -105,8 +105,9 @@ impl Visit<NullSink> for FirstThenSecond {
     /// the second act wasn't granted at the next place.
     type Outcome = Option<bool>;
 
-    // Asks for both acts through the first window. The second one must get place 2 if the first was granted, and
-    // otherwise place 1.
+    // Asks for both acts through the first window. Returns whether the first was granted, or refused for memory
+    // (`false`). Returns `None` if it was answered otherwise, or the second wasn't granted at the next place: 2 if the
+    // first was granted, and otherwise 1.
     fn visit<H: House, R: Wait>(self, pair: &mut Pair<'_, NullSink, H, R>) -> Option<bool> {
         let at_desk = &mut pair.one;
         let was_granted = ask_with_refusal(at_desk, 1, self.nth, self.is_there)?;

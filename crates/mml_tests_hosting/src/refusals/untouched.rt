@@ -60,7 +60,9 @@ impl Visit<MemorySink> for AfterFirst {
     /// second refused as `wanted`, and the views answered.
     type Outcome = bool;
 
-    // Asks through the first window for the first act and the second, then for both again, and then for the views.
+    // Asks through the first window for the first act and the second. Then asks for both again and for the views, which
+    // should request no memory. Returns whether the first act is granted and then denied, the second is refused and
+    // then refused as `wanted`, and the views are right.
     fn visit<H: House, R: Wait>(self, pair: &mut Pair<'_, MemorySink, H, R>) -> bool {
         let (at_desk, is_there) = (&mut pair.one, self.is_there);
         let first = at_desk.ask(asker(1), &act(1));
