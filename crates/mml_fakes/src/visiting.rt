@@ -3,7 +3,8 @@
 //! A house is one run of a lab that threads share. A window is one session's view of the published events. At the desk
 //! of a house sessions ask for events. The type `H` is the name of a house, and only contracts use it. The path of
 //! three is the lab of nodes 1, 2 and 3 in a row (`labs::PATH_OF_THREE`). A sink is the destination of the journal's
-//! bytes, and is fresh if it has none yet. A put is a write to the sink.
+//! bytes, and is fresh if it has none yet. A put is a write to the sink. The result of a visit is `None` if there were
+//! fewer than two windows, or memory ran out before both were put back.
 ghost use Rattle.std.specs.Prelude.{◌≡◌, ◌-◌, ◌^◌, ◌<◌, ◌≤◌, length};
 ghost use Rattle.mml_journal.specs.Taken.{IsFresh};
 ghost use Rattle.mml_window.specs.Houses.{house_of};
