@@ -101,8 +101,9 @@ pub struct TallyTask<'a> {
     pub journal: &'a str,
 }
 
-/// Returns the task that these words ask for; the first word is the program's name. Returns `CommandLine` if the words
-/// don't fit any task, and `Memory` if memory runs out.
+/// Returns the task that these words ask for; the first word is the program's name. If the second isn't a subcommand of
+/// `SUBCOMMANDS`, `mml_program` reads the words. Returns `CommandLine` if the words don't fit any task, and `Memory` if
+/// memory runs out.
 pub fn read_words<'a>(alloc: Global, words: &'a [String]) -> Result<Task<'a>, ProgramFault> {
     if !has_own_subcommand(words) {
         return Ok(Task::Common(read_common_words(alloc, words)?));

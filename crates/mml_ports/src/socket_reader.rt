@@ -176,10 +176,11 @@ impl<'a, Rt: Clock + Wait> SocketReader<'a, Rt> {
 }
 
 impl<'a, Rt: Clock + Wait> Read for SocketReader<'a, Rt> {
-    // Reads bytes before the deadline of the hello or of the line, and returns how many. If the deadline passes, keeps
-    // `Late` as the reason of the end, and returns an error. Returns 0 if nothing more is to be read: the connection is
-    // being ended, too many of its hellos were denied, its first line doesn't begin like a JSON object, or the class is
-    // dismissed. Returns an error if the clock or the read fails.
+    // Reads bytes before the deadline of the hello or of the line, and returns how many. The first read notes that the
+    // connection is served. If the deadline passes, keeps `Late` as the reason of the end, and returns an error.
+    // Returns 0 if nothing more is to be read: the connection is being ended, too many of its hellos were denied, its
+    // first line doesn't begin like a JSON object, or the class is dismissed. Returns an error if the clock or the read
+    // fails.
     fn read(&mut self, buf: &mut [u8]) -> io::Result<usize> {
         let socket = &self.connection.socket;
         socket.is_served.store(true, Ordering::SeqCst);

@@ -128,8 +128,8 @@ fn host_in_memory<'a, R: Threads + Wait + Sync>(
     )
 }
 
-/// Returns whether the connection of each of these talks got exactly the replies that it should. `left` is the result
-/// of the house.
+/// Returns whether the connection of each of these talks got exactly the replies that it should. The index of a talk is
+/// the number of its connection. `left` is the result of the house.
 fn are_answered(left: &Left, talks: &[Talk]) -> bool {
     let mut number = 0u64;
     for (_, _, replies) in talks {

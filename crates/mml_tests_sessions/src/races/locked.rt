@@ -46,8 +46,9 @@ impl<'a> Sink for Slow<'a> {
 
     ghost failures = { λ s. s.failures };
 
-    // Stores all bytes. The first put waits until the second session has come to its second line, and the third has got
-    // its second reply. Then the put lets other threads run `TURNS` times. If memory runs out, fails and counts that.
+    // Stores all bytes. For `Steps`, the first put is one more connection: it waits until the second session has come
+    // to its second line, and the third has got its second reply. Then the put lets other threads run `TURNS` times. If
+    // memory runs out, fails and counts that.
     fn put(&mut self, bytes: &[u8]) -> Result<usize, SinkFault> {
         if self.bytes.is_empty() {
             self.steps.come(PUT, Point::Line);
