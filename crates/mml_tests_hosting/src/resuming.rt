@@ -65,8 +65,8 @@ const LONG: &str = "1 0 grant ana 1 seduction
 struct Shelf(Global);
 
 impl Store<MemorySink> for Shelf {
-    // Returns a new sink in memory that has the bytes `whole`, which are the whole lines of the old journal. Returns
-    // `None` if memory runs out.
+    // Returns a new sink in memory that has the bytes `whole`, which are the whole lines of the old journal. If there
+    // are none, puts nothing, since a put needs at least one byte. Returns `None` if memory runs out.
     fn shorten_to(self, whole: &[u8]) -> Option<MemorySink>
         ensures holds { IfSome result (λ sink. sink.bytes ≡ whole.now) }
         ensures countable { IfSome result (λ sink. sink.failures < 2 ^ 64 - 1) }
