@@ -120,8 +120,8 @@ fn on_this_machine(port: u16) -> SocketAddr {
 }
 
 /// Returns the bell of a host with this state and these ports. When a session has ended, the bell counts it in the
-/// state. When the host is over, it also wakes the accepts at both ports. The bell holds a spare descriptor, a copy of
-/// the desk's listener. Returns an error if the system refuses the copy, or memory runs out.
+/// state. When the host is over, it also wakes the accepts at both ports, by connections. For these it holds a spare
+/// descriptor, a copy of the desk's listener. Returns an error if the system refuses the copy, or memory runs out.
 pub fn bell_of<'a, R>(
     rt: &'a R,
     state: &'a HostState,

@@ -217,6 +217,7 @@ fn serve_listener<
     let mut writer = Retrying::new(io::writer(rt));
     match serve_lines(rt, lab, service, sink, &mut writer) {
         Ok(house) => {
+            // A call of `drop` keeps the proof short.
             drop(house);
             Ok(())
         }
@@ -248,6 +249,7 @@ fn serve_lines<R: Threads + Wait + Sync + AllocGlobal, S: Sink + Send + Drop, W:
         connections,
     } = service;
     write_listening(alloc, port, writer)?;
+    // The arm `Ok` is a goal of its own, which the proof answers.
     match serve_house_on(rt, alloc, lab, listener, connections, sink, &NoGate, writer) {
         Ok(house) => Ok(house),
         Err(fault) => Err(fault),
