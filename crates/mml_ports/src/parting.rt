@@ -154,7 +154,8 @@ impl Partings {
     }
 
     // Adds a connection to which everything was sent, until it is due to be closed. If the list has `MANY_PARTINGS` or
-    // more such connections already, first closes the oldest of them. If memory runs out, closes the new one at once.
+    // more connections already, first closes the oldest one to which everything was sent. If memory runs out, closes
+    // the new one at once.
     fn add_sent<Rt: Wait>(&self, rt: &Rt, parting: Parting) {
         let mut all = self.all.lock(rt);
         if all.len() >= MANY_PARTINGS

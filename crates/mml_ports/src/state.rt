@@ -78,8 +78,8 @@ impl HostState {
         }
     }
 
-    /// Returns whether the reply to the teacher's bye at the desk was sent. Lines that are read after that aren't
-    /// answered.
+    /// Returns whether the reply to the teacher's bye at the desk was sent. If it is being written, waits until the
+    /// write has ended. Lines that are read after that reply aren't answered.
     pub fn is_dismissed<Rt: Wait>(&self, rt: &Rt) -> bool {
         *self.is_dismissed.read(rt)
     }

@@ -89,8 +89,9 @@ fn answer_input<R: Input + Print + AllocGlobal>(rt: &R) -> Result<(), Fault> {
     }
 }
 
-// Answers the script in a file over the lab in a file, and writes a journal if the task names one. Returns an error if
-// one of the files is refused, the script ended early, or the journal was halted.
+// Answers the script in a file over the lab in a file, and writes a journal if the task names one. If the script can't
+// be read, `begin_journal_with` leaves the journal's file as it was. Returns an error if one of the files is refused,
+// the script ended early, or the journal was halted.
 fn script_file<R: Files<File = File> + Print + AllocGlobal>(
     rt: &R,
     task: ScriptTask<'_>,
@@ -149,9 +150,9 @@ fn audit_file<R: Files + Print + AllocGlobal>(
     write_audit(rt.alloc(), &lab, text.as_slice(), &mut io::writer(rt))
 }
 
-// Serves as many connections as the task says over the lab in a file, and writes a journal if the task names one.
-// Returns an error if the lab has fewer sessions than that, a file is refused, the port can't be used, or the server
-// fails.
+// Serves as many connections as the task says over the lab in a file, and writes a journal if the task names one. If
+// the port can't be used, `begin_journal_with` leaves the journal's file as it was. Returns an error if the lab has
+// fewer sessions than that, a file is refused, the port can't be used, or the server fails.
 fn serve_file<
     R: Files<File = File>
         + Net<Listener = TcpListener, Stream = TcpStream>

@@ -26,8 +26,8 @@ fn is_granted(alloc: Global, bytes: usize) -> bool {
     block.is_ok()
 }
 
-/// Makes the library refuse the nth request for memory from now on, or none if `nth` is 0. Does nothing if the library
-/// isn't loaded.
+/// Makes the library refuse the nth request for memory from now on, or none if `nth` is 0. A number above 1,000,000
+/// counts as 1,000,000. Does nothing if the library isn't loaded.
 pub fn refuse(alloc: Global, nth: usize) {
     is_granted(alloc, ARM.saturating_add(nth.min(1_000_000)));
 }

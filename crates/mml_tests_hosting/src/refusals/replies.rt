@@ -164,7 +164,8 @@ fn closed(alloc: Global) -> Result<String, AllocError> {
     Ok(text)
 }
 
-/// Returns a hall over the row of 256 nodes.
+/// Returns a hall over the row of 256 nodes, in a box: a function that holds the box has one value to drop at each
+/// return, which keeps its proof short.
 fn hall_of_256(alloc: Global) -> Result<Box<Hall<NullSink>>, Fail> {
     let file = row_of_256(alloc)?;
     let lab = read_lab(alloc, file.as_bytes())?;
