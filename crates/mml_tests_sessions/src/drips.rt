@@ -99,7 +99,7 @@ fn first_other_count<R: Wait>(rt: &R, alloc: Global) -> Result<Option<usize>, Fa
     Ok(None)
 }
 
-/// Checks a house whose sink fails, for each byte of the journal that may be the last: its answers, the bytes in the
+/// Checks a house whose sink fails after each possible number of bytes of the journal: its answers, the bytes in the
 /// sink, and the events.
 #[test]
 fn each_byte_of_a_house_may_be_the_last(rt: HostRuntime) -> Result<(), Fail> {

@@ -12,8 +12,8 @@ fn has_line(alloc: Global, fault: &Fault, wanted: &str) -> Result<bool, AllocErr
     Ok(told.as_str() == wanted)
 }
 
-/// Checks the statuses and lines of two errors that no use of the program shows. Also checks that a lab's error
-/// `Memory` becomes the program's.
+/// Checks the statuses and lines of two errors that no use of the program shows. Also checks that the errors `Memory`
+/// of a lab and of its nodes' identifiers become the program's.
 #[test]
 fn faults_that_are_not_met_have_lines(rt: HostRuntime) -> Result<(), Fail> {
     let astray = has_line(

@@ -68,7 +68,8 @@ impl<'a> Steps<'a> {
         }
     }
 
-    /// Waits until all connections have come to this step. Gives up on each that takes too long, and counts that.
+    /// Waits until all connections have come to this step, that is, until each counter is at least `step + 1`. Gives up
+    /// on each that takes too long, and counts that.
     fn hold_together(&self, step: u64) {
         for come in self.steps.iter() {
             self.wait_until(Some(come), step.saturating_add(1));
