@@ -141,10 +141,10 @@ fn serve_watched<R: System + Files<File = File>, L: Look + Sync>(
     watch: &JournalWatch<'_>,
     eye: &L,
 ) -> Result<(), Fault> {
+    // The closure states what its proof needs: that threads may share `R` and `L`.
     thread::scope(
         thread::scope_env(),
         rt,
-        // The closure states what its proof needs: that threads may share `R` and `L`.
         |scope| -> Result<(), Fault>
             requires { IsSync R.row × IsSync L.row }
         {
@@ -238,11 +238,11 @@ fn serve_synced<R: System + Files<File = File>, C: Observer + Send + Drop>(
 ) -> Result<(), Fault>
     requires as_many { length observers.others.items + 1 ≡ class }
 {
+    // The closure states what its proof needs: that threads may share `R`, that a thread may be given a `C`, and how
+    // many observers there are.
     thread::scope(
         thread::scope_env(),
         rt,
-        // The closure states what its proof needs: that threads may share `R`, and a thread may be given a `C`, and how
-        // many observers there are.
         |scope| -> Result<(), Fault>
             requires { IsSync R.row × IsSend C.row × (length observers.others.items + 1 ≡ class) }
         {
