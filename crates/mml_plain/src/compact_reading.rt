@@ -1,6 +1,8 @@
-//! Reads JSON objects in the layout that requests usually have: strings have no escapes, and spaces come only after the
-//! opening brace, commas and colons. A frequent key is recognized by its first four bytes, which are compared as one
-//! number.
+//! Reading JSON objects in the usual layout of requests, without splitting them into tokens.
+//!
+//! In this layout, an object has at least one member (a key with its value). Spaces come only before keys and values.
+//! Strings are ASCII without escapes, numbers have at most 19 digits and nothing else, and a value that is an array or
+//! an object is empty. A frequent key is recognized by its first four bytes, which are compared as one number.
 ghost use Rattle.std.specs.Prelude.{◌≡◌, ◌<◌, ◌^◌, ◌++◌, ◌∷◌, ◌+◌, ℕ, List, [], Some, IfSome, None, true, length, decimal, slice_index, IsUtf8};
 ghost use Rattle.std.specs.Int.{w32, to_be_bytes};
 ghost use Rattle.json.specs.Lex.{tokens};
@@ -29,10 +31,9 @@ const KEY: u32 = 0x6b65_7922;
 
 const NAME: u32 = 0x6e61_6d65;
 
-/// Reads a line into `fields`, which must be empty, if the line is an object in the usual layout. In this layout,
-/// strings have no escapes, and spaces come only after the opening brace, commas and colons. Returns true if the line
-/// has this layout; then `fields` has the values of its keys. After false, `fields` may hold anything, and the line may
-/// be an object in another layout.
+/// Reads a line into `fields`, which must be empty, if the line is an object in the usual layout. Returns true if it
+/// is; then `fields` has the values of its keys. Returns false if it isn't; then `fields` may hold anything, and the
+/// line may still be an object, in another layout.
 #[inline(always)]
 pub(crate) fn read_compact<'a>(line: &'a [u8], fields: &mut Fields<'a>) -> bool
     requires { Holds fields.old (object no_members) }
@@ -54,14 +55,14 @@ pub(crate) fn read_compact<'a>(line: &'a [u8], fields: &mut Fields<'a>) -> bool
 }
 
 /// Reads the member of an object, a key and its value, at the front of the text into `fields`. Returns the text after
-/// the member, or `None` if the member isn't in the layout that `read_compact` reads.
+/// the member, or `None` if the member isn't in the usual layout.
 #[inline(always)]
 fn member<'a>(text: &'a [u8], fields: &mut Fields<'a>) -> Option<&'a [u8]>
     ensures { IfSome result (λ rest. PutsMember text.now rest.now fields.old fields.new) }
 {
     let in_key = in_quotes(text)?;
-    // Only a short member at the end of the line has fewer than 8 bytes here. If there are 8, the first indices below
-    // need no bounds check.
+    // Only a short member at the end of the line has fewer than 8 bytes here. After this test, reading the first bytes
+    // needs no bounds check.
     if in_key.len() < 8 {
         return any_member(in_key, fields);
     }
@@ -120,7 +121,7 @@ fn known_value<'a>(front: u32, text: &'a [u8], fields: &mut Fields<'a>) -> Optio
 }
 
 /// Reads a member with any key into `fields`, and returns the text after it. `text` begins after the quotation mark
-/// that opens the key. Returns `None` if the member isn't in the layout that `read_compact` reads.
+/// that opens the key. Returns `None` if the member isn't in the usual layout.
 #[inline(never)]
 fn any_member<'a>(text: &'a [u8], fields: &mut Fields<'a>) -> Option<&'a [u8]>
     ensures { IfSome result (λ rest. (whole : List ℕ) → BeginsQuoted whole text.now →
@@ -135,7 +136,7 @@ fn any_member<'a>(text: &'a [u8], fields: &mut Fields<'a>) -> Option<&'a [u8]>
 }
 
 /// Skips the spaces at the front, if any, and the quotation mark after them. Returns the text after the mark, or `None`
-/// if there is no quotation mark.
+/// if there is no quotation mark. A mark without spaces before it is tried first, to save time.
 #[inline(always)]
 fn in_quotes<'a>(text: &'a [u8]) -> Option<&'a [u8]>
     ensures { IfSome result (λ rest. BeginsQuoted text.now rest.now) }
@@ -185,7 +186,8 @@ fn after_byte<'a>(text: &'a [u8], byte: u8) -> Option<&'a [u8]>
     Some(&text[1..])
 }
 
-/// Returns the text without the spaces at its front, if it has any.
+/// Returns the text without the spaces at its front, if it has any. Handles at most one space itself, which is the
+/// frequent case, and leaves more spaces to `past_spaces`.
 #[inline(always)]
 fn unspaced<'a>(text: &'a [u8]) -> &'a [u8]
     ensures { Spaced text.now result.now }
@@ -284,7 +286,8 @@ fn bare_word<'a>(text: &'a [u8]) -> Option<(&'a str, &'a [u8])>
 }
 
 /// Reads the number at the front of the text, in decimal digits without leading zeros. Returns the number, and the text
-/// after it. Returns `None` if no digit comes first, or the number may need more than 64 bits.
+/// after it. A zero at the front is the whole number. Returns `None` if no digit comes first, or the number has more
+/// than 19 digits, which may need more than 64 bits.
 #[inline(always)]
 fn whole_number<'a>(text: &'a [u8]) -> Option<(u64, &'a [u8])>
     ensures { IfSome result (λ r. (text.now ≡ decimal r.0 ++ r.1.now) × (r.0 < 2 ^ 64)) }

@@ -8,8 +8,8 @@ ghost use Rattle.mml_plain.specs.Fields.{with};
 
 use crate::member_value::MemberValue;
 
-/// The members of an object that requests use, each under its key. A field is `None` if the object doesn't have the
-/// key, or its value is of another kind.
+/// The values of the keys that requests use, for one object. A field is `None` if the object doesn't have the key, or
+/// its value is of another kind. If a key occurs several times, its last value counts.
 #[derive(Clone, Copy, Debug, Drop)]
 pub struct Fields<'a> {
     /// The request's word, under the key `do`.
@@ -49,7 +49,8 @@ impl<'a> Fields<'a> {
     }
 
     /// Adds one member of an object. If `key` is the key of a field, sets this field to the value, or to `None` if the
-    /// value is of another kind. Keys of one letter are compared separately, so that fewer comparisons are made.
+    /// value is of another kind. Ignores the member if its key is any other. Keys of one letter are compared
+    /// separately, so that fewer comparisons are made.
     #[inline(always)]
     pub(crate) fn put(&mut self, key: &str, value: &MemberValue<'a>)
         ensures { self.new ≡ with key.now value.now self.old }

@@ -1,7 +1,7 @@
 //! Reading the fields of a request from a line of JSON.
 //!
-//! A line of JSON that is an object is read from its bytes or from its tokens. No tree is built, and the memory of the
-//! line before is used again. The result is what `serde_json` reads.
+//! A line of JSON that is an object is read from its bytes or from its tokens. No tree is built, and the working memory
+//! of the previous line is used again. The result is what `serde_json` reads.
 #![tactic(auto)]
 
 mod compact_reading;

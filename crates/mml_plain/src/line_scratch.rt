@@ -34,7 +34,7 @@ impl LineScratch {
         Ok(LineScratch { inner })
     }
 
-    /// Returns the working memory for reading one line.
+    /// Borrows the memory inside, with which the tokens of one line are read.
     #[inline(always)]
     pub(crate) fn for_line(&mut self) -> &mut Scratch
         ensures { room result.now ≡ self.old }

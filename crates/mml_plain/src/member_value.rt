@@ -23,8 +23,8 @@ pub(crate) enum MemberValue<'a> {
 }
 
 impl<'a> MemberValue<'a> {
-    /// Returns the value of a JSON number. `found` is the number if it fits 64 bits and is written without a sign, a
-    /// point and an exponent, as a request's numbers are. If `found` is `None`, the value is `Other`.
+    /// Returns the value for a JSON number. `found` is the number if it fits 64 bits and is written without a sign, a
+    /// point or an exponent, as a request's numbers are. If `found` is `None`, the value is `Other`.
     #[inline(always)]
     pub(crate) fn of_number(found: Option<u64>) -> MemberValue<'a>
         ensures { (n : Num) → as_u64 n ≡ found → Shows result (number n) }
@@ -83,9 +83,9 @@ impl<'a> MemberValue<'a> {
     }
 }
 
-/// Reads the text of a JSON number. Returns `Some(Some(number))` if the number fits 64 bits and is written without a
-/// sign, a point and an exponent. Returns `Some(None)` for any other number, which no request has, and `None` for one
-/// that is too great to be read.
+/// Reads the text of a JSON number, as `serde_json` does. Returns `Some(Some(number))` if the number fits 64 bits and
+/// is written without a sign, a point or an exponent. Returns `Some(None)` for any other number, which no request uses.
+/// Returns `None` for a number that is too great for a float, which `serde_json` refuses.
 #[inline(always)]
 pub(crate) fn read_number(text: &str) -> Option<Option<u64>>
     ensures { result ≡ option_map as_u64 (number_of text.now) }
@@ -98,8 +98,9 @@ pub(crate) fn read_number(text: &str) -> Option<Option<u64>>
     }
 }
 
-// Returns what `read_number` returns for a number without a minus. The result is `Some(None)` if the number needs more
-// than 64 bits or has a point or an exponent, and `None` if the number is too great to be read.
+// Returns what `read_number` returns for the number `numeral`, which has no minus: `Some(Some(number))` for an integer
+// that fits 64 bits, and `Some(None)` for a number that is read as a float. Returns `None` if the number is too great
+// for a float.
 #[inline(always)]
 fn unsigned(numeral: &Numeral<'_>) -> Option<Option<u64>>
     ensures { result ≡ option_map as_u64 (number_from false numeral.now) }
@@ -111,8 +112,8 @@ fn unsigned(numeral: &Numeral<'_>) -> Option<Option<u64>>
 }
 
 // Returns what `read_number` returns for a number with a minus; `numeral` is the part after the minus. The result is
-// `None` if the number is too great to be read. Otherwise it is `Some(None)`, since no request has such a number, not
-// even -0. To save time, an integer that fits 64 bits isn't read as a float.
+// `Some(None)`, since no request has such a number, or `None` if the number is too great for a float. To save time, an
+// integer below 0 that fits 64 bits isn't read as a float. -0 is read as one, as in `serde_json`.
 #[inline(never)]
 fn below_zero(numeral: &Numeral<'_>) -> Option<Option<u64>>
     ensures { result ≡ option_map as_u64 (number_from true numeral.now) }

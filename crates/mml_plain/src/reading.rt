@@ -15,7 +15,8 @@ use crate::member_value::{MemberValue, read_number};
 use json::{Reader, Token};
 use std::alloc::AllocError;
 
-/// How deep arrays and objects in the members of a line may nest.
+/// How deep arrays and objects in the values of a line's object may nest. With the object itself these are the 127
+/// levels that `serde_json` allows.
 const DEPTH: usize = 126;
 
 /// Reads a line into `fields`, which must be empty. Returns true if the line is an object that `serde_json` would read;
@@ -38,9 +39,9 @@ pub fn read_fields<'a>(
     read_tokens(line, scratch, fields)
 }
 
-/// Reads a line into `fields`, whatever they hold before, token by token. Returns the same as `read_fields`, which
-/// calls this function for lines that `read_compact` doesn't read: true if the line is an object, and false if it
-/// isn't. Returns `AllocError` if `scratch` has no room for the line and memory runs out.
+/// Empties `fields`, and reads a line into them token by token. Returns the same as `read_fields`, which calls this
+/// function for lines that `read_compact` doesn't read: true if the line is an object, and false if it isn't. Returns
+/// `AllocError` if `scratch` has no room for the line and memory runs out.
 #[inline(never)]
 fn read_tokens<'a>(
     line: &'a [u8],
@@ -61,7 +62,8 @@ fn read_tokens<'a>(
 }
 
 /// Reads the remaining tokens as one object into `fields`, which must be empty. Returns true if the tokens are an
-/// object with nothing after it; then `fields` has the values of its keys.
+/// object with nothing after it; then `fields` has the values of its keys. Returns false otherwise; then `fields` may
+/// hold anything.
 #[inline(always)]
 fn read_object<'a>(reader: &mut Reader<'a>, fields: &mut Fields<'a>) -> bool
     requires { Holds fields.old (object no_members) }
@@ -75,7 +77,8 @@ fn read_object<'a>(reader: &mut Reader<'a>, fields: &mut Fields<'a>) -> bool
 }
 
 /// Reads the members of an object, after its opening brace, into `fields`, which must be empty. Returns true if the
-/// object ends, and nothing comes after it; then `fields` has the values of its keys.
+/// object is valid, and nothing comes after it; then `fields` has the values of its keys. Returns false otherwise; then
+/// `fields` may hold anything.
 #[inline(always)]
 fn read_members<'a>(reader: &mut Reader<'a>, fields: &mut Fields<'a>) -> bool
     requires { Holds fields.old (object no_members) }
@@ -98,7 +101,8 @@ fn read_members<'a>(reader: &mut Reader<'a>, fields: &mut Fields<'a>) -> bool
     }
 }
 
-/// Returns whether no token follows the end of the object. If one does, the line isn't an object.
+/// Reads the next token after the end of the line's object. Returns true if there is none. If there is one, the line
+/// isn't an object.
 #[inline(always)]
 fn is_over(reader: &mut Reader<'_>) -> bool
     ensures { (ms : Members) → MatchBool result (if_over (Some (ms, reader.old)) ≡ Some ms)
@@ -108,7 +112,8 @@ fn is_over(reader: &mut Reader<'_>) -> bool
 }
 
 /// Reads the next value. Returns `Other` for an array or an object, which is skipped. Returns `None` if `serde_json`
-/// wouldn't read the value, or its arrays and objects nest deeper than `depth`.
+/// wouldn't read the value, or its arrays and objects nest more than `depth` levels deep. This function, `pass_items`
+/// and `pass_members` call each other for nested values.
 #[cycle(nested)]
 #[inline(always)]
 fn read_value<'a>(reader: &mut Reader<'a>, depth: usize) -> Option<MemberValue<'a>>
@@ -149,8 +154,8 @@ fn read_value<'a>(reader: &mut Reader<'a>, depth: usize) -> Option<MemberValue<'
     }
 }
 
-/// Skips an array, of which the opening bracket was read. Returns whether it was a valid array whose values nest no
-/// deeper than `depth`.
+/// Skips the rest of an array whose opening bracket was read. Returns true if the array is valid, and arrays and
+/// objects in it nest at most `depth` levels deep.
 #[cycle(nested)]
 #[inline(never)]
 fn pass_items(reader: &mut Reader<'_>, depth: usize) -> bool
@@ -167,8 +172,8 @@ fn pass_items(reader: &mut Reader<'_>, depth: usize) -> bool
     true
 }
 
-/// Skips an object, of which the opening brace was read. Returns whether it was a valid object whose values nest no
-/// deeper than `depth`.
+/// Skips the rest of an object whose opening brace was read. Returns true if the object is valid, and arrays and
+/// objects in it nest at most `depth` levels deep.
 #[cycle(nested)]
 #[inline(never)]
 fn pass_members(reader: &mut Reader<'_>, depth: usize) -> bool
