@@ -29,14 +29,14 @@ pub enum Greeted {
     LeftToJudge { who: Who, command: Command },
 }
 
-/// Handles a request on a connection, on which the participant `known` has greeted, or nobody if it is `None`. A hello
-/// and a bye are answered. A command is denied if nobody is known, and else left to the caller to judge.
+/// Handles a request on a connection. `known` is the participant that the connection is known as, or `None`. Answers a
+/// hello and a bye. Denies a command if nobody is known, and leaves it to the caller to judge otherwise.
 pub fn greet(roster: &Roster, known: Option<Who>, request: Request) -> Greeting
     requires { IfSome known (IsPrincipal roster.now) }
     ensures greeting { result ≡ greeting roster.now known request }
     ensures about { TakesPart roster.now result }
 {
-    // Room for the reply, which is read only if one was put there.
+    // A value for `greet_into` to replace. It is read only if it was replaced.
     let mut reply = Reply::Bye;
     match greet_into(roster, known, &request, &mut reply) {
         Greeted::Known(known) => Greeting::Answered { reply, known },
@@ -44,9 +44,9 @@ pub fn greet(roster: &Roster, known: Option<Who>, request: Request) -> Greeting
     }
 }
 
-/// Handles a request on a connection, on which the participant `known` has greeted, or nobody if it is `None`. Puts the
-/// reply to a hello, to a bye, and to a command of nobody into `reply`. Leaves a command of a known participant to the
-/// caller to judge, and `reply` as it was.
+/// Handles a request on a connection, as `greet` does, and stores the reply in `reply`. `known` is the participant that
+/// the connection is known as, or `None`. Answers a hello and a bye, and denies a command if nobody is known. Otherwise
+/// leaves the command to the caller to judge, and `reply` as it was.
 pub fn greet_into(
     roster: &Roster,
     known: Option<Who>,

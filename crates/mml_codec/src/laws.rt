@@ -38,8 +38,8 @@ ghost use Rattle.mml_rules.specs.Rules.{kind_of};
 
 use crate::reply::{FULL_LINE, JOURNAL_LINE, MALFORMED_LINE, MEMORY_LINE};
 
-/// A JSON value is read as a request exactly if it has each field with which the request is written. Other keys don't
-/// count. A value that lacks a field of every request is no request.
+/// A JSON value is read as a request exactly if it has all fields with which that request is written. Its other keys
+/// don't matter.
 pub fn a_request_is_asked_by_its_fields()
     ensures { (d : Data) (r : Request) → (request d ≡ Some r) ↔ HasEach d (fields_of r) }
 {}
@@ -99,16 +99,16 @@ pub fn refusals_have_fixed_lines()
         reply_line ids roster (Refuse refused.Memory) ≡ MEMORY_LINE.now }
 {}
 
-/// The limits of requests and replies, as numbers: the most bytes of a request line, and the room in which any reply
-/// but a look and a report is written without allocating.
+/// The limits of requests and replies, as numbers. `MAX_REQUEST` is the most bytes of a request line. `REPLY_ROOM` is
+/// the room in which any reply but a look and a report is written without allocating.
 pub fn limits()
     ensures request { MAX_REQUEST ≡ 4096 }
     ensures room { REPLY_ROOM ≡ 2048 }
 {}
 
-/// The reply to a granted event has the numbers `at` (of the configuration) and `place` (of the event) that
-/// `reply_of_done` gets, and names the event's nodes; for a close these are the nodes that had a chosen move. For a
-/// move it also names the kind of rule, and for a fault, a link or a cut how many chosen moves were dropped.
+/// The reply to a granted event has the two numbers that `reply_of_done` gets: `at` of the configuration, and `place`
+/// of the event. It also names the event's nodes; for a close these are the nodes that had a chosen move. For a move it
+/// has the kind of rule, and for a fault, a link or a cut the number of chosen moves that were dropped.
 pub fn a_grant_is_told()
     ensures chosen { (at place : ℕ) (w : World) (s i : ℕ) (rule : Rule) →
         reply_of_done at place (done_by w (event.Grant s i rule))

@@ -1,4 +1,6 @@
 //! The fields of the replies to a look and a report. The error `Memory` means that memory ran out.
+//!
+//! A `ListRow` has the fields before a list, the list, and what comes after it. An `Opening` has the key of the list.
 ghost use Rattle.std.specs.Prelude.{◌≡◌, ◌≤◌, ◌<◌, ◌^◌, ◌++◌, length, OnOk, vec_capacity};
 ghost use Rattle.mml_policy.specs.About.{IsLookedAt};
 ghost use Rattle.mml_stable.specs.Reports.{NamesNodes};
@@ -12,7 +14,8 @@ use mml_ids::{IdTable, Memory};
 use mml_policy::Look;
 use mml_stable::Report;
 
-/// Appends the text of the reply to a granted look, a JSON object, to `out`. Returns `Memory` if memory runs out.
+/// Appends the text of the reply to a granted look, a JSON object, to `out`. Returns `Memory` if memory runs out; then
+/// `out` may have only the beginning of the text.
 #[tactic(auto, unfolding(crate::specs::Facts::object_text))]
 pub(crate) fn put_look(ids: &IdTable, look: &Look, out: &mut Vec<u8>) -> Result<(), Memory>
     requires { IsLookedAt ids.now look.now }
@@ -61,7 +64,8 @@ pub(crate) fn put_look(ids: &IdTable, look: &Look, out: &mut Vec<u8>) -> Result<
     fields.put_fields(ids, "{", out)
 }
 
-/// Appends the text of the reply to a granted report, a JSON object, to `out`. Returns `Memory` if memory runs out.
+/// Appends the text of the reply to a granted report, a JSON object, to `out`. Returns `Memory` if memory runs out;
+/// then `out` may have only the beginning of the text.
 #[tactic(auto, unfolding(crate::specs::Facts::object_text))]
 pub(crate) fn put_report(ids: &IdTable, report: &Report, out: &mut Vec<u8>) -> Result<(), Memory>
     requires { NamesNodes (length ids.now) report.now }

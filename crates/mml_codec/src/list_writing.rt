@@ -10,7 +10,8 @@ use mml_ids::{IdTable, Items, Memory, make_room, take_text, with_text};
 // Enough bytes for the fields before a list, or after the last one.
 const FRONT_ROOM: usize = 128;
 
-/// Fields of a reply, some of which are lists, up to the end of its object.
+/// Fields of a reply, some of which are lists, up to the end of its object. A listing is a nest of types: a `ListRow`
+/// has the first list and the listing after it, and `Rest` has no list.
 pub(crate) trait Listing {
     // The fields name only nodes that have identifiers.
     ghost names: { List ℕ → Self → Type 0 };
@@ -67,8 +68,8 @@ impl<'a, B: Table, L: Listed, R: Listing> Listing for ListRow<'a, B, L, R> {
     ghost text = { λ ids first r. B.text ids first r.before
         (separated (map (L.text ids) r.items.now) ++ R.text ids (codes "],") r.rest) };
 
-    // Appends the fields before the list, the list in brackets, and the fields after it. Returns `Memory` if memory
-    // runs out.
+    // Appends `first`, the fields before the list, the list in brackets, and the fields after it. The bracket that ends
+    // the list is the `first` of the fields after it. Returns `Memory` if memory runs out.
     #[inline(always)]
     fn put_fields(&self, ids: &IdTable, first: &str, out: &mut Vec<u8>) -> Result<(), Memory> {
         make_room(out, FRONT_ROOM)?;
@@ -89,7 +90,7 @@ impl<T: Table> Listing for Rest<T> {
 
     ghost text = { λ ids first r. T.text ids first r.fields [] };
 
-    // Appends the fields after the last list, and the end of the object. Returns `Memory` if memory runs out.
+    // Appends `first`, the fields after the last list, and the end of the object. Returns `Memory` if memory runs out.
     #[inline(always)]
     fn put_fields(&self, ids: &IdTable, first: &str, out: &mut Vec<u8>) -> Result<(), Memory> {
         make_room(out, FRONT_ROOM)?;

@@ -33,7 +33,8 @@ pub(crate) trait Listed {
 }
 
 /// Appends the texts of the items to `out`, with commas between them and without brackets. If memory runs out, returns
-/// `Memory`, and only the items before the first one without room are appended, each whole.
+/// `Memory`, and only the items before the first one without room are appended, each whole. The text is moved out of
+/// `out` meanwhile, so that its length can stay in a processor's register.
 pub(crate) fn put_list<T: Listed>(
     ids: &IdTable,
     items: &[T],
@@ -132,8 +133,8 @@ impl Listed for (Rank, Regs) {
     }
 }
 
-// Returns the line with the beginning of a neighbour's object appended: the text `{"m":`, the truth value `m` and the
-// text `,"node":`, which are written as one literal.
+// Returns the line with the beginning of a neighbour's object appended: the value `m` of its register m, and the key
+// `node`. Each of the two texts is one literal, which is faster than three parts.
 #[inline(always)]
 fn with_first_m_then_node(line: Vec<u8>, m: bool) -> Vec<u8>
     requires { length line.items + 18 ≤ vec_capacity line }
@@ -203,8 +204,8 @@ impl Listed for (Rank, Kind) {
     }
 }
 
-// A link between two nodes that aren't in a pair, its witness (a privileged node, which shows that the run isn't over)
-// and the rule that is enabled at the witness, written as an array.
+// A link between two nodes that aren't in a pair, written as an array of its ends, its witness and the rule that is
+// enabled at the witness. The witness is a privileged node, which shows that the run isn't over.
 impl Listed for OpenLink {
     ghost names = { λ ids l. IsOpenLinkOf (length ids) l };
 

@@ -1,4 +1,4 @@
-//! Flat objects as text. An error means that memory ran out.
+//! The text of JSON objects whose values are neither arrays nor objects. An error means that memory ran out.
 ghost use Rattle.std.specs.Prelude.{◌≡◌, ◌++◌, map, IfOk, OnOk};
 ghost use Rattle.json.specs.Tree.{json_tokens};
 ghost use Rattle.serde_json.specs.Written.{compact_text, outline};
@@ -8,7 +8,7 @@ ghost use Rattle.mml_codec.specs.inside.FieldViews.{field_view, tokens_of};
 use json::Writer;
 use std::alloc::{AllocError, Global};
 
-/// The value of a key in a flat object.
+/// The value of a key in an object.
 #[derive(Clone, Copy)]
 pub(crate) enum Field<'a> {
     Number(u64),
@@ -38,7 +38,7 @@ pub(crate) fn object_text(
     Ok(writer.into_inner())
 }
 
-// Writes a key and its value into an object. Returns an error if memory runs out.
+// Writes a key and its value into the object that `writer` has begun. Returns an error if memory runs out.
 fn put_member(writer: &mut Writer, member: &(&'static str, Field<'_>)) -> Result<(), AllocError>
     ensures before { writer.new.before ≡ writer.old.before }
     ensures tokens { OnOk result
@@ -48,7 +48,7 @@ fn put_member(writer: &mut Writer, member: &(&'static str, Field<'_>)) -> Result
     put_field(writer, member.1)
 }
 
-// Writes the value of a key. Returns an error if memory runs out.
+// Writes the value of the key that `writer` has just written. Returns an error if memory runs out.
 fn put_field(writer: &mut Writer, field: Field<'_>) -> Result<(), AllocError>
     ensures before { writer.new.before ≡ writer.old.before }
     ensures tokens { OnOk result (writer.new.tokens ≡

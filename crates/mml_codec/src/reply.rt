@@ -45,7 +45,7 @@ impl From<Refusal> for Refused {
 
     ghost from_gives = { λ refusal refused. refused ≡ refusal_for refusal };
 
-    // Turns the reason why an allowed command isn't answered into the `Refused` of the same name.
+    // Returns the `Refused` of the same name for the policy's reason not to answer an allowed command.
     fn from(refusal: Refusal) -> Refused {
         match refusal {
             Refusal::Full => Refused::Full,
@@ -118,8 +118,8 @@ pub enum Reply {
     Refuse(Refused),
 }
 
-/// Replaces the reply in `out` by another. This function is inlined: replies are large, and each is written straight
-/// into `out`.
+/// Replaces the reply in `out` by another. The function is inlined, so that a reply, which is large, is written
+/// straight into `out`.
 #[inline(always)]
 pub fn put_in(out: &mut Reply, reply: Reply)
     ensures { out.new ≡ reply }

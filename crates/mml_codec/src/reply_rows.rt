@@ -38,7 +38,8 @@ pub(crate) fn numbers_of(at: &u64, place: &u64) -> EventNumbers
     }
 }
 
-/// Appends the text of the reply to a granted hello to `out`. Returns `Memory` if memory runs out.
+/// Appends the text of the reply to a granted hello to `out`. It names the participant `who`, who is known from now on.
+/// Returns `Memory` if memory runs out.
 #[tactic(auto, unfolding(crate::specs::Facts::object_text))]
 pub(crate) fn put_hello(
     ids: &IdTable,
@@ -108,8 +109,8 @@ pub(crate) fn put_see(ids: &IdTable, see: &See, out: &mut Vec<u8>) -> Result<(),
     put_object(ids, &fields, out)
 }
 
-/// Appends the text of the reply to a granted move to `out`: `numbers` are those of the event, `node` is the node, and
-/// `kind` its chosen rule. Returns `Memory` if memory runs out.
+/// Appends the text of the reply to a granted move to `out`. `numbers` are those of the event, `node` is the node, and
+/// `kind` is its chosen rule. Returns `Memory` if memory runs out.
 #[tactic(auto, unfolding(crate::specs::Facts::object_text))]
 pub(crate) fn put_move(
     ids: &IdTable,
@@ -146,8 +147,8 @@ pub(crate) fn put_move(
     put_object(ids, &fields, out)
 }
 
-/// Appends the text of the reply to a granted close to `out`: `numbers` are those of the event, and `moved` the nodes
-/// whose moves were applied. Returns `Memory` if memory runs out.
+/// Appends the text of the reply to a granted close to `out`. `numbers` are those of the event, and `moved` has the
+/// nodes whose moves were applied. Returns `Memory` if memory runs out.
 #[tactic(auto, unfolding(crate::specs::Facts::object_text))]
 pub(crate) fn put_close(
     ids: &IdTable,
@@ -179,7 +180,7 @@ pub(crate) fn put_close(
     put_object(ids, &fields, out)
 }
 
-/// Appends the text of the reply to a granted fault to `out`: `numbers` are those of the event, `node` is the node, and
+/// Appends the text of the reply to a granted fault to `out`. `numbers` are those of the event, `node` is the node, and
 /// `dropped` is how many chosen moves were dropped. Returns `Memory` if memory runs out.
 #[tactic(auto, unfolding(crate::specs::Facts::object_text))]
 pub(crate) fn put_fault(
@@ -217,7 +218,7 @@ pub(crate) fn put_fault(
     put_object(ids, &fields, out)
 }
 
-/// Appends the text of the reply to a granted link or cut to `out`: `word` is `link` or `cut`, `numbers` are those of
+/// Appends the text of the reply to a granted link or cut to `out`. `word` is `link` or `cut`, `numbers` are those of
 /// the event, `ends` are the two nodes, and `dropped` is how many chosen moves were dropped. Returns `Memory` if memory
 /// runs out.
 #[tactic(auto, unfolding(crate::specs::Facts::object_text))]
@@ -263,7 +264,7 @@ pub(crate) fn put_ends(
     put_object(ids, &fields, out)
 }
 
-/// Appends the text of the reply to a granted release to `out`: `numbers` are those of the event, and `node` is the
+/// Appends the text of the reply to a granted release to `out`. `numbers` are those of the event, and `node` is the
 /// node. Returns `Memory` if memory runs out.
 #[tactic(auto, unfolding(crate::specs::Facts::object_text))]
 pub(crate) fn put_release(
@@ -296,8 +297,8 @@ pub(crate) fn put_release(
     put_object(ids, &fields, out)
 }
 
-/// Appends the text of the reply for a denial to `out`. The reply for `Stale` begins with the number of the current
-/// configuration. Returns `Memory` if memory runs out.
+/// Appends the text of the reply for a denial to `out`. Only the reply for `Stale` has the number of the current
+/// configuration, as its first field. Returns `Memory` if memory runs out.
 pub(crate) fn put_denial(ids: &IdTable, denial: Denial, out: &mut Vec<u8>) -> Result<(), Memory>
     ensures puts { Puts (object_text ids.now (deny_fields denial)) TEXT_ROOM out.old out.new result }
     ensures count { HaveFittingCounts (deny_fields denial) }

@@ -76,7 +76,7 @@ impl ReplyValue for u16 {
     ghost tells = { λ _ _ _. refl };
 }
 
-// The number of a clause.
+// The number of a clause. It has at most 3 digits, but `with_short_number` needs room for 5 bytes.
 impl ReplyValue for u8 {
     ghost fact = { fact.clause };
 
@@ -245,8 +245,8 @@ impl ReplyValue for NodeSet {
     ghost tells = { λ ids s rest. bracketed_tells (map (node_text ids) (members (length ids) s)) rest };
 }
 
-// Returns the text with the identifiers of the nodes in `moved` appended, in rising order, with commas between them.
-// The set has at most 256 nodes, and each identifier takes at most 6 bytes with its comma.
+// Returns the text with the identifiers of the lab's nodes in `moved` appended, in rising order, with commas between
+// them. These are at most 256 nodes, and each identifier takes at most 6 bytes with its comma.
 #[inline(always)]
 fn with_members(text: Vec<u8>, ids: &IdTable, moved: NodeSet) -> Vec<u8>
     requires room { length text.items + 1536 ≤ vec_capacity text }

@@ -15,8 +15,9 @@ use mml_ids::{IdTable, Memory, make_room};
 use mml_lab::Roster;
 use std::alloc::Global;
 
-/// Replaces the bytes of `out` by the line of a reply, with its newline. Allocates only for a look or a report, if
-/// `out` has a capacity of `REPLY_ROOM`. Returns `Memory`, and leaves `out` empty, if memory runs out.
+/// Replaces the bytes of `out` by the line of a reply, with its newline. If `out` has a capacity of `REPLY_ROOM`,
+/// allocates only for a look or a report. Returns `Memory`, and leaves `out` empty, if memory runs out. `_alloc` isn't
+/// used: `out` grows without it.
 pub fn write_reply(
     _alloc: Global,
     ids: &IdTable,
@@ -62,8 +63,8 @@ pub fn tell_reply(
     }
 }
 
-/// Appends the line of a reply to `out`, unless the reply is a look or a report, or `out` has less than `REPLY_ROOM`
-/// bytes free. Returns whether it was appended. Allocates nothing.
+/// Appends the line of a reply to `out`, and returns true. If the reply is a look or a report, or `out` has less than
+/// `REPLY_ROOM` bytes free, appends nothing and returns false. Allocates nothing, so `unwrap` succeeds.
 pub fn append_reply(ids: &IdTable, roster: &Roster, reply: &Reply, out: &mut Vec<u8>) -> bool
     requires { IsAbout ids.now roster.now reply.now }
     ensures told { length out.old.items + REPLY_ROOM ≤ vec_capacity out.old →
@@ -89,7 +90,7 @@ fn is_short(reply: &Reply) -> bool
 }
 
 // Replaces the bytes of `out` by the line of the refusal `memory`, which says that memory ran out. Returns that
-// refusal.
+// refusal. The line fits the capacity that `out` must have, so it is written without allocating, and `unwrap` succeeds.
 fn write_memory_refusal(alloc: Global, ids: &IdTable, roster: &Roster, out: &mut Vec<u8>) -> Reply
     requires room { REPLY_ROOM ≤ vec_capacity out.old }
     ensures told { result ≡ Reply.Refuse Refused.Memory }

@@ -1,6 +1,7 @@
 //! Reading a line of JSON as a request.
 //!
-//! The fields of a line are the values of the keys that requests use.
+//! The fields of a line are the values of the keys that requests use. A field is missing if the line doesn't have its
+//! key, or the value is of another kind.
 ghost use Rattle.std.specs.Prelude.{◌≡◌, ◌<◌, ◌⊎◌, length, true, Err, ok_or};
 ghost use Rattle.mml_ids.specs.Gives.{Gives};
 ghost use Rattle.serde_json.specs.Data.{Data};

@@ -1,4 +1,4 @@
-//! The text of requests. An error means that memory ran out.
+//! The text of requests, with their keys in byte order. An error means that memory ran out.
 ghost use Rattle.std.specs.Prelude.{◌≡◌, [], Ok, IfOk, OnOk, OnErr};
 ghost use Rattle.serde_json.specs.Written.{compact_text};
 ghost use Rattle.mml_policy.specs.declared.command.Command.TheVariants as command;
@@ -86,8 +86,8 @@ fn command_text(alloc: Global, command: Command) -> Result<Vec<u8>, AllocError>
     }
 }
 
-// Returns the text of the request for a move, without a newline. Only a marriage has the key `with` for a partner.
-// Returns an error if memory runs out.
+// Returns the text of the request for a move, without a newline. Only a marriage has the key `with`, for its partner,
+// as the last key. Returns an error if memory runs out.
 fn move_text(alloc: Global, node: u64, rule: Asked, at: u64) -> Result<Vec<u8>, AllocError>
     ensures { IfOk result (λ text. text.items ≡ compact_text (object_of
         (command_fields (command.Move node rule at)))) }
@@ -107,7 +107,7 @@ fn move_text(alloc: Global, node: u64, rule: Asked, at: u64) -> Result<Vec<u8>, 
     }
 }
 
-// Returns the word for a rule in a request.
+// Returns the value of the key `rule` in the request for a move.
 fn rule_word(rule: Asked) -> &'static str
     ensures { result.now ≡ rule_word rule }
 {

@@ -1,4 +1,5 @@
-//! Tables of fields: the keys of a reply in byte order, each with its value.
+//! Tables of fields: the keys of a reply in byte order, each with its value. The functions append the text of a table
+//! to a line, which is passed by value.
 ghost use Rattle.std.specs.Prelude.{codes, ◌≡◌, ◌≤◌, ◌+◌, ◌++◌, ℕ, List, [], length, vec_capacity};
 ghost use Rattle.mml_ids.specs.Pieces.{Puts};
 ghost use Rattle.mml_codec.specs.Facts.{fact_then};
@@ -9,8 +10,8 @@ use mml_ids::{IdTable, Memory, make_room, take_text, with_text};
 /// Enough bytes for the text of each reply but a look and a report.
 pub(crate) const TEXT_ROOM: usize = 2000;
 
-/// The fields of a reply, as a type that is built of rows. The type determines the text of the fields and the greatest
-/// length of this text.
+/// The fields of a reply, up to the end of its object. A table is a nest of types: a `Row` has the first field and the
+/// table of the others, and `End` has none.
 pub(crate) trait Table {
     // The fields name only nodes that have identifiers.
     ghost names: { List ℕ → Self → Type 0 };
@@ -22,7 +23,8 @@ pub(crate) trait Table {
     // The greatest length of the text of the fields.
     ghost most: { Self → ℕ };
 
-    // Returns the line with `first` and then the text of the fields appended. The line must have room for both.
+    // Returns the line with the text of the fields appended. Before the first field it appends `first`, which is an
+    // opening brace or a comma. If there is no field, it appends no `first`. The line must have room for both.
     fn with_fields(&self, line: Vec<u8>, ids: &IdTable, first: &str) -> Vec<u8>
         requires names { names ids.now self.now }
         requires room { length line.items + (length first.now + most self.now) ≤ vec_capacity line }
@@ -49,7 +51,7 @@ impl<V: ReplyValue, T: Table> Table for Row<V, T> {
 
     ghost most = { λ r. 4 + (length r.key.now + (V.most r.value + T.most r.rest)) };
 
-    // Returns the line with `first`, the quoted key, a colon, the value and the fields after it appended.
+    // Returns the line with `first`, the quoted key, a colon, the value, a comma and the fields after it appended.
     #[inline(always)]
     fn with_fields(&self, line: Vec<u8>, ids: &IdTable, first: &str) -> Vec<u8> {
         let line = with_text(line, first);
@@ -61,7 +63,7 @@ impl<V: ReplyValue, T: Table> Table for Row<V, T> {
     }
 }
 
-/// The end of an object.
+/// The table without fields, whose text is the end of an object.
 #[derive(Clone, Copy)]
 pub(crate) struct End;
 
@@ -72,14 +74,15 @@ impl Table for End {
 
     ghost most = { λ _. 1 };
 
-    // Returns the line with the closing brace appended.
+    // Returns the line with the closing brace appended. There is no field that `_first` could come before.
     #[inline(always)]
     fn with_fields(&self, line: Vec<u8>, _ids: &IdTable, _first: &str) -> Vec<u8> {
         with_text(line, "}")
     }
 }
 
-/// Appends the text of an object with these fields to `out`. Returns `Memory` if memory runs out.
+/// Appends the text of an object with these fields to `out`. The text has at most `TEXT_ROOM` bytes. Allocates only if
+/// `out` has less room than that, and returns `Memory` if memory runs out.
 #[inline(always)]
 pub(crate) fn put_object<T: Table>(
     ids: &IdTable,

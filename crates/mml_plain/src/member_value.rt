@@ -98,9 +98,9 @@ pub(crate) fn read_number(text: &str) -> Option<Option<u64>>
     }
 }
 
-// Returns what `read_number` returns for the number `numeral`, which has no minus: `Some(Some(number))` for an integer
-// that fits 64 bits, and `Some(None)` for a number that is read as a float. Returns `None` if the number is too great
-// for a float.
+// Returns what `read_number` returns for the number `numeral`, which has no minus. The result is `Some(Some(number))`
+// for an integer that fits 64 bits, and `Some(None)` for a number that is read as a float. It is `None` for a number
+// that is too great for a float.
 #[inline(always)]
 fn unsigned(numeral: &Numeral<'_>) -> Option<Option<u64>>
     ensures { result ≡ option_map as_u64 (number_from false numeral.now) }
