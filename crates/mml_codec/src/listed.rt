@@ -204,8 +204,8 @@ impl Listed for (Rank, Kind) {
     }
 }
 
-// A link between two nodes that aren't in a pair, written as an array of its ends, its witness and the rule that is
-// enabled at the witness. The witness is a privileged node, which shows that the run isn't over.
+// A link between two nodes each of which is in no pair, written as an array of its ends, its witness and the rule that
+// is enabled at the witness. The witness is a privileged node, which shows that the run isn't over.
 impl Listed for OpenLink {
     ghost names = { λ ids l. IsOpenLinkOf (length ids) l };
 

@@ -6,16 +6,16 @@ ghost use Rattle.std.specs.IoError.{error_kind};
 use std::io;
 use std::io::{Error, ErrorKind, Read, Write};
 
-/// A reader or a writer that retries if a signal interrupts a read or write, and remembers whether one failed because
-/// memory ran out.
+/// A reader or a writer that retries if a signal interrupts a read or a write.
 #[derive(Debug, Drop)]
 pub struct Retrying<T: Drop> {
     pub inner: T,
+    /// Whether a read or a write has failed because memory ran out.
     pub lacked_memory: bool,
 }
 
 impl<T: Drop> Retrying<T> {
-    /// Wraps a reader or a writer. Notes that memory hasn't run out in a read or write of it yet.
+    /// Wraps a reader or a writer. No read or write of it has failed yet because memory ran out.
     pub fn new(inner: T) -> Retrying<T>
         ensures inner { result.inner ≡ inner }
         ensures lacked_memory { result.lacked_memory ≡ false }
@@ -30,8 +30,8 @@ impl<T: Drop> Retrying<T> {
 impl<R: Read + Drop> Read for Retrying<R> {
     ghost remaining = { λ s. R.remaining s.inner };
 
-    // Reads, and retries as long as a signal interrupts the read. Returns the error `TimedOut` after 2^64 - 1
-    // interruptions. Remembers whether memory ran out.
+    // Reads, and retries as long as a signal interrupts the read. Returns the error of a read that fails for another
+    // reason, and `TimedOut` after 2^64 - 1 interruptions. Sets `lacked_memory` if memory ran out.
     fn read(&mut self, buf: &mut [u8]) -> io::Result<usize>
         ensures bound { ReadsAtMost result buf.new }
         ensures bytes { ReadConsumes (R.remaining self.old.inner) (R.remaining self.new.inner)
@@ -54,8 +54,8 @@ impl<R: Read + Drop> Read for Retrying<R> {
 impl<W: Write + Drop> Write for Retrying<W> {
     ghost contents = { λ s. W.contents s.inner };
 
-    // Writes, and retries as long as a signal interrupts the write. Returns the error `TimedOut` after 2^64 - 1
-    // interruptions. Remembers whether memory ran out.
+    // Writes, and retries as long as a signal interrupts the write. Returns the error of a write that fails for another
+    // reason, and `TimedOut` after 2^64 - 1 interruptions. Sets `lacked_memory` if memory ran out.
     fn write(&mut self, buf: &[u8]) -> io::Result<usize>
         ensures bound { WritesAtMost result buf.now }
         ensures bytes { WriteAppends (W.contents self.old.inner) (W.contents self.new.inner)
@@ -74,7 +74,8 @@ impl<W: Write + Drop> Write for Retrying<W> {
         Err(Error::from(ErrorKind::TimedOut))
     }
 
-    // Flushes once, and doesn't retry if a signal interrupts the flush. Doesn't remember whether memory ran out.
+    // Flushes once, and doesn't retry if a signal interrupts the flush. Doesn't change `lacked_memory`. Returns the
+    // error of a flush that fails.
     fn flush(&mut self) -> io::Result<()>
         ensures { Keeps (W.contents self.old.inner) (W.contents self.new.inner) }
     {

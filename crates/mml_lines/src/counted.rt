@@ -14,7 +14,7 @@ pub(crate) struct Counted<'a, R> {
 }
 
 impl<R> Drop for Counted<'_, R> {
-    // Ends the borrow of the reader, which stays as the last read left it.
+    // Does nothing. It is written out for its contract: when the borrow ends, the reader is as the last read left it.
     fn drop(self)
         ensures { self.exit.0.now ≡ self.entry.reader.now }
     {
@@ -43,8 +43,8 @@ impl<'a, R: Read> Counted<'a, R> {
     }
 
     /// Reads once into the buffer `chunk`, counts the read, and appends the bytes that were read to `held`, the
-    /// beginning of a line. Returns `End` at the reader's end and `ReadFault` if the read fails; then `held` is as it
-    /// was.
+    /// beginning of a line. `held` must have room for a whole chunk, so that nothing is allocated. Returns `End` at the
+    /// reader's end and `ReadFault` if the read fails; then `held` is as it was.
     pub(crate) fn read_onto(&mut self, held: &mut Vec<u8>, chunk: &mut Vec<u8>) -> Result<(), Step>
         requires needed { IsUnbroken held.old.items }
         requires few { self.old.reads < MAX_READS }

@@ -78,7 +78,7 @@ impl Outgoing {
     }
 
     /// Writes all held lines, and flushes the writer. Returns `WriteFault` if a write fails or takes nothing, or the
-    /// flush fails.
+    /// flush fails. If only the flush fails, all lines were written whole, so the fault's `written` is 0.
     pub fn flush<W: Write>(&mut self, writer: &mut W) -> Result<(), WriteFault>
         ensures empty { OnOk result (self.new ≡ []) }
         ensures ok { OnOk result (Sends (W.contents writer.old) (W.contents writer.new) self.old []) }
@@ -115,7 +115,9 @@ impl Outgoing {
 
     /// Appends a line, `front` and then `rest`, to the buffer if the rest is short and there is room for the line.
     /// Returns whether it was appended. Writes nothing.
-    // It is inlined, as `Lines::next` is.
+    // The rest's length is known only after it was appended. So it is appended first, for which the memory beyond
+    // `OUTGOING_BYTES` suffices, and removed if the buffer then has too many bytes. The function is inlined, so that
+    // the loop over a script's lines makes fewer calls.
     #[inline(always)]
     pub fn append<L: LineRest>(&mut self, front: &[u8], rest: &L) -> bool
         requires { L.may_tell rest.now }
@@ -139,7 +141,7 @@ impl Outgoing {
     }
 
     // Appends a line, `front` and then `rest`, to the buffer if there is room for it. Returns whether it was appended.
-    // Writes nothing.
+    // Writes and allocates nothing, so `unwrap` succeeds.
     fn hold(&mut self, front: &[u8], rest: &[u8]) -> bool
         ensures { self.new ≡ (if result then self.old ++ (front.now ++ rest.now) ∷ [] else self.old) }
     {
@@ -159,7 +161,7 @@ impl Outgoing {
 }
 
 // Returns how many bytes were written of the first line that isn't written whole. `lengths` has the lengths of the
-// lines, and `out` is the number of bytes that were written of all lines together.
+// lines, in the order in which they are written. `out` is the number of bytes that were written of all lines together.
 fn part_of(lengths: &[usize], out: usize) -> usize
     ensures { result ≡ part_in lengths.now out }
 {

@@ -17,7 +17,8 @@ pub enum WholeFault {
 }
 
 /// Reads a reader to its end, and returns all its bytes. Returns `TooLong` if there are more than `limit` bytes, `Read`
-/// if a read fails, and `Memory` if memory runs out. At most `limit` bytes and one more are read.
+/// if a read fails, and `Memory` if memory runs out. At most `limit + 1` bytes are read; the last of them shows that
+/// there are too many.
 pub fn read_whole<R: Read + Drop>(
     alloc: Global,
     reader: R,
