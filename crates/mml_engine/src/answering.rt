@@ -1,7 +1,7 @@
 //! Answering a line: its reply, who is known afterwards, and the events that its session has seen then.
 //!
 //! An account is known on a connection from its granted hello to its bye. The parameter `at` of a function is the part
-//! of the engine that belongs to the session.
+//! of the engine that belongs to the session. An engine may be closed; then it shows nothing any more.
 ghost use Rattle.std.specs.Prelude.{◌≡◌, false, IfErr, IfSome, OnOk};
 ghost use Rattle.mml_lab.specs.Rosters.{IsPrincipal};
 ghost use Rattle.mml_policy.specs.Acts.{is_act};
@@ -17,11 +17,10 @@ use mml_lab::Who;
 use mml_policy::Command;
 use std::alloc::Global;
 
-/// Answers a request line of a connection, and puts the reply into `reply`, since a reply is too large to be returned
-/// without a costly copy. `at` is the session's part of the engine. `known` is the participant who has greeted on the
-/// connection, or `None`, and is set to who is known afterwards. `scratch` is working memory for reading the line.
-/// Returns `Closed`, and puts no reply, if a known participant asks to be shown something and the engine shows nothing
-/// any more.
+/// Answers a request line of a connection, without its newline, and puts the reply into `reply`, since a reply is too
+/// large to be returned without a costly copy. `known` is the participant who is known on the connection, or `None`,
+/// and is set to who is known afterwards. `scratch` is working memory for reading the line. Returns `Closed`, and puts
+/// no reply, if a known participant asks to be shown something and the engine is closed.
 pub fn answer_line<E: Engine>(
     engine: &mut E,
     at: &mut E::View,
@@ -56,8 +55,8 @@ pub fn answer_line<E: Engine>(
 
 // Puts the reply to a request into `reply`, and sets `known` to who is known afterwards. `answer_line` calls this
 // function for a hello, a bye, and a command while nobody is known. Such lines are rare and the code for them is large,
-// so the function isn't inlined. Returns `Closed`, and puts no reply, if the request asks to be shown something and the
-// engine shows nothing any more.
+// so the function isn't inlined. Its code also handles a command of a known participant, for which the contract holds
+// too. Returns `Closed`, and puts no reply, if such a command asks to be shown something and the engine is closed.
 #[inline(never)]
 fn settle<E: Engine>(
     engine: &mut E,
@@ -88,7 +87,7 @@ fn settle<E: Engine>(
 }
 
 // Passes a command of `who` to the engine, which puts the reply into `reply`. Returns `Closed`, and puts no reply, if
-// the command asks to be shown something and the engine shows nothing any more.
+// the command asks to be shown something and the engine is closed.
 #[inline(always)]
 fn obey<E: Engine>(
     engine: &mut E,

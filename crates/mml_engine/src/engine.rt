@@ -1,6 +1,7 @@
 //! Engines, which answer commands.
 //!
-//! An act is a request for an event. A view is what a see, a look or a report shows.
+//! An act is a command that asks for an event. A view is a command that only asks to be shown something: a see, a look
+//! or a report. An account is known on a connection from its granted hello to its bye.
 use mml_codec::Reply;
 use mml_lab::{Roster, Who};
 use mml_policy::Command;
@@ -11,8 +12,7 @@ use std::alloc::Global;
 pub struct Closed;
 
 /// A server's state, which answers the commands of known participants. The reply to a view depends on the events that
-/// were published before it, and the reply to an act on all events. An account is known on a connection from its
-/// granted hello to its bye. A view is what a see, a look or a report shows; an act is a request for an event.
+/// were published before it, and the reply to an act on all events.
 pub trait Engine {
     ghost use Rattle.std.specs.Prelude.{◌≡◌, true, false, List, OnOk, IfErr};
     ghost use Rattle.mml_lab.specs.declared.who.Who.{Who};
@@ -44,9 +44,8 @@ pub trait Engine {
     fn roster<'r>(&'r self, at: &'r Self::View) -> &'r Roster
         ensures { result.now ≡ (lab self.now).roster };
 
-    /// Puts the reply to a view into `reply`; a view is a command that only asks to be shown something. `at` is the
-    /// part of the engine that belongs to the session. Returns `Closed`, and puts no reply, if the engine shows nothing
-    /// any more.
+    /// Puts the reply to a view of `who` into `reply`. The command must be a view. `at` is the part of the engine that
+    /// belongs to the session. Returns `Closed`, and puts no reply, if the engine shows nothing any more.
     fn view(
         &mut self,
         at: &mut Self::View,
@@ -63,8 +62,8 @@ pub trait Engine {
         ensures about { OnOk result (IsAbout (lab self.old).ids (lab self.old).roster reply.new) }
         ensures closed { IfErr result (λ _. may_close × (self.new ≡ self.old) × (at.new ≡ at.old)) };
 
-    /// Puts the reply to an act into `reply`; an act is a command that asks for an event. If the act is granted, the
-    /// event happens. `at` is the part of the engine that belongs to the session.
+    /// Puts the reply to an act of `who` into `reply`. The command must be an act. If it is granted, its event happens.
+    /// `at` is the part of the engine that belongs to the session.
     fn act(
         &mut self,
         at: &mut Self::View,

@@ -1,7 +1,8 @@
 //! Laws of turns over any engine. Each is the contract of a function that does nothing.
 //!
-//! A turn is the reply to one line and the state after it. An account is known on a connection from its granted hello
-//! to its bye. The place of an event is its number in the list of events, from 1.
+//! A turn is the reply to one line and the state after it. In these laws, the lab stands for the engine, and `old` and
+//! `new` are the events that the session has seen before and after the line. An account is known on a connection from
+//! its granted hello to its bye. The place of an event is its number in the list of events, from 1.
 ghost use Rattle.std.specs.Prelude.{◌≡◌, ℕ, List, Option, Some};
 ghost use mathlib.Core.List.{IsPrefix};
 ghost use Rattle.mml_lab.specs.declared.who.Who.{Who};

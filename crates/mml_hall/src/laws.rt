@@ -5,7 +5,7 @@
 //! transcript has its lines with their replies. A world is a network with its registers, its chosen moves, the number
 //! of its configuration, and the number of events so far. An account is known on a connection from its granted hello to
 //! its bye. A sink is the destination of the journal's bytes. The place of an event is its number in the list of
-//! events, from 1.
+//! events, from 1. A mishap is what goes wrong in a turn: memory runs out, or a write to the sink fails.
 
 ghost use Rattle.std.specs.Prelude.{◌≡◌, ◌≢◌, ◌<◌, ◌≤◌, ◌⊎◌, ◌++◌, ℕ, List, true, length, map};
 ghost use Rattle.mml_lab.specs.declared.TheConstants.{MAX_SESSIONS};
@@ -77,7 +77,7 @@ pub fn others_stay_known()
         → known_on out.state other ≡ known_on st other }
 {}
 
-/// The number of bytes that a script line may have at most.
+/// The greatest length of a script line, in bytes, without its newline.
 pub fn limit_of_script_lines()
     ensures { MAX_SCRIPT_LINE ≡ 4099 }
 {}

@@ -195,10 +195,15 @@ fn bad_line_after(answered: u64) -> ScriptFault
 // What happened to the next line of a script.
 #[derive(Clone, Copy)]
 enum ScriptStep {
+    // The line is answered, and its reply is held or written.
     Answered,
+    // There is no next line, since the input is at its end.
     End,
+    // The line isn't a script line.
     BadLine,
+    // A read failed, or one more was needed than is allowed.
     ReadFault,
+    // The line is answered, but a write of replies failed.
     WriteFault(WriteFault),
 }
 
@@ -273,9 +278,9 @@ fn serve_next<R: Read, W: Write, S: Sink>(
     }
 }
 
-// Answers a line of the input if it is a script line, and holds the reply in `outgoing`. Returns `Answered`, or
-// `WriteFault` if a write failed, or `BadLine` if it is no script line. `out` is the buffer for a reply that `outgoing`
-// can't take directly.
+// Answers a line of the input if it is a script line, and holds the reply in `outgoing`. Returns `Answered` then,
+// `WriteFault` if a write failed, and `BadLine` if the line is no script line. `out` is the buffer for a reply that
+// `outgoing` can't take directly.
 #[inline(always)]
 fn serve_line<W: Write, S: Sink>(
     alloc: Global,
@@ -328,6 +333,7 @@ fn serve_script_line<W: Write, S: Sink>(
         (line_of line.entry) outgoing.old outgoing.new
         (W.contents writer.old) (W.contents writer.new) }
 {
+    // A value for `answer_into` to replace.
     let mut reply = Reply::Bye;
     hall.answer_into(alloc, line.connection, line.request, &mut reply);
     let rest = ReplyRest {
@@ -354,16 +360,16 @@ impl LineRest for ReplyRest<'_> {
 
     ghost is_short = { λ t. is_short t.reply.now };
 
-    // Appends the reply's line to `out`, unless the reply is a look or a report, or there is too little room. Returns
-    // whether it was appended.
+    // Appends the reply's line to `out`, unless the reply is a look or a report. Returns whether it was appended. `out`
+    // has room, by the contract of `LineRest::append_to`.
     fn append_to(&self, out: &mut Vec<u8>) -> bool {
         append_reply(self.lab.ids(), self.lab.roster(), self.reply, out)
     }
 }
 
 // Writes the line of a reply into the buffer `out`, and from there appends it, after `front`, to the held lines in
-// `outgoing`. The function is called for a reply that isn't short, or for which the held lines must be written first.
-// Returns `WriteFault` if a write fails.
+// `outgoing`. If memory runs out, the line is that of the refusal `memory`. The function is called for a reply that
+// isn't short, or for which the held lines must be written first. Returns `WriteFault` if a write fails.
 #[inline(never)]
 fn write_by_buffer<W: Write>(
     alloc: Global,
@@ -379,6 +385,7 @@ fn write_by_buffer<W: Write>(
     ensures tells { Tells result rest.entry.lab.now rest.entry.reply.now front.now outgoing.old outgoing.new
         (W.contents writer.old) (W.contents writer.new) }
 {
+    // Only the proof needs to know whether the line is the reply's own.
     let _is_whole = put_reply(alloc, rest.lab, rest.reply, out);
     outgoing.put(front, out, writer)
 }
@@ -402,7 +409,7 @@ fn put_reply(alloc: Global, lab: &Lab, reply: &Reply, out: &mut Vec<u8>) -> bool
 }
 
 // Replaces the bytes of `out` by the line of the refusal `memory`, which says that memory ran out. `out` must have room
-// for it.
+// for it, so nothing is allocated, and `unwrap` succeeds.
 fn write_memory_refusal(alloc: Global, lab: &Lab, out: &mut Vec<u8>)
     requires room { REPLY_ROOM ≤ vec_capacity out.old }
     ensures room { REPLY_ROOM ≤ vec_capacity out.new }

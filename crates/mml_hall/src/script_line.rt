@@ -1,4 +1,4 @@
-//! The lines of a script.
+//! The lines of a script. Connections count from 1.
 ghost use Rattle.std.specs.Prelude.{◌≡◌, ◌≢◌, ◌≤◌, ◌++◌, ◌∷◌, [], decimal, IfSome, IfNone, MatchOption};
 ghost use Rattle.mml_lab.specs.declared.TheConstants.{MAX_SESSIONS};
 ghost use Rattle.mml_lines.specs.LinesOf.{IsWithinLimit};
