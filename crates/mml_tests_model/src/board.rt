@@ -2,7 +2,8 @@
 //! cover a look, and a line of the journal. An error means that memory ran out.
 //!
 //! The first board of a lab is the one at the beginning of a run. The path of three is the lab of nodes 1, 2 and 3 in a
-//! row. The rank of a node is its index in the rising order of identifiers.
+//! row. The rank of a node is its index in the rising order of identifiers. A function that owns few large values, such
+//! as labs and boards, has a short proof, so many functions only make one and pass it on.
 ghost use Rattle.std.specs.Prelude.{◌<◌, length};
 
 use mml_board::{Board, Event};
@@ -16,7 +17,7 @@ use mml_rules::{Regs, Rule, Scene};
 use std::alloc::{AllocError, Global};
 use std::test::Fail;
 
-// A lab of two linked nodes, of which the higher points at the lower.
+// The lab file of two linked nodes, of which the higher points at the lower.
 const HIGHER_POINTS: &str = lab!(
     "links = [[3, 5]]\n",
     [("ana", "a-key")],
@@ -100,7 +101,8 @@ fn are_both_opening(alloc: Global, board: &Board) -> Result<bool, Fail> {
     Ok(is_opening(alloc, board)? && is_copy_opening(alloc, board)?)
 }
 
-/// Returns a look at the first node of a board as text, or `no node` if the board has none.
+/// Returns a look at the first node of a board as text, or `no node` if the board has none. The condition is tested,
+/// since the contract of `look_of` requires it.
 fn look_at_the_first(alloc: Global, board: &Board) -> Result<String, Fail> {
     let node = Rank::at(0);
     if node.index() >= board.size() {
@@ -130,7 +132,7 @@ fn push_near(text: &mut String, near: &[(Rank, Regs)]) -> Result<(), AllocError>
 
 /// Returns the journal's line of an abandonment by the second node, as the first event. The buffer for it had the text
 /// `what stood there` before. Returns this text if the event isn't legal, isn't the first, or lab and board differ in
-/// size.
+/// size. These conditions are tested, since the contract of `next_line` requires them.
 fn first_event_line(alloc: Global, lab: &Lab, board: &Board) -> Result<Vec<u8>, Fail> {
     let mut line = Vec::from_slice(alloc, b"what stood there")?;
     if let Some(event) = &grant(1, Rule::Abandonment) {
@@ -169,7 +171,8 @@ fn opening_board(rt: HostRuntime) -> Result<(), Fail> {
     Ok(())
 }
 
-/// A part of a story (a list of events): an event, if there is one, and the board's text that is right after it.
+/// A part of a story (a list of events): an event, and the board's text that is right after it. The event is `None`
+/// only for a rank that doesn't exist; then nothing is applied.
 type Part = (Option<Event>, &'static str);
 
 /// Returns a story in which one close applies two chosen moves. Two of its events are illegal, and must change nothing.
@@ -253,8 +256,8 @@ fn play_story(alloc: Global, board: &mut Board, story: &[Part]) -> Result<bool, 
     Ok(is_right)
 }
 
-/// Plays `story_of_moves` on a board, and then `story_of_changes`. Returns for each of the two stories whether all texts
-/// of the board were the expected ones.
+/// Plays `story_of_moves` on a board, and then `story_of_changes`. Returns for each of the two stories whether all
+/// texts of the board were the expected ones.
 fn play_both_stories(alloc: Global, board: &mut Board) -> Result<(bool, bool), Fail> {
     let moves_are_right = play_story(alloc, board, &story_of_moves())?;
     let changes_are_right = play_story(alloc, board, &story_of_changes())?;

@@ -2,7 +2,10 @@
 //! events must be legal as in the plain model, which has the same rules in Python (`model/`). An error means that
 //! memory ran out.
 //!
-//! The first board of a lab is the one at the beginning of a run.
+//! The first board of a lab is the one at the beginning of a run. The first student, ana, owns the first half of a
+//! cycle's nodes, and the second student the others. Sums saturate or wrap, since a plain sum needs a proof that it
+//! doesn't overflow. A function that owns few large values, such as labs and boards, has a short proof, so some
+//! functions only make one and pass it on.
 use mml_board::{Board, Event};
 use mml_fakes::Numbers;
 use mml_fakes::cycles::cycle;
@@ -62,13 +65,13 @@ const OF_256: &str = concat!(
 );
 
 /// Returns the node at an index of a cycle of `nodes` nodes, at most 256. An index after the last node begins again at
-/// the first.
+/// the first. The bounds 1 and 255 are never reached; with them, the calls need no proof about `nodes`.
 fn node_at(nodes: u64, index: u64) -> Rank {
     Rank::at((index % nodes.max(1)).min(255))
 }
 
 /// Returns the rule that is enabled at a node; for a marriage, the rule with `partner`. Returns Update if none is
-/// enabled, or the board has no such node.
+/// enabled, or the board has no such node. The latter is tested, since the contract of `enabled` requires the node.
 fn enabled_rule(board: &Board, node: Rank, partner: Rank) -> Rule {
     if node.index() >= board.size() {
         return Rule::Update;
@@ -81,8 +84,8 @@ fn enabled_rule(board: &Board, node: Rank, partner: Rank) -> Rule {
     }
 }
 
-/// Returns the event of a move at a node by the rule that `enabled_rule` returns. Usually its student owns the node,
-/// and in one of eight cases doesn't. The event may be illegal.
+/// Returns the event of a move at a node by the rule that `enabled_rule` returns. Usually its student, ana or the
+/// second one, owns the node, and in one of eight cases doesn't. The event may be illegal.
 fn grant(board: &Board, numbers: &mut Numbers, node: Rank, partner: Rank) -> Event {
     let is_ana = (node.index() < board.size() / 2) != (numbers.below(8) == 0);
     Event::Grant {
@@ -107,8 +110,9 @@ fn fault(numbers: &mut Numbers, node: Rank, other: Rank) -> Event {
     }
 }
 
-/// Returns the event that is drawn at this index; most are moves. The event may be illegal. The nodes of an event are
-/// close to each other in the cycle, and move on by one node every eight events.
+/// Returns the event that is drawn at this index; most are moves. The event may be illegal. Its nodes are close to each
+/// other in the cycle: the second is from two before the first to three after it. The region of both moves on by one
+/// node every eight events.
 fn drawn(board: &Board, numbers: &mut Numbers, index: u64) -> Event {
     let place = (index / 8).wrapping_add(numbers.below(8));
     let other = place
@@ -126,8 +130,9 @@ fn drawn(board: &Board, numbers: &mut Numbers, index: u64) -> Event {
     }
 }
 
-/// Draws `DRAWS` events over a board, and applies each legal one to it. Returns one letter for each legal event. The
-/// letter says how many illegal events came after the legal one before, from `a` for none to `z` for 25 or more.
+/// Draws `DRAWS` events over a board, and applies each legal one to it. The board's size is the first state of the
+/// pseudo-random numbers. Returns one letter for each legal event. The letter says how many illegal events came after
+/// the legal one before, from `a` for none to `z` for 25 or more.
 fn letters_on(alloc: Global, lab: &Lab, board: &mut Board) -> Result<Vec<u8>, AllocError> {
     let mut numbers = Numbers {
         state: board.size(),

@@ -103,7 +103,7 @@ fn keeps_a_word(alloc: Global) -> Result<bool, AllocError> {
 }
 
 /// Puts pieces of text into a vector, the last of them the identifier `id`, which should be 65535, and then makes room
-/// for 100 more bytes. Returns whether the text is right, and the vector has that room.
+/// for 100 more bytes. Returns whether the text, of 29 bytes, is right, and the vector has that room.
 fn are_put(alloc: Global, id: NodeId) -> Result<bool, Memory> {
     let mut out = Vec::new(alloc);
     let text = [

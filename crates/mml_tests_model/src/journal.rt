@@ -143,8 +143,8 @@ fn are_rows_read(alloc: Global, lab: &Lab) -> Result<(bool, bool, bool), Fail> {
     Ok((shapes, unknowns, are_read_and_written(alloc, lab)?))
 }
 
-/// Reads lines over the path of three. Returns the three answers of `are_rows_read`, about the tables of this file.
-/// Also returns whether the lines of `TEN_LINES` with replaced bytes are read as `replaced::REPLACED` says.
+/// Reads lines over the path of three. Returns the three answers of `are_rows_read`, about `SHAPES`, `UNKNOWNS` and
+/// `OTHERS`. Also returns whether the lines of `TEN_LINES` with replaced bytes are read as `replaced::REPLACED` says.
 fn are_lines_read(alloc: Global) -> Result<((bool, bool, bool), bool), Fail> {
     let lab = boxed_lab(alloc, PATH_OF_THREE)?;
     Ok((

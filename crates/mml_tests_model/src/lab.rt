@@ -1,5 +1,8 @@
 //! Tests that compare a lab file with the lab that is read from it. An error means that memory ran out, or is that of a
 //! lab file.
+//!
+//! A function that owns few large values, such as labs, has a short proof, so some functions only make one and pass it
+//! on.
 ghost use Rattle.std.specs.Prelude.{◌<◌, length};
 
 use mml_fakes::labs::boxed_lab;
@@ -123,7 +126,7 @@ fn first_other_index(roster: &Roster) -> Option<&'static str> {
 }
 
 /// Returns whether two networks have the same links and registers at a node. Returns `false` too if the node is missing
-/// in one of them.
+/// in one of them. This is tested first, since the contracts of the other calls require the node.
 fn is_same_at(network: &Network, other: &Network, node: Rank) -> bool {
     if node.index() >= network.size() || node.index() >= other.size() {
         return false;

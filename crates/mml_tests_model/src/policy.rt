@@ -2,6 +2,8 @@
 //! memory ran out.
 //!
 //! A ruling is what the policy decides about a command. The first board of a lab is the one at the beginning of a run.
+//! The path of three is the lab of nodes 1, 2 and 3 in a row; ana owns node 1. A function that owns few large values,
+//! such as labs and boards, has a short proof, so some functions only make one and pass it on.
 use mml_board::Board;
 use mml_fakes::labs::{PATH_OF_THREE, boxed_board, boxed_lab};
 use mml_ids::{Memory, Rank};
@@ -11,7 +13,7 @@ use mml_rules::Scene;
 use std::alloc::Global;
 use std::test::Fail;
 
-/// Returns the name of the kind of a ruling (what the policy decides about a command).
+/// Returns the name of the kind of a ruling.
 fn ruling_name(ruling: &Ruling) -> &'static str {
     match ruling {
         Ruling::Denied(_) => "denied",
@@ -28,7 +30,7 @@ fn ruling_name(ruling: &Ruling) -> &'static str {
 type Case = (u64, bool, Command);
 
 /// Returns the name of the ruling on the command of a case, if `who` asks. Returns `another size` if the board and the
-/// lab differ in size.
+/// lab differ in size. This is tested, since the contract of `rule_on` requires the same size.
 fn ruled(
     alloc: Global,
     lab: &Lab,

@@ -1,4 +1,6 @@
 //! Tests that compare sets of ranks with plain lists.
+//!
+//! Sums saturate or wrap, since a plain sum needs a proof that it doesn't overflow.
 use mml_ids::{MAX_NODES, NodeSet, Rank};
 
 /// Takes all ranks out of a copy of a set, the least first, and returns whether they are exactly `ranks`, in this
@@ -13,7 +15,7 @@ fn gives_in_order(set: NodeSet, ranks: &[u64]) -> bool {
     least_taken(&mut left).is_none()
 }
 
-/// Takes the least rank out of a set and returns it, or returns `None` if the set is empty.
+/// Takes the least rank out of a set and returns its index, or returns `None` if the set is empty.
 fn least_taken(left: &mut NodeSet) -> Option<u64> {
     Some(left.take_least()?.index())
 }
@@ -28,8 +30,8 @@ fn has_only(set: NodeSet, ranks: &[u64]) -> bool {
         && gives_in_order(set, ranks)
 }
 
-/// Returns the index of the first of seven sets that doesn't have exactly the ranks that it should have, or `None` if
-/// all have. Also returns how many ranks are above 63.
+/// Returns the index of the first of seven sets that doesn't have exactly the ranks in its list, or `None` if all have.
+/// Also returns how many ranks are above 63.
 fn results_of_sets() -> (Option<usize>, u64) {
     let none = NodeSet::empty();
     let some = none

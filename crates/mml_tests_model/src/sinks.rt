@@ -1,7 +1,8 @@
 //! Tests of journals whose sinks fail at each put, or at each byte. An error means that memory ran out.
 //!
-//! A put is a write to a sink. `TEN_LINES` is the journal of a stored run over the path of three: nodes 1, 2 and 3 in a
-//! row.
+//! A put is a write to a sink. A `Drip` is a sink that stores one byte in each put, and fails after some puts.
+//! `TEN_LINES` is the journal of a stored run over the path of three: nodes 1, 2 and 3 in a row. Sums saturate, since a
+//! plain sum needs a proof that it doesn't overflow.
 use mml_fakes::Drip;
 use mml_fakes::labs::{PATH_OF_THREE, boxed_lab};
 use mml_fakes::scripts::{TEN_LINES, first_lines};

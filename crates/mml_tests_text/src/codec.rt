@@ -74,8 +74,8 @@ const LINES: &[(&[u8], &str)] = &[
     (b"[1]", "Malformed"),
 ];
 
-/// Returns whether a line is read as `wanted`, which is a request's text or an error's name. Tries both `read_request`,
-/// which allocates its memory, and `read_request_with`, which uses `scratch`.
+/// Returns whether a line is read as `wanted`, which is a request's text or an error's name, as from `text_or_fault`.
+/// Tries both `read_request`, which allocates its memory, and `read_request_with`, which uses `scratch`.
 fn is_read_as(
     alloc: Global,
     scratch: &mut LineScratch,

@@ -31,8 +31,8 @@ fn steps_text<R: Read>(
     Ok(text)
 }
 
-/// Reads a reader to its end under this limit. Returns the answers of `next` as a text. Appends `and another end` if a
-/// later call gives another answer, or reads on.
+/// Reads the lines of a reader to the end, with this limit on a line's length. Returns the answers of `next` as a text.
+/// Appends `and another end` if a later call gives another answer, or reads on.
 fn steps_to_the_end<R: Read>(alloc: Global, limit: usize, reader: &mut R) -> Result<String, Fail> {
     let mut lines = Lines::new(alloc, limit.min(MAX_LIMIT))?;
     let mut text = steps_text(&mut lines, alloc, reader)?;
@@ -75,7 +75,7 @@ fn digits(alloc: Global, len: usize) -> Result<String, AllocError> {
     Ok(text)
 }
 
-/// Returns whether a line, followed by `end` and read under this limit, gives the answers in `wanted`.
+/// Returns whether a line, followed by `end` and read with this limit on its length, gives the answers in `wanted`.
 fn are_steps(
     alloc: Global,
     limit: usize,
@@ -202,8 +202,8 @@ fn cuts_change_nothing_and_a_failed_read_ends_the_lines(rt: HostRuntime) -> Resu
     Ok(())
 }
 
-/// Counts the lines before the first answer that isn't `Line`. Returns the count and that answer. If `u32::MAX` lines
-/// come, returns this number and `Line`.
+/// Counts the lines before the first answer of `next` that isn't `Line`. Returns the count and that answer. If
+/// `u32::MAX` lines come, returns this number and `Line`.
 fn count_lines(lines: &mut Lines, reader: &mut FakeReader) -> (u32, Step) {
     for count in 0..u32::MAX {
         match lines.next(reader) {
@@ -221,8 +221,8 @@ fn lines_of_many_newlines(alloc: Global) -> Result<(u32, Step, usize), Fail> {
     counted_in(alloc, breaks.as_slice())
 }
 
-/// Reads these bytes, one in each read. Returns how many lines come, the answer that ends them, and how many bytes are
-/// left unread.
+/// Reads `breaks`, one byte in each read. Returns how many lines come, the answer that ends them, and how many bytes
+/// are left unread.
 fn counted_in(alloc: Global, breaks: &[u8]) -> Result<(u32, Step, usize), Fail> {
     let mut reader = FakeReader::failing_after(usize::MAX, breaks);
     let mut lines = Lines::new(alloc, 4096)?;

@@ -1,6 +1,7 @@
 //! Tests of the lines of replies, over a lab of two nodes far apart. An error means that memory ran out.
 //!
-//! The first board of a lab is the one at the beginning of a run.
+//! The first board of a lab is the one at the beginning of a run. A function that owns few large values, such as labs
+//! and boards, has a short proof, so some functions only make one and pass it on.
 ghost use Rattle.mml_codec.specs.Replies.{IsAbout};
 
 use mml_board::Board;
@@ -46,7 +47,8 @@ fn is_reported(alloc: Global, board: &Board, told: &Report) -> Result<bool, Fail
 }
 
 /// Returns the line of the report on the first board of a lab. Returns an empty text if the board and the lab differ in
-/// size, or `reply_of` reports another number or stability.
+/// size, or `reply_of` reports another number or stability. The sizes are compared, since the contract of `line_of`
+/// requires that the lab has the report's nodes.
 fn report_line(alloc: Global, lab: &Lab) -> Result<String, Fail> {
     let board = &*boxed_board(alloc, lab)?;
     if lab.ids().len() != board.size() {

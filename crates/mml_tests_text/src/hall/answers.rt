@@ -2,7 +2,9 @@
 //!
 //! A hall is the server of one thread, which answers scripts. A world is a network with its registers, its chosen
 //! moves, the number of its configuration, and the number of events so far. The first board of a lab or of a hall is
-//! the one at the beginning of a run.
+//! the one at the beginning of a run. `PAIR` is the lab file of nodes 3, 5 and 9 in a row, with tess as the teacher. A
+//! function that owns few large values, such as labs and halls, has a short proof, so some functions only make one and
+//! pass it on.
 use mml_board::Board;
 use mml_codec::{REPLY_ROOM, tell_reply};
 use mml_fakes::labs::{PAIR, boxed_board, boxed_lab, greatest};
@@ -24,7 +26,7 @@ const LOOK: &str =
     "{\"at\":0,\"chosen\":null,\"m\":false,\"near\":[{\"m\":false,\"node\":5,\"p\":3}],\"node\":9,\"ok\":\"look\",\"p\":null,\"rule\":null}\n";
 
 /// Returns the line of the reply to a request on the first connection, with its newline. Returns an empty list if the
-/// hall's lab has no session.
+/// hall's lab has no session. This is tested, since the contract of `answer` requires the connection.
 fn answer(alloc: Global, hall: &mut Hall<NullSink>, line: &str) -> Result<Vec<u8>, Fail> {
     let mut out = Vec::with_capacity(alloc, REPLY_ROOM)?;
     if hall.lab().sessions() < 1 {

@@ -1,8 +1,9 @@
 //! Tests of a hall whose sink fails after each possible number of bytes: which bytes the sink has, which events the
 //! hall has, and what audits say about the bytes. An error means that memory ran out, or is that of a script.
 //!
-//! A hall is the server of one thread, which answers scripts. `TEN_LINES` is the journal of the ten acts of a stored
-//! run over the path of three: nodes 1, 2 and 3 in a row.
+//! A hall is the server of one thread, which answers scripts. A `Drip` is a sink that stores one byte in each put, and
+//! fails after some puts. `TEN_LINES` is the journal of the ten acts of a stored run over the path of three: nodes 1, 2
+//! and 3 in a row. A journal is torn if its last line isn't whole.
 use mml_audit::{audit, audit_events};
 use mml_fakes::labs::PATH_OF_THREE;
 use mml_fakes::scripts::{GREETINGS, TEN_ACTS, TEN_LINES, ended_lines};
@@ -44,7 +45,7 @@ fn is_listed(alloc: Global, hall: &Hall<Drip>, journal: &[u8]) -> bool {
     }
 }
 
-/// Returns whether the journal in a hall's sink passes both audits if its last line is whole, and neither if that is
+/// Returns whether the journal in a hall's sink passes both audits if its last line is whole, and neither if it is
 /// torn. A journal that passes must have the hall's events and lead to the hall's board.
 fn is_audited(alloc: Global, hall: &Hall<Drip>) -> bool {
     let journal = hall.sink().bytes.as_slice();

@@ -1,5 +1,8 @@
 //! Tests that each read of a script is made once, and none after the script's end. Other tests check how a script ends,
 //! and which lines are answered, if a read fails. An error (`Fail`) means that memory ran out.
+//!
+//! `FIRST_LOOK` and `GREETING` are scripts over the path of three, nodes 1, 2 and 3 in a row. `FIRST_LOOK_REPLIES` and
+//! `GREETING_REPLIES` are their replies.
 use super::script_error_of;
 use mml_fakes::scripts::{
     FIRST_LOOK, FIRST_LOOK_REPLIES, GREETING, GREETING_REPLIES, ended_lines, first_lines,

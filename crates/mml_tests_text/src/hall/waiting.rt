@@ -1,5 +1,9 @@
 //! Tests that all replies are written and flushed before each read, many of them with one write. An error (`Fail`)
 //! means that memory ran out.
+//!
+//! `FIRST_LOOK` and `GREETING` are scripts over the path of three, nodes 1, 2 and 3 in a row. `FIRST_LOOK_REPLIES` and
+//! `GREETING_REPLIES` are their replies. Sums and differences saturate, since plain ones need a proof that they don't
+//! overflow.
 use super::script_error_of;
 use mml_fakes::scripts::{FIRST_LOOK, FIRST_LOOK_REPLIES, GREETING, GREETING_REPLIES, ended_lines};
 use mml_fakes::{FakeWriter, Parts};
@@ -91,7 +95,8 @@ fn answer_line_by_line(alloc: Global, script: &str, wanted: &str) -> Result<(boo
     ))
 }
 
-/// Returns how many writes and how many flushes were made to a writer from `FakeWriter::patient`.
+/// Returns how many writes and how many flushes were made to a writer from `FakeWriter::patient`, which counts both
+/// down from `usize::MAX`.
 fn calls(writer: &FakeWriter) -> (usize, usize) {
     (
         usize::MAX.saturating_sub(writer.good),

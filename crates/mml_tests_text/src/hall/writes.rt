@@ -1,5 +1,8 @@
 //! Tests of writes and flushes that fail: which replies were written before, and what the error says. An error (`Fail`)
 //! means that memory ran out.
+//!
+//! `FIRST_LOOK` and `GREETING` are scripts over the path of three, nodes 1, 2 and 3 in a row. `FIRST_LOOK_REPLIES` and
+//! `GREETING_REPLIES` are their replies.
 use super::script_error_of;
 use mml_fakes::scripts::{FIRST_LOOK, FIRST_LOOK_REPLIES, GREETING, GREETING_REPLIES};
 use mml_fakes::{FakeReader, FakeWriter, Refusal};
@@ -54,7 +57,7 @@ fn first_other_write(alloc: Global) -> Result<Option<(usize, usize)>, Fail> {
 
 /// Answers `GREETING` with a writer whose first `good` flushes succeed, and whose next flush fails. Returns whether the
 /// script ends with the fault `Write` of 0 bytes, and only whole lines of replies are written. There must be as many
-/// reads as good flushes.
+/// reads as good flushes, since a flush comes before each read.
 fn tells_a_flush(alloc: Global, good: usize) -> Result<bool, Fail> {
     let mut reader = FakeReader::failing_after(usize::MAX, GREETING.as_bytes());
     reader.step = 40;
