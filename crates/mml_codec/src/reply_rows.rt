@@ -25,8 +25,8 @@ pub(crate) struct EventNumbers {
     place: u64,
 }
 
-/// Returns the `EventNumbers` of these two numbers of an event: `at`, the number of the configuration after it, and
-/// `place`, its place. The contract also says that both fit 64 bits.
+/// Returns the `EventNumbers` of an event: `at` is the number of the configuration after it, and `place` is its place.
+/// The contract also says that both fit 64 bits, which the proofs of the callers need.
 pub(crate) fn numbers_of(at: &u64, place: &u64) -> EventNumbers
     ensures numbers { result ≡ record { at = at.now; place = place.now } }
     ensures at { at.now < 2 ^ 64 }

@@ -1,5 +1,5 @@
 //! Tables of fields: the keys of a reply in byte order, each with its value. The functions append the text of a table
-//! to a line, which is passed by value.
+//! to a line, which is passed by value, so that its length can stay in a processor's register.
 ghost use Rattle.std.specs.Prelude.{codes, ◌≡◌, ◌≤◌, ◌+◌, ◌++◌, ℕ, List, [], length, vec_capacity};
 ghost use Rattle.mml_ids.specs.Pieces.{Puts};
 ghost use Rattle.mml_codec.specs.Facts.{fact_then};

@@ -90,6 +90,7 @@ pub fn run_script<R: Read, W: Write, S: Sink + Drop>(
     match answer_all(alloc, &mut hall, reader, writer) {
         Ok(()) => Ok(hall),
         Err(fault) => {
+            // Dropped by a call, since the proof takes longer if the hall is dropped at the end of its scope.
             drop(hall);
             Err(fault)
         }

@@ -74,9 +74,9 @@ fn member<'a>(text: &'a [u8], fields: &mut Fields<'a>) -> Option<&'a [u8]>
 }
 
 /// Reads a member whose key is one of the seven most frequent into `fields`, and returns the text after it. `front` has
-/// the first four bytes after the quotation mark that opens the key, and `text` has what comes after them. Returns
-/// `None`, and leaves `fields` as it was, if the key is another one, or if `text_value` or `number_value` doesn't read
-/// the key's value.
+/// the first four bytes after the quotation mark that opens the key, and `text` has what comes after them. For `do` and
+/// `at`, `front` includes the quotation mark and the colon after the key, and for `key` only the mark. Returns `None`,
+/// and leaves `fields` as it was, if the key is another one, or the value isn't in the usual layout.
 #[inline(always)]
 fn known_value<'a>(front: u32, text: &'a [u8], fields: &mut Fields<'a>) -> Option<&'a [u8]>
     ensures member { IfSome result (λ rest. PutsKnown (to_be_bytes w32 front ++ text.now) rest.now fields.old fields.new) }

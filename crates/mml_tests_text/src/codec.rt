@@ -172,8 +172,8 @@ type Results = (Option<usize>, Option<usize>, [Option<u64>; 3]);
 
 /// Returns the results of three checks, all of which use `scratch` as memory for reading lines. The first is the first
 /// row of `LINES` that is read wrongly, and the second the first row of `HELLOS` that is written or read wrongly. These
-/// two are `None` if all rows are right. The third has the numbers under `node` in three lines: a plain line, one with
-/// nested arrays and objects, and one with a number that is too great to be read.
+/// two are `None` if all rows are right. The third has the numbers under `node` in three lines. The first line is
+/// plain, the second has nested arrays and objects, and the third has a number that is too great to be read.
 fn results_with(alloc: Global, scratch: &mut LineScratch) -> Result<Results, Fail> {
     let line = first_other_line(alloc, scratch)?;
     let hello = first_other_hello(alloc, scratch)?;

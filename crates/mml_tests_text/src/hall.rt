@@ -14,7 +14,8 @@ use std::alloc::Global;
 use std::io::{Read, Write};
 use std::test::Fail;
 
-/// Answers a script over the path of three. Returns the error that it ends with, or `None` if it ends well.
+/// Answers a script over the path of three, and discards its journal. Returns the error that the script ends with, or
+/// `None` if it ends well. Returns `Fail` if the lab can't be read.
 fn script_error_of<R: Read, W: Write>(
     alloc: Global,
     reader: &mut R,

@@ -1,4 +1,7 @@
 //! Tests of reading lines. An error means that memory ran out.
+//!
+//! An answer is what `Lines::next` returns. `TEXT` is an input of three lines and a rest, and `TOLD` has the answers
+//! for it, as a text.
 mod whole;
 
 use mml_fakes::{FakeReader, Parts};
@@ -96,7 +99,8 @@ fn wanted(alloc: Global, line: &str, is_line: bool, last: &str) -> Result<String
     }
 }
 
-/// Returns whether the digits of a row, with what follows them and under the row's limit, give the row's answers.
+/// Returns whether the digits of a row, with what follows them and with the row's limit on a line's length, give the
+/// row's answers.
 fn is_length_told(alloc: Global, row: &Length) -> Result<bool, Fail> {
     let (limit, len, end, is_line, last) = row;
     let line = digits(alloc, *len)?;
@@ -123,8 +127,8 @@ fn a_line_is_as_long_as_the_limit(rt: HostRuntime) -> Result<(), Fail> {
     Ok(())
 }
 
-/// Returns whether `TEXT`, cut in two at `cut`, gives the answers in `TOLD`. The first part comes in one read, and the
-/// second in reads of at most `step` bytes.
+/// Returns whether `TEXT`, cut in two at `cut`, gives the answers in `TOLD` if a line may have two bytes. The first
+/// part comes in one read, and the second in reads of at most `step` bytes.
 fn is_told_in_parts(alloc: Global, cut: usize, step: usize) -> Result<bool, Fail> {
     let (first, second) = TEXT.split_at(cut.min(TEXT.len()));
     let mut reader = Parts {
@@ -165,7 +169,8 @@ const READS: &[Reads] = &[
     (100, 1, "Line ab\nLine \nLine cd\nReadFault \n", 2),
 ];
 
-/// Returns whether `TEXT`, from the reader of a row, gives the row's answers with the row's number of reads.
+/// Returns whether `TEXT`, from the reader of a row, gives the row's answers with the row's number of reads, if a line
+/// may have two bytes.
 fn are_reads_told(alloc: Global, row: &Reads) -> Result<bool, Fail> {
     let (step, good, wanted, reads) = row;
     let mut reader = FakeReader::failing_after(*good, TEXT);

@@ -85,8 +85,8 @@ fn replies_of_lab(alloc: Global, lab: &Lab) -> Result<(String, String, bool), Fa
     Ok((line_of_see(alloc, lab)?, report_line(alloc, lab)?, stays))
 }
 
-/// Returns what `replies_of_lab` returns for the lab of two nodes far apart: the line of the reply to a see, the line
-/// of the lab's report, and whether a vector keeps its capacity.
+/// Returns the results of `replies_of_lab` for the lab of two nodes far apart. These are the line of the reply to a
+/// see, the line of the lab's report, and whether a vector keeps its capacity.
 fn replies_far_apart(alloc: Global) -> Result<(String, String, bool), Fail> {
     let lab = boxed_lab(alloc, FAR_APART)?;
     replies_of_lab(alloc, &lab)

@@ -18,8 +18,9 @@ type End = (usize, Option<ScriptFault>, usize);
 /// The error of a script for which a read failed.
 const FAILED: Option<ScriptFault> = Some(ScriptFault::Read);
 
-/// Answers a script that comes in reads of `step` bytes. Returns whether it has exactly these replies and this end, and
-/// makes as many reads as succeed, and one more if a read fails.
+/// Answers a script that comes in reads of `step` bytes. `end` says how many reads succeed, with which error the script
+/// must end, and how many bytes must be left unread. Returns whether it ends like this, and has exactly these replies.
+/// It must also make as many reads as succeed, and one more if a read fails.
 fn is_script_answered(
     alloc: Global,
     script: &str,
@@ -118,9 +119,9 @@ fn are_read_once(alloc: Global) -> Result<[bool; 4], Fail> {
     Ok([look, greeting, long, is_bad_line_told(alloc)?])
 }
 
-/// Returns the results of all checks of reads: for each of four scripts, whether each read is made once, then the first
-/// failed read that is reported wrongly, and then the first row of `BUFFERS` that is wrong. The last two are `None` if
-/// all is right.
+/// Returns the results of all checks of reads. The first says for each of four scripts whether each read is made once.
+/// The second has the first failed read that is reported wrongly, and the first row of `BUFFERS` that is wrong; they
+/// are `None` if all is right.
 fn reads_made(alloc: Global) -> Result<([bool; 4], [Option<usize>; 2]), Fail> {
     let are_read_once = are_read_once(alloc)?;
     let firsts = [first_other_read(alloc)?, first_other_buffer(alloc)?];
