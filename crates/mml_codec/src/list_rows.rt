@@ -1,6 +1,7 @@
 //! The fields of the replies to a look and a report. The error `Memory` means that memory ran out.
 //!
-//! A `ListRow` has the fields before a list, the list, and what comes after it. An `Opening` has the key of the list.
+//! The fields of a reply are in byte order of their keys. A `ListRow` has the fields before a list, the list, and what
+//! comes after it. A `Row` has a key, its value and what comes after it, and an `Opening` has the key of a list.
 ghost use Rattle.std.specs.Prelude.{◌≡◌, ◌≤◌, ◌<◌, ◌^◌, ◌++◌, length, OnOk, vec_capacity};
 ghost use Rattle.mml_policy.specs.About.{IsLookedAt};
 ghost use Rattle.mml_stable.specs.Reports.{NamesNodes};

@@ -1,7 +1,8 @@
 //! The fields of each reply except a look and a report. The error `Memory` means that memory ran out.
 //!
-//! The place of an event is its number in the list of events, from 1. A clause is a condition under which a request is
-//! granted.
+//! The fields of a reply are in byte order of their keys. A `Row` has a key, its value and the fields after it, and
+//! `End` is the end of the object. The place of an event is its number in the list of events, from 1. A clause is a
+//! condition under which a request is granted.
 ghost use Rattle.std.specs.Prelude.{◌≡◌, ◌≤◌, ◌<◌, ◌^◌, ◌∷◌, length};
 ghost use Rattle.mml_ids.specs.Pieces.{Puts};
 ghost use Rattle.mml_lab.specs.Rosters.{name_of, IsPrincipal};

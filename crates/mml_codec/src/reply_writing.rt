@@ -102,7 +102,8 @@ fn write_memory_refusal(alloc: Global, ids: &IdTable, roster: &Roster, out: &mut
     refusal
 }
 
-// Appends the line of a reply, with its newline, to `out`. Returns `Memory` if memory runs out.
+// Appends the line of a reply, with its newline, to `out`. Returns `Memory` if memory runs out; then `out` may have
+// only the beginning of the line.
 fn put_line(ids: &IdTable, roster: &Roster, reply: &Reply, out: &mut Vec<u8>) -> Result<(), Memory>
     requires { IsAbout ids.now roster.now reply.now }
     ensures line { OnOk result
@@ -130,7 +131,8 @@ fn put_end(out: &mut Vec<u8>) -> Result<(), Memory>
     Ok(())
 }
 
-// Appends the text of a reply, without a newline, to `out`. Returns `Memory` if memory runs out.
+// Appends the text of a reply, without a newline, to `out`. Returns `Memory` if memory runs out; then `out` may have
+// only the beginning of the text.
 fn put_text(ids: &IdTable, roster: &Roster, reply: &Reply, out: &mut Vec<u8>) -> Result<(), Memory>
     requires { IsAbout ids.now roster.now reply.now }
     ensures text { OnOk result

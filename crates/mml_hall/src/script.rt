@@ -66,8 +66,8 @@ impl From<WriteFault> for ScriptFault {
 
 /// Answers the lines of a script, one by one, in a hall of the lab. Returns the hall at the end of the input, or the
 /// reason why the script ended before. Replies are buffered: the writer is flushed only before the next line needs a
-/// read, and before a bad line is reported. The lines of the granted events go to the sink, which is dropped with the
-/// hall if an error ends the script.
+/// read, and before a bad line is reported. The lines of the granted events go to the sink, which must have taken
+/// nothing yet, and is dropped with the hall if an error ends the script.
 pub fn run_script<R: Read, W: Write, S: Sink + Drop>(
     alloc: Global,
     lab: Lab,
@@ -169,6 +169,7 @@ fn answer_lines<R: Read, W: Write, S: Sink>(
         flush_before_read(&buffers.lines, &mut buffers.outgoing, writer)?;
         match serve_next(alloc, hall, buffers, reader, writer) {
             ScriptStep::Answered => answered += 1,
+            // The end is found by a read, and all replies were flushed before it.
             ScriptStep::End => return Ok(()),
             ScriptStep::BadLine => {
                 buffers.outgoing.flush(writer)?;

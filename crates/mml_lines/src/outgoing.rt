@@ -1,4 +1,5 @@
-//! A buffer of lines that are written together.
+//! A buffer of lines that are written together. The lines in the buffer are held. The rest of a line is the part after
+//! its front; it is short if it has at most `REST_ROOM` bytes.
 
 ghost use Rattle.std.specs.Prelude.{◌≡◌, ◌<◌, ◌≤◌, ◌+◌, ◌++◌, ◌∷◌, [], length, take, IfOk, IfErr, OnOk, if◌then◌else◌};
 ghost use Rattle.std.specs.List.{concat};
@@ -52,8 +53,8 @@ impl Outgoing {
     }
 
     /// Appends a line, `front` and then `rest`, to the buffer. If the buffer has no room for it, writes all held lines
-    /// first, and also the line itself if it has more than `OUTGOING_BYTES` bytes. Flushes nothing. Returns
-    /// `WriteFault` if a write fails or takes nothing.
+    /// first. Then writes the line itself if it has more than `OUTGOING_BYTES` bytes, so that it never fits. Flushes
+    /// nothing. Returns `WriteFault` if a write fails or takes nothing.
     #[tactic(auto, using(crate::proofs::SendingLemmas::breaks_before))]
     pub fn put<W: Write>(
         &mut self,
@@ -92,8 +93,8 @@ impl Outgoing {
         }
     }
 
-    // Writes all held lines and empties the buffer. Flushes nothing. If a write fails or takes nothing, returns the
-    // error and keeps all lines, though some of their bytes may be written.
+    // Writes all held lines and empties the buffer. Flushes nothing. Returns `WriteFault` if a write fails or takes
+    // nothing. The buffer then keeps all lines, though some of their bytes may be written.
     fn write_out<W: Write>(&mut self, writer: &mut W) -> Result<(), WriteFault>
         ensures empty { OnOk result (self.new ≡ []) }
         ensures ok { OnOk result (Sends (W.contents writer.old) (W.contents writer.new) self.old []) }

@@ -76,7 +76,7 @@ fn member<'a>(text: &'a [u8], fields: &mut Fields<'a>) -> Option<&'a [u8]>
 /// Reads a member whose key is one of the seven most frequent into `fields`, and returns the text after it. `front` has
 /// the first four bytes after the quotation mark that opens the key, and `text` has what comes after them. For `do` and
 /// `at`, `front` includes the quotation mark and the colon after the key, and for `key` only the mark. Returns `None`,
-/// and leaves `fields` as it was, if the key is another one, or the value isn't in the usual layout.
+/// and leaves `fields` as it was, if the key is another one, or the value isn't of the key's kind in the usual layout.
 #[inline(always)]
 fn known_value<'a>(front: u32, text: &'a [u8], fields: &mut Fields<'a>) -> Option<&'a [u8]>
     ensures member { IfSome result (λ rest. PutsKnown (to_be_bytes w32 front ++ text.now) rest.now fields.old fields.new) }
@@ -286,7 +286,7 @@ fn bare_word<'a>(text: &'a [u8]) -> Option<(&'a str, &'a [u8])>
 }
 
 /// Reads the number at the front of the text, in decimal digits without leading zeros. Returns the number, and the text
-/// after it. A zero at the front is the whole number. Returns `None` if no digit comes first, or the number has more
+/// after it. A zero at the front is a number by itself. Returns `None` if no digit comes first, or the number has more
 /// than 19 digits, which may need more than 64 bits.
 #[inline(always)]
 fn whole_number<'a>(text: &'a [u8]) -> Option<(u64, &'a [u8])>
