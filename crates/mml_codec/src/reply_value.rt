@@ -95,7 +95,7 @@ impl ReplyValue for u8 {
     ghost tells = { λ _ _ _. refl };
 }
 
-/// A word, of which no byte is escaped.
+/// A text that is written in quotation marks, and none of whose bytes is escaped.
 #[derive(Clone, Copy)]
 pub(crate) struct Word<'a>(pub(crate) &'a str);
 

@@ -7,7 +7,7 @@ use mml_lab::{Roster, Who};
 use mml_policy::Command;
 use std::alloc::Global;
 
-/// The error of a view that gets no reply, since the engine shows nothing any more.
+/// The error of a view that gets no reply, since the engine is closed: it shows nothing any more.
 #[derive(Clone, Copy, Debug, PartialEq, Eq)]
 pub struct Closed;
 

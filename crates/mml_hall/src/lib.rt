@@ -1,7 +1,7 @@
 //! The server of one thread. This server answers the requests of many connections one after another, and runs scripts
 //! of such requests.
 //!
-//! A hall is the state of a script: its lab, its world, its events, its journal, and who is known on each connection.
+//! A hall is this server: its lab, its world, its events, its journal, and who is known on each connection.
 #![tactic(auto)]
 
 mod hall;
@@ -15,5 +15,6 @@ pub use local::Local;
 pub use mml_audit::{AuditFault, audit};
 pub use script::{ScriptFault, run_script};
 
-/// The most bytes of a script line, without its newline.
+/// The most bytes of a script line, without its newline: a connection's number of at most two digits, a space and a
+/// request.
 pub const MAX_SCRIPT_LINE: usize = 4099;

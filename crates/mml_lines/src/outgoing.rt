@@ -23,8 +23,9 @@ pub const OUTGOING_LINES: usize = 512;
 /// Contracts see the lines that the buffer holds.
 #[derive(Drop)]
 pub struct Outgoing {
+    // The bytes of the held lines, one line after another.
     bytes: Vec<u8>,
-    // The number of bytes of each line.
+    // The number of bytes of each held line.
     lengths: Vec<usize>,
 }
 

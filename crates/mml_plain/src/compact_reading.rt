@@ -15,8 +15,8 @@ ghost use Rattle.mml_plain.specs.declared.member_value.MemberValue.TheVariants.{
 use crate::fields::Fields;
 use crate::member_value::MemberValue;
 
-// The first four bytes of each frequent key, after its quotation mark. For a shorter key, the four bytes include the
-// quotation mark and the colon after the key.
+// The first four bytes of each frequent key, after the quotation mark that opens it. For `do` and `at`, they include
+// the quotation mark and the colon after the key, and for `key` only the mark.
 const DO: u32 = 0x646f_223a;
 
 const NODE: u32 = 0x6e6f_6465;

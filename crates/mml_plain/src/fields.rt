@@ -8,8 +8,9 @@ ghost use Rattle.mml_plain.specs.Fields.{with};
 
 use crate::member_value::MemberValue;
 
-/// The values of the keys that requests use, for one object. A field is `None` if the object doesn't have the key, or
-/// its value is of another kind. If a key occurs several times, its last value counts.
+/// The values of the keys that requests use, for one object. Each field but `word` has the name of its key. A field is
+/// `None` if the object doesn't have the key, or its value is of another kind. If a key occurs several times, its last
+/// value counts.
 #[derive(Clone, Copy, Debug, Drop)]
 pub struct Fields<'a> {
     /// The request's word, under the key `do`.
