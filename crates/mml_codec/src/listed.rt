@@ -24,7 +24,8 @@ pub(crate) trait Listed {
     // The item's text, in a lab with these identifiers.
     ghost text: { List ℕ → Self → List ℕ };
 
-    // Returns the line with the text of this item appended. The line must have room for 63 more bytes.
+    // Returns the line with the text of this item appended. The line must have room for 63 more bytes, since no item is
+    // longer.
     fn with_item(&self, line: Vec<u8>, ids: &IdTable) -> Vec<u8>
         requires names { names ids.now self.now }
         requires room { length line.items + 63 ≤ vec_capacity line }
@@ -91,7 +92,7 @@ fn grown(mut line: Vec<u8>) -> Result<Vec<u8>, Vec<u8>>
     }
 }
 
-// Returns the line with a comma appended if `later` is true, that is, if another item comes before.
+// Returns the line with a comma appended if `later` is true, that is, if the next item isn't the first of its list.
 #[inline(always)]
 pub(crate) fn with_comma(line: Vec<u8>, later: bool) -> Vec<u8>
     requires { length line.items + 1 ≤ vec_capacity line }

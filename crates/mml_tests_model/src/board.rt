@@ -101,8 +101,8 @@ fn are_both_opening(alloc: Global, board: &Board) -> Result<bool, Fail> {
     Ok(is_opening(alloc, board)? && is_copy_opening(alloc, board)?)
 }
 
-/// Returns a look at the first node of a board as text, or `no node` if the board has none. The condition is tested,
-/// since the contract of `look_of` requires it.
+/// Returns a look at the first node of a board as text, or `no node` if the board has none. This is tested, since the
+/// contract of `look_of` requires the node.
 fn look_at_the_first(alloc: Global, board: &Board) -> Result<String, Fail> {
     let node = Rank::at(0);
     if node.index() >= board.size() {
