@@ -39,7 +39,7 @@ fn push_owners(text: &mut String, lab: &Lab, node: Rank) -> Result<(), AllocErro
     Ok(())
 }
 
-/// Appends to a text the `mark` of a node with each node of the lab, in the order of ranks.
+/// Appends to a text the character that `mark` returns for a node and each node of the lab, in the order of ranks.
 fn push_marks(text: &mut String, lab: &Lab, node: Rank) -> Result<(), AllocError>
     requires { node < length lab.now.ids }
 {
