@@ -65,7 +65,7 @@ const OF_256: &str = concat!(
 );
 
 /// Returns the node at an index of a cycle of `nodes` nodes, at most 256. An index after the last node begins again at
-/// the first. The bounds 1 and 255 are never reached; with them, the calls need no proof about `nodes`.
+/// the first. The bounds 1 and 255 change nothing; with them, the calls need no proof about `nodes`.
 fn node_at(nodes: u64, index: u64) -> Rank {
     Rank::at((index % nodes.max(1)).min(255))
 }
