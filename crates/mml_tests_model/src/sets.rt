@@ -55,7 +55,7 @@ fn results_of_sets() -> (Option<usize>, u64) {
 }
 
 /// Returns whether a rank is in the pseudo-random set of this seed. In some words (of 64 ranks) such a set has many
-/// ranks, and in others few.
+/// ranks, and in others few. The numbers in the formula are arbitrary.
 fn is_drawn(seed: u64, index: u64) -> bool {
     let spread = seed.wrapping_add(index.wrapping_mul(37));
     spread % 16 < 1 + (index / 64).wrapping_mul(seed) % 16

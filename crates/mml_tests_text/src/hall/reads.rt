@@ -102,8 +102,8 @@ fn is_long_greeting_answered(alloc: Global) -> Result<bool, Fail> {
     Ok(is_told && script.len() == 4036)
 }
 
-/// Returns whether a script with an empty second line ends with `BadLine(2)`, after its first line was answered, and
-/// nothing is read after the empty line.
+/// Returns whether a script with an empty second line, which comes byte by byte, ends with `BadLine(2)`. The first line
+/// must be answered before, and nothing may be read after the empty line.
 fn is_bad_line_told(alloc: Global) -> Result<bool, Fail> {
     let script = lines!("2 ", bye, "\n2 ", bye);
     let end = (16, Some(ScriptFault::BadLine(2)), 15);

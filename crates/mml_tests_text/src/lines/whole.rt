@@ -53,9 +53,10 @@ fn readers_are_read_up_to_a_limit(rt: HostRuntime) -> Result<(), Fail> {
     Ok(())
 }
 
-/// Calls `put_all` for a writer that takes `step` bytes in each of `good` writes and then refuses. Returns whether
-/// exactly the bytes of these writes are written, and nothing is flushed, so that `good_flushes` is still `usize::MAX`.
-/// If bytes are left, the result must be an error that says how many were written.
+/// Calls `put_all` for a writer that takes `step` bytes in each of `good` writes and then refuses, in the way
+/// `refusal`. Returns whether exactly the bytes of these writes are written, and nothing is flushed, so that
+/// `good_flushes` is still `usize::MAX`. If bytes are left, the result must be an error that says how many were
+/// written.
 fn puts(alloc: Global, bytes: &[u8], step: usize, good: usize, refusal: Refusal) -> bool {
     let mut writer = FakeWriter::failing_after(good, alloc);
     writer.step = step;
