@@ -54,8 +54,9 @@ impl Outgoing {
     }
 
     /// Appends a line, `front` and then `rest`, to the buffer. If the buffer has no room for it, writes all held lines
-    /// first. Then writes the line itself if it has more than `OUTGOING_BYTES` bytes, so that it never fits. Flushes
-    /// nothing. Returns `WriteFault` if a write fails or takes nothing.
+    /// first. A line of more than `OUTGOING_BYTES` bytes never fits, so it is written too, after them. Flushes nothing.
+    /// Returns `WriteFault` if a write fails or takes nothing. The fault's `written` counts the written bytes of the
+    /// first line that isn't written whole.
     #[tactic(auto, using(crate::proofs::SendingLemmas::breaks_before))]
     pub fn put<W: Write>(
         &mut self,
@@ -80,7 +81,8 @@ impl Outgoing {
     }
 
     /// Writes all held lines, and flushes the writer. Returns `WriteFault` if a write fails or takes nothing, or the
-    /// flush fails. If only the flush fails, all lines were written whole, so the fault's `written` is 0.
+    /// flush fails. The fault's `written` counts the written bytes of the first line that isn't written whole. If only
+    /// the flush fails, there is no such line, and `written` is 0.
     pub fn flush<W: Write>(&mut self, writer: &mut W) -> Result<(), WriteFault>
         ensures empty { OnOk result (self.new ≡ []) }
         ensures ok { OnOk result (Sends (W.contents writer.old) (W.contents writer.new) self.old []) }
@@ -95,7 +97,8 @@ impl Outgoing {
     }
 
     // Writes all held lines and empties the buffer. Flushes nothing. Returns `WriteFault` if a write fails or takes
-    // nothing. The buffer then keeps all lines, though some of their bytes may be written.
+    // nothing. The buffer then keeps all lines, though some of their bytes may be written. The fault's `written` counts
+    // the written bytes of the first line that isn't written whole.
     fn write_out<W: Write>(&mut self, writer: &mut W) -> Result<(), WriteFault>
         ensures empty { OnOk result (self.new ≡ []) }
         ensures ok { OnOk result (Sends (W.contents writer.old) (W.contents writer.new) self.old []) }
