@@ -1,8 +1,8 @@
 //! Reading the words of the command line.
 //!
-//! Values are the words after a subcommand. The tasks that serve no connections are read by several small functions.
-//! The contract of each cites a definition of its own, which its proof unfolds. The program for people is `mml_host`;
-//! the smaller `mml_server` has only the subcommands of `mml_program`.
+//! Values are the words after a subcommand. The judging tasks are those of `answer`, `verify` and `tally`. They are
+//! read by several small functions. The contract of each cites a definition of its own, which its proof unfolds. The
+//! program for people is `mml_host`; the smaller `mml_server` has only the subcommands of `mml_program`.
 ghost use Rattle.std.specs.Prelude.{◌≡◌, MatchOption, option_map};
 ghost use Rattle.clap.specs.Matches.{found_of};
 ghost use Rattle.mml_journal.specs.Words.{seen};
@@ -73,7 +73,7 @@ pub struct ResumeTask<'a> {
     pub journal: &'a str,
 }
 
-/// A task that serves no connections.
+/// A task that judges what a class has left, or answers a script line by line. It serves no connections.
 #[derive(Drop)]
 pub enum JudgingTask<'a> {
     /// Answer the script on standard input over the lab in a file.
@@ -189,8 +189,8 @@ pub fn read_port(text: &str) -> Option<u16>
     }
 }
 
-// Returns the task of the subcommand `name` with these values, if it is a task that serves no connections. Returns
-// `None` if it isn't, or a value is missing.
+// Returns the task of the subcommand `name` with these values. Returns `None` if the subcommand isn't `answer`,
+// `verify` or `tally`, or a value that it requires is missing.
 #[tactic(auto, unfolding(crate::specs::Words::wanted_in))]
 fn judging_task<'a>(name: &str, values: &ArgMatches<'a>) -> Option<JudgingTask<'a>>
     ensures { option_map wanted_by result ≡ wanted_in name.now (found_of values.now) }

@@ -53,8 +53,8 @@ struct Newcomer<'a, Rt> {
 }
 
 impl<'a, Rt: Clock + Wait + Eprint> Newcomer<'a, Rt> {
-    // Ends the newcomer's connection with the reason `why`, or the one that was kept before. The port's partings send
-    // the reason, and close the connection some milliseconds later.
+    // Ends the newcomer's connection. The reason for the end is `why`, unless the connection has one already. The
+    // port's partings send the reason at once, and close the connection some milliseconds later.
     fn turn_away(self, why: EndReason) {
         let mut newcomer = self;
         newcomer.connection.note_end_reason(why);
@@ -86,8 +86,8 @@ impl<'a, Rt: Clock + Wait + Eprint> Newcomer<'a, Rt> {
     }
 }
 
-/// A port, which accepts connections until the class is over. A connection for which there is no seat waits for one for
-/// half a second, while others are accepted.
+/// A port, which accepts connections until the class is over. If there is no seat for a connection, it waits at most
+/// half a second for one, while others are accepted.
 #[derive(Drop)]
 pub struct Port<'a, Rt> {
     rt: &'a Rt,
