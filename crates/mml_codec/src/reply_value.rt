@@ -171,7 +171,7 @@ impl ReplyValue for Option<Rank> {
 
     ghost most = { λ _. 5 };
 
-    // Returns the line with the pointer appended: the identifier of the node that it names, or `null`.
+    // Returns the line with the identifier of the node appended. If there is no node, appends `null` instead.
     #[inline(always)]
     fn with_value(&self, line: Vec<u8>, ids: &IdTable) -> Vec<u8> {
         match *self {
@@ -193,7 +193,7 @@ impl ReplyValue for Kind {
 
     ghost most = { λ _. 13 };
 
-    // Returns the line with the rule's word appended in quotation marks.
+    // Returns the line with the word for the kind of rule appended, in quotation marks.
     #[inline(always)]
     fn with_value(&self, line: Vec<u8>, _ids: &IdTable) -> Vec<u8> {
         with_kind(line, *self)
@@ -212,7 +212,8 @@ impl ReplyValue for Option<Kind> {
 
     ghost most = { λ _. 13 };
 
-    // Returns the line with the rule's word appended in quotation marks, or `null` if there is no rule.
+    // Returns the line with the word for the kind of rule appended, in quotation marks. If there is no kind, appends
+    // `null` instead.
     #[inline(always)]
     fn with_value(&self, line: Vec<u8>, _ids: &IdTable) -> Vec<u8> {
         match *self {

@@ -261,9 +261,13 @@ pub fn hidden_values_change_no_session()
 
 /// Students who put together what they are shown (a coalition) learn nothing that none of them may see. Suppose that
 /// two worlds are alike for each member. Then a command of a member has the same reply in both, and the worlds
-/// afterwards are alike for each member. The same holds for each turn on a connection on which a member or nobody is
-/// known. If nobody but members is ever known on some connections, their output is the same too, whatever mishaps
-/// befall the lines. A coalition has at least one member.
+/// afterwards are alike for each member. The same holds for a turn in states of two twin labs that are alike for each
+/// member, on a connection on which a member or nobody is known. The same mishap, or none, must befall both turns.
+///
+/// Suppose that one script is run from such states, with the same mishaps in the same lines. Each line of somebody else
+/// must keep the worlds alike for each member, and leave both journals halted or neither. Take the connections for
+/// which `some` is true. If nobody but members is ever known on them, all of their output is the same. The states at
+/// the end are alike for each member. A coalition has at least one member.
 pub fn coalitions_learn_nothing_hidden()
     ensures reply { (ids : List ℕ) (r : RosterValue) (limit : ℕ) (is_halted : Bool) (w v : World)
         (members : ℕ → Bool) (s : ℕ) (c : Command) → IsWorldOf ids w → IsWorldOf ids v →

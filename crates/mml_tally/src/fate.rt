@@ -1,8 +1,8 @@
 //! What happens to granted moves.
 //!
 //! A grant chooses a move for a node, a release drops it, and a close applies all chosen moves at once. A fault sets a
-//! node's registers, a link joins two nodes, and a cut removes a link. The place of an event is its number in the list
-//! of events, from 1.
+//! node's registers, a link joins two nodes, and a cut removes a link. Each of these three drops the chosen moves of
+//! all nodes. The place of an event is its number in the list of events, from 1.
 ghost use Rattle.std.specs.Prelude.{◌≡◌, ◌+◌, ◌<◌, ◌^◌, length};
 ghost use Rattle.mml_tally.specs.Moves.{ended_by, fate_of};
 
@@ -23,8 +23,8 @@ pub enum Fate {
     Chosen,
 }
 
-/// Returns what an event does to the move that is chosen at a node, or `None` if the move stays chosen. `place` is the
-/// event's place.
+/// Returns what an event does to the move that is chosen at a node, or `None` if the move stays chosen. A fault, a link
+/// or a cut drops it, even at other nodes. `place` is the event's place.
 pub fn ended_by(node: Rank, place: u64, event: &Event) -> Option<Fate>
     ensures { result ≡ ended_by node place event.now }
 {
