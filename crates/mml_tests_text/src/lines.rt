@@ -45,7 +45,8 @@ fn steps_to_the_end<R: Read>(alloc: Global, limit: usize, reader: &mut R) -> Res
     Ok(text)
 }
 
-/// Returns whether two more calls of `next`, for another reader, repeat the last answer in `text` and read nothing.
+/// Asks for two more answers, now with another reader. Returns whether both are the last answer in `text`, which has
+/// the answers so far, and no byte of that reader is read.
 fn is_repeated(lines: &mut Lines, alloc: Global, text: &str) -> Result<bool, AllocError> {
     let mut late = b"late\n".as_slice();
     let again = steps_text(lines, alloc, &mut late)?;

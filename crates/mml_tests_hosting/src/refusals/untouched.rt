@@ -35,8 +35,8 @@ fn takes_none<H: House, R: Wait>(
     }
 }
 
-/// Returns whether the window shows configuration 0, and a see of node 2 to the teacher, and no memory was requested
-/// for that.
+/// Asks the window for the number of the configuration, and for the teacher's see of node 2. Returns whether the number
+/// is 0, the see succeeds, and no memory was requested for them.
 fn views_take_none<H: House, R: Wait>(
     at_desk: &mut WindowAtDesk<'_, MemorySink, H, R>,
     is_there: bool,
@@ -56,13 +56,12 @@ struct AfterFirst {
 }
 
 impl Visit<MemorySink> for AfterFirst {
-    /// Whether the first act was granted and the second refused. Then, without memory, the first must be denied, the
-    /// second refused as `wanted`, and the views answered.
+    /// Whether all answers were right, and no memory was requested after the first two.
     type Outcome = bool;
 
-    // Asks through the first window for the first act and the second. Then asks for both again and for the views, which
-    // should request no memory. Returns whether the first act is granted and then denied, the second is refused and
-    // then refused as `wanted`, and the views are right.
+    // Asks through the first window for the first act and the second. Then asks for both again, and for the views.
+    // Returns whether all answers are right, and no memory was requested after the first two. The first act must be
+    // granted, and denied the second time. The second act must be refused, and the second time as `wanted`.
     fn visit<H: House, R: Wait>(self, pair: &mut Pair<'_, MemorySink, H, R>) -> bool {
         let (at_desk, is_there) = (&mut pair.one, self.is_there);
         let first = at_desk.ask(asker(1), &act(1));
@@ -77,9 +76,9 @@ impl Visit<MemorySink> for AfterFirst {
 }
 
 /// Makes the visit `AfterFirst` in a house over the path of three. The text `events` replaces the line of the lab file
-/// with the limit of events. The sink fails from its put number `fail_at` on, or never if that is `None`. Returns
-/// whether all calls are answered as `AfterFirst` says, without memory. Returns `None` if there were fewer than two
-/// windows, or one couldn't be put back.
+/// with the limit of events. The sink fails from its put number `fail_at` on, or never if that is `None`. Returns the
+/// outcome of the visit: whether all answers are right, and no memory was requested after the first two. Returns `None`
+/// if there were fewer than two windows, or one couldn't be put back.
 fn takes_none_after_first<R: Wait>(
     rt: &R,
     alloc: Global,

@@ -37,8 +37,8 @@ fn line_of_see(alloc: Global, lab: &Lab) -> Result<String, Fail> {
     line_of(alloc, lab, &Reply::See(See { at, node, regs }))
 }
 
-/// Returns whether `reply_of` makes, for an allowed report on a board, a report with the same number and stability as
-/// the given one.
+/// Makes the reply to a granted report on a board with `reply_of`. Returns whether it is a report with the same number
+/// of the configuration as `told`, and the same stability.
 fn is_reported(alloc: Global, board: &Board, told: &Report) -> Result<bool, Fail> {
     match reply_of(alloc, board, Ruling::Reported)? {
         Reply::Report(other) => Ok(other.at == told.at && other.stable == told.stable),
@@ -47,8 +47,8 @@ fn is_reported(alloc: Global, board: &Board, told: &Report) -> Result<bool, Fail
 }
 
 /// Returns the line of the report on the first board of a lab. Returns an empty text if the board and the lab differ in
-/// size, or `reply_of` reports another number or stability. The sizes are compared, since the contract of `line_of`
-/// requires that the lab has the report's nodes.
+/// size, or `is_reported` is `false` for the report. The sizes are compared, since the contract of `line_of` requires
+/// that the lab has the report's nodes.
 fn report_line(alloc: Global, lab: &Lab) -> Result<String, Fail> {
     let board = &*boxed_board(alloc, lab)?;
     if lab.ids().len() != board.size() {

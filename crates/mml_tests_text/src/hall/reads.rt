@@ -18,9 +18,9 @@ type End = (usize, Option<ScriptFault>, usize);
 /// The error of a script for which a read failed.
 const FAILED: Option<ScriptFault> = Some(ScriptFault::Read);
 
-/// Answers a script that comes in reads of `step` bytes. `end` says how many reads succeed, with which error the script
-/// must end, and how many bytes must be left unread. Returns whether it ends like this, and has exactly these replies.
-/// It must also make as many reads as succeed, and one more if a read fails.
+/// Answers a script that comes in reads of at most `step` bytes. `end` says how many reads succeed, with which error
+/// the script must end, and how many bytes must be left unread. Returns whether the script ends like this, has exactly
+/// these replies, and takes the right number of reads. These are the ones that succeed, and one more if a read fails.
 fn is_script_answered(
     alloc: Global,
     script: &str,
@@ -48,9 +48,9 @@ fn is_read_once(alloc: Global, script: &str, replies: &str) -> Result<bool, Fail
     Ok(is_read_by_bytes && is_read_at_once)
 }
 
-/// Runs the script `GREETING` once for each number of its bytes: reads so many bytes one by one, and then a read fails.
-/// Returns the first number for which the error isn't reported, or the answered lines aren't exactly those that came
-/// whole. Returns `None` if there is no such number.
+/// Runs the script `GREETING` once for each number from 0 to its length. In each run, this number of reads return one
+/// byte each, and the next read fails. The run must end with this error, and answer exactly the lines that came whole.
+/// Returns the first number for which `is_script_answered` is `false`, or `None` if there is no such number.
 fn first_other_read(alloc: Global) -> Result<Option<usize>, Fail> {
     let script = GREETING.as_bytes();
     for good in 0..=script.len() {
@@ -110,8 +110,8 @@ fn is_bad_line_told(alloc: Global) -> Result<bool, Fail> {
     is_script_answered(alloc, script, lines!("2 ", left), 1, end)
 }
 
-/// Tries four scripts: one with looks, one with hellos, one with a long hello, and one with a bad line. Returns for
-/// each whether each read is made once, and the replies are right.
+/// Tries four scripts: `FIRST_LOOK`, `GREETING`, one with a long hello, and one with a bad line. Returns for each
+/// whether each read is made once, and the replies are right.
 fn are_read_once(alloc: Global) -> Result<[bool; 4], Fail> {
     let look = is_read_once(alloc, FIRST_LOOK, FIRST_LOOK_REPLIES)?;
     let greeting = is_read_once(alloc, GREETING, GREETING_REPLIES)?;
