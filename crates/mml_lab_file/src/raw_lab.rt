@@ -283,9 +283,11 @@ fn owner_names(
     Ok(names)
 }
 
-/// Returns the node that an element of the array `node` describes. Returns `WrongKind(Node)` if the element isn't a
-/// table. Otherwise returns `WrongKind` or `Missing` for the first of its keys that is of another kind or missing. The
-/// keys `p` and `m` may be left out: p is then null, and m false.
+/// Returns the node that an element of the array `node` describes. Without the key `p`, p is null, and without `m`, m
+/// is false. Returns `WrongKind(Node)` if the element isn't a table. Otherwise reads the keys `id`, `owner`, `owners`,
+/// `p` and `m` in this order, and returns the first error. It is `WrongKind` for a value of another kind, or `Missing`
+/// if `id` is left out, or both `owner` and `owners`. A node with both of these is an error only in a later check,
+/// which reads the field `both`.
 #[tactic(auto, unfolding(crate::specs::Shape::node_of))]
 fn node(alloc: Global, value: &Value) -> Result<RawNode, LabFault>
     ensures { Gives is_lab_memory node_view result (node_of (view value.now)) }

@@ -10,8 +10,8 @@ use mml_ids::{IdTable, Memory, Rank};
 use mml_lab::{Lab, LabFault, Roster, Student, Who};
 use std::alloc::Global;
 
-/// Returns whether the bytes are a lab file whose lab has the same identifiers, names, links, registers and owners as
-/// `lab`. Returns `false` if they aren't a lab file or the file has an error, and `Memory` if memory runs out.
+/// Returns whether the bytes are a lab file whose lab is the same as `lab`, as `is_same_lab` compares them. Returns
+/// `false` if they aren't a lab file or the file has an error, and `Memory` if memory runs out.
 pub fn spells_same_lab(alloc: Global, lab: &Lab, bytes: &[u8]) -> Result<bool, Memory>
     ensures { IfOk result (λ same. IsTrue same ↔ SpellsSame lab.now bytes.now) }
 {
@@ -22,7 +22,8 @@ pub fn spells_same_lab(alloc: Global, lab: &Lab, bytes: &[u8]) -> Result<bool, M
     }
 }
 
-/// Returns whether two labs have the same identifiers, names, links, registers and owners. Keys and limits may differ.
+/// Returns whether two labs have the same identifiers, links, registers and owners of nodes, and the same names of the
+/// teacher and the students. The participants' keys and the limits on events and sessions may differ.
 pub fn is_same_lab(a: &Lab, b: &Lab) -> bool
     ensures { IsTrue result ↔ IsSameLab a.now b.now }
 {
