@@ -113,9 +113,10 @@ pub fn read_class<R: Read + Drop, S: Seats<R>>(
     }
 }
 
-// Returns the first fault in the places that records grant: a place that isn't from `begun` + 1 to `count`, or one that
-// is granted twice. If the records are `whole`, a place that is granted nowhere is a fault, too. Returns `None` if
-// there is no fault, and `Memory` if memory runs out.
+// Returns the first fault in the list `places` of the places that the records grant. A place is a fault if it isn't
+// from `begun` + 1 to `count`, or if it came earlier in the list, too. If there is no such place and the records are
+// `whole`, the fault is the lowest place from `begun` + 1 to `count` that isn't in the list. Returns `None` if there is
+// no fault, and `Memory` if memory runs out.
 fn find_amiss(
     alloc: Global,
     places: &[u64],

@@ -64,9 +64,10 @@ fn first_unmarked(marks: &[bool], begun: u64) -> Option<Misgranted>
     None
 }
 
-/// Checks the places that records grant, and returns the first fault, or `None` if there is none. Each of `places` must
-/// be from `begun` + 1 to `count`, and none may be there twice. If the records are `whole`, all these numbers must be
-/// there. Returns `Memory` if memory runs out.
+/// Checks the list `places` of the places that records grant, and returns the first fault, or `None` if there is none.
+/// Each place must be from `begun` + 1 to `count`, and none may be there twice. If this holds and the records are
+/// `whole`, all these numbers must be there, and the lowest missing one is the fault. Returns `Memory` if memory runs
+/// out.
 pub fn find_misgranted(
     alloc: Global,
     places: &[u64],

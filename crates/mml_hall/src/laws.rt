@@ -23,8 +23,8 @@ use crate::MAX_SCRIPT_LINE;
 
 pub mod audit;
 
-/// The script lines of a transcript are the first lines of the bytes that were read for it, whatever bytes follow. If
-/// the bytes that follow have no newline, there are no further lines.
+/// Take the bytes that were read for a transcript, and any bytes `rest` after them. Their lines are the script lines of
+/// the transcript, and then the lines of `rest`. If `rest` has no newline, there are only the script lines.
 pub fn lines_of_a_transcript()
     ensures first { (lab : LabValue) (t : Transcript lab) (rest : List ℕ)
         → lab.sessions ≤ MAX_SESSIONS

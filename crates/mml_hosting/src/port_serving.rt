@@ -258,10 +258,11 @@ struct Shared<'s, Y: ClassTypes, H: Begun> {
 }
 
 impl<'s, Y: ClassTypes + 's, H: Begun + Send + Sync + 's> Shared<'s, Y, H> {
-    // Resets the seat's mark, starts a thread that serves a connection (`ends`) in the seat, and returns the thread's
-    // handle. The thread rings the bell when the session has ended. If no thread can be made, serves the connection in
-    // this thread, and returns the seat as an error. In this case a connection that isn't at the desk is cut off before
-    // it is served, so that later connections needn't wait for it. `cut_off` is the means for that.
+    // Resets the seat's mark, starts a thread that serves a connection in the seat, and returns the thread's handle.
+    // `ends` are the reader and the writer of the connection. The thread rings the bell when the session has ended. If
+    // no thread can be made, serves the connection in this thread, rings the bell, and returns the seat as the error.
+    // In this case a connection that isn't at the desk is cut off by `cut_off` before it is served, so that later
+    // connections needn't wait for it.
     fn serve_apart<E>(
         &self,
         scope: &Scope<'s, E>,

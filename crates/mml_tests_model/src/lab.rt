@@ -39,7 +39,8 @@ fn push_owners(text: &mut String, lab: &Lab, node: Rank) -> Result<(), AllocErro
     Ok(())
 }
 
-/// Appends to a text the character that `mark` returns for a node and each node of the lab, in the order of ranks.
+/// Appends characters to a text, one for each node of the lab, in the order of ranks. Each is the one that `mark`
+/// returns for `node` and that node of the lab.
 fn push_marks(text: &mut String, lab: &Lab, node: Rank) -> Result<(), AllocError>
     requires { node < length lab.now.ids }
 {

@@ -12,8 +12,9 @@ ghost use Rattle.mml_board.specs.World.{opening_of, chosen_at};
 ghost use Rattle.mml_board.specs.Runs.{is_legal_list, world_of};
 ghost use Rattle.mml_laws.specs.Choices.{IsGrantedLast};
 
-/// After a legal list of a lab's events, a rule is chosen at a node exactly if some event granted it there, and the
-/// choice wasn't ended since. A release of the node, a close, a fault, a link or a cut ends it.
+/// After a legal list of a lab's events, a rule is chosen at a node exactly if some event granted it there, and no
+/// later event ended the choice. A release of the node ends it, and so does each close, fault, link or cut, at whatever
+/// nodes.
 pub fn chosen_moves_were_granted_last()
     ensures { (lab : LabValue) (es : List Event) (i : ℕ) (q : Rule) → IsLab lab →
         is_legal_list lab.roster (opening_of lab.network) es ≡ true →

@@ -7,9 +7,9 @@ ghost use Rattle.mml_lab_file.specs.Reading.{lab_fault};
 ghost use Rattle.mml_lab_file.specs.Shape.{RawSpec};
 ghost use Rattle.mml_lab_file.specs.LabErrors.{IsFirstError};
 
-/// If a lab file has all keys, each with a value of its kind, the error that is reported is one that the file has. The
-/// whole file is searched for one kind of error after another. So the file has no error of a kind that `order_of` puts
-/// earlier.
+/// Take a lab file that has all keys, each with a value of the type that the key needs. If an error is reported, the
+/// file has this error. The file is searched as a whole for one sort of error after another. So the file has no error
+/// of a sort that `order_of` puts earlier.
 pub fn errors_are_told_in_order()
     ensures { (raw : RawSpec) (f : LabFault) → lab_fault raw ≡ Some f → IsFirstError raw f }
 {}

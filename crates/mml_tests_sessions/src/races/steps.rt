@@ -55,8 +55,8 @@ impl<'a> Steps<'a> {
         self.steps.get(usize::from(connection.saturating_sub(1)))
     }
 
-    /// Waits until `come`, the counter of a connection's steps, is at least `wanted`. If the counter takes too long,
-    /// gives up and counts that in `given_up`. Does the same if `come` is `None`, which stands for a connection that
+    /// Waits until `come`, the counter of a connection's steps, is at least `wanted`. If that takes too long, gives up,
+    /// and counts that in `given_up`. Gives up at once, and counts that too, if `come` is `None`, since the connection
     /// doesn't exist.
     fn wait_until(&self, come: Option<&AtomicU64>, wanted: u64) {
         let has_come = match come {
