@@ -38,7 +38,7 @@ fn line_of_see(alloc: Global, lab: &Lab) -> Result<String, Fail> {
 }
 
 /// Makes the reply to a granted report on a board with `reply_of`. Returns whether it is a report with the same number
-/// of the configuration as `told`, and the same stability.
+/// of the configuration as the given one, and the same stability.
 fn is_reported(alloc: Global, board: &Board, told: &Report) -> Result<bool, Fail> {
     match reply_of(alloc, board, Ruling::Reported)? {
         Reply::Report(other) => Ok(other.at == told.at && other.stable == told.stable),
