@@ -13,9 +13,8 @@ from model.lab import Lab
 from model.requests import GREATEST, read_request
 from model.run import LONGEST_REQUEST, answer
 
-MOST_BEGUN, MOST_RECORD = 20, 2**30
+MOST_BEGUN, MOST_RECORD, NEWLINE = 20, 2**30, b"\n"
 BYE, NO_MEMORY, NO_JOURNAL = b'{"ok":"bye"}', b'{"refuse":"memory"}', b'{"refuse":"journal"}'
-NEWLINE = b"\n"
 NUMERAL = rb"(0|[1-9][0-9]{0,19})"
 STAMP = rb"%s %s " % (NUMERAL, NUMERAL)
 ASKED = re.compile(STAMP + rb"> ")
@@ -80,7 +79,7 @@ class Seat:
         self.lab, self.events, self.number, self.record = lab, events, number, record
         self.world = lab.opening()  # after the events that had been seen
         self.known: str | None = None  # who is known in the session
-        self.stage = FRESH
+        self.stage, self.is_halted = FRESH, False  # is_halted: a line was refused with `journal` since the last mark `!`
 
     def entry(self, text: bytes, at: int) -> Entry | str:
         """Returns the entry that begins at the byte `at` of the text, or the reason why there is none."""
@@ -119,8 +118,7 @@ class Seat:
             self.record.sessions += 1
         # Anything may be missing up to the session's end.
         elif entry.mark == b"!":
-            self.known, self.stage = None, CUT
-            self.record.is_cut = True
+            self.known, self.stage, self.is_halted, self.record.is_cut = None, CUT, False, True
         # Recording pauses. If an account is known, its lines aren't recorded from here on.
         elif entry.mark == b"-":
             self.stage = PAUSED
@@ -167,6 +165,7 @@ class Seat:
         refusals = [NO_MEMORY] if found.event is None else [NO_MEMORY, NO_JOURNAL]
         if entry.reply in refusals and len(entry.line) <= LONGEST_REQUEST:
             self.record.said.append(said)
+            self.is_halted = self.is_halted or entry.reply == NO_JOURNAL
             return None
         # An event that the line grants must be the next one of the journal.
         event = found.event and [Event(place + 1, self.world.number, str(self.known), found.event)]
@@ -177,6 +176,8 @@ class Seat:
         if not is_reply or len(entry.line) > LONGEST_REQUEST:
             return f"not the reply of the rules at place {place}"
         if found.event is not None:
+            if self.is_halted:
+                return "granted after the refusal journal"
             self.record.granted.append(place + 1)
             apply(self.world, found.event)
         self.record.said.append(said)

@@ -184,6 +184,28 @@ def risen(run: Recording) -> list[tuple[str, dict[int, bytes], str]]:
     return [(what, {1: run.texts[1], 2: run.texts[2], 3: text}, line) for what, text, line in found]
 
 
+def halted(lab: Lab, run: Recording) -> list[tuple[str, dict[int, bytes], str]]:
+    """Returns rows in which a line of the first seat is refused with `journal`. A row has a name, the text of each seat,
+    and the verdict."""
+    lines = run.texts[1].splitlines(keepends=True)
+    hello, first, rest, end = (b"".join(it) for it in (lines[:2], lines[:4], lines[4:-1], lines[-1:]))
+    halt = b'1 1 > {"do":"close"}\n1 1 < {"refuse":"journal"}\n'
+    again = halt.replace(b"1 1 ", b"1 2 ")
+    greeted = hello.replace(b"1 0 ", b"1 1 ")
+    refused = "seat 1, line %d: granted after the refusal journal"
+    cut = f"ok: 3 sessions, {run.lines + 2} lines, 2 events, not whole\n{whole_line(lab, cut=True)}"
+    found = [
+        ("granted after journal", first + halt + rest + end, refused % 7),
+        ("granted after journal, in the next session", first + halt + b"1 1 .\n" + greeted + rest + end, refused % 10),
+        ("granted after journal, after a pause", first + halt + b"1 1 -\n1 1 + 3\n1 1 .\n" + greeted + rest + end, refused % 12),
+        ("granted after journal and a cut", first + halt + b"1 1 !\n1 1 .\n" + greeted + rest + end, cut),
+        ("granted before journal", first + rest + again + end, run.told().replace(f"{run.lines} lines", f"{run.lines + 1} lines")),
+        ("another event after journal", first + halt + replaced(rest, b'"p":2,"m":false', b'"p":2,"m":true') + end,
+         "seat 1, line 7: not the journal's event at place 2"),
+    ]
+    return [(what, {1: text, 2: run.texts[2]}, line) for what, text, line in found]
+
+
 def without_a_node(room: Path, lab: str) -> int:
     """Checks records of a student without a node, who can only see events by a command. Returns their number."""
     lab += '\n[[student]]\nname = "eve"\nkey = "e-key"\n'
@@ -243,6 +265,7 @@ def by_hand(files: Files, lab: Lab) -> int:
         ("a grant repeated", {1: one, 2: two, 3: in_seat(1, 3, one)}, "place 1: granted twice"),
         ("cut twice", {1: one + b"1 2 !\n1 2 !\n1 2 .\n", 2: two}, run.told(False).replace("ok: 2 ", "ok: 3 ")),
     ]
+    cases += halted(lab, run)
     shown = b'2 0 > {"do":"see","node":1}\n2 0 < %s\n' % see_reply(lab).encode()
     hello = b'2 0 < {"ok":"hello","who":"ana"}\n'
     cases += [("a view", {1: one, 2: replaced(two, hello, hello + shown)}, "seat 2, line 5: not the reply of the rules at place 0")]

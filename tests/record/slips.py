@@ -140,6 +140,18 @@ def earlier(drawn: Drawn, it: Told) -> Iterator[Hurt]:
         yield changed(drawn, it, text, BACK)
 
 
+def after_halt(drawn: Drawn, it: Told) -> Iterator[Hurt]:
+    """Yields a seat in which the grant before this one is recorded as the refusal `journal`, after which a server grants
+    nothing."""
+    granted = [other for other in (*drawn.before(it), it) if other.found is not None and other.found.event is not None]
+    if len(granted) > 1 and granted[-1] is it:
+        last, whole = granted[-2], drawn.run.texts[it.seat]
+        text = stamped(it.seat, last.entry.seen, last.entry.line, NO_JOURNAL)
+        number = 1 + whole.count(b"\n", 0, it.start)
+        yield Hurt(it.seat, whole[: last.start] + text + whole[last.entry.end :],
+                   f"verify: seat {it.seat}, line {number}: granted after the refusal journal")
+
+
 KINDS: dict[str, Callable[[Drawn, Told], Iterator[Hurt]]] = {
     "a denial as a halted journal": replied(NO_JOURNAL, is_granted=False),
     "a grant as a full journal": replied(FULL, is_granted=True),
@@ -147,6 +159,7 @@ KINDS: dict[str, Callable[[Drawn, Told], Iterator[Hurt]]] = {
     "a move as another owner's": of_other_owner,
     "an event as another": of_other_event,
     "an earlier entry": earlier,
+    "a grant after a halted journal": after_halt,
 }
 
 

@@ -18,6 +18,7 @@ words_of why.NoEnd = codes "not the session's end"
 words_of why.NoHello = codes "not a hello that is granted"
 words_of why.NoPause = codes "not after a pause"
 words_of why.OtherEvent = codes "journal's event"
+words_of why.Halted = codes "granted after the refusal journal"
 words_of why.OtherReply = codes "reply of the rules"
 
 -- The place that the error line names with these words, if it names one. If an entry grants another event than the

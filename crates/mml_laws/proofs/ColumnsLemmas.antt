@@ -6,7 +6,7 @@ use Rattle.mml_tally.specs.{declared.ask.Ask.Ask, AskMeaning.AreAsksOf, StudentD
 use Rattle.mml_record.specs.{declared.kept_entry.Entry.Entry, Asks.asks_in, Certified.IsRecordOf}
 use Rattle.mml_record.proofs.{AsksLemmas.asked_of_rules, AskersLemmas.are_asks_of, NamedAskersLemmas.record_named}
 use Rattle.mml_class.specs.{declared.class_record.ClassRecord.ClassRecord, Classes.AreRecordsOf, Classes.IsClassRecord, Classes.all_asks}
-use Rattle.mml_record.specs.declared.stage.Stage.TheVariants as stages
+use Rattle.mml_record.specs.Certified.{first_stage}
 
 named_after : (xs ys : List Ask) → AreNamed xs → AreNamed ys → AreNamed (xs ++ ys)
 named_after [] ys h k = k
@@ -36,4 +36,4 @@ module _ (lab : LabValue) (l : List Event) (texts : ℕ → List ℕ) where
   pub class_of_students : (start : List ℕ) (c : ClassRecord) → IsClassRecord lab l true start texts c → AreAsksOf (length lab.roster.students) c.asks.items
   class_of_students =
       class_are lab l texts (AreAsksOf (length lab.roster.students)) tt (asks_after (length lab.roster.students))
-      (λ es own h. are_asks_of lab l None tt es (asks_in lab.roster es) (asked_of_rules lab l None stages.Fresh 0 es own h))
+      (λ es own h. are_asks_of lab l None tt es (asks_in lab.roster es) (asked_of_rules lab l None first_stage 0 es own h))

@@ -9,7 +9,7 @@ use Rattle.mml_codec.specs.declared.{request.LineFault.LineFault, request.Reques
 use Rattle.mml_codec.specs.{Facts.object_text, Lines.request_in, Replies.text, Replies.reply_line, Replies.place_in}
 use Rattle.mml_session.specs.Turns.{is_bye}
 use Rattle.mml_record.specs.{declared.kept_entry.Entry.Entry, declared.stage.Stage.Stage, DenialMembers.if_clause, DenialMembers.from_clause, DenialMembers.denial_members, DenialNames.denial_told, DenialNames.denial_in, Refusals.reason_told, Refusals.reason_in}
-use Rattle.mml_record.specs.Certified.{seen_after, stage_after, FitsGreeting, FitsAsked, Fits, GoesOn}
+use Rattle.mml_record.specs.Certified.{seen_after, phase_after, stage_at, stage_after, FitsGreeting, FitsAsked, Fits, GoesOn}
 use Rattle.mml_record.specs.Asks.{unended, clause_of_members, clause_told, memory_text, known_by, known_asked, known_after, line_of, student_of, asks_from, clause_in}
 use Rattle.mml_record.specs.Asks.{AreAskedOf}
 use Rattle.mml_journal.specs.Words.{◌>>=◌}
@@ -18,7 +18,7 @@ use Rattle.mml_board.specs.declared.denial.Denial.TheVariants as denial
 use Rattle.mml_codec.specs.declared.reply.Refused.TheVariants as refused
 use Rattle.mml_codec.specs.declared.reply.Reply.TheVariants as replies
 use Rattle.mml_record.specs.declared.kept_entry.Entry.TheVariants as entry
-use Rattle.mml_record.specs.declared.stage.Stage.TheVariants as stages
+use Rattle.mml_record.specs.declared.stage.Phase.TheVariants as phases
 
 -- ---- the clause in a reply's text
 
@@ -107,9 +107,9 @@ asked_of_rules lab l known stage least (entry.Said p line out ∷ es) ps on =
       on.7,
       on.8.1,
       λ k. record { who = student_of known; line = line_of (request_in line); denied = clause k; named = name k; refused = reason k } ∷ asks_from lab.roster (behind k) es,
-      asked_of_rules lab l on.4 (stage_after (is_bye r)) (seen_after p (place_in r)) es on.5 on.10,
+      asked_of_rules lab l on.4 (stage_after lab stage (phase_after (is_bye r)) out) (seen_after p (place_in r)) es on.5 on.10,
     )
-asked_of_rules lab l known stage least (entry.Left p ∷ es) ps on = asked_of_rules lab l None stages.Open p es ps on.2
-asked_of_rules lab l known stage least (entry.Unrecorded p ∷ es) ps on = asked_of_rules lab l None stages.Cut p es ps on.2
-asked_of_rules lab l known stage least (entry.Paused p ∷ es) ps on = asked_of_rules lab l known stages.Paused p es ps on.2
-asked_of_rules lab l known stage least (entry.Resumed p missed ∷ es) ps on = asked_of_rules lab l known stages.Resuming p es ps on.4
+asked_of_rules lab l known stage least (entry.Left p ∷ es) ps on = asked_of_rules lab l None (stage_at phases.Open stage.is_halted) p es ps on.2
+asked_of_rules lab l known stage least (entry.Unrecorded p ∷ es) ps on = asked_of_rules lab l None (stage_at phases.Cut false) p es ps on.2
+asked_of_rules lab l known stage least (entry.Paused p ∷ es) ps on = asked_of_rules lab l known (stage_at phases.Paused stage.is_halted) p es ps on.2
+asked_of_rules lab l known stage least (entry.Resumed p missed ∷ es) ps on = asked_of_rules lab l known (stage_at phases.Resuming stage.is_halted) p es ps on.4

@@ -15,13 +15,12 @@ use Rattle.mml_codec.specs.{declared.request.Request.Request, declared.reply.Rep
 use Rattle.mml_window.specs.Rulings.{ruling_at}
 use Rattle.mml_tally.specs.{declared.ask.Ask.Ask, StudentDenials.student_denial, StudentDenials.clause_named, StudentDenials.IsNamed, StudentDenials.AreNamed}
 use Rattle.mml_record.specs.{declared.kept_entry.Entry.Entry, Asks.student_of, Asks.clause_in, Asks.asks_in, Asks.AreAskedOf, DenialNames.denial_in}
-use Rattle.mml_record.specs.Certified.{FitsRuling, FitsGreeting, Fits, IsRecordOf}
+use Rattle.mml_record.specs.Certified.{first_stage, FitsRuling, FitsGreeting, Fits, IsRecordOf}
 use Rattle.mml_record.proofs.AsksLemmas.{asked_of_rules}
 use Rattle.mml_lab.specs.declared.who.Who.TheVariants as who
 use Rattle.mml_board.specs.declared.act.Act.TheVariants as acts
 use Rattle.mml_policy.specs.declared.command.Command.TheVariants as command
 use Rattle.mml_record.specs.declared.kept_entry.Entry.TheVariants as entry
-use Rattle.mml_record.specs.declared.stage.Stage.TheVariants as stages
 
 -- ---- the denials that a student can get
 
@@ -83,4 +82,4 @@ are_named lab l known (entry.Paused p ∷ es) asks h = are_named lab l known es 
 are_named lab l known (entry.Resumed p missed ∷ es) asks h = are_named lab l known es asks h
 
 pub record_named : (lab : LabValue) (l : List Event) (es : List Entry) (ps : List ℕ) → IsRecordOf lab l es ps → AreNamed (asks_in lab.roster es)
-record_named lab l es ps on = are_named lab l None es (asks_in lab.roster es) (asked_of_rules lab l None stages.Fresh 0 es ps on)
+record_named lab l es ps on = are_named lab l None es (asks_in lab.roster es) (asked_of_rules lab l None first_stage 0 es ps on)

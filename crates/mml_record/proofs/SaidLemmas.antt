@@ -3,7 +3,7 @@
 -- this list, from 1.
 use Rattle.std.proofs.Common.{◌≡◌, ◌⊎◌, ℕ, ◌+◌, ◌≤◌, suc, Bool, true, false, List, [], ◌∷◌, ◌++◌, length, take, refl, sym, ap, ◌∙◌, subst, inl, inr, Option, None, Some, Result, Ok, Err}
 use Rattle.std.proofs.Common.{arith, append-nil, length-append}
-use Rattle.std.proofs.lemmas.{List.length-take-le, Bool.Decides.nat_tests}
+use Rattle.std.{proofs.lemmas.List.length-take-le, proofs.lemmas.Bool.Decides.nat_tests, specs.Prelude.IfSome}
 use mathlib.Core.List.{IsPrefix}
 use Rattle.mml_lab.specs.{declared.who.Who.Who, Labs.LabValue}
 use Rattle.mml_lines.specs.LinesOf.{IsWithinLimit}
@@ -33,6 +33,11 @@ kept_for _ = None
 refuses_so : (ruled : Ruling) (why : Refused) → may_refuse ruled why ≡ true → MayRefuse ruled why (kept_for why)
 refuses_so ruled why may = grind (arith, nat_tests)
 
+-- a window that has counted no refusal `journal` may be granted any event
+pub unhalted_new : (o : Option ℕ) → IfSome o (λ place. 0 ≡ 0)
+unhalted_new None = tt
+unhalted_new (Some place) = refl
+
 module _ (lab : LabValue) (l : List Event) (legal : is_legal_in lab l ≡ true) (p : ℕ) (few : p ≤ length l) where
   -- what the window has seen, and which places it has, after a reply that was judged after p events
   abbrev IsAfter : WindowValue → Reply → WindowValue → Type 0
@@ -53,19 +58,19 @@ module _ (lab : LabValue) (l : List Event) (legal : is_legal_in lab l ≡ true) 
 
   -- if a reply fits a ruling after p events, it is a possible reply of a window that has seen no more than these
   tells : (w : WindowValue) (who : Who) (c : Command) (r : Reply) → IsPrefix w.seen (take p l)
-      → FitsRuling lab l (take p l) (ruling_at lab (world_in lab (take p l)) who c) r
+      → FitsRuling lab l (take p l) (ruling_at lab (world_in lab (take p l)) who c) r → IfSome (place_in r) (λ place. w.halts ≡ 0)
       → (new : WindowValue) × Told lab w who c r new × IsAfter w r new
-  tells w who c r later (inl fits) =
+  tells w who c r later (inl fits) unhalted =
       let ruled = ruling_at lab (world_in lab (take p l)) who c in
       let new = window_with (entered (take p l) (event_of ruled)) (w.places ++ places_in r) None (w.halts + halts_in r) in
       let u = after_ruling (world_in lab (take p l)) ruled in
       let seen = enters u ruled fits.1 ∙ ap (λ (q : Reply). take (seen_after p (place_in q)) l) (sym fits.0) in
       let most = subst (λ (q : Reply). seen_after p (place_in q) ≤ length l) (sym fits.0) (below u ruled fits.1) in
-      (new, record { list = take p l; later = later; legal = legal_first lab l legal p; says = inl (fits.0, (refl, refl)); counted = refl }, (seen, refl, most))
-  tells w who c r later (inr fits) =
+      (new, record { list = take p l; later = later; legal = legal_first lab l legal p; says = inl (fits.0, (refl, refl)); counted = refl; unhalted = unhalted }, (seen, refl, most))
+  tells w who c r later (inr fits) unhalted =
       let new = window_with (take p l) w.places (kept_for fits.0) (w.halts + halts_in r) in (
         new,
-        record { list = take p l; later = later; legal = legal_first lab l legal p; says = inr (fits.0, fits.1, refuses_so _ fits.0 fits.2, (refl, refl)); counted = refl },
+        record { list = take p l; later = later; legal = legal_first lab l legal p; says = inr (fits.0, fits.1, refuses_so _ fits.0 fits.2, (refl, refl)); counted = refl; unhalted = unhalted },
         (
           ap (λ (q : Reply). take (seen_after p (place_in q)) l) (sym fits.1),
           sym (append-nil w.places) ∙ ap (λ (q : Reply). w.places ++ places_in q) (sym fits.1),
@@ -87,32 +92,37 @@ module _ (lab : LabValue) (l : List Event) (legal : is_legal_in lab l ≡ true) 
   unnamed r none = grind (arith, nat_tests)
 
   settles : (w : WindowValue) (known known' : Option Who) (g : Greeting) (r : Reply) → IsPlain g → IsBefore w (is_left g)
-      → FitsGreeting lab l (take p l) known g r known'
+      → FitsGreeting lab l (take p l) known g r known' → IfSome (place_in r) (λ place. w.halts ≡ 0)
       → (new : WindowValue) × Settles lab (standing known w) g r (standing known' new) × IsAfter w r new
-  settles w known known' (Answered q x) r plain before fits =
+  settles w known known' (Answered q x) r plain before fits unhalted =
       (w, (fits.0, ap (λ (k : Option Who). standing k w) fits.1), stays_after w r (sees_all w before) (unnamed r (ap places_in fits.0 ∙ plain.1)))
-  settles w known known' (LeftToJudge who c) r plain before fits = let t = tells w who c r (begins w true before) fits.1 in (t.0, (fits.0, t.1), t.2)
+  settles w known known' (LeftToJudge who c) r plain before fits unhalted =
+      let t = tells w who c r (begins w true before) fits.1 unhalted in (t.0, (fits.0, t.1), t.2)
 
   asked : (w : WindowValue) (known known' : Option Who) (q : Result Request LineFault) (r : Reply) → IsBefore w (asks_window lab.roster known q)
-      → FitsAsked lab l (take p l) known q r known'
+      → FitsAsked lab l (take p l) known q r known' → IfSome (place_in r) (λ place. w.halts ≡ 0)
       → (new : WindowValue) × Asked lab (standing known w) q r (standing known' new) × IsAfter w r new
-  asked w known known' (Err fault) r before fits =
+  asked w known known' (Err fault) r before fits unhalted =
       (w, (fits.0, ap (λ (k : Option Who). standing k w) fits.1), stays_after w r (sees_all w before) (ap place_in fits.0))
-  asked w known known' (Ok request) r before fits = settles w known known' (greeting lab.roster known request) r (plain_greeting lab.roster known request) before fits
+  asked w known known' (Ok request) r before fits unhalted =
+      settles w known known' (greeting lab.roster known request) r (plain_greeting lab.roster known request) before fits unhalted
 
   -- if a window has seen the first p events, a reply that fits after them is that of one of its turns
   pub turns_all : (w : WindowValue) (known known' : Option Who) (line : List ℕ) (r : Reply) → w.seen ≡ take p l
-      → Fits lab l (take p l) known line r known'
+      → Fits lab l (take p l) known line r known' → IfSome (place_in r) (λ place. w.halts ≡ 0)
       → (new : WindowValue) × Turn lab (standing known w) line r (standing known' new) × IsAfter w r new
-  turns_all w known known' line r same (inl fits) = let t = asked w known known' (request_in line) r (inl same) fits in (t.0, inl t.1, t.2)
-  turns_all w known known' line r same (inr fits) = (w, inr (fits.0, ap (λ (k : Option Who). standing k w) fits.1), stays_after w r same (ap place_in fits.0))
+  turns_all w known known' line r same (inl fits) unhalted =
+      let t = asked w known known' (request_in line) r (inl same) fits unhalted in (t.0, inl t.1, t.2)
+  turns_all w known known' line r same (inr fits) unhalted = (w, inr (fits.0, ap (λ (k : Option Who). standing k w) fits.1), stays_after w r same (ap place_in fits.0))
 
   -- a reply that fits after p events is that of a turn of each window that has seen at most these, if the line makes
   -- the window read on
   pub turns_asked : (w : WindowValue) (known known' : Option Who) (line : List ℕ) (r : Reply) → IsPrefix w.seen (take p l)
       → asks_window lab.roster known (request_in line) ≡ true → FitsAsked lab l (take p l) known (request_in line) r known'
+      → IfSome (place_in r) (λ place. w.halts ≡ 0)
       → (new : WindowValue) × Turn lab (standing known w) line r (standing known' new) × IsAfter w r new
-  turns_asked w known known' line r later asks fits = let t = asked w known known' (request_in line) r (inr (later, asks)) fits in (t.0, inl t.1, t.2)
+  turns_asked w known known' line r later asks fits unhalted =
+      let t = asked w known known' (request_in line) r (inr (later, asks)) fits unhalted in (t.0, inl t.1, t.2)
 
   -- if a reply was judged after p events, the entry of its turn names p events
   pub judged_there : (w new : WindowValue) (r : Reply) → IsAfter w r new → judged_at (length new.seen) r ≡ p
@@ -141,8 +151,9 @@ module _ (lab : LabValue) (l : List Event) (legal : is_legal_in lab l ≡ true) 
   quiet_known w who line c later valid asks shown =
       let ruled = ruling_at lab (world_in lab (take p l)) who c in
       let v = reply_of (after_ruling (world_in lab (take p l)) ruled) ruled in
-      let t = tells w who c v later (inl (refl, no_event (after_ruling (world_in lab (take p l)) ruled) ruled shown)) in
       let none : place_in v ≡ None = shown_none v shown in
+      let unhalted : IfSome (place_in v) (λ place. w.halts ≡ 0) = subst (λ (o : Option ℕ). IfSome o (λ place. w.halts ≡ 0)) (sym none) tt in
+      let t = tells w who c v later (inl (refl, no_event (after_ruling (world_in lab (take p l)) ruled) ruled shown)) unhalted in
       let asked = subst (λ (q : Result Request LineFault). Asked lab (standing (Some who) w) q v (standing (Some who) t.0)) (sym asks) (refl, t.1) in
       let seen = t.2.0 ∙ ap (λ (o : Option ℕ). take (seen_after p o) l) none in
       let places = t.2.1 ∙ ap (λ (o : Option ℕ). w.places ++ as_list o) none ∙ append-nil w.places in

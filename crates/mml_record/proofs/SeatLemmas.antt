@@ -2,7 +2,8 @@
 -- something: a see, a look or a report. A window is what a seat's sessions have seen of the list of events, and which
 -- of these events were granted to them. The known participant is the one whose hello was granted in the session.
 use Rattle.std.proofs.Common.{◌≡◌, ◌⊎◌, ℕ, ◌≤◌, Bool, true, false, ◌&&◌, not, List, [], ◌∷◌, ◌++◌, length, take, drop, refl, sym, ap, ◌∙◌, subst, inl, inr, Option, None, Some, Result, arith}
-use Rattle.std.proofs.Common.{append-nil, append_assoc, if◌then◌else◌}
+use Rattle.std.proofs.Common.{append-nil, append_assoc, if◌then◌else◌, ◌||◌, nat_lt}
+use Rattle.std.specs.Prelude.{IfSome}
 use Rattle.std.proofs.lemmas.{List.take-append-drop, List.length-take-le, Bool.and_parts, Bool.or_cases, Bool.false≢true, Bool.Decides.nat_tests, Slice.Eq.bytes_eq-Decides}
 use mathlib.Core.List.{IsPrefix}
 use Rattle.mml_lab.specs.{declared.who.Who.Who, Labs.LabValue, Labs.IsLab, Rosters.RosterValue}
@@ -18,8 +19,8 @@ use Rattle.mml_session.specs.Turns.{Standing, standing, places_in, Turn, is_bye}
 use Rattle.mml_session.specs.Records.{Kept, stand, judged_at, is_shown, turn_entries, entries_of, line_entries, left_at, said, record_text}
 use Rattle.mml_record.specs.{declared.kept_entry.Entry.Entry as KeptEntry, declared.stage.Stage.Stage, RecordedSeats.Held, RecordedSeats.RecordedSeat, RecordedSeats.IsResumedSeat}
 use Rattle.mml_record.specs.Entries.{all_kept, are_whole, are_ended, record_text as kept_texts}
-use Rattle.mml_record.specs.Certified.{Fits, FitsAsked, FitsGreeting, seen_after, stage_after, is_paused, is_line, sees_some, asks_window, may_rise, GoesOn, IsRecordOf}
-use Rattle.mml_record.proofs.{FitLemmas.first_of, OnceLemmas.ruling_no_bye, RecordLemmas.same_text, ShownLemmas.sees_shown}
+use Rattle.mml_record.specs.Certified.{Fits, FitsAsked, FitsGreeting, seen_after, phase_after, stage_at, stage_after, is_paused, is_line, is_journal, sees_some, asks_window, may_rise, may_grant, GoesOn, IsRecordOf}
+use Rattle.mml_record.proofs.{FitLemmas.first_of, OnceLemmas.ruling_no_bye, RecordLemmas.same_text, RecordLemmas.has_halted, RecordLemmas.turn_halted, RecordLemmas.shown_halted, ShownLemmas.sees_shown}
 use Rattle.mml_record.proofs.SaidLemmas.{turns_all, turns_asked, judged_there, quiet}
 use Rattle.mml_codec.specs.declared.reply.Refused.TheVariants as refused
 use Rattle.mml_codec.specs.declared.reply.Reply.TheVariants as reply
@@ -27,7 +28,7 @@ use Rattle.mml_session.proofs.RecordLemmas.{text_more}
 use Rattle.mml_session.specs.declared.entry.Entry.TheVariants as entry
 use Rattle.mml_session.specs.declared.session.SessionEnd.TheVariants as ends
 use Rattle.mml_record.specs.declared.kept_entry.Entry.TheVariants as kept
-use Rattle.mml_record.specs.declared.stage.Stage.TheVariants as stages
+use Rattle.mml_record.specs.declared.stage.Phase.TheVariants as phases
 
 bye_is : (r : Reply) → is_bye r ≡ true → r ≡ reply.Bye
 bye_is r is = grind (arith, nat_tests)
@@ -56,6 +57,12 @@ module _ (lab : LabValue) (l first : List Event) (known : Option Who) (r : Reply
 
   bye_nobody : (line : List ℕ) → Fits lab l first known line r known' → known' ≡ None
   bye_nobody line h = grind (arith, nat_tests, bye_asked, false≢true)
+
+-- ---- the refusal `journal`
+
+-- if a reply may name its event, and names one, the window has counted no refusal `journal`
+unhalted_so : (n : ℕ) (o : Option ℕ) → may_grant (nat_lt 0 n) o ≡ true → IfSome o (λ place. n ≡ 0)
+unhalted_so n o h = grind (arith, nat_tests)
 
 -- ---- sessions
 
@@ -220,36 +227,41 @@ module _ (lab : LabValue) (is : IsLab lab) (l : List Event) (number : ℕ) where
         (prefix_shorter (take least l) (take p l) l (drop least l, take-append-drop least l) (drop p l, take-append-drop p l)
         (omega (arith, le, few, length-take-le p l few, length-take-le least l (omega (arith, le, few)))))
 
+    -- the open stage of a seat with this window
+    abbrev open_at : WindowValue → Stage
+    open_at w = stage_at phases.Open (has_halted w)
+
     -- let p be `least`, or let the known participant be one who can be shown something; if sessions make the rest of
-    -- the entries from each window that has seen p events, they also make these entries from a window that has seen
-    -- `least` events
+    -- the entries from each window that has seen p events, and counted refusals `journal` if this one has, they also
+    -- make these entries from a window that has seen `least` events
     arrives : (known : Option Who) (w : WindowValue) (least p : ℕ) (es : List Entry) (ps : List ℕ) → least ≤ p → p ≤ length l → w.seen ≡ take least l
         → (p ≡ least) ⊎ (sees_some lab.roster known ≡ true)
-        → ((v : WindowValue) → v.seen ≡ take p l → Rest (standing known v) es ps) → Rest (standing known w) es ps
-    arrives known w least p es ps le few seen (inl same) go = go w (seen ∙ ap (λ (n : ℕ). take n l) (sym same))
+        → ((v : WindowValue) → v.seen ≡ take p l → has_halted v ≡ has_halted w → Rest (standing known v) es ps) → Rest (standing known w) es ps
+    arrives known w least p es ps le few seen (inl same) go = go w (seen ∙ ap (λ (n : ℕ). take n l) (sym same)) refl
     arrives known w least p es ps le few seen (inr sees) go =
         let q = quiet lab l legal p few w known (take_in least p w le few seen) (sees_shown lab is (take p l) known sees) in
         let goes = shown_goes q.2 q.3 in
         regroup (standing known w) (turn_entries lab q.0 q.2 q.4 ++ es) es (places_in q.2 ++ ps) ps
         (ap (λ y. y ++ es) (none_of q.0 q.2 q.4 q.3)) (ap (λ y. y ++ ps) goes.1)
         (rest_first (standing known w) (standing known q.4) q.0 q.2 q.5 q.1 goes.0
-        (q.7 ∙ sym (append-nil w.places) ∙ ap (λ y. w.places ++ y) (sym goes.1)) es ps (go q.4 q.6))
+        (q.7 ∙ sym (append-nil w.places) ∙ ap (λ y. w.places ++ y) (sym goes.1)) es ps (go q.4 q.6
+        (shown_halted lab (standing known w) (standing known q.4) q.0 q.2 q.5 q.1 q.3)))
 
     -- what is to be proved of entries in the middle of a session, after a bye, and between sessions
     abbrev InMiddle : List Entry → Type 0
     InMiddle es =
-        (known : Option Who) (w : WindowValue) (least : ℕ) (ps : List ℕ) → GoesOn lab l known stages.Open least (all_kept es) ps
+        (known : Option Who) (w : WindowValue) (least : ℕ) (ps : List ℕ) → GoesOn lab l known (open_at w) least (all_kept es) ps
         → w.seen ≡ take least l → least ≤ length l → are_whole (all_kept es) ≡ true → are_ended true (all_kept es) ≡ true → Rest (standing known w) es ps
 
     abbrev AfterBye : List Entry → Type 0
     AfterBye es =
-        (w : WindowValue) (least : ℕ) (ps : List ℕ) → GoesOn lab l None stages.Over least (all_kept es) ps
+        (w : WindowValue) (least : ℕ) (ps : List ℕ) → GoesOn lab l None (stage_at phases.Over (has_halted w)) least (all_kept es) ps
         → w.seen ≡ take least l → least ≤ length l → are_whole (all_kept es) ≡ true → are_ended true (all_kept es) ≡ true
         → (later : List Entry) × (es ≡ left_at w ++ later) × Seat w later ps
 
     abbrev Between : List Entry → Type 0
     Between es =
-        (w : WindowValue) (least : ℕ) (ps : List ℕ) → GoesOn lab l None stages.Open least (all_kept es) ps
+        (w : WindowValue) (least : ℕ) (ps : List ℕ) → GoesOn lab l None (open_at w) least (all_kept es) ps
         → w.seen ≡ take least l → least ≤ length l → are_whole (all_kept es) ≡ true → are_ended false (all_kept es) ≡ true → Seat w es ps
 
     abbrev Walks : List Entry → Type 0
@@ -277,12 +289,12 @@ module _ (lab : LabValue) (is : IsLab lab) (l : List Event) (number : ℕ) where
     follows : (st : Standing) (new : WindowValue) (known : Option Who) (line : List ℕ) (r : Reply) → Turn lab st line r (standing known new)
         → IsWithinLimit MAX_REQUEST line → new.places ≡ st.window.places ++ places_in r → (q : ℕ) → new.seen ≡ take q l → q ≤ length l
         → (es : List Entry) (ps : List ℕ) → are_whole (all_kept es) ≡ true → are_ended true (all_kept es) ≡ true → Walks es
-        → (b : Bool) → is_bye r ≡ b → (b ≡ true → known ≡ None) → GoesOn lab l known (stage_after b) q (all_kept es) ps
+        → (b : Bool) → is_bye r ≡ b → (b ≡ true → known ≡ None) → GoesOn lab l known (stage_at (phase_after b) (has_halted new)) q (all_kept es) ps
         → Rest st (turn_entries lab line r new ++ es) (places_in r ++ ps)
     follows st new known line r turn valid granted q seen few es ps whole ended walks false bye nobody h =
         rest_first st (standing known new) line r turn valid bye granted es ps (walks.0 known new q ps h seen few whole ended)
     follows st new known line r turn valid granted q seen few es ps whole ended walks true bye nobody h =
-        let g = walks.1 new q ps (subst (λ (k : Option Who). GoesOn lab l k stages.Over q (all_kept es) ps) (nobody refl) h) seen few whole ended in
+        let g = walks.1 new q ps (subst (λ (k : Option Who). GoesOn lab l k (stage_at phases.Over (has_halted new)) q (all_kept es) ps) (nobody refl) h) seen few whole ended in
         record {
           mid = new;
           new = g.2.new;
@@ -301,26 +313,38 @@ module _ (lab : LabValue) (is : IsLab lab) (l : List Event) (number : ℕ) where
         r : Reply
         r = h.3
 
-        from : (v new : WindowValue) → Turn lab (standing known v) line r (standing h.4 new)
+        unhalted : (v : WindowValue) → has_halted v ≡ has_halted w → IfSome (place_in r) (λ place. v.halts ≡ 0)
+        unhalted v same = unhalted_so v.halts (place_in r) (subst (λ (b : Bool). may_grant b (place_in r) ≡ true) (sym same) h.8.2)
+
+        -- after the turn, the window has counted refusals `journal` exactly if the stage after the entry is halted
+        goes : (v new : WindowValue) → has_halted v ≡ has_halted w → Turn lab (standing known v) line r (standing h.4 new)
+            → GoesOn lab l h.4 (stage_at (phase_after (is_bye r)) (has_halted new)) (seen_after p (place_in r)) (all_kept es) h.5
+        goes v new same turn =
+            let on = turn_halted lab (standing known v) (standing h.4 new) line r turn h.2 in
+            let is : (has_halted w || is_journal lab out) ≡ has_halted new = (λ t. sym same t || is_journal lab (h.7 t)) ∙ sym on in
+            subst (λ (b : Bool). GoesOn lab l h.4 (stage_at (phase_after (is_bye r)) b) (seen_after p (place_in r)) (all_kept es) h.5) is h.10
+
+        from : (v new : WindowValue) → has_halted v ≡ has_halted w → Turn lab (standing known v) line r (standing h.4 new)
             → (new.seen ≡ take (seen_after p (place_in r)) l) × (new.places ≡ v.places ++ places_in r) × (seen_after p (place_in r) ≤ length l)
             → Rest (standing known v) (entry.Said p line out ∷ es) ps
-        from v new turn after =
+        from v new same turn after =
             regroup (standing known v) (turn_entries lab line r new ++ es) (entry.Said p line out ∷ es) (places_in r ++ h.5) ps
             (ap (λ y. y ++ es) (said_of line out r new p h.8.0 (judged_there lab l legal p h.1 v new r after) h.7)) (sym h.9)
             (follows (standing known v) new h.4 line r turn h.2 after.1 (seen_after p (place_in r)) after.0 after.2 es h.5 whole ended walks (is_bye r) refl
-            (λ bye. bye_nobody lab l (take p l) known r h.4 bye line h.8.1) h.10)
+            (λ bye. bye_nobody lab l (take p l) known r h.4 bye line h.8.1) (goes v new same turn))
 
         still : (p ≡ least) ⊎ (sees_some lab.roster known ≡ true) → Rest (standing known w) (entry.Said p line out ∷ es) ps
         still rise =
             arrives known w least p (entry.Said p line out ∷ es) ps h.0.0 h.1 seen rise
-            (λ v all. let t = turns_all lab l legal p h.1 v known h.4 line r all h.8.1 in from v t.0 t.1 t.2)
+            (λ v all same. let t = turns_all lab l legal p h.1 v known h.4 line r all h.8.1 (unhalted v same) in from v t.0 same t.1 t.2)
 
         asked : (asks_window lab.roster known (request_in line) && not (is_line lab out (reply.Refuse refused.Memory))) ≡ true
             → Rest (standing known w) (entry.Said p line out ∷ es) ps
         asked both =
             let (asks, other) = and_parts (asks_window lab.roster known (request_in line)) (not (is_line lab out (reply.Refuse refused.Memory))) both in
-            let t = turns_asked lab l legal p h.1 w known h.4 line r (take_in least p w h.0.0 h.1 seen) asks (fits_asked known line out r h.4 p h.7 other h.8.1) in
-            from w t.0 t.1 t.2
+            let t = turns_asked lab l legal p h.1 w known h.4 line r (take_in least p w h.0.0 h.1 seen) asks (fits_asked known line out r h.4 p h.7 other h.8.1)
+            (unhalted w refl) in
+            from w t.0 refl t.1 t.2
 
         rises : (sees_some lab.roster known ≡ true)
             ⊎ ((asks_window lab.roster known (request_in line) && not (is_line lab out (reply.Refuse refused.Memory))) ≡ true)
@@ -328,7 +352,7 @@ module _ (lab : LabValue) (is : IsLab lab) (l : List Event) (number : ℕ) where
         rises (inl sees) = still (inr sees)
         rises (inr both) = asked both
 
-        at : (p ≡ least) ⊎ (may_rise lab known stages.Open (kept.Said p line out) ≡ true) → Rest (standing known w) (entry.Said p line out ∷ es) ps
+        at : (p ≡ least) ⊎ (may_rise lab known phases.Open (kept.Said p line out) ≡ true) → Rest (standing known w) (entry.Said p line out ∷ es) ps
         at (inl same) = still (inl same)
         at (inr may) =
             rises (or_cases (sees_some lab.roster known)
@@ -337,12 +361,13 @@ module _ (lab : LabValue) (is : IsLab lab) (l : List Event) (number : ℕ) where
     left_middle : (p : ℕ) (es : List Entry) → Walks es → InMiddle (entry.Left p ∷ es)
     left_middle p es walks known w least ps h seen few whole ended =
         arrives known w least p (entry.Left p ∷ es) ps h.0.0 h.1 seen h.0.1
-        (λ v all. left_here known v p es ps h.1 all (walks.2 v p ps h.2 all h.1 whole ended))
+        (λ v all same. left_here known v p es ps h.1 all (walks.2 v p ps
+        (subst (λ (b : Bool). GoesOn lab l None (stage_at phases.Open b) p (all_kept es) ps) (sym same) h.2) all h.1 whole ended))
 
     left_bye : (p : ℕ) (es : List Entry) → Walks es → AfterBye (entry.Left p ∷ es)
     left_bye p es walks w least ps h seen few whole ended = at h.0.1
       where
-        at : (p ≡ least) ⊎ (may_rise lab None stages.Over (kept.Left p) ≡ true)
+        at : (p ≡ least) ⊎ (may_rise lab None phases.Over (kept.Left p) ≡ true)
             → (later : List Entry) × (entry.Left p ∷ es ≡ left_at w ++ later) × Seat w later ps
         at (inl same) =
             let all : w.seen ≡ take p l = seen ∙ ap (λ (n : ℕ). take n l) (sym same) in
@@ -373,24 +398,24 @@ module _ (lab : LabValue) (is : IsLab lab) (l : List Event) (number : ℕ) where
 
 -- ---- whole records
 
-none_paused : (b : Bool) → is_paused (stage_after b) ≡ false
+none_paused : (b : Bool) → is_paused (phase_after b) ≡ false
 none_paused b = grind (arith, nat_tests)
 
 -- the entries of a whole record are of the kinds that sessions make
 given_of : (lab : LabValue) (l : List Event) (known : Option Who) (stage : Stage) (least : ℕ) (es : List KeptEntry) (ps : List ℕ)
-    → GoesOn lab l known stage least es ps → are_whole es ≡ true → is_paused stage ≡ false → (gs : List Entry) × (es ≡ all_kept gs)
+    → GoesOn lab l known stage least es ps → are_whole es ≡ true → is_paused stage.phase ≡ false → (gs : List Entry) × (es ≡ all_kept gs)
 given_of lab l known stage least [] ps h whole none = ([], refl)
 given_of lab l known stage least (kept.Said p line out ∷ es) ps h whole none =
-    let g = given_of lab l h.4 (stage_after (is_bye h.3)) (seen_after p (place_in h.3)) es h.5 h.10 whole (none_paused (is_bye h.3)) in
+    let g = given_of lab l h.4 (stage_after lab stage (phase_after (is_bye h.3)) out) (seen_after p (place_in h.3)) es h.5 h.10 whole (none_paused (is_bye h.3)) in
     (entry.Said p line out ∷ g.0, ap (λ y. kept.Said p line out ∷ y) g.1)
 given_of lab l known stage least (kept.Left p ∷ es) ps h whole none =
-    let g = given_of lab l None stages.Open p es ps h.2 whole refl in (entry.Left p ∷ g.0, ap (λ y. kept.Left p ∷ y) g.1)
+    let g = given_of lab l None (stage_at phases.Open stage.is_halted) p es ps h.2 whole refl in (entry.Left p ∷ g.0, ap (λ y. kept.Left p ∷ y) g.1)
 given_of lab l known stage least (kept.Resumed p missed ∷ es) ps h whole none = absurd (false≢true (sym none ∙ h.3))
 given_of lab l known stage least _ ps h whole none = absurd (false≢true whole)
 
 -- if nothing is left out of a record, its entries go on from a state in which some number n of events was seen
 begins_after : (lab : LabValue) (l : List Event) (es : List KeptEntry) (ps : List ℕ) → IsRecordOf lab l es ps → are_whole es ≡ true
-    → (n : ℕ) × (n ≤ length l) × GoesOn lab l None stages.Open n es ps
+    → (n : ℕ) × (n ≤ length l) × GoesOn lab l None (stage_at phases.Open false) n es ps
 begins_after lab l [] ps h whole = (0, omega arith, h)
 begins_after lab l (kept.Said p line out ∷ es) ps h whole = (p, h.1, ((omega arith, inl refl), h.1, h.2, h.3, h.4, h.5, refl, h.7, h.8, h.9, h.10))
 begins_after lab l (kept.Left p ∷ es) ps h whole = (p, h.1, ((omega arith, inl refl), h.1, h.2))
@@ -405,11 +430,11 @@ Said lab l begun number es ps =
 
 -- if entries go on after the events `begun`, sessions can have made them
 pub goes_on_so : (lab : LabValue) (l begun : List Event) (number : ℕ) (es : List KeptEntry) (ps : List ℕ) → IsLab lab → is_legal_in lab l ≡ true
-    → IsPrefix begun l → GoesOn lab l None stages.Open (length begun) es ps → are_whole es ≡ true → are_ended false es ≡ true → Said lab l begun number es ps
+    → IsPrefix begun l → GoesOn lab l None (stage_at phases.Open false) (length begun) es ps → are_whole es ≡ true → are_ended false es ≡ true → Said lab l begun number es ps
 goes_on_so lab l begun number es ps is legal begins h whole ended =
-    let g = given_of lab l None stages.Open (length begun) es ps h whole refl in
+    let g = given_of lab l None (stage_at phases.Open false) (length begun) es ps h whole refl in
     let s = (walks lab is l number legal g.0).2 (window begun []) (length begun) ps
-    (subst (λ (y : List KeptEntry). GoesOn lab l None stages.Open (length begun) y ps) g.1 h)
+    (subst (λ (y : List KeptEntry). GoesOn lab l None (stage_at phases.Open false) (length begun) y ps) g.1 h)
     (sym (first_of begun l (length begun) refl begins)) (prefix_length begun l begins)
     (ap are_whole (sym g.1) ∙ whole) (ap (are_ended false) (sym g.1) ∙ ended) in
     let c = s.leads [] in
@@ -425,15 +450,15 @@ can_have_said lab l number es ps is legal h whole ended =
       take b.0 l,
       pre,
       goes_on_so lab l (take b.0 l) number es ps is legal pre
-          (subst (λ (n : ℕ). GoesOn lab l None stages.Open n es ps) (sym (length-take-le b.0 l b.1)) b.2) whole ended,
+          (subst (λ (n : ℕ). GoesOn lab l None (stage_at phases.Open false) n es ps) (sym (length-take-le b.0 l b.1)) b.2) whole ended,
     )
 
 -- ---- one entry
 
 -- an accepted entry of a line describes a turn
 pub is_a_turn : (lab : LabValue) (l : List Event) (p : ℕ) (known known' : Option Who) (line : List ℕ) (r : Reply) (w : WindowValue)
-    → is_legal_in lab l ≡ true → p ≤ length l → w.seen ≡ take p l → Fits lab l (take p l) known line r known'
+    → is_legal_in lab l ≡ true → p ≤ length l → w.seen ≡ take p l → Fits lab l (take p l) known line r known' → IfSome (place_in r) (λ place. w.halts ≡ 0)
     → (new : WindowValue) × Turn lab (standing known w) line r (standing known' new) × (new.seen ≡ take (seen_after p (place_in r)) l)
     × (new.places ≡ w.places ++ places_in r) × (judged_at (length new.seen) r ≡ p)
-is_a_turn lab l p known known' line r w legal few seen fits =
-    grind (arith, nat_tests, turns_all lab l legal p few w known known' line r seen fits, judged_there)
+is_a_turn lab l p known known' line r w legal few seen fits unhalted =
+    grind (arith, nat_tests, turns_all lab l legal p few w known known' line r seen fits unhalted, judged_there)

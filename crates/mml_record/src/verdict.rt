@@ -48,6 +48,9 @@ pub enum Why {
     NoPause,
     /// The reply grants an event as the rules do there, but the journal's next event is another one.
     OtherEvent,
+    /// The reply grants the journal's next event, but an earlier entry of the seat is the refusal `journal`, and no entry
+    /// since then says that anything may be missing. A server grants nothing after such a refusal.
+    Halted,
     /// The rules have another reply there, or one that shows a view, or the line is longer than a request may be.
     OtherReply,
 }

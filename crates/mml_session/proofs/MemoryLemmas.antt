@@ -40,7 +40,7 @@ long_unhalted r long = grind (arith, nat_tests)
 module _ (lab : LabValue) where
   told_memory : (old new : WindowValue) (who : Who) (c : Command) (r : Reply) → is_short r ≡ false → Told lab old who c r new
       → Told lab old who c (replies.Refuse refused.Memory) new
-  told_memory old new who c r long t = record { list = t.list; later = t.later; legal = t.legal; says = inr (says t.says); counted = omega (arith, t.counted, long_unhalted r long) }
+  told_memory old new who c r long t = record { list = t.list; later = t.later; legal = t.legal; says = inr (says t.says); counted = omega (arith, t.counted, long_unhalted r long); unhalted = tt }
     where
       says : Plainly lab t.list old.places (ruling_at lab (world_in lab t.list) who c) r new
           ⊎ Refuses t.list old.places (ruling_at lab (world_in lab t.list) who c) r new

@@ -2,15 +2,15 @@
 -- events, from 1. A window is what a session has seen of this list, and the places of the events that were granted to
 -- it.
 use Rattle.std.proofs.lemmas.Bool.Decides.{nat_tests}
-use Rattle.std.proofs.Common.{◌≡◌, ℕ, ◌+◌, arith, Result, Ok, Err, List, [], ◌∷◌, ◌++◌, flat_map, sym, ◌∙◌, ap, append_assoc, append-nil, subst, inl, inr, All}
-use Rattle.std.{specs.List.AllByRecursion, proofs.lemmas.List.Elements.All-nil, proofs.lemmas.List.Elements.All-cons}
+use Rattle.std.proofs.Common.{◌≡◌, ℕ, ◌+◌, arith, Result, Ok, Err, List, [], ◌∷◌, ◌++◌, flat_map, sym, ◌∙◌, ap, append_assoc, append-nil, subst, inl, inr, All, Option}
+use Rattle.std.{specs.Prelude.IfSome, specs.List.AllByRecursion, proofs.lemmas.List.Elements.All-nil, proofs.lemmas.List.Elements.All-cons}
 use mathlib.Core.List.{IsPrefix}
 use Rattle.mml_lab.specs.{declared.who.Who.Who, Labs.LabValue}
 use Rattle.mml_ids.specs.Lines.{IsUnbroken}
 use Rattle.mml_lines.specs.LinesOf.{IsWithinLimit, lines_of}
 use Rattle.mml_lines.proofs.{RunsLemmas.by_steps, RunsLemmas.run_keeps, LinesOfLemmas.all_lines, LinesOfLemmas.lines_first}
 use Rattle.mml_policy.specs.declared.command.Command.{Command}
-use Rattle.mml_codec.specs.{declared.TheConstants.MAX_REQUEST, declared.reply.Reply.Reply, declared.request.LineFault.LineFault, declared.request.Request.Request, Replies.as_list}
+use Rattle.mml_codec.specs.{declared.TheConstants.MAX_REQUEST, declared.reply.Reply.Reply, declared.request.LineFault.LineFault, declared.request.Request.Request, Replies.as_list, Replies.place_in}
 use Rattle.mml_codec.specs.{declared.greeting.Greeting.Greeting, declared.greeting.Greeting.TheVariants.Answered, declared.greeting.Greeting.TheVariants.LeftToJudge, Greetings.greeting, Greetings.refusal_of, Lines.request_in}
 use Rattle.mml_window.specs.Windows.{WindowValue}
 use Rattle.mml_window.proofs.PrefixLemmas.{prefix_self, prefix_trans}
@@ -47,6 +47,13 @@ module _ (lab : LabValue) where
   turn_on st next line r h = elim (turn_does lab st next r line h) [
     | inl q ↦ stays st.window next.window r q.view (ap as_list q.nameless)
     | inr t ↦ told_on st.window next.window t.who t.command r t.told
+  ]
+
+  -- if the reply of a turn names an event, the window had counted no refusal `journal`
+  pub turn_unhalted : (st next : Standing) (line : List ℕ) (r : Reply) → Turn lab st line r next → IfSome (place_in r) (λ place. st.window.halts ≡ 0)
+  turn_unhalted st next line r h = elim (turn_does lab st next r line h) [
+    | inl q ↦ subst (λ (o : Option ℕ). IfSome o (λ place. st.window.halts ≡ 0)) (sym q.nameless) tt
+    | inr t ↦ t.told.unhalted
   ]
 
   told_fault : (fault : LineFault) → halts_in (replies.Refuse (refusal_of fault)) ≡ 0

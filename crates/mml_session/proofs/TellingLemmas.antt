@@ -1,12 +1,12 @@
 -- The reply to a command, made from the window's answer. The place of an event is its number in the list of events,
 -- from 1. A window is what a session has seen of this list, and the places of the events that were granted to it.
-use Rattle.std.proofs.lemmas.Bool.Decides.{nat_tests}
-use Rattle.std.proofs.Common.{◌≡◌, ◌⊎◌, ℕ, List, [], ◌++◌, refl, sym, ap, ◌∙◌, subst, inl, inr, append-nil, Option, ◌+◌, arith}
+use Rattle.std.{proofs.lemmas.Bool.Decides.nat_tests, specs.Prelude.IfSome}
+use Rattle.std.proofs.Common.{◌≡◌, ◌⊎◌, ℕ, List, [], ◌++◌, refl, sym, ap, ◌∙◌, subst, inl, inr, append-nil, Option, None, Some, ◌+◌, arith}
 use Rattle.mml_lab.specs.{declared.who.Who.Who, Labs.LabValue}
 use Rattle.mml_board.specs.{declared.event.Event.Event, declared.done.Done.Done, declared.denial.Denial.Denial, World.World, Events.after, Lists.world_in}
 use Rattle.mml_policy.specs.declared.{command.Command.Command, ruling.Ruling.Ruling}
 use Rattle.mml_policy.specs.declared.refusal.Refusal.{Refusal, TheVariants.Full, TheVariants.Journal, TheVariants.Memory}
-use Rattle.mml_codec.specs.{Replies.as_list, Rulings.reply_of_done, Rulings.refusal_for}
+use Rattle.mml_codec.specs.{Replies.as_list, Replies.place_in, Rulings.reply_of_done, Rulings.refusal_for}
 use Rattle.mml_codec.proofs.RulingsLemmas.{place_of_done}
 use Rattle.mml_window.specs.declared.answer.Answer.TheVariants.{Denied, Granted, Refused}
 use Rattle.mml_window.specs.{Answers.Answers, Answers.Says, Rulings.ruling_at, Windows.WindowValue, Windows.HasSeen, Windows.window_with}
@@ -17,6 +17,10 @@ use Rattle.mml_codec.specs.declared.reply.Reply.TheVariants as replies
 
 done_unhalted : (number place : ℕ) (done : Done) → halts_in (reply_of_done number place done) ≡ 0
 done_unhalted number place done = grind (arith, nat_tests)
+
+unhalted_at : (place : Option ℕ) {P : Type 0} → P → IfSome place (λ n. P)
+unhalted_at None h = tt
+unhalted_at (Some n) h = h
 
 -- if the window granted an event, the reply that names it is right
 pub granted_told : (lab : LabValue) (old new : WindowValue) (who : Who) (c : Command) (place number : ℕ) (done : Done)
@@ -40,6 +44,7 @@ granted_told lab old new who c place number done answers =
         ),
       ));
       counted = omega (arith, ap (λ (w : WindowValue). w.halts) answers.3.2, done_unhalted number place done);
+      unhalted = unhalted_at (place_in (reply_of_done number place done)) answers.3.3;
     }
 
 has_seen : (l : List Event) (ps : List ℕ) (new : WindowValue) {why : Option Refusal} {n : ℕ} → new ≡ window_with l ps why n → HasSeen l ps new
@@ -61,6 +66,7 @@ denied_told lab old new who c d answers = record {
     seen_so answers.0 old.places new answers.3.1,
   ));
   counted = omega (arith, ap (λ (w : WindowValue). w.halts) answers.3.1);
+  unhalted = tt;
 }
 
 -- if the window refused the command, the refusal is the reply to the ruling, or may replace it
@@ -93,4 +99,5 @@ refused_told lab old new who c why answers = record {
   legal = answers.2;
   says = refused_says lab answers.0 old.places old.halts who c why new answers.3;
   counted = refused_counted lab answers.0 old.places old.halts who c why new answers.3;
+  unhalted = tt;
 }

@@ -47,7 +47,8 @@ Lets lab failures old e done (Granted place number d) new =
     (d ≡ done) × (place ≡ length old.events + 1) × (number ≡ (world_in lab new.events).number) × Grows failures old new e
 
 -- the answer is right after the list l, for a window that was granted `places`, and `halts` of whose acts were refused
--- because the journal was halted. `new` is the window after the answer; it has the reason if the act was refused
+-- because the journal was halted. `new` is the window after the answer; it has the reason if the act was refused. If an
+-- act was refused because the journal was halted, nothing is granted any more
 abbrev pub Says : LabValue → List Event → List ℕ → ℕ → Who → Command → Answer → WindowValue → Type 0
 Says lab l places halts who command (Denied d) new =
     (ruling_at lab (world_in lab l) who command ≡ ruling.Denied d) × (new ≡ window_with l places None halts)
@@ -56,7 +57,7 @@ Says lab l places halts who command (Refused Full) new =
 Says lab l places halts who command (Refused Journal) new = Grants lab l who command × (new ≡ window_with l places (Some Journal) (halts + 1))
 Says lab l places halts who command (Refused Memory) new = Grants lab l who command × (new ≡ window_with l places (Some Memory) halts)
 Says lab l places halts who command (Granted place number done) new =
-    (e : Event) × Takes lab l who command e place number done × (new ≡ window_with (l ++ e ∷ []) (places ++ place ∷ []) None halts)
+    (e : Event) × Takes lab l who command e place number done × (new ≡ window_with (l ++ e ∷ []) (places ++ place ∷ []) None halts) × (halts ≡ 0)
 
 -- the answer is decided after a legal list that begins with all events that the window had seen
 abbrev pub Answers : LabValue → WindowValue → Who → Command → Answer → WindowValue → Type 0

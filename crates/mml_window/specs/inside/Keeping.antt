@@ -22,14 +22,17 @@ Keeps events old (Refused why) new = new ≡ window_with old.seen old.places (So
 Keeps events old (Granted place number done) new =
     (front : List Event) × (e : Event) × (events ≡ front ++ e ∷ []) × (new ≡ window_with (old.seen ++ e ∷ []) (old.places ++ place ∷ []) None old.halts)
 
--- if the answer is the refusal `Journal`, the journal is halted
-abbrev pub HaltsIfSaid : Answer → Bool → Type 0
-HaltsIfSaid (Refused Journal) halted = halted ≡ true
-HaltsIfSaid _ halted = Unit {0}
+-- if the answer is the refusal `Journal`, the journal is halted; if it is a grant, the journal isn't halted
+abbrev pub IsHaltedAfter : Answer → Bool → Type 0
+IsHaltedAfter (Refused Journal) halted = halted ≡ true
+IsHaltedAfter (Granted place number done) halted = halted ≡ false
+IsHaltedAfter _ halted = Unit {0}
 
--- the window after an answer was counted: it has one more refusal because the journal is halted, if this is the answer
+-- the window after an answer was counted: it has one more refusal because the journal is halted, if this is the answer.
+-- A window with such a refusal is granted nothing
 abbrev pub Counts : WindowValue → Answer → WindowValue → Type 0
 Counts old (Refused Journal) new = new ≡ window_with old.seen old.places old.refused (old.halts + 1)
+Counts old (Granted place number done) new = (new ≡ old) × (old.halts ≡ 0)
 Counts old _ new = new ≡ old
 
 -- how many events the answer grants

@@ -1,6 +1,6 @@
 use Rattle.std.proofs.Common.{rules, ◌≡◌, ◌≤◌, List, length, ◌∙◌, subst, sym}
 use Rattle.mml_board.specs.{declared.event.Event.Event, Lists.world_in}
-use Rattle.mml_window.specs.{Books.BookValue, Answers.Decides, inside.Keeping.IsNextPlace, inside.Keeping.Keeps, inside.Keeping.HaltsIfSaid}
+use Rattle.mml_window.specs.{Books.BookValue, Answers.Decides, inside.Keeping.IsNextPlace, inside.Keeping.Keeps, inside.Keeping.IsHaltedAfter}
 use Rattle.mml_window.proofs.AnswerLemmas.{next_kept, present, halts_if_said}
 use Rattle.mml_window.proofs.desk.Desk.ask.Goals as goal
 
@@ -18,7 +18,7 @@ keep-requires-clause-next g c =
 pub count_halt-requires : goal.count_halt-requires
 count_halt-requires g c =
     let book : c.deref_mut-3.result.now ≡ c.decide_into-answer.new.self = search rules in
-    subst (λ (b : BookValue _). HaltsIfSaid c.decide_into-answer.result b.halted) (sym book)
+    subst (λ (b : BookValue _). IsHaltedAfter c.decide_into-answer.result b.halted) (sym book)
     (halts_if_said g.H.House.lab g.S.Sink.failures c.deref_mut-2.result.now c.decide_into-answer.new.self c.args.who c.args.command.now c.decide_into-answer.result
     c.decide_into-answer.ensures.decides)
 
