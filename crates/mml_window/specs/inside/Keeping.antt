@@ -1,6 +1,6 @@
 -- The part of an answer that a window keeps. The place of an event is its number in the list of events, from 1. An act
 -- is a request for an event. A window is one session's view of the published events and board.
-use Rattle.std.specs.Prelude.{◌≡◌, ◌≤◌, ◌+◌, ℕ, Bool, true, List, [], ◌∷◌, ◌++◌, length, None, Some}
+use Rattle.std.specs.Prelude.{◌≡◌, ◌≤◌, ◌+◌, ℕ, Bool, true, false, List, [], ◌∷◌, ◌++◌, length, None, Some}
 use Rattle.mml_lab.specs.Labs.{LabValue}
 use Rattle.mml_board.specs.declared.event.Event.{Event}
 use Rattle.mml_policy.specs.declared.refusal.Refusal.TheVariants.{Journal}
