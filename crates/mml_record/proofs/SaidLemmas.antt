@@ -1,7 +1,7 @@
 -- An accepted entry describes a turn of a session. A view is a command that only asks to be shown something: a see, a
 -- look or a report. A window is what a session has seen of the list of events. The place of an event is its number in
 -- this list, from 1.
-use Rattle.std.proofs.Common.{◌≡◌, ◌⊎◌, ℕ, ◌+◌, ◌≤◌, suc, Bool, true, false, List, [], ◌∷◌, ◌++◌, length, take, refl, sym, ap, ◌∙◌, subst, inl, inr, Option, None, Some, Result, Ok, Err}
+use Rattle.std.proofs.Common.{◌≡◌, ◌⊎◌, ℕ, ◌+◌, ◌≤◌, zero, suc, Bool, true, false, List, [], ◌∷◌, ◌++◌, length, take, refl, sym, ap, ◌∙◌, subst, inl, inr, Option, None, Some, Result, Ok, Err}
 use Rattle.std.proofs.Common.{arith, append-nil, length-append}
 use Rattle.std.{proofs.lemmas.List.length-take-le, proofs.lemmas.Bool.Decides.nat_tests, specs.Prelude.IfSome}
 use mathlib.Core.List.{IsPrefix}
@@ -34,7 +34,7 @@ refuses_so : (ruled : Ruling) (why : Refused) → may_refuse ruled why ≡ true 
 refuses_so ruled why may = grind (arith, nat_tests)
 
 -- a window that has counted no refusal `journal` may be granted any event
-pub unhalted_new : (o : Option ℕ) → IfSome o (λ place. 0 ≡ 0)
+pub unhalted_new : (o : Option ℕ) → IfSome o (λ place. zero ≡ zero)
 unhalted_new None = tt
 unhalted_new (Some place) = refl
 
