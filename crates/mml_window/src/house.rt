@@ -75,7 +75,7 @@ impl<H: House> Ledger for Grants<H> {
 /// The total of the first ledger: how many acts the house refused because its journal was halted.
 pub(crate) type HaltCount<H> = Book<Halts<H>>;
 
-/// A share of the first ledger: how many acts of one window were refused for this reason.
+/// A share of the first ledger: how many acts of one window were refused because the journal was halted.
 pub(crate) type HaltShare<H> = Share<Halts<H>>;
 
 /// The total of the second ledger: how many events the house granted.

@@ -57,9 +57,8 @@ pub(crate) fn take_slot<H: House>(press: &Press<H>, reader: &mut Option<Reader<H
     }
 }
 
-/// Makes the reader enter the published copy, which can be read until `leave` is called. Takes the reader out of
-/// `reader`, which is then `None`. Returns `None` if there is no reader, or if the writer is gone. In the second case,
-/// the reader stays in `reader`.
+/// Takes the reader out of `reader`, and makes it enter the published copy, which can be read until `leave` is called.
+/// Returns `None` if there is no reader, or if the writer is gone; `reader` then stays as it was.
 pub(crate) fn enter<H: House>(reader: &mut Option<Reader<H>>) -> Option<Entered<H>>
     ensures saw { IfSome result (λ reading.
         Saw H.lab (view_by reader.old) reading.part.value (view reading.place)) }
@@ -77,8 +76,8 @@ pub(crate) fn enter<H: House>(reader: &mut Option<Reader<H>>) -> Option<Entered<
     }
 }
 
-/// Ends the reading that `enter` began, and returns the reader. The reader has then seen all events of the copy that it
-/// had entered.
+/// Ends a reading that `enter` has returned, and returns its reader. The reader has then seen all events of the copy
+/// that it had entered.
 pub(crate) fn leave<H: House>(reading: Entered<H>) -> Reader<H>
     requires { view reading.place ≡ viewer reading.part.value.events.items }
     ensures { result ≡ view reading.place }

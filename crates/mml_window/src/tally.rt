@@ -1,9 +1,9 @@
-//! The check that the windows were granted all places (event numbers) after a first one, each once.
+//! The check that the windows were granted all places (event numbers) above a given one, each once.
 //!
-//! A window is one session's view of the published events and board. The place of an event is its number in the list of
-//! events, from 1. A window keeps the places of the events that its session was granted. A place is counted off when it
-//! is found as the next one of a window. A ledger is a count that only contracts can read: a total, and shares whose
-//! amounts add up to it. It takes no bytes.
+//! A window is one session's view of the published events and board. There are at most as many windows as a lab may
+//! have sessions. The place of an event is its number in the list of events, from 1. A window keeps the places of the
+//! events that its session was granted. A place is counted off when it is found as the next one of a window. A ledger
+//! is a count that only contracts can read: a total, and shares whose amounts add up to it. It takes no bytes.
 //!
 //! The loops run over indices, since their invariants speak of the windows before an index.
 ghost use Rattle.std.specs.Prelude.{◌≡◌, ℕ, ◌+◌, ◌<◌, ◌≤◌, [], ◌∷◌, length, All, MatchBool};
@@ -74,7 +74,7 @@ pub(crate) fn join_grants<H: House>(windows: Vec<Window<H>>, count: &mut GrantSh
 }
 
 /// Counts off one place (event number): advances the cursor of the first window whose next place is `place`, and
-/// returns true. Returns `false` if `place` is the next place of no window.
+/// returns `true`. Returns `false`, and changes nothing, if `place` is the next place of no window.
 fn count_off<H: House>(windows: &[Window<H>], cursors: &mut Cursors, place: u64) -> bool
     requires few { length windows.now ≤ MAX_SESSIONS }
     ensures { MatchBool result ((p : ℕ) → times p (left_of windows.now cursors.old)

@@ -43,7 +43,8 @@ use std::sync::{Arc, Wait};
 /// run of a lab that threads share: its list of granted events, the board after them, and their journal.
 #[derive(Drop)]
 pub struct Window<H: House> {
-    // `None` during a call of this crate, and if no reader's slot was free at the start. Then nothing was seen.
+    // `None` if no reader's slot was free so far; the window has then seen nothing. Also `None` while the window is
+    // read.
     reader: Option<Reader<H>>,
     lab: Arc<Lab>,
     places: Vec<u64>,
@@ -83,8 +84,8 @@ pub(crate) struct Seat {
 impl<H: House> Window<H> {
     /// Returns a window that is made of a seat (the lab, and room for places), and has seen nothing yet. It takes a
     /// slot of `press` if one is free; otherwise it takes one at a later act. `halts` is its share of the count of acts
-    /// that were refused because the journal was halted, and `grants` its share of the count of granted events. Neither
-    /// has counted anything yet.
+    /// that were refused because the journal was halted, and must have a part. `grants` is its share of the count of
+    /// granted events. Neither has counted anything yet.
     pub(crate) fn over(
         press: &Press<H>,
         seat: Seat,
@@ -130,9 +131,10 @@ impl<H: House> Window<H> {
         self.refused
     }
 
-    /// Keeps what the answer to an act says. After a grant, first reads until the window has seen the granted event,
-    /// the last one that `press` has published. Then keeps the event's place (number). After a refusal, keeps the
-    /// reason. `grant` has counted the event if there is one, and is then merged into the window's share of this count.
+    /// Keeps what the answer to an act says. After a grant, reads until the window has seen the granted event, which
+    /// must be the last one that `press` has published, and keeps its place (number). After a refusal, keeps the
+    /// reason; any other answer removes the last reason. `grant` must have counted the granted event if there is one,
+    /// and is then merged into the window's share of granted events.
     #[tactic(auto, using(crate::proofs::ClimbingLemmas::climbs_count))]
     pub(crate) fn keep<R: Wait>(
         &mut self,
