@@ -23,9 +23,9 @@ use std::alloc::Global;
 use std::sync::Wait;
 
 /// Answers one line of a connection. Puts the answer into `reply`, since a reply is too large to be returned without a
-/// costly copy. `known` is the participant who has said hello on this connection, if anybody has; `known` is updated if
-/// the line changes that. `scratch` is working memory for reading the line. Returns `Closed`, and puts no reply, if a
-/// known participant asks for a view of a window that shows nothing any more.
+/// costly copy. `known` is the participant of the lab who has said hello on this connection, if anybody has; it is
+/// updated if the line changes that. `scratch` is working memory for reading the line. Returns `Closed`, and puts no
+/// reply, if a known participant asks for a view of a window that shows nothing any more.
 pub(crate) fn answer_into<Rt: Wait, S: Sink + Drop, H: House>(
     setting: &Setting<'_, Rt, S, H>,
     window: &mut Window<H>,
@@ -81,8 +81,9 @@ impl<'a, Rt: Wait, S: Sink + Drop, H: House> Engine for Setting<'a, Rt, S, H> {
         at.roster()
     }
 
-    // Puts the reply to a view (a `see`, `look` or `report`) into `reply`. The window answers it from the published
-    // events, without the desk's lock. Returns `Closed` if the window shows nothing any more.
+    // Puts the reply to a view (a `see`, `look` or `report`) for which `who` asks into `reply`. The session's window,
+    // `at`, answers it from the published events, without the desk's lock. Returns `Closed` if the window shows nothing
+    // any more.
     fn view(
         &mut self,
         at: &mut Window<H>,
@@ -97,7 +98,8 @@ impl<'a, Rt: Wait, S: Sink + Drop, H: House> Engine for Setting<'a, Rt, S, H> {
         }
     }
 
-    // Passes an act (a command that asks for an event) to the desk, and puts the desk's answer into `reply`.
+    // Passes an act of `who` (a command that asks for an event) to the desk, with the session's window `at`. Puts the
+    // desk's answer into `reply`.
     fn act(
         &mut self,
         at: &mut Window<H>,
@@ -119,8 +121,8 @@ impl<'a, Rt: Wait, S: Sink + Drop, H: House> Engine for Setting<'a, Rt, S, H> {
     }
 }
 
-// Puts the window's reply to a view into `reply`: a `see`, `look` or `report`. Returns `Closed`, and puts no reply, if
-// the window shows nothing any more. The function is never called with another command.
+// Puts the window's reply to `command`, for which `who` asks, into `reply`. The command must ask for a view: it is a
+// `see`, `look` or `report`. Returns `Closed`, and puts no reply, if the window shows nothing any more.
 #[inline(always)]
 fn show<H: House>(
     alloc: Global,
@@ -188,8 +190,8 @@ fn look<H: House>(
     Ok(())
 }
 
-// Puts the reply to a `report` into `reply`: the report on the configuration, or why that is denied, or the refusal
-// for memory. Returns `Closed`, and puts no reply, if the window shows nothing any more.
+// Puts the reply to a `report` for which `who` asks into `reply`: the report on the configuration, or why that is
+// denied, or the refusal for memory. Returns `Closed`, and puts no reply, if the window shows nothing any more.
 fn report<H: House>(
     alloc: Global,
     window: &mut Window<H>,

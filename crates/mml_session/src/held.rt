@@ -36,8 +36,8 @@ impl Held {
     }
 
     // Appends the line of a reply that was built elsewhere. If there is no room for it, or `at_once` is set, writes the
-    // buffer and the line, and empties the buffer. If a write fails, empties the buffer, and returns how many bytes of
-    // the buffered lines and of this one were written. Afterwards the buffer has at most `HELD_BYTES`.
+    // buffer and the line to `writer`, and empties the buffer. If a write fails, empties the buffer, and returns how
+    // many bytes of the buffered lines and of this one were written. Afterwards the buffer has at most `HELD_BYTES`.
     pub(crate) fn put<W: Write>(
         &mut self,
         line: &[u8],
@@ -65,9 +65,9 @@ impl Held {
         came
     }
 
-    // Writes all buffered lines and empties the buffer, if `at_once` is set or there are more than `HELD_BYTES`. There
-    // can be more after a reply was built in the buffer. If a write fails, empties the buffer, and returns how many
-    // bytes were written. Afterwards the buffer has at most `HELD_BYTES`.
+    // Writes all buffered lines to `writer` and empties the buffer, if `at_once` is set or there are more than
+    // `HELD_BYTES`. There can be more after a reply was built in the buffer. If a write fails, empties the buffer, and
+    // returns how many bytes were written. Afterwards the buffer has at most `HELD_BYTES`.
     pub(crate) fn let_out_when_due<W: Write>(
         &mut self,
         at_once: bool,
@@ -91,8 +91,8 @@ impl Held {
         Ok(())
     }
 
-    // Writes all buffered lines and empties the buffer. If a write fails, empties the buffer too, and returns how many
-    // bytes were written.
+    // Writes all buffered lines to `writer` and empties the buffer. If a write fails, empties the buffer too, and
+    // returns how many bytes were written.
     pub(crate) fn let_out<W: Write>(&mut self, writer: &mut W) -> Result<(), WriteFault>
         ensures none { self.new.bytes.items ≡ [] }
         ensures ok { OnOk result (Appends (W.contents writer.old) (W.contents writer.new)

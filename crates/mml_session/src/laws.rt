@@ -27,8 +27,7 @@ pub fn places_are_those_told()
         t.end.window.places ≡ st.window.places ++ flat_map places_in t.replies }
 {}
 
-/// A window counts the replies that refuse an act since the journal is halted (`journal`): one for each such reply, and
-/// none for another one.
+/// A window counts the replies that refuse an act because the journal is halted (`journal`), and no other replies.
 pub fn refusals_for_the_journal_are_counted()
     ensures turn { (lab : LabValue) (st after : Standing) (t : LineTurn lab st after) →
         after.window.halts ≡ st.window.halts + halts_in t.reply }

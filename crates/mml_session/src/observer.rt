@@ -12,7 +12,8 @@ use mml_codec::Reply;
 /// An observer of the sessions of a seat, in which one session follows another. An observer is called when a line has
 /// come, when it was answered, when replies were written, and when a session ended. The calls return nothing, so they
 /// can't end a session. If an observer that records sessions can't keep the whole of an entry, it keeps nothing from
-/// then on, and reports that. A seat is a window through which one connection after another is served.
+/// then on, and `kept` says that something is missing. A seat is a window through which one connection after another is
+/// served.
 pub trait Observer {
     // The bytes that the observer has kept of these calls, and whether they are complete; `None` if contracts can't
     // name them.

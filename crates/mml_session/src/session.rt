@@ -59,10 +59,11 @@ pub struct Ending {
     pub who: Option<Who>,
 }
 
-/// Answers the lines of a reader one by one through a window, and returns how the session ended. Replies are buffered,
-/// and all are written before the reader is read again. If a write fails, all replies of earlier flushes were written
-/// whole, and only lines of the last flush can be missing. A granted event stays granted even if its reply can't be
-/// written. `gate` may pause the session, and is called with its number `connection`.
+/// Answers the lines of `reader` one by one through a window, writes the replies to `writer`, and returns how the
+/// session ended. Replies are buffered, and all are written before the reader is read again. If a write fails, all
+/// replies of earlier flushes were written whole, and only lines of the last flush can be missing. A granted event
+/// stays granted even if its reply can't be written. `gate` may pause the session, and is called with the number
+/// `connection`.
 pub fn serve_one<Rt: Wait, S: Sink + Drop, H: House, R: Read, W: Write, G: Gate>(
     rt: &Rt,
     alloc: Global,
@@ -94,9 +95,9 @@ pub fn serve_one<Rt: Wait, S: Sink + Drop, H: House, R: Read, W: Write, G: Gate>
     ).end
 }
 
-/// Answers the lines of a reader one by one, as `serve_one` does. Calls `observer` when a line has come, when it is
-/// answered, when replies are written, and at the session's end. It isn't called if memory runs out before the session
-/// begins. Returns how the session ended, and who was known then.
+/// Answers the lines of a reader one by one, as `serve_one` does, and returns how the session ended. Calls `observer`,
+/// with the number `connection`, when a line has come, when it is answered, when replies are written, and at the
+/// session's end. Doesn't call it if memory runs out before the session begins.
 pub fn serve_observed<Y: SessionTypes, H: House, O: Observer>(
     setting: &Setting<'_, Y::Runtime, Y::Sink, H>,
     window: &mut Window<H>,
@@ -148,8 +149,8 @@ struct Session {
 }
 
 impl Session {
-    // Returns a session in which nobody is known and no reply is buffered, with the memory for its lines and short
-    // replies. Returns `Memory` if memory runs out.
+    // Returns the session of the connection with this number. Nobody is known in it, no reply is buffered, and it has
+    // the memory for its lines and short replies. Returns `Memory` if memory runs out.
     fn new(alloc: Global, connection: u8) -> Result<Session, Memory>
         ensures number { IfOk result (λ session. session.connection ≡ connection) }
         ensures nobody { IfOk result (λ session. session.known ≡ None) }
@@ -168,7 +169,7 @@ impl Session {
     }
 }
 
-// What happens after a line was read, or couldn't be.
+// What happens after the attempt to read and answer a line.
 #[derive(Clone, Copy)]
 enum Next {
     // The line was answered, and the session goes on.
@@ -177,8 +178,8 @@ enum Next {
     Ended(SessionEnd),
 }
 
-// Reads the next line and answers it. If the reader has to be read for it, all replies were written before. Returns
-// `Served` if the session goes on, or how it ended.
+// Reads the next line of a session that hasn't ended, and answers it. If the reader has to be read for the line, no
+// reply may be buffered. Returns `Served` if the session goes on, or how it ended.
 fn serve_next<Y: SessionTypes, H: House, O: Observer>(
     setting: &Setting<'_, Y::Runtime, Y::Sink, H>,
     session: &mut Session,
@@ -229,7 +230,8 @@ fn serve_next<Y: SessionTypes, H: House, O: Observer>(
 }
 
 // Returns whether the session goes on after a line whose reply was handled as `said` says, or how it ended. Counts the
-// reply if it is written or buffered. Calls the observer with the number of written replies if none is buffered.
+// reply if it is written or buffered. Then, if no reply is buffered, calls the observer with how many were counted
+// since the last call. Sets the count to 0, without a call, if a write failed.
 fn go_on<O: Observer>(
     said: Result<Sent, Closed>,
     held: &mut Held,
@@ -257,8 +259,8 @@ fn go_on<O: Observer>(
     }
 }
 
-// Counts one more reply that is written or buffered. If none is buffered any longer, calls the observer with how many
-// were counted.
+// Counts one more reply that is written or buffered. Then, if no reply is buffered, calls the observer with how many
+// were counted since the last call.
 fn count_told<O: Observer>(held: &mut Held, observer: &mut O, connection: u8)
     ensures held { held.new.bytes.items ≡ held.old.bytes.items }
     ensures kept { O.kept observer.new ≡ O.kept observer.old }
@@ -267,8 +269,8 @@ fn count_told<O: Observer>(held: &mut Held, observer: &mut O, connection: u8)
     pass_told(held, observer, connection);
 }
 
-// Calls the observer with how many replies were counted since the last call, if the buffer is empty, which means that
-// all of them are written.
+// Calls the observer with how many replies were counted since the last call, if the buffer is empty. All of them are
+// written then.
 fn pass_told<O: Observer>(held: &mut Held, observer: &mut O, connection: u8)
     ensures held { held.new.bytes.items ≡ held.old.bytes.items }
     ensures kept { O.kept observer.new ≡ O.kept observer.old }
@@ -279,9 +281,9 @@ fn pass_told<O: Observer>(held: &mut Held, observer: &mut O, connection: u8)
     }
 }
 
-// Writes the buffered replies at the end of a session, calls the observer with the number of written replies, and
-// returns `ending`. If the write fails, returns an end by `WriteFault` instead. `before` is who was known before the
-// line that was answered last.
+// Writes the buffered replies at the end of a session. Then calls the observer with how many replies were counted since
+// the last call, and returns `ending`. If the write fails, calls nothing, and returns an end by `WriteFault` instead.
+// `before` is who was known before the line that was answered last.
 fn let_out<W: Write, O: Observer>(
     session: &mut Session,
     ending: Ending,
@@ -376,7 +378,7 @@ fn serve_line<Y: SessionTypes, H: House, O: Observer>(
 struct Judged<'a> {
     // The number of the seat in which the line came.
     number: u8,
-    // How many events the window had seen afterwards.
+    // How many events the window had seen when the line was answered.
     seen: u64,
     /// The line, without its newline.
     line: &'a [u8],
@@ -386,8 +388,9 @@ struct Judged<'a> {
 }
 
 // Calls the observer with a line and its reply, and writes the reply or buffers it. A short reply is built in the
-// buffer. A long one is built in `out`; if memory runs out for it, the refusal `memory` is sent instead. Returns what
-// happened to the reply.
+// buffer. A long one is built in `out`; if memory runs out for it, the refusal `memory` is sent instead. `out` must
+// have memory for `REPLY_ROOM` bytes, and the reply must be one of the window's lab. Returns what happened to the
+// reply.
 fn tell<H: House, W: Write, O: Observer>(
     alloc: Global,
     window: &Window<H>,
@@ -438,8 +441,8 @@ fn send<W: Write>(
     sent_of(held.put(line, at_once || is_last, writer), is_last)
 }
 
-// Writes the buffered replies, of which `reply` is the last, if `at_once` is set, after a `bye`, or when the buffer is
-// full. Returns what happened to the reply.
+// Writes the buffered replies, of which `reply` is the last, if `at_once` is set, after a `bye`, or when there are more
+// than `HELD_BYTES`. Returns what happened to the reply.
 fn send_held<W: Write>(reply: &Reply, held: &mut Held, at_once: bool, writer: &mut W) -> Sent
     ensures sends { SendsReply result reply.now held.old.bytes.items
         [] held.new.bytes.items
