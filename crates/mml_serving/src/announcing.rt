@@ -28,8 +28,8 @@ pub fn write_listening<W: Write>(alloc: Global, port: u16, writer: &mut W) -> Re
     write_pieces(alloc, &pieces, writer)
 }
 
-/// Writes a server's last line: the number of events, and the number of the configuration that they led to. Returns
-/// `Halted` if the journal was halted, or `Memory` if memory runs out, and then writes nothing. Returns `Write` if the
+/// Writes a server's last line: the number of events, and the number of the configuration that they led to. Writes
+/// nothing and returns `Halted` if the journal was halted, or `Memory` if memory runs out. Returns `Write` if the
 /// writer fails; a beginning of the line may then be written.
 pub fn write_last<S, W: Write>(
     alloc: Global,
@@ -50,7 +50,8 @@ pub fn write_last<S, W: Write>(
 }
 
 // Writes the last line of a server's output, which names the number of events and the `number` of the configuration.
-// Returns `Memory`, and writes nothing, if memory runs out, or `Write` if the writer fails.
+// Returns `Memory`, and writes nothing, if memory runs out. Returns `Write` if the writer fails; a beginning of the
+// line may then be written.
 fn write_done<W: Write>(
     alloc: Global,
     events: u64,
@@ -73,7 +74,7 @@ fn write_done<W: Write>(
 }
 
 // Joins these pieces into one text and writes it, so that the text isn't sent in pieces. Returns `Memory`, and writes
-// nothing, if memory runs out, or `Write` if the writer fails.
+// nothing, if memory runs out. Returns `Write` if the writer fails; a beginning of the text may then be written.
 fn write_pieces<W: Write>(alloc: Global, pieces: &[Piece], writer: &mut W) -> Result<(), ServeFault>
     ensures told { OnOk result
         (Appends (W.contents writer.old) (W.contents writer.new) (joined pieces.now)) }

@@ -8,8 +8,8 @@ use std::marker::PhantomData;
 use std::sync::Wait;
 use std::thread::Threads;
 
-/// The types that serving several sessions needs, each in a thread of its own, bundled so that a function takes them as
-/// one type parameter. A caller has to name the bundle, since the compiler can't infer it.
+/// The types that a server needs to serve several sessions, each in a thread of its own. They are bundled so that a
+/// function takes them as one type parameter. A caller has to name the bundle, since the compiler can't infer it.
 pub trait ServerTypes: SessionTypes<
     Runtime: Threads + Sync,
     Sink: Send,

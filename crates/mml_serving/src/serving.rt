@@ -54,12 +54,12 @@ pub enum ServeFault {
     Astray,
     /// The journal is halted.
     Halted,
-    /// The last line couldn't be written.
+    /// The first or the last line of the output couldn't be written.
     Write,
 }
 
-/// Serves the next `connections` connections of a listener in a new house of the lab, as `serve_house_on` does, and
-/// drops the result of the house. Returns why the house failed, if it did.
+/// Serves the next `connections` connections of a listener in a new house of the lab, as `serve_house_on` does and with
+/// the same conditions. Drops the result of the house. Returns an error if the server failed.
 pub fn serve_on<Rt: Threads + Wait + Sync, S: Sink + Send + Drop, G: Gate + Sync, W: Write>(
     rt: &Rt,
     alloc: Global,
@@ -86,8 +86,9 @@ pub fn serve_on<Rt: Threads + Wait + Sync, S: Sink + Send + Drop, G: Gate + Sync
 }
 
 /// Serves the next `connections` connections of a listener in a new house of the lab, whose journal goes to `sink`.
-/// Then writes the last line to `writer`: the number of events, and the configuration that they led to. `gate` can
-/// pause the sessions, for tests. Returns the result of the house, or why it failed. If accepting fails, the
+/// There must be at least one connection, at most one for each session of the lab, and `sink` must be empty. After the
+/// sessions, writes the last line to `writer`: the number of events, and the configuration that they led to. `gate` can
+/// pause the sessions, for tests. Returns the result of the house, or why the server failed. If accepting fails, the
 /// connections that had come are still served to their ends. If memory ran out in a session or a socket, returns
 /// `Memory`, even though the last line was written. The contract can't speak of a socket's bytes; see `serve_arrivals`.
 pub fn serve_house_on<Rt: Threads + Wait + Sync, S: Sink + Send + Drop, G: Gate + Sync, W: Write>(
@@ -134,11 +135,12 @@ pub fn serve_house_on<Rt: Threads + Wait + Sync, S: Sink + Send + Drop, G: Gate 
     }
 }
 
-/// Serves the first `connections` connections that arrive, each in a thread and through a window of its own. Opens a
-/// house for them, whose journal goes to `sink`. Ends it when all sessions have ended, and then writes the last line to
-/// `writer`. Returns the result of the house, or why it failed. If there is no fault, the house has one legal list of
-/// events, and each reply is that of the rules after a beginning of it. The places that the replies name are those of
-/// its events, each once.
+/// Serves the first `connections` connections of `arrivals`, each in a thread and through a window of its own. There
+/// may be at most one for each session of the lab. Opens a house for them, whose journal goes to `sink`, which must be
+/// empty. Ends the house when all sessions have ended, and then writes the last line to `writer`. `gate` can pause the
+/// sessions, for tests. Returns the result of the house, or why the server failed. If nothing fails, the house has one
+/// legal list of events, and each reply is that of the rules after a beginning of this list. The places that the
+/// replies name are those of the list's events, each once.
 pub fn serve_arrivals<Y: ServerTypes, A: Arrivals<Y::Reader, Y::Writer> + Drop, O: Write>(
     rt: &Y::Runtime,
     alloc: Global,
@@ -176,8 +178,9 @@ pub fn serve_arrivals<Y: ServerTypes, A: Arrivals<Y::Reader, Y::Writer> + Drop, 
     }
 }
 
-// Serves the next `connections` connections in the new house `blank`, and ends the house with all its windows, also
-// those that no connection used. Returns its log and the ended sessions, or why the house failed.
+// Serves the next `connections` connections of `arrivals` in the new house `blank`, at most one for each session of its
+// lab. Then ends the house with all its windows, also those that no connection used. `gate` can pause the sessions, for
+// tests. Returns the house's log and the ended sessions, or why the server failed.
 fn serve_in_house<Y: ServerTypes, H: House + Send + Sync, A: Arrivals<Y::Reader, Y::Writer> + Drop>(
     rt: &Y::Runtime,
     alloc: Global,

@@ -28,7 +28,7 @@ pub struct Socket {
 }
 
 impl Socket {
-    /// Returns an end of a connection over this handle.
+    /// Returns an end of the connection `stream`.
     pub fn new(stream: TcpStream) -> Socket {
         Socket {
             end: Retrying::new(Handle(Some(stream))),
@@ -78,10 +78,10 @@ impl HangUp for Socket {
     }
 }
 
-/// Ends a connection without losing what was written to it. Shuts down the writing side, and then reads and drops what
-/// the other side still sends, in at most 64 turns of 15 milliseconds and 1024 bytes. Closing a socket with unread
-/// bytes would discard what it still has to send. Stops early if the other side has ended or is gone, or once another
-/// thread sets `is_hurried`. Then closes the handle.
+/// Ends the connection `stream` without losing what was written to it. Shuts down the writing side, and then reads and
+/// drops what the other side still sends, in at most 64 turns of 15 milliseconds and 1024 bytes. Without that, closing
+/// the socket with unread bytes would discard what it still has to send. Stops early if the other side has ended or is
+/// gone, or once another thread sets `is_hurried`. In the end, the handle is closed.
 pub fn linger(stream: TcpStream, is_hurried: &AtomicBool) {
     let mut stream = stream;
     let turn = Some(Duration::from_millis(TURN));
@@ -106,8 +106,8 @@ pub fn linger(stream: TcpStream, is_hurried: &AtomicBool) {
     }
 }
 
-// Returns whether a read that failed this way may be tried again in the next turn: it timed out, or a signal
-// interrupted it.
+// Returns whether a read that failed with an error of this kind may be tried again in the next turn: it timed out, or a
+// signal interrupted it.
 fn is_transient(kind: ErrorKind) -> bool
     ensures timeout { kind ≡ ErrorKind.WouldBlock → result ≡ true }
     ensures interrupted { kind ≡ ErrorKind.Interrupted → result ≡ true }
