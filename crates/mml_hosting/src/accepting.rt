@@ -48,8 +48,8 @@ pub trait Bell {
     // can prove it.
     ghost IsRung: { Self → Bool → Type 0 } = { λ _ _. Unit {0} };
 
-    /// Signals that a session has ended. `is_dismissed` is set if the whole house is to end: because the teacher said
-    /// bye at the desk, or because a port couldn't be served.
+    /// Signals that a session has ended. If `is_dismissed` is set, signals that the whole house is to end, because the
+    /// teacher said bye at the desk or a port couldn't be served.
     fn ring(&self, is_dismissed: bool)
         ensures { IsRung self.now is_dismissed };
 }

@@ -14,7 +14,7 @@ pub trait Begun: House {
     // The events that came before, in their order.
     ghost begun: { List Event };
 
-    // What the observer of the seat with each number had kept, if contracts can name it.
+    // What the observer of each seat had kept by then, by the seat's number; `None` if contracts can't name it.
     ghost given: { ℕ → Option Kept };
 }
 

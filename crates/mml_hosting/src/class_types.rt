@@ -11,8 +11,9 @@ use mml_serving::HangUp;
 use mml_session::{Observer, SessionTypes};
 use std::thread::Threads;
 
-/// The types that serving a class needs, bundled so that a function takes them as one type parameter: those of its
-/// sessions, which threads share, and further ones. A caller has to name the bundle, since the compiler can't infer it.
+/// The types that serving a class needs: those of its sessions, which threads share, and further ones. They are bundled
+/// so that a function takes them as one type parameter. A caller has to name the bundle, since the compiler can't infer
+/// it.
 pub trait ClassTypes: SessionTypes<
     Runtime: Threads + Sync,
     Sink: Send,
@@ -28,7 +29,7 @@ pub trait ClassTypes: SessionTypes<
     type CutOff: CutOff + Send + Drop;
     /// The desk's port: the source of the teacher's connections.
     type Desk: Accept<Self::Reader, Self::Writer, Self::CutOff> + Send + Drop;
-    /// The other port.
+    /// The other port: the source of all other connections.
     type Others: Accept<Self::Reader, Self::Writer, Self::CutOff> + Send + Drop;
     /// The signal by which threads wake the house.
     type Bell: Bell + Sync;

@@ -109,8 +109,8 @@ fn first_done<Y: ClassTypes, H: Begun, M: Mark>(
     None
 }
 
-// Removes the busy seat at this index from the list, drops its cut-off, and waits until its thread has ended. Returns
-// the seat, in which another connection can now be served.
+// Removes from `busy` the seat at `index`, which must be below the list's length. Drops the seat's cut-off, and waits
+// until its thread has ended. Returns the seat, in which another connection can now be served.
 fn join_one<Y: ClassTypes, H: Begun>(
     rt: &Y::Runtime,
     busy: &mut Vec<BusyOf<Y, H>>,
@@ -152,8 +152,9 @@ fn next_to_join<Y: ClassTypes, H: Begun, M: Mark>(
     }
 }
 
-// Moves the seats whose threads have ended from `busy` to `free`. Without `marks`, waits for all threads, and moves all
-// seats. All connections must have been cut off before in this case, so that their threads end.
+// Moves the seats whose threads have ended from `busy` to `free`, which must have room for them. Without `marks`, waits
+// for all threads, and moves all seats. In this case all connections must have been cut off before, so that their
+// threads end.
 fn gather<Y: ClassTypes, H: Begun, M: Mark>(
     rt: &Y::Runtime,
     free: &mut Vec<SeatOf<Y, H>>,
@@ -177,8 +178,8 @@ fn gather<Y: ClassTypes, H: Begun, M: Mark>(
 }
 
 // Takes the last of the free seats, makes it ready for one more session, and returns it. Returns `None` if no seat is
-// free. Also returns `None`, and leaves the seat in the list, if the teacher's bye has ended its service, or memory
-// runs out.
+// free. Also returns `None`, and leaves the seat in the list, if the teacher's bye has ended the seat's service, or
+// memory runs out.
 fn next_free<Y: ClassTypes, H: Begun>(free: &mut Vec<SeatOf<Y, H>>) -> Option<SeatOf<Y, H>>
     requires seats { All (IsSeat (terms H.lab H.begun H.given Y.Reader.remaining Y.Writer.contents Y.Observer.kept Y.Kept.shows)) free.old.items }
     ensures ready { IfSome result (IsReady (terms H.lab H.begun H.given Y.Reader.remaining Y.Writer.contents Y.Observer.kept Y.Kept.shows)) }
@@ -211,8 +212,8 @@ fn make_ready<Y: ClassTypes, H: Begun>(seat: &mut SeatOf<Y, H>) -> bool
     !seat.is_dismissed && seat.record.sessions.reserve(1).is_ok()
 }
 
-// Sends the line `BUSY` to a connection for which no seat is free, and closes it. Returns `WriteFault` if the line
-// wasn't written whole.
+// Sends the line `BUSY` to the connection `ends`, for which no seat is free, and closes it. Returns `WriteFault` if the
+// line wasn't written whole.
 #[tactic(auto, unfolding(crate::specs::Away::busy_line))]
 fn turn_away<R: Drop, W: Write + HangUp + Drop>(ends: (R, W)) -> Result<(), WriteFault>
     ensures { TurnsAway W.contents W.IsHungUp busy_line ends result }
@@ -258,11 +259,11 @@ struct Shared<'s, Y: ClassTypes, H: Begun> {
 }
 
 impl<'s, Y: ClassTypes + 's, H: Begun + Send + Sync + 's> Shared<'s, Y, H> {
-    // Resets the seat's mark, starts a thread that serves a connection in the seat, and returns the thread's handle.
-    // `ends` are the reader and the writer of the connection. The thread rings the bell when the session has ended. If
-    // no thread can be made, serves the connection in this thread, rings the bell, and returns the seat as the error.
-    // In this case a connection that isn't at the desk is cut off by `cut_off` before it is served, so that later
-    // connections needn't wait for it.
+    // Resets the mark of a seat that is ready for one more session, starts a thread that serves a connection in the
+    // seat, and returns the thread's handle. `ends` are the reader and the writer of the connection. The thread rings
+    // the bell when the session has ended. If no thread can be made, serves the connection in this thread, rings the
+    // bell, and returns the seat as the error. In this case a connection that isn't at the desk is cut off by `cut_off`
+    // before it is served, so that later connections needn't wait for it.
     fn serve_apart<E>(
         &self,
         scope: &Scope<'s, E>,
@@ -312,8 +313,8 @@ impl<'s, Y: ClassTypes + 's, H: Begun + Send + Sync + 's> Shared<'s, Y, H> {
     }
 
     // Takes back the seats whose threads have ended. Then serves a connection (`ends`) in the free seat that
-    // `next_free` returns, as `serve_apart` does. Turns the connection away if there is none. `cut_off` is the means to
-    // end the connection from the port's thread.
+    // `next_free` returns, as `serve_apart` does. If `next_free` returns `None`, turns the connection away. `cut_off`
+    // is the means to end the connection from the port's thread. Both lists must have room for all seats.
     fn take_in<E>(
         &self,
         scope: &Scope<'s, E>,
@@ -349,9 +350,9 @@ impl<'s, Y: ClassTypes + 's, H: Begun + Send + Sync + 's> Shared<'s, Y, H> {
         }
     }
 
-    // Accepts and serves connections until no more are to be served. Then cuts off those that are still served, waits
-    // for their threads, and returns all seats. Returns `Memory`, and serves nobody, if memory runs out at the
-    // beginning.
+    // Accepts connections from `arrivals`, and serves them in `seats`, until no more are to be served. Then cuts off
+    // those that are still served, waits for their threads, and returns all seats. Returns `Memory`, and serves nobody,
+    // if memory runs out at the beginning.
     fn serve_until_over<E, A: Accept<Y::Reader, Y::Writer, Y::CutOff> + Drop>(
         &self,
         scope: &Scope<'s, E>,
@@ -392,10 +393,11 @@ impl<'s, Y: ClassTypes + 's, H: Begun + Send + Sync + 's> Shared<'s, Y, H> {
     }
 }
 
-/// Serves a port: accepts connections as they come, serves each in a thread of its own in a free seat, and turns away
-/// those for which no seat is free. When no more are to be served, cuts off those that are still served, waits for
-/// their threads, and returns the seats. If no thread can be made for a connection, ends it before anything is read,
-/// but at the desk serves it at once. Returns `Memory`, and serves nobody, if memory runs out at the beginning.
+/// Serves a port. Accepts connections from `arrivals` as they come, serves each in a thread of its own in a free one of
+/// `seats`, and turns it away if no seat is free. Rings `bell` at the end of each session. When no more connections are
+/// to be served, cuts off those that are still served, waits for their threads, and returns the seats. If no thread can
+/// be made for a connection at the desk, serves it in this thread; any other one is ended before anything is read.
+/// Returns `Memory`, and serves nobody, if memory runs out at the beginning.
 pub fn serve_port<
     Y: ClassTypes,
     H: Begun + Send + Sync,

@@ -88,7 +88,8 @@ pub struct Seat<H: Begun, K: Drop, C: Drop> {
 
 /// Serves a connection (`ends`) in a seat, and closes its writing end. Then sets the seat's mark in `marks`, since the
 /// thread won't wait for anything any more. The seat must have memory for the record of one more session. Returns the
-/// seat, with what is kept of the session, and with whether the teacher's bye ended the session at the desk.
+/// seat with what is kept of the session. The seat's `is_dismissed` says whether the teacher's bye ended the session at
+/// the desk.
 pub fn serve_in<Y: ClassTypes, H: Begun>(
     setting: &Setting<'_, Y::Runtime, Y::Sink, H>,
     seat: SeatOf<Y, H>,
@@ -167,8 +168,8 @@ fn serve_session<Y: ClassTypes, H: Begun>(
     (session, observer)
 }
 
-// Returns whether a session that ended like this ends the house: it was at the desk, and its last line was the
-// teacher's bye.
+// Returns whether a session that ended as `ending` says ends the house: it was at the desk (`is_desk`), and its last
+// line was the teacher's bye.
 fn is_dismissed_by(ending: &Ending, is_desk: bool) -> bool
     ensures { result ≡ (is_desk && is_teachers_bye ending.now) }
 {
