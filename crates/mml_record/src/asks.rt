@@ -1,9 +1,10 @@
 //! What the lines of a record asked, which clauses denied them, and why they were refused.
 //!
 //! A record has entries: a line with its reply, a session's end, or a note that something is left out. An entry says
-//! how many events its session had seen. A participant is known on a connection from a granted hello to the bye. A
-//! clause is a condition for a request; a denial names the first that doesn't hold. A refusal has another reason, for
-//! example that memory ran out. A tally counts the lines of each student by these.
+//! how many events its session had seen. A participant is known on a connection from a granted hello to the bye.
+//! `known` is always a participant of the lab, or `None` if nobody is known. A clause is a condition for a request; a
+//! denial names the first that doesn't hold. A refusal has another reason, for example that memory ran out. A tally
+//! counts the lines of each student by these.
 ghost use Rattle.std.specs.Prelude.{◌≡◌, ◌++◌, List, ℕ, true, bytes_eq, IfOk, IfSome, OnOk};
 ghost use Rattle.mml_ids.specs.Lines.{ended};
 ghost use Rattle.mml_lab.specs.Rosters.{IsPrincipal};
@@ -159,7 +160,8 @@ fn student_of(known: Option<Who>) -> Option<Student>
 
 // Reads a line and its reply `text`, both without newlines. Returns what the tally counts of them: the student who was
 // known before the line, what the line asks, and how the reply denies or refuses it. Also returns who is known after
-// the line: `known` as before if the reply is the refusal for memory. Returns `Memory` if memory runs out in this call.
+// the line: `known` as before if the reply is the refusal for memory. Returns `Memory` if memory runs out while the
+// line is read.
 #[tactic(auto, unfolding(crate::specs::Asks::known_after))]
 fn ask_and_known(
     alloc: Global,
@@ -193,9 +195,10 @@ fn ask_and_known(
     }
 }
 
-// Appends to `asks` what the tally counts of an entry: one item for the entry of a line, and nothing for others.
-// Returns who is known after the entry, if `known` was known before it. Nobody is known after a session's end, nor
-// after an entry which says that anything may be missing. Returns `Memory` if memory runs out in this call.
+// Appends to `asks` what the tally counts of an entry: one item for the entry of a line, and nothing for any other
+// entry. Returns who is known after the entry, if `known` was known before it. Nobody is known after a session's end,
+// nor after an entry which says that anything may be missing. Returns `Memory` if memory runs out while the entry is
+// read.
 fn read_ask(
     alloc: Global,
     lab: &Lab,

@@ -40,7 +40,7 @@ pub trait Budget {
 
     /// Returns whether the text of an entry, of this many `bytes`, may be written. If so, charges it to the account of
     /// whoever is known, or to the common account of those who aren't known. Returns `Last` only for a hello, and once
-    /// for each account. So the record says of each account that exceeds its budget that recording paused.
+    /// for each account. So for each account that exceeds its budget, the record says that recording paused.
     fn takes_entry(&mut self, bytes: u64) -> Taking
         ensures known { known self.new ≡ known self.old }
         ensures greeted { greeted self.new ≡ greeted self.old };
