@@ -1,10 +1,10 @@
 //! The record of a class: the texts of all seats, one each.
 //!
 //! A seat serves one connection after another, each through the seat's window. The text of a seat has its lines with
-//! their replies. `number` is always the number of a seat, from 1, and `events` is the list of events of the class's
-//! journal. The place of an event is its number in this list, from 1. A text grants an event if a reply in it names the
-//! event's place. In contracts, `start` and `texts` are the texts that `seats` opens. They say nothing of texts that
-//! can't be named there.
+//! their replies. `number` is always the number of a seat, from 1. `events` is the list of events of the class's
+//! journal, which must be legal in the lab. The place of an event is its number in this list, from 1. A text grants an
+//! event if a reply in it names the event's place. In contracts, `start` and `texts` are the texts that `seats` opens.
+//! They say nothing of texts that can't be named there.
 ghost use Rattle.std.specs.Prelude.{◌≡◌, ℕ, List, Option, None, Some, true, IfOk, IfErr, IfSome, OnOk};
 ghost use Rattle.mml_board.specs.Lists.{is_legal_in};
 ghost use Rattle.mml_class.specs.Begun.{begun_in};
@@ -66,9 +66,10 @@ impl From<SeatFault> for ClassFault {
 }
 
 /// Checks that the texts of all seats are the record of a class with this list of events, which must be legal. First
-/// reads how many events came before the record, and then the text of each seat. At last checks that no event is
-/// granted twice, and, if the texts leave nothing out, that each is granted. Returns the first fault that is found. If
-/// `with_asks` is set, also returns what each line asked; each text is then read into memory as a whole.
+/// reads how many events came before the record, and then the text of each seat. At last checks that only events of the
+/// record are granted, none of them twice, and each of them if the texts leave nothing out. Returns the first fault
+/// that is found. If `with_asks` is set, also returns what each line asked; each text is then read into memory as a
+/// whole.
 pub fn read_class<R: Read + Drop, S: Seats<R>>(
     alloc: Global,
     lab: &Lab,
@@ -190,7 +191,8 @@ fn read_seat<R: Read + Drop, S: Seats<R>>(
 
 // Checks whether a seat's text is a record, and returns the verdict. Appends the places that it grants to `granted`. If
 // `with_asks` is set, reads the text as a whole, and if it is a record, appends what its lines asked to `asks`.
-// Otherwise reads the text piece by piece. Returns `Read` if the text can't be read, and `Memory` if memory runs out.
+// Otherwise reads the text piece by piece. Returns `Read` if a read fails, or the text or an entry is too long, and
+// `Memory` if memory runs out.
 fn read_text<R: Read + Drop>(
     alloc: Global,
     lab: &Lab,
@@ -260,7 +262,7 @@ fn read_pieces<R: Read + Drop>(
     }
 }
 
-// Converts the error of reading a text piece by piece. A text that is too long becomes `Read`.
+// Converts the error of reading a text piece by piece. A text or an entry that is too long becomes `Read`.
 fn of_pieces(why: PieceFault) -> SeatFault
     ensures { result ≡ of_pieces why }
 {

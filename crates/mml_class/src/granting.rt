@@ -34,9 +34,9 @@ fn no_marks(alloc: Global, count: u64) -> Result<Vec<bool>, Memory>
     Ok(marks)
 }
 
-// Sets the flag of a place that a record grants, and returns `None`. If the place isn't above `begun`, has no flag, or
-// its flag is set already, sets nothing, and returns what is wrong with the place. `begun` is how many events came
-// before the record.
+// Sets the flag in `marks` of a place that a record grants, and returns `None`. If the place isn't above `begun`, has
+// no flag, or its flag is set already, sets nothing, and returns what is wrong with the place. `begun` is how many
+// events came before the record.
 fn mark(marks: &mut Vec<bool>, begun: u64, place: u64) -> Option<Misgranted>
     ensures { IsMarked begun place marks.old.items marks.new.items result }
 {
@@ -51,7 +51,7 @@ fn mark(marks: &mut Vec<bool>, begun: u64, place: u64) -> Option<Misgranted>
     None
 }
 
-// Returns `Nowhere` with the first place above `begun` whose flag isn't set. Returns `None` if all are set.
+// Returns `Nowhere` with the first place above `begun` whose flag in `marks` isn't set. Returns `None` if all are set.
 fn first_unmarked(marks: &[bool], begun: u64) -> Option<Misgranted>
     ensures { IsUnmarked begun marks.now result }
 {
