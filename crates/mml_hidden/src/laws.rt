@@ -172,8 +172,8 @@ pub fn runs_begin_alike()
     ensures known { (lab : LabValue) (s : ℕ) → OnlySheIsKnown s (opening lab) }
 {}
 
-/// A run in which no reply is the refusal for memory or for the journal is the run of plain turns, in which no mishap
-/// happens. It has their replies and their end.
+/// A run in which no reply is the refusal for memory or for the journal has the replies and the end of the run of plain
+/// turns. No mishap happens in plain turns.
 pub fn unhindered_runs_are_plain()
     ensures { (lab : LabValue) (st : State) (lines : List RequestLine) (rs : List Reply)
         (end : State) → Run lab st lines rs end → AreUnhindered rs →
