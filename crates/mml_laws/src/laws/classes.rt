@@ -24,7 +24,7 @@ ghost use Rattle.mml_laws.specs.Served.{AreServed, named_by};
 
 /// A class is a house (one run of a lab): the contracts of `serve_host` and of `resume_class` imply what the laws about
 /// houses assume. Each window has served one session after another, from the events before the class to the window's
-/// final state. One list of events is in the log. So each event of the class is named by exactly one reply.
+/// final state, and the log has the list of all events. So each event of the class is named by exactly one reply.
 pub fn a_class_is_a_house<S, K, C, R, W>()
     ensures hosted { (begun : List Event) (given : ℕ → Option Kept) (lab : LabValue)
         (sink : S → Option (List ℕ)) (remaining : R → Option (List ℕ)) (contents : W → Option (List ℕ))
@@ -46,9 +46,9 @@ pub fn a_class_is_a_house<S, K, C, R, W>()
 {}
 
 /// Suppose that the recorders of a class were empty at the beginning. Then each has recorded the sessions of its seat.
-/// They led the seat's window from the events before the class to its final state. So what each recorder has kept is
-/// the text of a record that fits the class's one list of events, or a beginning of that text. The last clause says
-/// that the assumption holds if each recorder that the class is given is empty.
+/// These sessions led the seat's window from the events before the class to its final state. So what each recorder has
+/// kept is the text of a record that fits the class's one list of events, or a beginning of that text. The last clause
+/// says that the assumption holds if each recorder that the class is given is empty.
 pub fn a_class_has_recorded_seats<S, K, C, R, W>()
     ensures seats { (begun : List Event) (given : ℕ → Option Kept) (lab : LabValue)
         (sink : S → Option (List ℕ)) (remaining : R → Option (List ℕ)) (contents : W → Option (List ℕ))

@@ -58,8 +58,8 @@ pub fn tallies_have_these_columns()
 {}
 
 /// In the record of a class, over all its seats, a denied line of a student is counted under the clause of the denial
-/// that its reply names. So in the tally of the class the number of lines that a clause denied to a student is the sum
-/// over the clause's denials.
+/// that its reply names. So in the tally of the class, the number of a student's lines that a clause denied is the sum
+/// of the numbers for the clause's denials.
 pub fn columns_are_sums_in_a_class()
     ensures named { (lab : LabValue) (l : List Event) (start : List ℕ) (texts : ℕ → List ℕ) (c : ClassRecord) →
         IsClassRecord lab l true start texts c → AreNamed c.asks.items }

@@ -16,10 +16,10 @@ ghost use Rattle.mml_hall.specs.Turns.{State, opening};
 ghost use Rattle.mml_laws.specs.Finishes.{FinishesByAsking};
 
 /// A run with n nodes and L links can always be finished by requests if three things hold. The journal isn't halted,
-/// each node has an owner, and the lab allows k = 6n + 4 min(L, n²/4) more events. Then some script with at most k
-/// moves and closes is granted all of them, and no node is privileged after it. Before each of these moves and closes,
-/// the script has a bye and the hello of the participant who asks. The same holds from the beginning of each lab that
-/// is read from a file, and allows k events.
+/// each node has an owner, and the lab allows k = 6n + 4 min(L, n²/4) more events, with n²/4 rounded down. Then some
+/// script with at most k moves and closes is granted all of them, and no node is privileged after it. Before each of
+/// these moves and closes, the script has a bye and the hello of the participant who asks. The same holds from the
+/// beginning of each lab that is read from a file, and allows k events.
 pub fn a_run_can_always_be_finished_by_asking()
     ensures run { (lab : LabValue) (st : State) → IsHall lab st → st.halted ≡ false →
         EachHasOwner lab.roster (length lab.ids) →

@@ -20,7 +20,7 @@ ghost use Rattle.mml_policy.specs.Shown.{look_of};
 ghost use Rattle.mml_stable.specs.Reports.{report_of};
 ghost use Rattle.mml_laws.specs.Looks.{IsWholeLook};
 
-/// A look shows a node exactly if the identifier in it is that node's, and one of the node's owners or the teacher
+/// A look shows a node exactly if the command has that node's identifier, and one of the node's owners or the teacher
 /// asks. The look shows all of the node: its registers, the number of the configuration, and the kinds of the chosen
 /// move and of the enabled rule, if there are any. The look also shows exactly the linked nodes with their registers,
 /// in rising order.

@@ -37,8 +37,8 @@ pub fn same_labs_read_alike()
 {}
 
 /// Audits over two labs that are the same, and allow equally many events, have the same result. The same bytes pass in
-/// both and lead to the same world, or have the same error in the same line. In each world an event is legal in both or
-/// in neither.
+/// both and lead to the same world, or have the same error in the same line. In each world, an event is legal in both
+/// labs or in neither.
 pub fn same_labs_audit_alike()
     ensures audit { (a b : LabValue) (bytes : List ℕ) → IsLab a → IsLab b → IsSameLab a b →
         a.events ≡ b.events → audited a bytes ≡ audited b bytes }
@@ -46,9 +46,9 @@ pub fn same_labs_audit_alike()
         is_legal a.roster w e ≡ is_legal b.roster w e }
 {}
 
-/// Labs that are the same have the same owners and the same teacher. In each world, each command has the same ruling in
-/// both: it is shown something, denied, refused or granted, for the same reason and with the same effect. A hello that
-/// is granted has the same reply line in both.
+/// In each world, each command has the same ruling in two labs that are the same. It shows something, or is denied,
+/// refused or granted, in both, for the same reason and with the same effect. A hello that is granted has the same
+/// reply line in both.
 pub fn same_labs_rule_alike()
     ensures rulings { (a b : LabValue) (limit : ℕ) (is_halted : Bool) (w : World) (who : Who)
         (c : Command) → IsLab a → IsLab b → IsSameLab a b →
