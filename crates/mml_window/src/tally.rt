@@ -51,8 +51,8 @@ pub(crate) fn is_each_once<H: House>(windows: &[Window<H>], first: u64, most: u6
     are_counted_off(windows, &cursors)
 }
 
-/// Changes nothing. It is called for its contract: of the acts that were refused because the journal was halted, each
-/// window has at most as many as `count`, the house's total.
+/// Changes nothing. It is called for its contract: `count`, the house's total of acts that were refused because the
+/// journal was halted, is at least the share of each window.
 pub(crate) fn audit_halts<H: House>(windows: &mut Vec<Window<H>>, count: &mut HaltCount<H>)
     ensures windows { windows.new.items ≡ windows.old.items }
     ensures total { count.new.total ≡ count.old.total }

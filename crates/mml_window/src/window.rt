@@ -85,7 +85,7 @@ impl<H: House> Window<H> {
     /// Returns a window that is made of a seat (the lab, and room for places), and has seen nothing yet. It takes a
     /// slot of `press` if one is free; otherwise it takes one at a later act. `halts` is its share of the count of acts
     /// that were refused because the journal was halted, and must have a part. `grants` is its share of the count of
-    /// granted events. Neither has counted anything yet.
+    /// granted events. Neither may have counted anything yet.
     pub(crate) fn over(
         press: &Press<H>,
         seat: Seat,
@@ -133,7 +133,7 @@ impl<H: House> Window<H> {
 
     /// Keeps what the answer to an act says. After a grant, reads until the window has seen the granted event, which
     /// must be the last one that `press` has published, and keeps its place (number). After a refusal, keeps the
-    /// reason; any other answer removes the last reason. `grant` must have counted the granted event if there is one,
+    /// reason; any other answer removes an earlier reason. `grant` must have counted the granted event if there is one,
     /// and is then merged into the window's share of granted events.
     #[tactic(auto, using(crate::proofs::ClimbingLemmas::climbs_count))]
     pub(crate) fn keep<R: Wait>(
@@ -283,8 +283,8 @@ impl<H: House> Window<H> {
         count.add(&mut self.halts, 1);
     }
 
-    /// Changes nothing. It is called for its contract: of the acts that were refused because the journal was halted,
-    /// the window has at most as many as `count`, the house's total.
+    /// Changes nothing. It is called for its contract: `count`, the house's total of acts that were refused because the
+    /// journal was halted, is at least the window's share.
     pub(crate) fn audit_halts(&mut self, count: &mut HaltCount<H>)
         ensures window { self.new ≡ self.old }
         ensures total { count.new.total ≡ count.old.total }
