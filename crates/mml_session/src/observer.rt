@@ -29,7 +29,7 @@ pub trait Observer {
         ensures { Records number (kept self.old) (kept self.new)
             (entry_for seen line.now reply.now out.now) };
 
-    /// Observes that replies were written to the connection: `replies` of them since the last call.
+    /// Observes that replies were written to the connection: `replies` of them since the last call of `wrote`.
     fn wrote(&mut self, number: u8, replies: u32)
         ensures { kept self.new ≡ kept self.old };
 

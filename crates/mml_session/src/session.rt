@@ -95,9 +95,9 @@ pub fn serve_one<Rt: Wait, S: Sink + Drop, H: House, R: Read, W: Write, G: Gate>
     ).end
 }
 
-/// Answers the lines of a reader one by one, as `serve_one` does, and returns how the session ended. Calls `observer`,
-/// with the number `connection`, when a line has come, when it is answered, when replies are written, and at the
-/// session's end. Doesn't call it if memory runs out before the session begins.
+/// Answers the lines of a reader one by one, as `serve_one` does. Returns how the session ended, and who was known, as
+/// `Ending` says. Calls `observer`, with the number `connection`, when a line has come, when it is answered, when
+/// replies are written, and at the session's end. Doesn't call it if memory runs out before the session begins.
 pub fn serve_observed<Y: SessionTypes, H: House, O: Observer>(
     setting: &Setting<'_, Y::Runtime, Y::Sink, H>,
     window: &mut Window<H>,
@@ -229,9 +229,9 @@ fn serve_next<Y: SessionTypes, H: House, O: Observer>(
     }
 }
 
-// Returns whether the session goes on after a line whose reply was handled as `said` says, or how it ended. Counts the
-// reply if it is written or buffered. Then, if no reply is buffered, calls the observer with how many were counted
-// since the last call. Sets the count to 0, without a call, if a write failed.
+// Returns whether the session goes on after a line whose reply was handled as `said` says, or how it ended. If the
+// reply is written or buffered, counts it as `count_told` does. If a write failed, sets the count to 0, and doesn't
+// call the observer.
 fn go_on<O: Observer>(
     said: Result<Sent, Closed>,
     held: &mut Held,
@@ -259,8 +259,8 @@ fn go_on<O: Observer>(
     }
 }
 
-// Counts one more reply that is written or buffered. Then, if no reply is buffered, calls the observer with how many
-// were counted since the last call.
+// Counts one more reply that is written or buffered. Then, if no reply is buffered, passes the count to the observer as
+// `pass_told` does.
 fn count_told<O: Observer>(held: &mut Held, observer: &mut O, connection: u8)
     ensures held { held.new.bytes.items ≡ held.old.bytes.items }
     ensures kept { O.kept observer.new ≡ O.kept observer.old }
@@ -269,8 +269,8 @@ fn count_told<O: Observer>(held: &mut Held, observer: &mut O, connection: u8)
     pass_told(held, observer, connection);
 }
 
-// Calls the observer with how many replies were counted since the last call, if the buffer is empty. All of them are
-// written then.
+// If the buffer is empty, so that all counted replies are written, calls the observer's `wrote` with their number, and
+// starts the count again. Otherwise does nothing.
 fn pass_told<O: Observer>(held: &mut Held, observer: &mut O, connection: u8)
     ensures held { held.new.bytes.items ≡ held.old.bytes.items }
     ensures kept { O.kept observer.new ≡ O.kept observer.old }
@@ -281,9 +281,9 @@ fn pass_told<O: Observer>(held: &mut Held, observer: &mut O, connection: u8)
     }
 }
 
-// Writes the buffered replies at the end of a session. Then calls the observer with how many replies were counted since
-// the last call, and returns `ending`. If the write fails, calls nothing, and returns an end by `WriteFault` instead.
-// `before` is who was known before the line that was answered last.
+// Writes the buffered replies at the end of a session. Then passes the count of replies to the observer as `pass_told`
+// does, and returns `ending`. If the write fails, doesn't call the observer, and returns an end by `WriteFault` with
+// `before`, which is who was known before the line that was answered last.
 fn let_out<W: Write, O: Observer>(
     session: &mut Session,
     ending: Ending,
@@ -319,7 +319,7 @@ enum Sent {
 }
 
 // Answers the line that was read last, and writes or buffers its reply. Returns what happened to the reply. Returns
-// `Closed` if the line asks for a view of a window that shows nothing any more, and so has no reply.
+// `Closed` if the line asks for a view of a window that shows nothing any more; such a line has no reply.
 fn serve_line<Y: SessionTypes, H: House, O: Observer>(
     setting: &Setting<'_, Y::Runtime, Y::Sink, H>,
     session: &mut Session,
