@@ -98,11 +98,11 @@ struct Shared<'s, Y: ServerTypes, H: House> {
 }
 
 impl<'s, Y: ServerTypes + 's, H: House + Send + Sync + 's> Shared<'s, Y, H> {
-    // Accepts the next `connections` connections, and serves each in a thread of its own and through one of `windows`.
-    // The windows must be fresh, and enough for all connections. Waits until all threads have ended, and returns the
-    // used windows and the ended sessions, both in the order in which the connections came. Returns `Memory` if memory
-    // runs out or no thread can be started, and `Accept` if accepting fails for another reason. After an error it
-    // doesn't wait for the threads; the end of `scope` does.
+    // Accepts the next `connections` connections of `arrivals`, and serves each in a thread of its own and through one
+    // of `windows`. The windows must be fresh, and enough for all connections. Waits until all threads have ended, and
+    // returns the used windows and the ended sessions, both in the order in which the connections came. Returns
+    // `Memory` if memory runs out or no thread can be started, and `Accept` if accepting fails for another reason.
+    // After an error it doesn't wait for the threads; the end of `scope` does.
     fn serve_each<E, A: Arrivals<Y::Reader, Y::Writer> + Drop>(
         &self,
         scope: &Scope<'s, E>,
