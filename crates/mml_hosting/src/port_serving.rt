@@ -393,8 +393,8 @@ impl<'s, Y: ClassTypes + 's, H: Begun + Send + Sync + 's> Shared<'s, Y, H> {
     }
 }
 
-/// Serves a port. Accepts connections from `arrivals` as they come, serves each in a thread of its own in a free one of
-/// `seats`, and turns it away if no seat is free. Rings `bell` at the end of each session. When no more connections are
+/// Serves a port. Accepts connections from `arrivals` as they come. Serves each in a thread of its own in a free one of
+/// `seats`, or turns it away if no seat is free. Rings `bell` at the end of each session. When no more connections are
 /// to be served, cuts off those that are still served, waits for their threads, and returns the seats. If no thread can
 /// be made for a connection at the desk, serves it in this thread; any other one is ended before anything is read.
 /// Returns `Memory`, and serves nobody, if memory runs out at the beginning.
