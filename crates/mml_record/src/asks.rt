@@ -148,7 +148,7 @@ fn student_in(who: Who) -> Option<Student>
     }
 }
 
-// Returns the student who is known, or `None` if nobody is, or the teacher.
+// Returns the student who is known, or `None` if nobody or the teacher is known.
 fn student_of(known: Option<Who>) -> Option<Student>
     ensures { result ≡ student_of known }
 {
