@@ -26,7 +26,8 @@ pub(crate) fn no_findings() -> Findings
 }
 
 /// Returns the findings of two records together. The sums of sessions and lines stop at the greatest number of 64 bits.
-/// The result is whole if both are, is cut if one of them is, and lacks lines of whomever one of them lacks lines of.
+/// The result is whole if both are, and is cut if one of them is. If one of them lacks lines of a participant, so does
+/// the result.
 pub(crate) fn together(a: &Findings, b: &Findings) -> Findings
     ensures sessions { result.sessions ≡ counted (a.now.sessions + b.now.sessions) }
     ensures lines { result.lines ≡ counted (a.now.lines + b.now.lines) }

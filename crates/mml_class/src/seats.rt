@@ -36,13 +36,13 @@ pub trait Seats<R: Read> {
     // The bytes of the record of the seat with a number; `None` if contracts can't name them.
     ghost text: { Self → ℕ → Option (List ℕ) };
 
-    /// Opens the text with the number of events before the record. Returns a reader at its beginning, or `Read` or
-    /// `Memory` if it can't be opened.
+    /// Opens the text with the number of events before the record. Returns a reader at its beginning. Returns `Memory`
+    /// if memory runs out, and `Read` if the text can't be opened for another reason.
     fn open_begun(&self) -> Result<R, SeatFault>
         ensures { IfOk result (λ reader. IfSome (begun self.now) (λ bytes. R.remaining reader ≡ Some bytes)) };
 
-    /// Opens the record of the seat with this number. Returns a reader at its beginning, or `Read` or `Memory` if it
-    /// can't be opened.
+    /// Opens the record of the seat with this number. Returns a reader at its beginning. Returns `Memory` if memory
+    /// runs out, and `Read` if the record can't be opened for another reason.
     fn open_seat(&self, number: u8) -> Result<R, SeatFault>
         ensures { IfOk result (λ reader. IfSome (text self.now number) (λ bytes. R.remaining reader ≡ Some bytes)) };
 }
