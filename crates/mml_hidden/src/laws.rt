@@ -100,10 +100,10 @@ pub fn turns_that_keep_worlds_alike_grant_alike()
 {}
 
 /// Suppose that one script (lines on numbered connections) is run in two twin labs, which differ at most in the links
-/// and registers at the beginning. No mishap happens, the states at first are alike for a student, and each line of
-/// somebody else keeps the worlds alike for her. Then the same is written to each connection as long as she or nobody
-/// is known on it. If nobody else is ever known on a connection, all of its output is the same. The states at the end
-/// are alike.
+/// and registers at the beginning. Suppose also that no mishap happens, that the states at first are alike for a
+/// student, and that each line of somebody else keeps the worlds alike for her. Then the same is written to each
+/// connection as long as she or nobody is known on it. If nobody else is ever known on a connection, all of its output
+/// is the same. The states at the end are alike.
 pub fn hidden_values_change_no_script()
     ensures written { (lab other : LabValue) (s : ℕ) (st su : State) (lines : List RequestLine) →
         AreTwins lab other → StatesAlike lab s st su → StayAlike lab other s st su lines →
@@ -121,7 +121,7 @@ pub fn hidden_values_change_no_script()
         StatesAlike lab s (end_of lab st lines) (end_of other su lines) }
 {}
 
-/// Like `hidden_values_change_no_script`, but with mishaps (memory runs out, or a write fails), the same for the same
+/// Like `hidden_values_change_no_script`, but with mishaps (memory runs out, or a write fails), which befall the same
 /// lines in both runs. Each line of somebody else must keep the worlds alike for the student, and leave both journals
 /// halted or neither. Take the connections for which `some` is true. If nobody else is ever known on them, all of their
 /// output is the same. The states at the end are alike.
@@ -139,17 +139,17 @@ pub fn hidden_values_change_no_script_with_mishaps()
         StatesAlike lab s (end_with lab st bs) (end_with other su bs) }
 {}
 
-/// Each run of a hall (the engine that answers the lines of numbered connections) consists of turns with mishaps, one
-/// for each line. The mishap `nothing` means that all went well.
+/// Each run of a hall (the engine that answers the lines of numbered connections) consists of one turn for each line,
+/// and each turn has a mishap. The mishap `nothing` means that all went well.
 pub fn something_befell_each_line()
     ensures { (lab : LabValue) (st : State) (lines : List RequestLine) (rs : List Reply)
         (end : State) → Run lab st lines rs end → Befalls lab st lines rs end }
 {}
 
 /// Suppose that one script (lines on numbered connections) is run in two twin labs, which differ at most in the links
-/// and registers at the beginning. No mishap happens, and the states at first are alike for a student. If nobody else
-/// is known, and each valid hello in the script is hers, all replies are the same, and so are all bytes. So a student
-/// who is alone can't distinguish the two labs.
+/// and registers at the beginning. Suppose also that no mishap happens, and that the states at first are alike for a
+/// student. If nobody else is known at first, and each valid hello in the script is hers, all replies are the same, and
+/// so are all bytes. So a student who is alone can't distinguish the two labs.
 pub fn one_who_is_alone_can_not_tell()
     ensures replies { (lab other : LabValue) (s : ℕ) (st su : State) (lines : List RequestLine) →
         AreTwins lab other → StatesAlike lab s st su → OnlySheIsKnown s st →
