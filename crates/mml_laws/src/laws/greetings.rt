@@ -37,9 +37,9 @@ pub fn a_connection_is_known_as_one()
 {}
 
 /// In a hall (the engine that answers the lines of numbered connections), a hello is denied as `greeted` on a
-/// connection on which somebody is known. A command is denied as `not-greeted` on one on which nobody is. Either may be
-/// refused as `memory` instead, and neither changes anything. If nothing goes wrong, a command on a connection on which
-/// a participant is known is ruled on as a command of this participant.
+/// connection on which somebody is known. A command is denied as `not-greeted` if nobody is known on its connection.
+/// Either may be refused as `memory` instead, and neither changes anything. If nothing goes wrong, a command on a
+/// connection on which a participant is known is ruled on as a command of this participant.
 pub fn a_hall_answers_by_who_is_known()
     ensures again { (lab : LabValue) (st : hall.State) (k : ℕ) (line : List ℕ) (out : hall.Outcome)
         (x : Who) (name key : List ℕ) → hall.known_on st k ≡ Some x →
@@ -55,10 +55,10 @@ pub fn a_hall_answers_by_who_is_known()
         IsTold st (reply.Deny denial.NotGreeted) out }
 {}
 
-/// In a session, a hello is denied as `greeted` on a connection on which somebody is known. A command is denied as
-/// `not-greeted` on one on which nobody is. Either may be refused as `memory` instead, and neither changes anything. A
-/// command on a connection on which a participant is known is answered as a command of this participant, who stays
-/// known, or is refused as `memory`.
+/// In a session, a hello is denied as `greeted` if somebody is known on the connection. A command is denied as
+/// `not-greeted` if nobody is known there. Either may be refused as `memory` instead, and neither changes anything. If
+/// a participant is known, a command is answered as a command of this participant, who stays known, or is refused as
+/// `memory`.
 pub fn a_session_answers_by_who_is_known()
     ensures again { (lab : LabValue) (st next : session.Standing) (line : List ℕ) (r : Reply)
         (x : Who) (name key : List ℕ) → st.known ≡ Some x →

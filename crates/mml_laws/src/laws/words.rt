@@ -55,7 +55,7 @@ pub fn replies_are_read_by_these_words()
 {}
 
 /// Only a see, a look and a report have keys with registers, or with values that are computed from registers. The
-/// definition `tells_registers` lists those.
+/// definition `tells_registers` lists these keys.
 pub fn only_views_tell_registers()
     ensures { (roster : RosterValue) (r : Reply) → is_view r ≡ false →
         list_any (λ f. tells_registers f.1) (written.fields_of roster r) ≡ false }
