@@ -59,9 +59,9 @@ pub fn hidden_values_change_no_reply_line()
 {}
 
 /// Take states of two twin labs, which differ at most in the links and registers at the beginning. Suppose that the
-/// states are alike for a student, and that she or nobody is known on a connection. Then a line on this connection gets
-/// the same reply line in both, and the states afterwards are alike again. The same mishap (memory that ran out or a
-/// failed write), or none, must befall both turns.
+/// states are alike for a student, and that she or nobody is known on a connection. A line on this connection is
+/// answered in both, and the same mishap (memory that ran out or a failed write), or none, befalls both turns. Then the
+/// line gets the same reply line in both, and the states afterwards are alike again.
 pub fn hidden_values_change_no_turn()
     ensures line { (lab other : LabValue) (s : ℕ) (st su : State) (mishap : Mishap) (k : ℕ)
         (line : List ℕ) → AreTwins lab other → StatesAlike lab s st su →

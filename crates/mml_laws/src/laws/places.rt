@@ -22,8 +22,8 @@ ghost use Rattle.mml_laws.specs.Told.{EachNamesItsEvent, NamesItsEventIn, EachNa
 
 /// In a run of a hall, a reply that names place p replies to a command of the participant who was known on its
 /// connection. The command was granted after events 1 to p - 1 of the final list, and event p is what was granted. Line
-/// p of the journal is the event's line. The final list begins with the events before the run, and each later event has
-/// exactly one reply that names it, in order.
+/// p of the journal is the event's line. The final list begins with the events before the run. Each later event has
+/// exactly one reply that names it, and these replies come in the order of the events.
 pub fn replies_of_a_hall_name_their_events()
     ensures told { (lab : LabValue) (st end : hall.State) (lines : List hall.RequestLine)
         (rs : List Reply) (run : hall.Run lab st lines rs end) → IsHall lab st →

@@ -19,9 +19,9 @@ ghost use Rattle.mml_audit.specs.Audit.{audited};
 ghost use Rattle.mml_journal.specs.EventLines.{said_by, event_line, IsEventOf};
 ghost use Rattle.mml_lab_file.specs.Sameness.{IsSameLab};
 
-/// A journal means the same in two labs that are the same. A line is the same event in both, or has the same error, and
-/// an event has the same line. A list of events leads to the same world. The participants have the same names, and own
-/// the same nodes.
+/// A journal means the same in two labs that are the same. A line of a journal is read as the same event in both, or
+/// has the same error, and an event is written as the same line. A list of events leads to the same world. The
+/// participants have the same names, and own the same nodes.
 pub fn same_labs_read_alike()
     ensures read { (a b : LabValue) (bytes : List ℕ) → IsSameLab a b →
         said_by a.ids a.roster bytes ≡ said_by b.ids b.roster bytes }
