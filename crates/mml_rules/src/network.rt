@@ -120,7 +120,7 @@ impl Network {
     }
 }
 
-/// Adds `b` to the neighbours of `a`. `neighbours` has the neighbours of each node, by rank.
+/// Adds `b` to the neighbours of the node `a`, which must exist. `neighbours` has the neighbours of each node, by rank.
 fn link_one_way(neighbours: &mut [NodeSet], a: Rank, b: Rank)
     requires { a < length neighbours.old }
     ensures { neighbours.new ≡ with_neighbour neighbours.old a b }
@@ -129,7 +129,8 @@ fn link_one_way(neighbours: &mut [NodeSet], a: Rank, b: Rank)
     neighbours[a.index() as usize] = row;
 }
 
-/// Removes `b` from the neighbours of `a`. `neighbours` has the neighbours of each node, by rank.
+/// Removes `b` from the neighbours of the node `a`, which must exist. `neighbours` has the neighbours of each node, by
+/// rank.
 fn cut_one_way(neighbours: &mut [NodeSet], a: Rank, b: Rank)
     requires { a < length neighbours.old }
     ensures { neighbours.new ≡ without_neighbour neighbours.old a b }
@@ -138,8 +139,8 @@ fn cut_one_way(neighbours: &mut [NodeSet], a: Rank, b: Rank)
     neighbours[a.index() as usize] = row;
 }
 
-/// Sets the pointer of `a` to null if it leads to `b`, and otherwise changes nothing. `registers` has the registers of
-/// each node, by rank.
+/// Sets the pointer of the node `a`, which must exist, to null if it leads to `b`, and otherwise changes nothing.
+/// `registers` has the registers of each node, by rank.
 fn unpoint(registers: &mut [Regs], a: Rank, b: Rank)
     requires { a < length registers.old }
     ensures { registers.new ≡ unpointed registers.old a b }
