@@ -40,9 +40,9 @@ impl Model for Lab {
 }
 
 impl Lab {
-    /// Returns the lab with these identifiers, this roster, this network at the beginning, at most `events` events, and
-    /// at most `sessions` connections at once. The roster and the network must have as many nodes as there are
-    /// identifiers. `events` must be from 1 to 100000, and `sessions` from 1 to 16.
+    /// Returns the lab with these parts; `network` is the network at the beginning. A run may have at most `events`
+    /// events, and at most `sessions` connections at once. The roster and the network must have as many nodes as there
+    /// are identifiers. `events` must be from 1 to 100000, and `sessions` from 1 to 16.
     pub fn new(ids: IdTable, roster: Roster, network: Network, events: u64, sessions: u8) -> Lab
         requires { IsLab (record {
           ids = ids;
@@ -155,7 +155,7 @@ pub fn link_count(network: &Network) -> u64
     count
 }
 
-/// Returns how many of the nodes with ranks below that of `node` are linked to it.
+/// Returns how many neighbours of `node` have a lower rank.
 fn neighbours_below(network: &Network, node: Rank) -> u64
     ensures count { result ≡ count_below node ((configuration_of network.now).linked node) }
     ensures few { result ≤ node }

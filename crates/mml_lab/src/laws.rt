@@ -9,8 +9,8 @@ ghost use Rattle.mml_lab.specs.declared.who.Who.{Who};
 ghost use Rattle.mml_lab.specs.Rosters.{RosterValue, IsRoster, principal, owns, owners_of, name_of, student_named, is_name, is_key};
 ghost use Rattle.mml_lab.specs.RosterMeaning.{IsKnownAs, IsName, IsKey};
 
-/// In a valid roster, `principal` returns a participant exactly if that one has the given name and key. It returns
-/// `None` exactly if nobody has both.
+/// In a valid roster, `principal` returns a participant exactly if this participant has the given name and key. It
+/// returns `None` exactly if nobody has both.
 pub fn principal_is_the_one_known()
     ensures one { (r : RosterValue) (name key : List ℕ) (w : Who) → IsRoster r →
         (principal r name key ≡ Some w) ↔ IsKnownAs r w name key }

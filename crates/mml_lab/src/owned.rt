@@ -15,8 +15,8 @@ use mml_ids::{NodeSet, Rank};
 use std::alloc::Global;
 
 /// Returns, for each student, the set of the nodes that the student owns. The last set of the list is empty, and is for
-/// anyone who isn't in the roster. `students` is the number of students. `owners` has the owners of each node, by rank;
-/// each must be one of these students. Returns `Memory` if memory runs out.
+/// anyone who isn't in the roster. `students` is the number of students, at most 256. `owners` has the owners of each
+/// node, by rank, for at most 256 nodes; each owner must be one of the students. Returns `Memory` if memory runs out.
 pub(crate) fn owned_by_each(
     alloc: Global,
     students: usize,
@@ -36,7 +36,7 @@ pub(crate) fn owned_by_each(
 }
 
 /// Adds a node to the set of each of its owners. `rows` has the set of each student's nodes, by the student's index,
-/// and must have one for each owner.
+/// and must have a set for each owner.
 fn give(rows: &mut [NodeSet], node: Rank, owners: &[Student])
     requires { All (λ s. s < length rows.old) owners.now }
     ensures { (s i : ℕ) → set.contains (row_at rows.new s) i ≡ (set.contains (row_at rows.old s) i
