@@ -25,8 +25,8 @@ use mml_lab::{Lab, LabFault, Roster, Student};
 use mml_rules::{Network, Regs};
 use std::alloc::Global;
 
-/// Returns the lab of a file whose contents passed the checks. Returns `Memory` if memory runs out, the only error that
-/// can still occur.
+/// Returns the lab of a file whose contents passed the checks. Returns `Memory` if memory runs out; no other error can
+/// occur.
 #[tactic(auto, unfolding(crate::specs::inside::Checks::lab_with))]
 pub(crate) fn build(alloc: Global, checked: Checked) -> Result<Lab, LabFault>
     requires { IsLab (checked_view checked) }
@@ -66,8 +66,8 @@ fn registers_and_owners(
     Ok((registers, owners))
 }
 
-/// Returns the registers of each node, by rank. `nodes` are the nodes as the file has them. Returns `Memory` if memory
-/// runs out.
+/// Returns the registers of each node, by rank. `ids` has the identifiers of the nodes, and `nodes` the nodes as the
+/// file describes them. Returns `Memory` if memory runs out.
 pub(crate) fn registers(
     alloc: Global,
     ids: &IdTable,
@@ -111,8 +111,8 @@ fn registers_in(ids: &IdTable, node: &RawNode) -> Regs
     Regs { p, m: node.m }
 }
 
-/// Returns the owners of each node, by rank. `nodes` are the nodes as the file has them, and there may be at most 256
-/// students. Returns `Memory` if memory runs out.
+/// Returns the owners of each node, by rank. `ids` has the identifiers of the nodes, and `nodes` the nodes as the file
+/// describes them. There may be at most 256 students. Returns `Memory` if memory runs out.
 pub(crate) fn owners(
     alloc: Global,
     ids: &IdTable,
@@ -132,7 +132,7 @@ pub(crate) fn owners(
 }
 
 /// Returns the owners of the node with the identifier `id`, in the file's order. Returns an empty list if the file has
-/// no such node, and `Memory` if memory runs out.
+/// no such node, and `Memory` if memory runs out. There may be at most 256 students.
 fn owners_with(
     alloc: Global,
     students: &IndexMap<String, String>,
@@ -150,8 +150,9 @@ fn owners_with(
     }
 }
 
-/// Returns the students with the names in `names`, in order. For a name that no student has, returns the first student;
-/// the checks of a file exclude this case. Returns `Memory` if memory runs out.
+/// Returns the students with the names in `names`, in order. For a name that no student has, the list has the first
+/// student; the checks of a file exclude this case. There may be at most 256 students. Returns `Memory` if memory runs
+/// out.
 fn owners_in(
     alloc: Global,
     students: &IndexMap<String, String>,

@@ -93,8 +93,8 @@ struct Found {
     sessions: u8,
 }
 
-/// Checks the parts of a file. Returns the results of the checks, or the file's first error. The teacher and the nodes
-/// are borrowed, and stay with the caller.
+/// Checks the parts of a file. Returns the results of the checks, or the first error in the order of `LabFault`. The
+/// teacher and the nodes are borrowed, and stay with the caller.
 #[tactic(auto, unfolding(crate::specs::Reading::lab_from, crate::specs::Reading::checked))]
 fn check_parts(
     alloc: Global,
@@ -129,7 +129,7 @@ fn check_parts(
 }
 
 /// Returns the table of the nodes' identifiers. Returns `BothOwners` for the first node that has both keys `owner` and
-/// `owners`, or else `Id` with the first error of the identifiers.
+/// `owners`, or else `Id` with the error that `IdTable::new` returns for the identifiers, if any.
 #[tactic(auto, unfolding(crate::specs::Reading::identified))]
 fn identify(alloc: Global, nodes: &[RawNode]) -> Result<IdTable, LabFault>
     ensures tests { Gives is_lab_memory (λ _. tt {0}) result (identified (map node_view nodes.now)) }
@@ -168,15 +168,15 @@ fn check_owners(students: &IndexMap<String, String>, nodes: &[RawNode]) -> Resul
     pass_unless(owner_twice_fault(nodes))
 }
 
-/// Returns how many students a file has. `len` returns the same number; this function has the contract that the proofs
-/// of its callers need.
+/// Returns how many students a file has. `students.len()` returns the same number; this function has the contract that
+/// the proofs of its callers need.
 fn student_count(students: &IndexMap<String, String>) -> usize
     ensures { result ≡ length (map entry_account students.now.entries) }
 {
     students.len()
 }
 
-/// Returns `Err(fault)` if there is an error, and otherwise `Ok(())`. With `?`, the caller returns that error.
+/// Returns `Err` with the error in `fault`, or `Ok(())` if `fault` is `None`. With `?`, the caller returns that error.
 pub(crate) fn pass_unless(fault: Option<LabFault>) -> Result<(), LabFault>
     ensures { Gives is_lab_memory (λ u. u) result (pass_unless fault) }
 {
@@ -201,7 +201,7 @@ fn first_with_both(nodes: &[RawNode]) -> Option<usize>
     nodes.iter().position(|node| node.both)
 }
 
-/// Returns the table of the nodes' identifiers, or `Id` with the first error of the identifiers.
+/// Returns the table of the nodes' identifiers, or `Id` with the error that `IdTable::new` returns for them.
 fn id_table(alloc: Global, nodes: &[RawNode]) -> Result<IdTable, LabFault>
     ensures tests { Gives is_lab_memory (λ _. tt {0}) result
         (pass_unless (ids_fault (map node_view nodes.now))) }
@@ -230,8 +230,8 @@ fn file_ids(alloc: Global, nodes: &[RawNode]) -> Result<Vec<u64>, AllocError>
     nodes.iter().map(|node| number_of(node.id)).collect(alloc)
 }
 
-/// Returns `Name` for the first participant whose name or key isn't well-formed, or `None` if all are. The teacher
-/// comes before the students.
+/// Returns `Name` for the first participant whose name or key isn't well-formed, or `None` if all are well-formed. The
+/// teacher comes before the students.
 #[tactic(auto, unfolding(crate::specs::Reading::forms_fault))]
 fn forms_fault(teacher: &Account, students: &[Account]) -> Option<LabFault>
     ensures { result ≡ forms_fault (account_view teacher.now ∷ map account_view students.now) }
@@ -294,7 +294,7 @@ fn first_with_owner_twice(nodes: &[RawNode]) -> Option<usize>
     nodes.iter().position(|node| are_one_twice(&node.owners))
 }
 
-/// Returns whether `names` has exactly two names, which are the same.
+/// Returns whether `names` has exactly two names, and they are equal.
 fn are_one_twice(names: &[String]) -> bool
     ensures { result ≡ are_one_twice (map string_bytes names.now) }
 {
@@ -318,7 +318,8 @@ fn check_range(greatest: u64, number: i64, key: Key) -> Result<u64, LabFault>
 }
 
 /// Returns the number of events (first) and of sessions (second). Returns `Limit` for the first number that is out of
-/// its range, in the order events, sessions, students. `students` is the number of students.
+/// its range: events from 1 to 100000, then sessions from 1 to 16, then at most 256 students. `students` is the number
+/// of students.
 #[tactic(auto, unfolding(crate::specs::Reading::limited))]
 fn check_limits(bounds: RawLimits, students: usize) -> Result<(u64, u8), LabFault>
     ensures tests { Gives is_lab_memory (λ _. tt {0}) result

@@ -28,8 +28,8 @@ fn is_account(account: &Account) -> bool
     is_name(account.name.as_bytes()) && is_key(account.key.as_bytes())
 }
 
-/// Returns the index of the first participant whose name or key isn't well-formed, or `None` if all are. The teacher
-/// has the index 0, and the students count from 1.
+/// Returns the index of the first participant whose name or key isn't well-formed, or `None` if all are well-formed.
+/// The teacher has the index 0, and the students count from 1.
 pub(crate) fn first_malformed(teacher: &Account, students: &[Account]) -> Option<usize>
     ensures { result ≡ position (λ a. not (is_account a))
         (account_view teacher.now ∷ map account_view students.now) }
@@ -40,7 +40,8 @@ pub(crate) fn first_malformed(teacher: &Account, students: &[Account]) -> Option
     first_malformed_student(students).map(|index| index + 1)
 }
 
-/// Returns the index, from 0, of the first student whose name or key isn't well-formed, or `None` if all are.
+/// Returns the index, from 0, of the first student whose name or key isn't well-formed, or `None` if all are
+/// well-formed.
 fn first_malformed_student(students: &[Account]) -> Option<usize>
     ensures value { result ≡ position (λ a. not (is_account (account_view a))) students.now }
     ensures within { IfSome result (λ index. index < length students.now) }

@@ -37,8 +37,8 @@ pub fn links_join_two_nodes()
 {}
 
 /// If each link joins two different nodes, the check of links finds an error exactly if some link occurs twice. The
-/// error has the index of the first link that joins the same nodes as an earlier one. The same holds if the file's
-/// first error is `LinkTwice`.
+/// error has the index of the first link that joins the same nodes as an earlier one. If the first error of a file is
+/// `LinkTwice`, its index is also that of the first such link.
 pub fn link_twice_is_the_first()
     ensures fault { (raw : RawSpec) (k : ℕ) →
         (linked raw.nodes raw.links ≡ Err (fault.LinkTwice k))
@@ -71,8 +71,8 @@ pub fn links_are_counted()
         link_count (lab_in raw).network ≡ length raw.links }
 {}
 
-/// A node's registers are those of the file. m is the same, and p is null if the file leaves it out. Otherwise p is the
-/// rank of the node that the file names, and this node is a neighbour.
+/// A node's registers are those of the file. m is as in the file, and p is null if the file leaves it out. Otherwise p
+/// is the rank of the node that the file names, and this node is a neighbour.
 pub fn registers_are_those_of_the_file()
     ensures m { (raw : RawSpec) (i : ℕ) (node : NodeSpec) → lab_fault raw ≡ None →
         IsNodeOf raw (lab_in raw) i node →

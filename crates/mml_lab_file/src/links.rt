@@ -26,9 +26,9 @@ use mml_lab::LabFault;
 use std::alloc::Global;
 
 /// Returns the set of neighbours of each node, by rank. `ids` must have the identifiers of the nodes. Returns `LinkEnd`
-/// for the first link with an end that isn't a node. If there is none, returns `Loop` for the first link from a node to
-/// itself. If there is none either, returns `LinkTwice` for the first link that joins the same nodes as a link before
-/// it. Returns `Memory` if memory runs out.
+/// for the first link with an end that isn't a node. If there is no such link, returns `Loop` for the first link from a
+/// node to itself. If no link is a loop either, returns `LinkTwice` for the first link that joins the same nodes as a
+/// link before it. Returns `Memory` if memory runs out.
 #[tactic(auto, unfolding(crate::specs::Reading::linked))]
 pub(crate) fn neighbours(
     alloc: Global,
@@ -108,8 +108,9 @@ fn is_loop(link: (i64, i64)) -> bool
     link.0 == link.1
 }
 
-/// Returns the set of neighbours of each node, by rank. The ends of all links must be nodes. Returns `LinkTwice` for
-/// the first link that joins the same nodes as a link before it, and `Memory` if memory runs out.
+/// Returns the set of neighbours of each node, by rank. `ids` has the identifiers of the nodes, and the ends of all
+/// links must be among them. Returns `LinkTwice` for the first link that joins the same nodes as a link before it, and
+/// `Memory` if memory runs out.
 fn neighbour_rows(
     alloc: Global,
     ids: &IdTable,
@@ -134,7 +135,7 @@ fn neighbour_rows(
 }
 
 /// Returns whether `a` and `b` are neighbours in `rows`, which has the neighbours of each node, by rank. Returns
-/// `false` if one of them is `None`, which means no node.
+/// `false` if one of them is `None`, which means no node. If `a` is a node, `rows` must have an entry for it.
 #[tactic(auto, unfolding(crate::specs::inside::Checks::are_near))]
 fn are_near(rows: &[NodeSet], a: Option<Rank>, b: Option<Rank>) -> bool
     requires { ForSome a (λ rank. rank < length rows.now) }
@@ -156,7 +157,7 @@ pub(crate) fn rank_at(ids: &IdTable, id: i64) -> Option<Rank>
 }
 
 /// Makes `a` and `b` neighbours of each other in `rows`, which has the neighbours of each node, by rank. Does nothing
-/// if one of them is `None`, which means no node.
+/// if one of them is `None`, which means no node. `rows` must have an entry for each that isn't `None`.
 fn join(rows: &mut [NodeSet], a: Option<Rank>, b: Option<Rank>)
     requires a { ForSome a (λ rank. rank < length rows.old) }
     requires b { ForSome b (λ rank. rank < length rows.old) }
@@ -172,7 +173,8 @@ fn join(rows: &mut [NodeSet], a: Option<Rank>, b: Option<Rank>)
     }
 }
 
-/// Adds `neighbour` to the neighbours of `node`. `rows` has the neighbours of each node, by rank.
+/// Adds `neighbour` to the neighbours of `node`. `rows` has the neighbours of each node, by rank, and must have an
+/// entry for `node`.
 fn insert(rows: &mut [NodeSet], node: Rank, neighbour: Rank)
     requires { node < length rows.old }
     ensures { (i q : ℕ) → set.contains (neighbours_at rows.new i) q

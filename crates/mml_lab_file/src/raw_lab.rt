@@ -170,8 +170,8 @@ fn student(alloc: Global, value: &Value) -> Result<Account, LabFault>
     account_at(alloc, table, Key::StudentName, Key::StudentKey)
 }
 
-/// Returns the accounts of all elements of the array `student`, in order, or the first error of the first element that
-/// has one.
+/// Returns the accounts of all elements of the array `student`, in order, or the error of the first element that has
+/// one.
 fn students(alloc: Global, list: &Array) -> Result<Vec<Account>, LabFault>
     ensures { Gives is_lab_memory (λ v. map account_view v.items) result
         (each student_of (array_view list.now)) }
@@ -285,9 +285,9 @@ fn owner_names(
 
 /// Returns the node that an element of the array `node` describes. Without the key `p`, p is null, and without `m`, m
 /// is false. Returns `WrongKind(Node)` if the element isn't a table. Otherwise reads the keys `id`, `owner`, `owners`,
-/// `p` and `m` in this order, and returns the first error. It is `WrongKind` for a value of another kind, or `Missing`
-/// if `id` is left out, or both `owner` and `owners`. A node with both of these is an error only in a later check,
-/// which reads the field `both`.
+/// `p` and `m` in this order, and returns the first error. The error is `WrongKind` for a value of another kind. It is
+/// `Missing(NodeId)` if `id` is left out, and `Missing(NodeOwner)` if `owner` and `owners` are both left out. If
+/// neither is left out, the field `both` becomes true, which a later check refuses.
 #[tactic(auto, unfolding(crate::specs::Shape::node_of))]
 fn node(alloc: Global, value: &Value) -> Result<RawNode, LabFault>
     ensures { Gives is_lab_memory node_view result (node_of (view value.now)) }
@@ -309,8 +309,8 @@ fn node(alloc: Global, value: &Value) -> Result<RawNode, LabFault>
     })
 }
 
-/// Returns the nodes that the elements of the array `node` describe, in order, or the first error of the first element
-/// that has one.
+/// Returns the nodes that the elements of the array `node` describe, in order, or the error of the first element that
+/// has one.
 fn nodes(alloc: Global, list: &Array) -> Result<Vec<RawNode>, LabFault>
     ensures { Gives is_lab_memory (λ v. map node_view v.items) result
         (each node_of (array_view list.now)) }
@@ -381,8 +381,8 @@ fn teacher_at(alloc: Global, table: &Table) -> Result<Account, LabFault>
     account_at(alloc, teacher, Key::TeacherName, Key::TeacherKey)
 }
 
-/// Returns the contents of a lab file, whose table this is. Reads the keys in the order of `Key`. Returns `Missing` or
-/// `WrongKind` for the first one that is missing or of another kind.
+/// Returns the contents of a lab file, whose table this is. Reads the keys in the order of `Key`. Returns the error of
+/// the first key that is missing though required (`Missing`), or whose value is of another kind (`WrongKind`).
 #[tactic(auto, unfolding(crate::specs::Shape::raw_of, crate::specs::Shape::students_of, crate::specs::Shape::nodes_of))]
 pub fn read_raw(alloc: Global, table: &Table) -> Result<RawLab, LabFault>
     ensures { Gives is_lab_memory raw_view result (raw_of (table_view table.now)) }
@@ -402,8 +402,8 @@ pub fn read_raw(alloc: Global, table: &Table) -> Result<RawLab, LabFault>
     })
 }
 
-/// Returns the contents of a lab file from its bytes. Returns `NotToml` if the bytes aren't TOML. Otherwise returns
-/// `Missing` or `WrongKind` for the first key that is missing or of another kind.
+/// Returns the contents of a lab file from its bytes. Returns `NotToml` if the bytes aren't TOML. Otherwise returns the
+/// error of `read_raw`, if there is one.
 #[tactic(auto, unfolding(crate::specs::Shape::spelled))]
 pub fn read_bytes(alloc: Global, bytes: &[u8]) -> Result<RawLab, LabFault>
     ensures { Gives is_lab_memory raw_view result (spelled bytes.now) }

@@ -74,8 +74,8 @@ fn has_same_names(a: &Roster, b: &Roster) -> bool
     true
 }
 
-// Returns whether the node of this rank has the same registers, links and owners in both labs. The labs must have the
-// same number of nodes and the same number of students.
+// Returns whether the node of this rank, which must exist, has the same registers, links and owners in both labs. The
+// labs must have the same number of nodes and the same number of students.
 fn is_same_node(a: &Lab, b: &Lab, node: Rank) -> bool
     requires here { node < length a.now.ids }
     requires ids { length a.now.ids ≡ length b.now.ids }
@@ -88,7 +88,8 @@ fn is_same_node(a: &Lab, b: &Lab, node: Rank) -> bool
     has_same_links(a, b, node) && has_same_owners(a.roster(), b.roster(), node)
 }
 
-// Returns whether the node of this rank has the same links in both labs, which must have the same number of nodes.
+// Returns whether the node of this rank, which must exist, has the same links in both labs. The labs must have the same
+// number of nodes.
 fn has_same_links(a: &Lab, b: &Lab, node: Rank) -> bool
     requires here { node < length a.now.ids }
     requires ids { length a.now.ids ≡ length b.now.ids }
