@@ -80,7 +80,7 @@ impl Owners for Anybody {
     }
 }
 
-/// Returns who asks for an event: the student of a move, and the teacher for any other event.
+/// Returns who asks for an event: the student whose move it is if the event is a grant, and otherwise the teacher.
 pub fn asker(event: &Event) -> Who
     ensures { result ≡ asker event.now }
 {

@@ -37,10 +37,10 @@ pub fn check<O: Owners>(owners: &O, board: &Board, who: Who, act: &Act) -> Resul
     }
 }
 
-/// Returns the grant of a move if all four clauses hold. `who` must be a student who owns the node, and `at` the number
-/// of the current configuration. No move may be chosen for the node, and the rule must be applicable there. Otherwise
-/// returns the denial of the first clause that doesn't hold. A `rule` of `None`, a marriage with a node that doesn't
-/// exist, isn't applicable.
+/// Returns the grant of a move if four clauses hold, which are tried in this order: `who` is a student who owns the
+/// node; `at` is the number of the current configuration; no move is chosen for the node; `rule` may be applied there.
+/// Otherwise returns the denial of the first clause that doesn't hold. A `rule` of `None`, a marriage with a node that
+/// doesn't exist, may not be applied. `node` must be `None` or a node of the board.
 fn check_move<O: Owners>(
     owners: &O,
     board: &Board,
@@ -75,8 +75,8 @@ fn check_move<O: Owners>(
     })
 }
 
-/// Returns the participant and the node that the test of the owner gets: `who` and `node`. If `node` is `None`, returns
-/// a student who isn't in any roster, and the node of rank 0, so that the same test is made.
+/// Returns the participant and the node for the test of ownership: `who` and `node`. If `node` is `None`, returns a
+/// student who isn't in any roster, and the node of rank 0, so that the test takes the same steps.
 fn asking(who: Who, node: Option<Rank>) -> (Who, Rank)
     ensures { IfSome node (λ i. result ≡ (who, i)) }
 {

@@ -35,8 +35,8 @@ pub fn move_chosen(network: &mut IndexedNetwork, effects: &mut [Regs], chosen: &
     write_effects(network, effects, nodes);
 }
 
-/// Computes the registers of each of `nodes` after its chosen move, and writes them into `effects`, by rank. `nodes`
-/// are the nodes that have a chosen move, and the guard of each move must hold.
+/// Computes the registers of each of `nodes` after its chosen move, and writes them into `effects`, which has an entry
+/// for each node, by rank. `nodes` are the nodes that have a chosen move, and the guard of each move must hold.
 fn compute_effects(network: &IndexedNetwork, effects: &mut [Regs], chosen: &Choices, nodes: NodeSet)
     requires choices { length chosen.now ≡ length network.now.registers }
     requires room { length effects.old ≡ length network.now.registers }
@@ -53,8 +53,8 @@ fn compute_effects(network: &IndexedNetwork, effects: &mut [Regs], chosen: &Choi
     }
 }
 
-/// Returns the registers that a node has after its chosen move `rule`, whose guard must hold there. Returns its present
-/// registers if `rule` is `None`.
+/// Returns the registers that a node, which must exist, has after its chosen move `rule`, whose guard must hold there.
+/// Returns the node's present registers if `rule` is `None`.
 fn moved(network: &IndexedNetwork, node: Rank, rule: Option<Rule>) -> Regs
     requires node { node < length network.now.registers }
     requires holds { (r : Rule) → rule ≡ Some r →
@@ -69,8 +69,8 @@ fn moved(network: &IndexedNetwork, node: Rank, rule: Option<Rule>) -> Regs
     }
 }
 
-/// Writes the new registers of each of `nodes`, which are in `effects` by rank, into the network. Their pointers must
-/// be null or lead to neighbours.
+/// Writes the new registers of each of `nodes` into the network. `effects` has these registers by rank, with an entry
+/// for each node of the network. Their pointers must be null or lead to neighbours.
 fn write_effects(network: &mut IndexedNetwork, effects: &[Regs], nodes: NodeSet)
     requires room { length effects.now ≡ length network.old.registers }
     requires within { (i : ℕ) → set.contains nodes i ≡ true → i < length network.old.registers }

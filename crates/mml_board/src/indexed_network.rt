@@ -55,15 +55,16 @@ impl Scene for IndexedNetwork {
         &self.network
     }
 
-    /// Returns whether some neighbour points at the node: whether its set of suitors isn't empty.
+    /// Returns whether some neighbour points at the node, which must exist: whether the node's set of suitors isn't
+    /// empty.
     fn has_suitor(&self, node: Rank) -> bool {
         // Called only for its contract, which the proof needs: the network is lawful.
         let _size = self.network.size();
         !is_empty(self.suitors[node.index() as usize])
     }
 
-    /// Returns the neighbour that a seduction of the node would choose, the greatest of its candidates, or `None` if it
-    /// has no candidate.
+    /// Returns the neighbour that a seduction of the node would choose, the greatest of the node's candidates. Returns
+    /// `None` if the node has no candidate. The node must exist.
     #[tactic(auto, using(crate::proofs::RowsLemmas::greatest_told))]
     fn greatest_candidate(&self, node: Rank) -> Option<Rank> {
         // Called only for its contract, which the proof needs: the network is lawful.
@@ -166,7 +167,8 @@ impl IndexedNetwork {
         self.network.cut(a, b);
     }
 
-    /// Sets the pointer of `a` to null, and updates the index, if `a` points at `b`. Otherwise changes nothing.
+    /// Sets the pointer of the node `a`, which must exist, to null if it leads to `b`, and updates the index. Otherwise
+    /// changes nothing.
     fn unpoint(&mut self, a: Rank, b: Rank)
         requires { a < length self.old.registers }
         ensures neighbours { self.new.neighbours ≡ self.old.neighbours }
@@ -186,7 +188,8 @@ impl IndexedNetwork {
 }
 
 /// Moves a node from the suitors of `from`, at which it pointed, to the suitors of `to`, at which it points now. `None`
-/// means a null pointer. `suitors` has the nodes that point at each node, by rank.
+/// means a null pointer. `suitors` has the nodes that point at each node, by rank, and must have an entry for `from`
+/// and `to`.
 fn move_suitor(suitors: &mut [NodeSet], node: Rank, from: Option<Rank>, to: Option<Rank>)
     requires from { (i : ℕ) → from ≡ Some i → i < length suitors.old }
     requires to { (i : ℕ) → to ≡ Some i → i < length suitors.old }
@@ -197,7 +200,7 @@ fn move_suitor(suitors: &mut [NodeSet], node: Rank, from: Option<Rank>, to: Opti
 }
 
 /// Adds a node to the suitors of the node `p` if `is_in` is true, and otherwise removes it from them. Does nothing if
-/// `p` is `None`. `suitors` has the nodes that point at each node, by rank.
+/// `p` is `None`. `suitors` has the nodes that point at each node, by rank, and must have an entry for `p`.
 fn put_suitor(suitors: &mut [NodeSet], p: Option<Rank>, node: Rank, is_in: bool)
     requires { (i : ℕ) → p ≡ Some i → i < length suitors.old }
     ensures { suitors.new ≡
