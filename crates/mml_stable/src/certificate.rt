@@ -16,9 +16,9 @@ use mml_board::Board;
 use mml_ids::Rank;
 use mml_rules::{Kind, Scene};
 
-/// Returns the witness of a link between two free nodes (in no pair), `a` and the greater `b`. The witness is a
-/// privileged node, with the kind of the rule that is enabled there. So as long as there is such a link, the
-/// configuration isn't stable.
+/// Returns the witness of the link between the nodes `a` and `b`, which must be linked and free (in no pair), with `a`
+/// below `b`. The witness is a privileged node, with the kind of the rule that is enabled there. So as long as there is
+/// such a link, the configuration isn't stable.
 pub fn certify(board: &Board, a: Rank, b: Rank) -> (Rank, Kind)
     requires lower { a < b }
     requires linked { (configuration board.now).linked a b ≡ true }
@@ -37,10 +37,10 @@ pub fn certify(board: &Board, a: Rank, b: Rank) -> (Rank, Kind)
     witness(board, &kinds, a, b)
 }
 
-/// Returns the witness of a link between two free nodes (in no pair), `a` and the greater `b`. The witness is a
-/// privileged node, with the kind of the rule that is enabled there. It is what `witness_from` returns for `a`, or else
-/// what it returns for `b`. If both calls return `None`, it is `a`, at which a seduction is then enabled. `kinds` has
-/// the kind of the rule that is enabled at each node, by rank.
+/// Returns the witness of a link between two free nodes (in no pair), `a` and the greater `b`, which must exist. The
+/// witness is a privileged node, with the kind of the rule that is enabled there. It is what `witness_from` returns for
+/// `a`, or else what it returns for `b`. If both calls return `None`, it is `a`, at which a seduction is then enabled.
+/// `kinds` has the kind of the rule that is enabled at each node, by rank.
 #[tactic(auto, unfolding(crate::specs::Walk::certificate))]
 pub(crate) fn witness(board: &Board, kinds: &[Option<Kind>], a: Rank, b: Rank) -> (Rank, Kind)
     requires kinds { AreKinds (configuration board.now) kinds.now }
@@ -54,9 +54,10 @@ pub(crate) fn witness(board: &Board, kinds: &[Option<Kind>], a: Rank, b: Rank) -
     witness_from(board, kinds, b).unwrap_or((a, Kind::Seduction))
 }
 
-/// Follows the pointers from `node` to the first node that is privileged or points at no node, as `end_of_walk` does.
-/// Returns this node with the kind of the rule that is enabled there. Returns `None` if no rule is enabled there, or if
-/// the rule is a seduction. `kinds` has the kind of the rule that is enabled at each node, by rank.
+/// Follows the pointers from `node`, which must exist, to the first node that is privileged or points at no node, as
+/// `end_of_walk` does. Returns this node with the kind of the rule that is enabled there. Returns `None` if no rule is
+/// enabled there, or if the rule is a seduction. `kinds` has the kind of the rule that is enabled at each node, by
+/// rank.
 fn witness_from(board: &Board, kinds: &[Option<Kind>], node: Rank) -> Option<(Rank, Kind)>
     requires kinds { AreKinds (configuration board.now) kinds.now }
     requires node { node < length board.now.network.registers }
@@ -69,10 +70,10 @@ fn witness_from(board: &Board, kinds: &[Option<Kind>], node: Rank) -> Option<(Ra
     }
 }
 
-/// Follows the pointers from `node` to the first node that is privileged or points at no node. Returns this node, with
-/// the kind of the rule that is enabled there, or `None` if none is. If there is no such node within as many steps as
-/// there are nodes, returns the node that the last step reached. `kinds` has the kind of the rule that is enabled at
-/// each node, by rank.
+/// Follows the pointers from `node`, which must exist, to the first node that is privileged or points at no node.
+/// Returns this node, with the kind of the rule that is enabled there, or `None` if none is. If there is no such node
+/// within as many steps as there are nodes, returns the node that the last step reached. `kinds` has the kind of the
+/// rule that is enabled at each node, by rank.
 fn end_of_walk(board: &Board, kinds: &[Option<Kind>], node: Rank) -> (Rank, Option<Kind>)
     requires kinds { AreKinds (configuration board.now) kinds.now }
     requires node { node < length board.now.network.registers }

@@ -29,8 +29,9 @@ pub fn stable_is_maximal()
         (c.m i ≡ true) ↔ IsMarried c i }
 {}
 
-/// The pointers rise from a node that is free (in no pair) or has m false. Each further node is greater than the one
-/// before, and has m false. The way ends at a node that is privileged or points at no node.
+/// Let a walk follow the pointers from a node that is free (in no pair) or has m false. It comes to a node that is
+/// privileged or points at no node, and ends at the first such node. Each node of the walk after the first is greater
+/// than the one before, and has m false.
 pub fn walk_rises()
     ensures rises { (c : Configuration) (i j : ℕ) → IsLawful c → is_privileged c i ≡ false →
         (is_married c i ≡ false) ⊎ (c.m i ≡ false) → c.p i ≡ Some j →

@@ -136,8 +136,8 @@ fn open_ends(board: &Board, rest: NodeSet, a: Rank) -> NodeSet
     }
 }
 
-/// Returns the open link between `a` and `b`, with its witness. `kinds` has the kind of the rule that is enabled at
-/// each node, by rank.
+/// Returns the open link between `a` and the greater `b`, with its witness. `kinds` has the kind of the rule that is
+/// enabled at each node, by rank.
 fn open_link(board: &Board, kinds: &[Option<Kind>], a: Rank, b: Rank) -> OpenLink
     requires kinds { AreKinds (configuration board.now) kinds.now }
     requires a { a < length board.now.network.registers }
@@ -148,9 +148,9 @@ fn open_link(board: &Board, kinds: &[Option<Kind>], a: Rank, b: Rank) -> OpenLin
     OpenLink { a, b, node, kind }
 }
 
-/// Appends the open links whose lower end is `a` to `all`, each with its witness. `ends` must have exactly their
-/// greater ends. `kinds` has the kind of the rule that is enabled at each node, by rank. Returns `Memory` if memory
-/// runs out.
+/// Appends the open links whose lower end is `a` to `all`, each with its witness. `ends` must have exactly the greater
+/// ends of these links. `kinds` has the kind of the rule that is enabled at each node, by rank. Returns `Memory` if
+/// memory runs out, after some of the links may have been appended.
 fn put_open_links(
     all: &mut Vec<OpenLink>,
     board: &Board,
