@@ -84,8 +84,8 @@ pub fn rounds_are_reached()
 {}
 
 /// The bound on moves is 3n + 2k for n nodes, if k is n²/4, rounded down. For each even n from 4 to 256, a run reaches
-/// this bound. For each odd n from 5 to 255, a run applies one move less. The run is a legal list of grants and closes
-/// in the dense network (`crowd_world`), in which one student owns all nodes.
+/// this bound. For each odd n from 5 to 255, a run applies one move less. Each of these runs is a legal list of grants
+/// and closes in the dense network (`crowd_world`), in which one student owns all nodes.
 pub fn moves_are_reached()
     ensures world { (n : ℕ) → 4 ≤ n → n ≤ MAX_NODES →
         IsWorld (crowd_world n) × (size (crowd_world n) ≡ n) }
