@@ -117,7 +117,7 @@ fn denials_in(own: &[Ask]) -> Denials
     }
 }
 
-/// Returns how many of the lines were denied by the clause with this number.
+/// Returns how many of a student's lines, `own`, were denied by the clause with this number.
 fn count_clause(own: &[Ask], clause: u8) -> u64
     ensures { result ≡ count_by (λ a. is_clause clause a.denied) own.now }
 {
@@ -134,7 +134,7 @@ fn is_clause(clause: u8, denied: Option<u8>) -> bool
     denied == Some(clause)
 }
 
-/// Returns how many of the lines weren't requests.
+/// Returns how many of a student's lines, `own`, weren't requests.
 fn count_malformed(own: &[Ask]) -> u64
     ensures { result ≡ count_by (λ a. is_malformed a.line) own.now }
 {
@@ -163,7 +163,7 @@ fn moves_asked(node: u64, own: &[Ask]) -> ByRule
     }
 }
 
-/// Returns how many of the lines asked for a move of this rule at the node with the identifier `node`.
+/// Returns how many of a student's lines, `own`, asked for a move of this rule at the node with the identifier `node`.
 fn count_moves(node: u64, kind: Kind, own: &[Ask]) -> u64
     ensures { result ≡ count_by (λ a. is_move node kind a.line) own.now }
 {

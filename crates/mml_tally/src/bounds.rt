@@ -34,8 +34,9 @@ pub fn bounds_of(board: &Board) -> Bounds
     bounds_for(board.size(), link_count(board.network()))
 }
 
-/// Returns the most moves, rounds and events that may come until no node is privileged, on `nodes` nodes with `links`
-/// links. Assumes that no fault, link or cut comes. Each move takes at most two events, its grant and a close.
+/// Returns the most moves, rounds and events that may come until no node is privileged, on `nodes` nodes, at most 256,
+/// with `links` links. Assumes that no fault, link or cut comes. Each move takes at most two events, its grant and a
+/// close.
 fn bounds_for(nodes: u64, links: u64) -> Bounds
     requires { nodes ≤ MAX_NODES }
     ensures { result ≡ bounds_for nodes links }
@@ -48,8 +49,8 @@ fn bounds_for(nodes: u64, links: u64) -> Bounds
     }
 }
 
-/// Returns the most courtships that `nodes` unmarried nodes may have: n²/4 for n nodes, rounded down. A courtship is a
-/// pointer of an unmarried node at a higher unmarried node whose m is false.
+/// Returns the most courtships that `nodes` unmarried nodes, at most 256, may have: n²/4 for n nodes, rounded down. A
+/// courtship is a pointer of an unmarried node at a higher unmarried node whose m is false.
 fn most_courtships(nodes: u64) -> u64
     requires { nodes ≤ MAX_NODES }
     ensures exact { result ≡ most_courtships nodes }
@@ -59,8 +60,8 @@ fn most_courtships(nodes: u64) -> u64
     half * (nodes - half)
 }
 
-/// Returns the most rounds that a run on `nodes` nodes needs until no node is privileged: 2n for n nodes, or 2n - 1 if
-/// n is odd.
+/// Returns the most rounds that a run on `nodes` nodes, at most 256, needs until no node is privileged: 2n for n nodes,
+/// or 2n - 1 if n is odd.
 fn rounds_for(nodes: u64) -> u64
     requires { nodes ≤ MAX_NODES }
     ensures { result ≡ rounds_for nodes }

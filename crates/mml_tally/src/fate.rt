@@ -43,7 +43,8 @@ pub fn ended_by(node: Rank, place: u64, event: &Event) -> Option<Fate>
 }
 
 /// Returns what happens to a move that was granted at a node, or `Chosen` if no event ends it. `later` has the events
-/// after its grant, and `place` is the place of the first of them.
+/// after the move's grant, and `place` is the place of the first of them. The places of all of them must fit in 64
+/// bits.
 pub fn fate_of(node: Rank, place: u64, later: &[Event]) -> Fate
     requires { place + length later.now < 2 ^ 64 }
     ensures { result ≡ fate_of node place later.now }

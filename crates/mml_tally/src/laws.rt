@@ -145,8 +145,8 @@ pub fn refusals_are_of_one_student()
         ≡ count_by (λ a. is_refused Refusal.Full a.refused) asks }
 {}
 
-/// Let each line of a student be denied by the clause of its denial, and by none if it has no denial. Then the number
-/// of a student's lines that a clause denied is the sum over the denials of that clause.
+/// Let each line have the number of a clause and a denial that belongs to this clause, or neither. Then the number of a
+/// student's lines that a clause denied is the sum of the counts of the denials that belong to it.
 pub fn columns_are_sums_of_denials()
     ensures { (asks : List Ask) (s : ℕ) → AreNamed asks → AreSums (denials_of asks s) (named_of asks s) }
 {}

@@ -133,7 +133,8 @@ pub(crate) fn is_kind(asked: Kind, kind: Kind) -> bool
 }
 
 /// Returns how many closes applied at least one of a student's moves. The moves are in the order of their grants, so
-/// moves that the same close applied follow one another. A close is counted if it differs from the last one.
+/// moves that the same close applied follow one another. A close is counted if it isn't the one that applied an earlier
+/// move.
 fn count_applying_closes(own: &[Move]) -> u64
     ensures { result ≡ count_new 0 own.now }
 {

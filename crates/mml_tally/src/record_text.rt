@@ -58,7 +58,8 @@ pub fn put_recorded_tally(
 }
 
 /// Appends a line for each student with how many of the student's lines were refused for each reason. Then appends a
-/// line for each student with how many got each denial. Returns `Memory` if memory runs out.
+/// line for each student with how many got each denial. `asks` has the lines of the record. Returns `Memory` if memory
+/// runs out.
 fn put_turned_down(out: &mut Vec<u8>, alloc: Global, lab: &Lab, asks: &[Ask]) -> Result<(), Memory>
     ensures { OnOk result (out.new.items ≡ out.old.items ++ turned_down_text lab.now asks.now) }
 {
@@ -87,7 +88,7 @@ fn put_recorded_run(
 }
 
 /// Appends the tally's lines about a record: each student's denials by clause, the moves that were asked for at nodes
-/// that several students own, and the summary. Returns `Memory` if memory runs out.
+/// that several students own, and the summary. `asks` has the lines of the record. Returns `Memory` if memory runs out.
 fn put_record(
     out: &mut Vec<u8>,
     alloc: Global,
@@ -104,7 +105,7 @@ fn put_record(
 }
 
 /// Appends a line for each student, in the lab's order: how many of the student's lines each clause denied, and how
-/// many weren't requests. Returns `Memory` if memory runs out.
+/// many weren't requests. `asks` has the lines of the record. Returns `Memory` if memory runs out.
 fn put_denied(out: &mut Vec<u8>, alloc: Global, lab: &Lab, asks: &[Ask]) -> Result<(), Memory>
     ensures { OnOk result (out.new.items
         ≡ out.old.items ++ denied_text lab.now asks.now (length lab.now.roster.students)) }
@@ -118,8 +119,8 @@ fn put_denied(out: &mut Vec<u8>, alloc: Global, lab: &Lab, asks: &[Ask]) -> Resu
     Ok(())
 }
 
-/// Appends the line `denied` of one student: how many lines each clause denied, and how many weren't requests. Returns
-/// `Memory` if memory runs out.
+/// Appends the line `denied` of the student with the name `name`: how many lines each clause denied, and how many
+/// weren't requests. Returns `Memory` if memory runs out.
 fn put_denials(out: &mut Vec<u8>, name: &str, denied: &Denials) -> Result<(), Memory>
     ensures { OnOk result (out.new.items ≡ out.old.items ++ denied_line name.now denied.now) }
 {
@@ -136,7 +137,7 @@ fn put_denials(out: &mut Vec<u8>, name: &str, denied: &Denials) -> Result<(), Me
 }
 
 /// Appends a line for each node that several students own, by rank: how many moves of each rule each owner asked for
-/// there. Returns `Memory` if memory runs out.
+/// there. `asks` has the lines of the record. Returns `Memory` if memory runs out.
 fn put_asked(out: &mut Vec<u8>, alloc: Global, lab: &Lab, asks: &[Ask]) -> Result<(), Memory>
     ensures { OnOk result (out.new.items
         ≡ out.old.items ++ asked_text lab.now asks.now (length lab.now.ids)) }
@@ -150,8 +151,8 @@ fn put_asked(out: &mut Vec<u8>, alloc: Global, lab: &Lab, asks: &[Ask]) -> Resul
     Ok(())
 }
 
-/// Appends the line `asked` of one node: its identifier, and how many moves of each rule each owner asked for there.
-/// Returns `Memory` if memory runs out.
+/// Appends the line `asked` of one node, which must exist: its identifier, and how many moves of each rule each owner
+/// asked for there. `asks` has the lines of the record. Returns `Memory` if memory runs out.
 fn put_asked_at(
     out: &mut Vec<u8>,
     alloc: Global,

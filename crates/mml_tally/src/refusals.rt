@@ -41,7 +41,7 @@ fn refusals_in(own: &[Ask]) -> Refusals
     }
 }
 
-/// Returns how many of the lines were refused for this reason.
+/// Returns how many of a student's lines, `own`, were refused for this reason.
 fn count_refused(own: &[Ask], reason: Refusal) -> u64
     ensures { result ≡ count_by (λ a. is_refused reason a.refused) own.now }
 {
@@ -62,7 +62,7 @@ fn is_refused(reason: Refusal, refused: Option<Refusal>) -> bool
 }
 
 /// Appends a line for each student, in the lab's order: how many of the student's lines were refused for each reason.
-/// Returns `Memory` if memory runs out.
+/// `asks` has the lines of everybody. Returns `Memory` if memory runs out.
 pub(crate) fn put_refused(
     out: &mut Vec<u8>,
     alloc: Global,
@@ -81,8 +81,8 @@ pub(crate) fn put_refused(
     Ok(())
 }
 
-/// Appends the line `refused` of one student: how many lines were refused for each reason. Returns `Memory` if memory
-/// runs out.
+/// Appends the line `refused` of the student with the name `name`: how many lines were refused for each reason. Returns
+/// `Memory` if memory runs out.
 fn put_refusals(out: &mut Vec<u8>, name: &str, refused: &Refusals) -> Result<(), Memory>
     ensures { OnOk result (out.new.items ≡ out.old.items ++ refused_line name.now refused.now) }
 {

@@ -67,7 +67,7 @@ fn named_in(own: &[Ask]) -> NamedDenials
     }
 }
 
-/// Returns how many of the lines got this denial.
+/// Returns how many of a student's lines, `own`, got this denial.
 fn count_named(own: &[Ask], denial: StudentDenial) -> u64
     ensures { result ≡ count_by (λ a. is_named denial a.named) own.now }
 {
@@ -84,8 +84,8 @@ fn is_named(denial: StudentDenial, named: Option<StudentDenial>) -> bool
     }
 }
 
-/// Appends a line for each student, in the lab's order: how many of the student's lines got each denial. Returns
-/// `Memory` if memory runs out.
+/// Appends a line for each student, in the lab's order: how many of the student's lines got each denial. `asks` has the
+/// lines of everybody. Returns `Memory` if memory runs out.
 pub(crate) fn put_named(
     out: &mut Vec<u8>,
     alloc: Global,
@@ -104,7 +104,8 @@ pub(crate) fn put_named(
     Ok(())
 }
 
-/// Appends the line `denials` of one student: how many lines got each denial. Returns `Memory` if memory runs out.
+/// Appends the line `denials` of the student with the name `name`: how many lines got each denial. Returns `Memory` if
+/// memory runs out.
 fn put_named_of(out: &mut Vec<u8>, name: &str, denied: &NamedDenials) -> Result<(), Memory>
     ensures { OnOk result (out.new.items ≡ out.old.items ++ denials_line name.now denied.now) }
 {

@@ -86,8 +86,8 @@ fn put_students(out: &mut Vec<u8>, alloc: Global, lab: &Lab, all: &[Move]) -> Re
     Ok(())
 }
 
-/// Appends the line `student` of one student: the name, and the counts of the student's moves. Returns `Memory` if
-/// memory runs out.
+/// Appends the line `student` of one student: the student's name, and the counts of the student's moves. Returns
+/// `Memory` if memory runs out.
 fn put_student(out: &mut Vec<u8>, name: &str, marks: &Marks) -> Result<(), Memory>
     ensures { OnOk result (out.new.items ≡ out.old.items ++ student_line name.now marks.now) }
 {
@@ -97,8 +97,8 @@ fn put_student(out: &mut Vec<u8>, name: &str, marks: &Marks) -> Result<(), Memor
 }
 
 /// Appends the counts of a student's moves as numbers, each after a space. First come the granted and the applied moves
-/// of each rule, and the number of closes that applied one. Then come the places of the first and the last grant, and
-/// the number of applied moves at nodes that others own too. Returns `Memory` if memory runs out.
+/// of each rule, and the number of closes that applied a move. Then come the places of the first and the last grant,
+/// and the number of applied moves at nodes that others own too. Returns `Memory` if memory runs out.
 fn put_marks(out: &mut Vec<u8>, marks: &Marks) -> Result<(), Memory>
     ensures { OnOk result (out.new.items ≡ out.old.items ++ marks_text marks.now) }
 {
@@ -159,8 +159,8 @@ fn put_nodes(out: &mut Vec<u8>, alloc: Global, lab: &Lab, all: &[Move]) -> Resul
     Ok(())
 }
 
-/// Appends the line `node` of one node: its identifier, and how many moves of each rule each owner was granted there.
-/// `all` has the moves that the run's events grant. Returns `Memory` if memory runs out.
+/// Appends the line `node` of one node, which must exist: its identifier, and how many moves of each rule each owner
+/// was granted there. `all` has the moves that the run's events grant. Returns `Memory` if memory runs out.
 fn put_node(
     out: &mut Vec<u8>,
     alloc: Global,
@@ -200,8 +200,8 @@ fn put_owners(
     Ok(())
 }
 
-/// Appends the name of an owner, after a space, and then how many moves there are of each rule. Returns `Memory` if
-/// memory runs out.
+/// Appends the name of an owner, after a space, and then the number of moves of each rule in `counts`. Returns `Memory`
+/// if memory runs out.
 pub(crate) fn put_owner(out: &mut Vec<u8>, name: &str, counts: &ByRule) -> Result<(), Memory>
     ensures { OnOk result (out.new.items ≡ out.old.items ++ owner_text name.now counts.now) }
 {
