@@ -113,7 +113,7 @@ fn unsigned(numeral: &Numeral<'_>) -> Option<Option<u64>>
 
 // Returns what `read_number` returns for a number with a minus; `numeral` is the part after the minus. The result is
 // `Some(None)`, since no request has such a number, or `None` if the number is too great for a float. To save time, an
-// integer below 0 that fits 64 bits isn't read as a float. -0 is read as one, as in `serde_json`.
+// integer below 0 that fits 64 bits isn't read as a float. -0 is read as a float, as in `serde_json`.
 #[inline(never)]
 fn below_zero(numeral: &Numeral<'_>) -> Option<Option<u64>>
     ensures { result ≡ option_map as_u64 (number_from true numeral.now) }

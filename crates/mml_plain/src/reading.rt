@@ -39,9 +39,10 @@ pub fn read_fields<'a>(
     read_tokens(line, scratch, fields)
 }
 
-/// Empties `fields`, and reads a line into them token by token. Returns the same as `read_fields`, which calls this
-/// function for lines that `read_compact` doesn't read: true if the line is an object, and false if it isn't. Returns
-/// `AllocError` if `scratch` has no room for the line and memory runs out.
+/// Empties `fields`, and reads a line into them token by token. Returns true if the line is an object that `serde_json`
+/// would read; then `fields` has the values of its keys. Returns false if it isn't; then `fields` may hold anything.
+/// Returns `AllocError` if `scratch` has no room for the line and memory runs out. `read_fields` calls this function
+/// for lines that `read_compact` doesn't read.
 #[inline(never)]
 fn read_tokens<'a>(
     line: &'a [u8],
@@ -101,8 +102,8 @@ fn read_members<'a>(reader: &mut Reader<'a>, fields: &mut Fields<'a>) -> bool
     }
 }
 
-/// Reads the next token after the end of the line's object. Returns true if there is none. If there is one, the line
-/// isn't an object.
+/// Reads the next token after the end of the line's object. Returns true if there is no token. Returns false if there
+/// is one; then the line isn't an object.
 #[inline(always)]
 fn is_over(reader: &mut Reader<'_>) -> bool
     ensures { (ms : Members) → MatchBool result (if_over (Some (ms, reader.old)) ≡ Some ms)
@@ -155,7 +156,7 @@ fn read_value<'a>(reader: &mut Reader<'a>, depth: usize) -> Option<MemberValue<'
 }
 
 /// Skips the rest of an array whose opening bracket was read. Returns true if the array is valid, and arrays and
-/// objects in it nest at most `depth` levels deep.
+/// objects in it nest at most `depth` levels deep. Otherwise returns false.
 #[cycle(nested)]
 #[inline(never)]
 fn pass_items(reader: &mut Reader<'_>, depth: usize) -> bool
@@ -173,7 +174,7 @@ fn pass_items(reader: &mut Reader<'_>, depth: usize) -> bool
 }
 
 /// Skips the rest of an object whose opening brace was read. Returns true if the object is valid, and arrays and
-/// objects in it nest at most `depth` levels deep.
+/// objects in it nest at most `depth` levels deep. Otherwise returns false.
 #[cycle(nested)]
 #[inline(never)]
 fn pass_members(reader: &mut Reader<'_>, depth: usize) -> bool
