@@ -29,8 +29,9 @@ pub enum Greeted {
     LeftToJudge { who: Who, command: Command },
 }
 
-/// Handles a request on a connection. `known` is the participant that the connection is known as, or `None`. Answers a
-/// hello and a bye. Denies a command if nobody is known, and leaves it to the caller to judge otherwise.
+/// Handles a request on a connection. `known` is the participant of the roster that the connection is known as, or
+/// `None`. Answers a hello and a bye. A hello is denied if somebody is known already, or if nobody has its name and
+/// key. Denies a command if nobody is known, and otherwise leaves it to the caller to judge.
 pub fn greet(roster: &Roster, known: Option<Who>, request: Request) -> Greeting
     requires { IfSome known (IsPrincipal roster.now) }
     ensures greeting { result ≡ greeting roster.now known request }
@@ -44,9 +45,9 @@ pub fn greet(roster: &Roster, known: Option<Who>, request: Request) -> Greeting
     }
 }
 
-/// Handles a request on a connection, as `greet` does, and stores the reply in `reply`. `known` is the participant that
-/// the connection is known as, or `None`. Answers a hello and a bye, and denies a command if nobody is known. Otherwise
-/// leaves the command to the caller to judge, and `reply` as it was.
+/// Handles a request on a connection, as `greet` does, and stores the reply in `reply`. `known` is the participant of
+/// the roster that the connection is known as, or `None`. Answers a hello and a bye, and denies a command if nobody is
+/// known. If somebody is known, leaves a command to the caller to judge, and doesn't change `reply`.
 pub fn greet_into(
     roster: &Roster,
     known: Option<Who>,

@@ -15,8 +15,8 @@ use mml_ids::{IdTable, Memory};
 use mml_policy::Look;
 use mml_stable::Report;
 
-/// Appends the text of the reply to a granted look, a JSON object, to `out`. Returns `Memory` if memory runs out; then
-/// `out` may have only the beginning of the text.
+/// Appends the text of the reply to a granted look, a JSON object, to `out`. `ids` must have an identifier for each
+/// node of the look. Returns `Memory` if memory runs out; then `out` may have only the beginning of the text.
 #[tactic(auto, unfolding(crate::specs::Facts::object_text))]
 pub(crate) fn put_look(ids: &IdTable, look: &Look, out: &mut Vec<u8>) -> Result<(), Memory>
     requires { IsLookedAt ids.now look.now }
@@ -65,8 +65,8 @@ pub(crate) fn put_look(ids: &IdTable, look: &Look, out: &mut Vec<u8>) -> Result<
     fields.put_fields(ids, "{", out)
 }
 
-/// Appends the text of the reply to a granted report, a JSON object, to `out`. Returns `Memory` if memory runs out;
-/// then `out` may have only the beginning of the text.
+/// Appends the text of the reply to a granted report, a JSON object, to `out`. `ids` must have an identifier for each
+/// node of the report. Returns `Memory` if memory runs out; then `out` may have only the beginning of the text.
 #[tactic(auto, unfolding(crate::specs::Facts::object_text))]
 pub(crate) fn put_report(ids: &IdTable, report: &Report, out: &mut Vec<u8>) -> Result<(), Memory>
     requires { NamesNodes (length ids.now) report.now }

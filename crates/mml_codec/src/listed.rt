@@ -1,4 +1,5 @@
-//! Lists of nodes and links in replies. Each item is written as a value of JSON.
+//! Lists of nodes and links in replies. Each item is written as a value of JSON. `ids` must have an identifier for each
+//! node that is written.
 //!
 //! A node is privileged if some rule is enabled there.
 ghost use Rattle.std.specs.Prelude.{codes, ◌+◌, ◌≡◌, ◌≤◌, ◌<◌, ◌++◌, ℕ, List, All, length, map, OnOk, IfOk, IfSome, MatchResult, vec_capacity};
@@ -93,6 +94,7 @@ fn grown(mut line: Vec<u8>) -> Result<Vec<u8>, Vec<u8>>
 }
 
 // Returns the line with a comma appended if `later` is true, that is, if the next item isn't the first of its list.
+// Otherwise returns the line unchanged. The line must have room for one more byte.
 #[inline(always)]
 pub(crate) fn with_comma(line: Vec<u8>, later: bool) -> Vec<u8>
     requires { length line.items + 1 ≤ vec_capacity line }
@@ -135,7 +137,8 @@ impl Listed for (Rank, Regs) {
 }
 
 // Returns the line with the beginning of a neighbour's object appended: the value `m` of its register m, and the key
-// `node`. Each of the two texts is one literal, which is faster than three parts.
+// `node`. Each of the two texts is one literal, which is faster than three parts. The line must have room for 18 more
+// bytes.
 #[inline(always)]
 fn with_first_m_then_node(line: Vec<u8>, m: bool) -> Vec<u8>
     requires { length line.items + 18 ≤ vec_capacity line }
@@ -152,7 +155,7 @@ fn with_first_m_then_node(line: Vec<u8>, m: bool) -> Vec<u8>
 }
 
 // Returns the text with a pointer and a closing brace appended. The pointer is the identifier of the node `p`, or
-// `null`; it is the value of the last key of an object.
+// `null`; it is the value of the last key of an object. The text must have room for 6 more bytes.
 #[inline(always)]
 fn with_pointer_at_end(text: Vec<u8>, ids: &IdTable, p: Option<Rank>) -> Vec<u8>
     requires node { IfSome p (λ j. j < length ids.now) }

@@ -2,7 +2,7 @@
 //!
 //! The fields of a reply are in byte order of their keys. A `Row` has a key, its value and the fields after it, and
 //! `End` is the end of the object. The place of an event is its number in the list of events, from 1. A clause is a
-//! condition under which a request is granted.
+//! condition under which a request is granted. `ids` must have an identifier for each node that a reply names.
 ghost use Rattle.std.specs.Prelude.{◌≡◌, ◌≤◌, ◌<◌, ◌^◌, ◌∷◌, length};
 ghost use Rattle.mml_ids.specs.Pieces.{Puts};
 ghost use Rattle.mml_lab.specs.Rosters.{name_of, IsPrincipal};
@@ -39,8 +39,8 @@ pub(crate) fn numbers_of(at: &u64, place: &u64) -> EventNumbers
     }
 }
 
-/// Appends the text of the reply to a granted hello to `out`. It names the participant `who`, who is known from now on.
-/// Returns `Memory` if memory runs out.
+/// Appends the text of the reply to a granted hello to `out`. The reply names `who`, who must be in the roster, and is
+/// known from now on. Returns `Memory` if memory runs out.
 #[tactic(auto, unfolding(crate::specs::Facts::object_text))]
 pub(crate) fn put_hello(
     ids: &IdTable,
@@ -313,8 +313,8 @@ pub(crate) fn put_denial(ids: &IdTable, denial: Denial, out: &mut Vec<u8>) -> Re
     }
 }
 
-// Appends the text of the reply for any denial but `Stale` to `out`: its clause, its name and its sentence. Returns
-// `Memory` if memory runs out.
+// Appends the text of the reply for any denial but `Stale` to `out`: its clause, its name and its sentence. The last
+// two may have at most 400 bytes each. Returns `Memory` if memory runs out.
 #[tactic(auto, unfolding(crate::specs::Facts::object_text))]
 fn put_told(
     ids: &IdTable,
@@ -345,7 +345,8 @@ fn put_told(
 }
 
 // Appends the text of the reply for the denial `Stale` to `out`: the number `at` of the current configuration, and the
-// denial's clause, name and sentence. Returns `Memory` if memory runs out.
+// denial's clause, name and sentence. The last two may have at most 400 bytes each. Returns `Memory` if memory runs
+// out.
 #[tactic(auto, unfolding(crate::specs::Facts::object_text))]
 fn put_stale(
     ids: &IdTable,

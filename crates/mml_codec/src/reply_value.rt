@@ -25,7 +25,8 @@ pub(crate) trait ReplyValue {
     // The most bytes of the value's text.
     ghost most: { Self → ℕ };
 
-    // Returns the line with the value's text appended. The line must have room for the longest text of the value.
+    // Returns the line with the value's text appended. The line must have room for the longest text of the value. If
+    // the value is a node, `ids` must have its identifier.
     fn with_value(&self, line: Vec<u8>, ids: &IdTable) -> Vec<u8>
         requires names { names ids.now self.now }
         requires room { length line.items + most self.now ≤ vec_capacity line }
@@ -247,7 +248,7 @@ impl ReplyValue for NodeSet {
 }
 
 // Returns the text with the identifiers of the lab's nodes in `moved` appended, in rising order, with commas between
-// them. These are at most 256 nodes, and each identifier takes at most 6 bytes with its comma.
+// them. The text must have room for 1536 more bytes: 6 for each of at most 256 identifiers with its comma.
 #[inline(always)]
 fn with_members(text: Vec<u8>, ids: &IdTable, moved: NodeSet) -> Vec<u8>
     requires room { length text.items + 1536 ≤ vec_capacity text }
@@ -268,7 +269,8 @@ fn with_members(text: Vec<u8>, ids: &IdTable, moved: NodeSet) -> Vec<u8>
     line
 }
 
-/// Returns the text with the identifier of a node appended. The text must have room for 5 more bytes.
+/// Returns the text with the identifier of a node, which must exist, appended. The text must have room for 5 more
+/// bytes.
 #[inline(always)]
 pub(crate) fn with_node(text: Vec<u8>, ids: &IdTable, node: Rank) -> Vec<u8>
     requires node { node < length ids.now }

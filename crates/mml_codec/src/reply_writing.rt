@@ -43,7 +43,8 @@ pub fn write_reply(
 }
 
 /// Replaces the bytes of `out` by the line of a reply, with its newline, and returns the reply. If memory runs out,
-/// replaces them by the line of the refusal `memory`, and returns this refusal.
+/// replaces them by the line of the refusal `memory`, and returns this refusal. `out` must have a capacity of at least
+/// `REPLY_ROOM`.
 pub fn tell_reply(
     alloc: Global,
     ids: &IdTable,
@@ -90,7 +91,8 @@ fn is_short(reply: &Reply) -> bool
 }
 
 // Replaces the bytes of `out` by the line of the refusal `memory`, which says that memory ran out. Returns that
-// refusal. The line fits the capacity that `out` must have, so it is written without allocating, and `unwrap` succeeds.
+// refusal. The line fits the capacity that `out` must have, `REPLY_ROOM`, so it is written without allocating, and
+// `unwrap` succeeds.
 fn write_memory_refusal(alloc: Global, ids: &IdTable, roster: &Roster, out: &mut Vec<u8>) -> Reply
     requires room { REPLY_ROOM ≤ vec_capacity out.old }
     ensures told { result ≡ Reply.Refuse Refused.Memory }

@@ -23,8 +23,9 @@ pub(crate) trait Table {
     // The greatest length of the text of the fields.
     ghost most: { Self → ℕ };
 
-    // Returns the line with the text of the fields appended. Before the first field it appends `first`, which is an
-    // opening brace or a comma. If there is no field, it appends no `first`. The line must have room for both.
+    // Returns the line with the text of the fields appended. Before the first field comes `first`, which is an opening
+    // brace or a comma. If there is no field, `first` is left out. The line must have room for `first` and the longest
+    // text of the fields.
     fn with_fields(&self, line: Vec<u8>, ids: &IdTable, first: &str) -> Vec<u8>
         requires names { names ids.now self.now }
         requires room { length line.items + (length first.now + most self.now) ≤ vec_capacity line }
@@ -81,8 +82,8 @@ impl Table for End {
     }
 }
 
-/// Appends the text of an object with these fields to `out`. The text has at most `TEXT_ROOM` bytes. Allocates only if
-/// `out` has less room than that, and returns `Memory` if memory runs out.
+/// Appends the text of an object with these fields to `out`. The text may have at most `TEXT_ROOM` bytes. Allocates
+/// only if `out` has less room than that. Returns `Memory` if memory runs out.
 #[inline(always)]
 pub(crate) fn put_object<T: Table>(
     ids: &IdTable,
