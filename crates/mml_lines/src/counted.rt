@@ -43,8 +43,9 @@ impl<'a, R: Read> Counted<'a, R> {
     }
 
     /// Reads once into the buffer `chunk`, counts the read, and appends the bytes that were read to `held`, the
-    /// beginning of a line. `held` must have room for a whole chunk, so that nothing is allocated. Returns `End` at the
-    /// reader's end and `ReadFault` if the read fails; then `held` is as it was.
+    /// beginning of a line. `chunk` must have `READ_SIZE` bytes, and `held` room for as many, so that nothing is
+    /// allocated. Fewer than `MAX_READS` reads may have been made before. Returns `End` at the reader's end and
+    /// `ReadFault` if the read fails; then `held` is as it was.
     pub(crate) fn read_onto(&mut self, held: &mut Vec<u8>, chunk: &mut Vec<u8>) -> Result<(), Step>
         requires needed { IsUnbroken held.old.items }
         requires few { self.old.reads < MAX_READS }

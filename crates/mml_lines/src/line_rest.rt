@@ -15,8 +15,8 @@ pub trait LineRest {
     // The rest counts as short: it has at most `REST_ROOM` bytes.
     ghost is_short: { Self → Bool };
 
-    /// Appends the rest of the line to the vector and returns true, if the rest is short. Appends nothing and returns
-    /// false if it isn't. The vector must have room for `REST_ROOM` bytes, and keeps its capacity.
+    /// If the rest of the line is short, appends it to the vector and returns true. Otherwise appends nothing and
+    /// returns false. The vector must have room for `REST_ROOM` bytes, and keeps its capacity.
     fn append_to(&self, out: &mut Vec<u8>) -> bool
         requires told { may_tell self.now }
         requires room { length out.old.items + REST_ROOM ≤ vec_capacity out.old }
