@@ -31,8 +31,9 @@ impl<T: Drop> Retrying<T> {
 impl<R: Read + Drop> Read for Retrying<R> {
     ghost remaining = { λ s. R.remaining s.inner };
 
-    // Reads, and retries as long as a signal interrupts the read. Returns the error of a read that fails for another
-    // reason, and `TimedOut` after 2^64 - 1 interruptions. Sets `lacked_memory` if memory ran out.
+    // Reads into `buf`, and returns how many bytes were read. Retries as long as a signal interrupts the read. Returns
+    // the error of a read that fails for another reason, and `TimedOut` after 2^64 - 1 interruptions. Sets
+    // `lacked_memory` if the read failed because memory ran out.
     fn read(&mut self, buf: &mut [u8]) -> io::Result<usize>
         ensures bound { ReadsAtMost result buf.new }
         ensures bytes { ReadConsumes (R.remaining self.old.inner) (R.remaining self.new.inner)
@@ -55,8 +56,9 @@ impl<R: Read + Drop> Read for Retrying<R> {
 impl<W: Write + Drop> Write for Retrying<W> {
     ghost contents = { λ s. W.contents s.inner };
 
-    // Writes, and retries as long as a signal interrupts the write. Returns the error of a write that fails for another
-    // reason, and `TimedOut` after 2^64 - 1 interruptions. Sets `lacked_memory` if memory ran out.
+    // Writes bytes of `buf`, and returns how many were written. Retries as long as a signal interrupts the write.
+    // Returns the error of a write that fails for another reason, and `TimedOut` after 2^64 - 1 interruptions. Sets
+    // `lacked_memory` if the write failed because memory ran out.
     fn write(&mut self, buf: &[u8]) -> io::Result<usize>
         ensures bound { WritesAtMost result buf.now }
         ensures bytes { WriteAppends (W.contents self.old.inner) (W.contents self.new.inner)
