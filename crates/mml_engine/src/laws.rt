@@ -22,8 +22,7 @@ pub fn seen_goes_on()
 {}
 
 /// A reply that names a place answers a command of a known participant. The place is that of the last event that the
-/// session has seen afterwards. The policy grants this event for the command, if it is judged after the events before
-/// it.
+/// session has seen afterwards. The policy grants this event if it judges the command in the state before the event.
 pub fn replies_name_their_events()
     ensures { (lab : LabValue) (known known' : Option Who) (old new : List Event) (line : List ℕ) (r : Reply) (place : ℕ) →
         Turn (told_by (λ (e : LabValue). e) (λ e (v : List Event). v)) lab.roster known lab old line r known' lab new →
