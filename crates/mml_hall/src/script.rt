@@ -67,7 +67,8 @@ impl From<WriteFault> for ScriptFault {
 /// Answers the lines of a script, one by one, in a hall of the lab. Returns the hall at the end of the input, or the
 /// reason why the script ended before. Replies are buffered: the writer is flushed only before the next line needs a
 /// read, and before a bad line is reported. The lines of the granted events go to the sink, which must have taken
-/// nothing yet, and is dropped with the hall if an error ends the script.
+/// nothing yet, and is dropped with the hall if an error ends the script. Fewer than 2^64 - 1 writes to the sink may
+/// have failed. Returns `Memory` only before anything is read.
 pub fn run_script<R: Read, W: Write, S: Sink + Drop>(
     alloc: Global,
     lab: Lab,
@@ -186,7 +187,7 @@ fn answer_lines<R: Read, W: Write, S: Sink>(
 }
 
 // Returns the error of a line that is no script line, with its number, which counts from 1. `answered` is the number of
-// lines before it.
+// lines before it, which must be below 2^64 - 1.
 fn bad_line_after(answered: u64) -> ScriptFault
     requires { answered < 2 ^ 64 - 1 }
     ensures { result ≡ ScriptFault.BadLine (answered + 1) }
@@ -209,8 +210,8 @@ enum ScriptStep {
     WriteFault(WriteFault),
 }
 
-// Flushes the held replies if `lines` needs a read to find the next line, and else does nothing. Returns `WriteFault`
-// if a write or the flush fails.
+// Flushes the held replies if `lines` needs a read to find the next line, and else does nothing. `lines` must not have
+// returned a final result yet. Returns `WriteFault` if a write or the flush fails.
 fn flush_before_read<W: Write>(
     lines: &Lines,
     outgoing: &mut Outgoing,
@@ -232,7 +233,8 @@ fn flush_before_read<W: Write>(
     Ok(())
 }
 
-// Reads the next line, and answers it if it is a script line. Returns what happened. If the line needs a read, the
+// Reads the next line, and answers it if it is a script line. Returns the outcome. `lines` must not have returned a
+// final result yet, and the buffer `reply` must have a capacity of at least `REPLY_ROOM`. If the line needs a read, the
 // caller must have flushed all held replies before. This function and the next two are inlined, so that the loop over
 // the lines makes fewer calls.
 #[inline(always)]
@@ -280,9 +282,9 @@ fn serve_next<R: Read, W: Write, S: Sink>(
     }
 }
 
-// Answers a line of the input if it is a script line, and holds the reply in `outgoing`. Returns `Answered` then,
-// `WriteFault` if a write failed, and `BadLine` if the line is no script line. `out` is the buffer for a reply that
-// `outgoing` can't take directly.
+// Answers a line of the input, and holds the reply in `outgoing`. Returns `Answered`, or `WriteFault` if a write
+// failed. Returns `BadLine`, and answers nothing, if the line is no script line. `out` is the buffer for a reply that
+// `outgoing` can't take directly. It must have a capacity of at least `REPLY_ROOM`.
 #[inline(always)]
 fn serve_line<W: Write, S: Sink>(
     alloc: Global,
@@ -312,8 +314,8 @@ fn serve_line<W: Write, S: Sink>(
 }
 
 // Answers a script line, and appends the reply to the held ones in `outgoing`. A short reply is written straight into
-// that buffer, if it has room. Any other reply is written by `write_by_buffer`, which uses the buffer `out`. Returns
-// `WriteFault` if a write fails.
+// that buffer, if it has room. Any other reply is written by `write_by_buffer`, which uses the buffer `out`, of a
+// capacity of at least `REPLY_ROOM`. Returns `WriteFault` if a write fails.
 #[inline(always)]
 fn serve_script_line<W: Write, S: Sink>(
     alloc: Global,
@@ -370,8 +372,9 @@ impl LineRest for ReplyRest<'_> {
 }
 
 // Writes the line of a reply into the buffer `out`, and from there appends it, after `front`, to the held lines in
-// `outgoing`. If memory runs out, the line is that of the refusal `memory`. The function is called for a reply that
-// isn't short, or for which the held lines must be written first. Returns `WriteFault` if a write fails.
+// `outgoing`. If memory runs out, the line is that of the refusal `memory`. `out` must have a capacity of at least
+// `REPLY_ROOM`. The function is called for a reply that isn't short, or for which the held lines must be written first.
+// Returns `WriteFault` if a write fails.
 #[inline(never)]
 fn write_by_buffer<W: Write>(
     alloc: Global,
@@ -393,7 +396,8 @@ fn write_by_buffer<W: Write>(
 }
 
 // Replaces the bytes of `out` by the line of a reply, or by the line of the refusal `memory` if memory runs out.
-// Returns true if the bytes are now the line of the reply.
+// Returns true if the bytes are now the line of the reply, and false if they are that of the refusal. `out` must have a
+// capacity of at least `REPLY_ROOM`.
 fn put_reply(alloc: Global, lab: &Lab, reply: &Reply, out: &mut Vec<u8>) -> bool
     requires room { REPLY_ROOM ≤ vec_capacity out.old }
     requires about { IsAbout lab.now.ids lab.now.roster reply.now }
@@ -410,8 +414,8 @@ fn put_reply(alloc: Global, lab: &Lab, reply: &Reply, out: &mut Vec<u8>) -> bool
     }
 }
 
-// Replaces the bytes of `out` by the line of the refusal `memory`, which says that memory ran out. `out` must have room
-// for it, so nothing is allocated, and `unwrap` succeeds.
+// Replaces the bytes of `out` by the line of the refusal `memory`, which says that memory ran out. `out` must have a
+// capacity of at least `REPLY_ROOM`, so nothing is allocated, and `unwrap` succeeds.
 fn write_memory_refusal(alloc: Global, lab: &Lab, out: &mut Vec<u8>)
     requires room { REPLY_ROOM ≤ vec_capacity out.old }
     ensures room { REPLY_ROOM ≤ vec_capacity out.new }

@@ -18,9 +18,10 @@ pub struct ScriptLine<'a> {
     pub request: &'a [u8],
 }
 
-/// Reads a script line, without its newline: a connection in decimal, one space and a request. Returns `None` if the
-/// line has another form, the lab doesn't have the connection (`sessions` is how many it has), or the request is too
-/// long. The function is inlined together with `parts_of`, since the results of both are large to return.
+/// Reads a script line, without its newline: a connection in decimal, one space and a request. The line must have at
+/// most `MAX_SCRIPT_LINE` bytes. Returns `None` if the line has another form, the lab doesn't have the connection
+/// (`sessions` is how many it has), or the request is too long. The function is inlined together with `parts_of`, since
+/// the results of both are large to return.
 #[inline(always)]
 pub fn read_script_line(line: &[u8], sessions: u8) -> Option<ScriptLine<'_>>
     requires few { sessions ≤ MAX_SESSIONS }
@@ -40,8 +41,8 @@ pub fn read_script_line(line: &[u8], sessions: u8) -> Option<ScriptLine<'_>>
     })
 }
 
-// Returns the connection and the request of a script line. Returns `None` if `line` isn't a script line, the lab
-// doesn't have the connection, or the request is too long.
+// Returns the connection and the request of a script line. Returns `None` if `line` doesn't have the form of a script
+// line, the lab doesn't have the connection (`sessions` is how many it has), or the request is too long.
 #[inline(always)]
 fn parts_of(line: &[u8], sessions: u8) -> Option<(u8, &[u8])>
     requires { IsWithinLimit MAX_SCRIPT_LINE line.now }
