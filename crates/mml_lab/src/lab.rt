@@ -91,7 +91,7 @@ impl Lab {
         self.network.neighbours(a).has(b)
     }
 
-    /// Returns the registers at the beginning of a node, which must exist.
+    /// Returns the registers that a node, which must exist, has at the beginning.
     pub fn regs(&self, node: Rank) -> Regs
         requires { node < length self.now.ids }
         ensures { result ≡ registers_at self.now.network.registers node }
