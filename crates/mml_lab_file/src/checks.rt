@@ -317,9 +317,9 @@ fn check_range(greatest: u64, number: i64, key: Key) -> Result<u64, LabFault>
     }
 }
 
-/// Returns the number of events (first) and of sessions (second). Returns `Limit` for the first number that is out of
-/// its range: events from 1 to 100000, then sessions from 1 to 16, then at most 256 students. `students` is the number
-/// of students.
+/// Returns how many events (first) and sessions (second) the file allows. Returns `Limit` for the first number that is
+/// out of its range: events from 1 to 100000, then sessions from 1 to 16, then at most 256 students. `students` is the
+/// number of students.
 #[tactic(auto, unfolding(crate::specs::Reading::limited))]
 fn check_limits(bounds: RawLimits, students: usize) -> Result<(u64, u8), LabFault>
     ensures tests { Gives is_lab_memory (λ _. tt {0}) result

@@ -50,8 +50,8 @@ pub struct RawLab {
     pub links: Vec<(i64, i64)>,
 }
 
-/// Returns the value under the key `name` of a table, or `None` if the table doesn't have the key. This is `get`, with
-/// the contract that the proofs of its callers need.
+/// Returns the value under the key `name` of a table, or `None` if the table doesn't have the key. This is
+/// `Table::get`, with the contract that the proofs of its callers need.
 fn find<'a>(table: &'a Table, name: &str) -> Option<&'a Value>
     ensures { option_map (λ v. view v.now) result ≡ get_member name.now (table_view table.now) }
 {
@@ -381,8 +381,8 @@ fn teacher_at(alloc: Global, table: &Table) -> Result<Account, LabFault>
     account_at(alloc, teacher, Key::TeacherName, Key::TeacherKey)
 }
 
-/// Returns the contents of a lab file, whose table this is. Reads the keys in the order of `Key`. Returns the error of
-/// the first key that is missing though required (`Missing`), or whose value is of another kind (`WrongKind`).
+/// Returns the contents of the lab file whose TOML is `table`. Reads the keys in the order of `Key`. Returns the error
+/// of the first key that is missing though required (`Missing`), or whose value is of another kind (`WrongKind`).
 #[tactic(auto, unfolding(crate::specs::Shape::raw_of, crate::specs::Shape::students_of, crate::specs::Shape::nodes_of))]
 pub fn read_raw(alloc: Global, table: &Table) -> Result<RawLab, LabFault>
     ensures { Gives is_lab_memory raw_view result (raw_of (table_view table.now)) }
