@@ -17,7 +17,8 @@ use mml_ids::{NodeSet, Rank};
 use mml_rules::{Regs, Rule, Scene, effect};
 
 /// Applies all chosen moves to the network at once. The guard of each must hold at its node. `effects` is working
-/// memory for the new registers, with an entry for each node; its former contents don't matter.
+/// memory for the new registers; its former contents don't matter. `effects` and `chosen` must have an entry for each
+/// node.
 pub fn move_chosen(network: &mut IndexedNetwork, effects: &mut [Regs], chosen: &Choices)
     requires choices { length chosen.now ≡ length network.old.registers }
     requires room { length effects.old ≡ length network.old.registers }
@@ -35,8 +36,9 @@ pub fn move_chosen(network: &mut IndexedNetwork, effects: &mut [Regs], chosen: &
     write_effects(network, effects, nodes);
 }
 
-/// Computes the registers of each of `nodes` after its chosen move, and writes them into `effects`, which has an entry
-/// for each node, by rank. `nodes` are the nodes that have a chosen move, and the guard of each move must hold.
+/// Computes the registers of each of `nodes` after its chosen move, and writes them into `effects`, by rank. `effects`
+/// and `chosen` must have an entry for each node. `nodes` are the nodes that have a chosen move, and the guard of each
+/// move must hold.
 fn compute_effects(network: &IndexedNetwork, effects: &mut [Regs], chosen: &Choices, nodes: NodeSet)
     requires choices { length chosen.now ≡ length network.now.registers }
     requires room { length effects.old ≡ length network.now.registers }

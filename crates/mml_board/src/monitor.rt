@@ -28,7 +28,7 @@ pub fn privileged_set(network: &IndexedNetwork) -> NodeSet
 
 /// Returns the set of the privileged nodes after a change of the network. `privileged` is the set from before the
 /// change, and `changed` must have all nodes whose registers or links have changed. Tests only the nodes in `changed`
-/// and their neighbours, and takes all other nodes from `privileged`.
+/// and their neighbours. All other nodes are in the result exactly if they are in `privileged`.
 pub fn refresh(network: &IndexedNetwork, privileged: NodeSet, changed: NodeSet) -> NodeSet
     requires { (j : ℕ) → IsUntouched (configuration_of network.now) changed j →
         set.contains privileged j ≡ is_privileged_node (configuration_of network.now) j }
