@@ -60,8 +60,8 @@ impl Ruling {
 /// and the caller makes the report.
 ///
 /// The ruling on an act whose clauses hold is `Full` if there are `limit` events already, and otherwise `Journal` if
-/// `is_halted` is set. In any other case it is the granted event with its effect, which the caller has to apply. Only a
-/// look allocates. Returns `Memory` if memory runs out.
+/// `is_halted` is set. In any other case it is the granted event with its effect; the caller has to apply the event.
+/// Only a look allocates. Returns `Memory` if memory runs out.
 // `rule_on` isn't inlined. When it was, a hidden node took other steps than a node that doesn't exist.
 #[inline(never)]
 pub fn rule_on(
