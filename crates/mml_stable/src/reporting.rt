@@ -36,8 +36,8 @@ pub fn report(alloc: Global, board: &Board) -> Result<Report, Memory>
     report_lists(alloc, board)
 }
 
-/// Returns the report on the board's configuration. `report` returns the result of this function, and adds to its
-/// contract that the report names only nodes of the board. Returns `Memory` if memory runs out.
+/// Returns the report on the board's configuration. `report` returns the same result, and its contract also says that
+/// the report names only nodes of the board. Returns `Memory` if memory runs out.
 fn report_lists(alloc: Global, board: &Board) -> Result<Report, Memory>
     ensures { IfOk result (λ report. report ≡ report_of board.now) }
 {
