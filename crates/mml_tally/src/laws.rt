@@ -110,7 +110,7 @@ pub fn who_has_no_close_has_no_applied_move()
 {}
 
 /// The counts of a student's moves don't change if the other students get other names, or several of them become one.
-/// `f` maps a student to the new one, and only the student `s` to `s`.
+/// `f` maps each student to the new one, and maps only `s` to `s`.
 pub fn marks_depend_on_no_other_name()
     ensures { (r : RosterValue) (es : List Event) (s : ℕ) (f : ℕ → ℕ) →
         ((t : ℕ) → (f t ≡ s) ↔ (t ≡ s)) → marks_of r (map (asked_as f) es) s ≡ marks_of r es s }
@@ -152,7 +152,7 @@ pub fn columns_are_sums_of_denials()
 {}
 
 /// If the lines of others get other names, the counts for a student don't change: the denials, the refusals, and the
-/// moves that the student asked for at a node. `f` maps a student to the new one, and only the student `s` to `s`.
+/// moves that the student asked for at a node. `f` maps each student to the new one, and maps only `s` to `s`.
 pub fn asks_depend_on_no_other_name()
     ensures denied { (asks : List Ask) (s : ℕ) (f : ℕ → ℕ) → ((t : ℕ) → (f t ≡ s) ↔ (t ≡ s)) →
         denials_of (map (asked_under f) asks) s ≡ denials_of asks s }

@@ -30,8 +30,8 @@ pub struct Run {
     pub closes_since: u64,
 }
 
-/// Returns the counts of a run, whose events these are. `granted` must have the moves that the events grant, each with
-/// what happened to it.
+/// Returns the counts of the run with these events. `granted` must have the moves that the events grant, each with what
+/// happened to it.
 pub fn run_of(events: &[Event], granted: &[Move]) -> Run
     requires { granted.now ≡ moves events.now }
     ensures { result ≡ run_of events.now }
