@@ -55,7 +55,7 @@ pub(crate) fn read_compact<'a>(line: &'a [u8], fields: &mut Fields<'a>) -> bool
 }
 
 /// Reads the member of an object, a key and its value, at the front of the text into `fields`. Returns the text after
-/// the member, or `None` if the member isn't in the usual layout.
+/// the member. Returns `None`, and leaves `fields` as it was, if the member isn't in the usual layout.
 #[inline(always)]
 fn member<'a>(text: &'a [u8], fields: &mut Fields<'a>) -> Option<&'a [u8]>
     ensures { IfSome result (λ rest. PutsMember text.now rest.now fields.old fields.new) }
@@ -121,7 +121,7 @@ fn known_value<'a>(front: u32, text: &'a [u8], fields: &mut Fields<'a>) -> Optio
 }
 
 /// Reads a member with any key into `fields`, and returns the text after it. `text` begins after the quotation mark
-/// that opens the key. Returns `None` if the member isn't in the usual layout.
+/// that opens the key. Returns `None`, and leaves `fields` as it was, if the member isn't in the usual layout.
 #[inline(never)]
 fn any_member<'a>(text: &'a [u8], fields: &mut Fields<'a>) -> Option<&'a [u8]>
     ensures { IfSome result (λ rest. (whole : List ℕ) → BeginsQuoted whole text.now →
