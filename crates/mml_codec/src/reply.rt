@@ -118,7 +118,7 @@ pub enum Reply {
     Refuse(Refused),
 }
 
-/// Replaces the reply in `out` by another. The function is inlined, so that a reply, which is large, is written
+/// Replaces the reply in `out` by `reply`. The function is inlined, so that a reply, which is large, is written
 /// straight into `out`.
 #[inline(always)]
 pub fn put_in(out: &mut Reply, reply: Reply)

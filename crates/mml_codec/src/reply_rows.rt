@@ -111,7 +111,7 @@ pub(crate) fn put_see(ids: &IdTable, see: &See, out: &mut Vec<u8>) -> Result<(),
 }
 
 /// Appends the text of the reply to a granted move to `out`. `numbers` are those of the event, `node` is the node, and
-/// `kind` is its chosen rule. Returns `Memory` if memory runs out.
+/// `kind` is the kind of the rule that was chosen for it. Returns `Memory` if memory runs out.
 #[tactic(auto, unfolding(crate::specs::Facts::object_text))]
 pub(crate) fn put_move(
     ids: &IdTable,

@@ -1,4 +1,5 @@
-//! The text of replies. The error `Memory` means that memory ran out.
+//! The text of replies. The error `Memory` means that memory ran out. A reply must name only nodes that have
+//! identifiers in `ids`, and participants in the roster.
 ghost use Rattle.std.specs.Prelude.{◌≡◌, ◌≤◌, ◌<◌, ◌+◌, ◌++◌, ◌∷◌, [], true, length, OnOk, OnErr, IsOk, vec_capacity, if◌then◌else◌};
 ghost use Rattle.mml_ids.specs.Pieces.{Puts};
 ghost use Rattle.mml_codec.specs.Replies.{text, reply_line, is_short, IsAbout, TellsFor};
