@@ -64,11 +64,11 @@ impl From<WriteFault> for ScriptFault {
     }
 }
 
-/// Answers the lines of a script, one by one, in a hall of the lab. Returns the hall at the end of the input, or the
-/// reason why the script ended before. Replies are buffered: the writer is flushed only before the next line needs a
-/// read, and before a bad line is reported. The lines of the granted events go to the sink, which must have taken
-/// nothing yet, and is dropped with the hall if an error ends the script. Fewer than 2^64 - 1 writes to the sink may
-/// have failed. Returns `Memory` only before anything is read.
+/// Answers the lines of a script, one by one, in a hall of the lab. Returns the hall when the input ends, or the reason
+/// why the script ended before. Replies are buffered: the writer is flushed only before the next line needs a read, and
+/// before a bad line is reported. The lines of the granted events go to the sink, which must have taken nothing yet,
+/// and is dropped with the hall if an error ends the script. Fewer than 2^64 - 1 writes to the sink may have failed.
+/// Returns `Memory` only before anything is read.
 pub fn run_script<R: Read, W: Write, S: Sink + Drop>(
     alloc: Global,
     lab: Lab,
@@ -235,8 +235,8 @@ fn flush_before_read<W: Write>(
 
 // Reads the next line, and answers it if it is a script line. Returns the outcome. `lines` must not have returned a
 // final result yet, and the buffer `reply` must have a capacity of at least `REPLY_ROOM`. If the line needs a read, the
-// caller must have flushed all held replies before. This function and the next two are inlined, so that the loop over
-// the lines makes fewer calls.
+// caller must have flushed all held replies before. This function, `serve_line` and `serve_script_line` are inlined, so
+// that the loop over the lines makes fewer calls.
 #[inline(always)]
 fn serve_next<R: Read, W: Write, S: Sink>(
     alloc: Global,
