@@ -60,8 +60,8 @@ pub fn a_reply_is_one_line()
         IsAbout ids roster r → AreWritableCounts roster r → All (λ byte. byte ≢ 10) (text ids roster r) }
 {}
 
-/// The text of a reply is a JSON object without spaces between its parts, is read as that object, and has its keys in
-/// rising byte order.
+/// The text of a reply is a JSON object without spaces between its parts, and is read as that object. The keys of the
+/// object are in rising byte order.
 pub fn a_reply_reads_back()
     ensures text { (ids : List ℕ) (roster : RosterValue) (r : Reply) → IsRoster roster →
         IsAbout ids roster r → text ids roster r ≡ compact_text (reply_value ids roster r) }
@@ -100,7 +100,7 @@ pub fn refusals_have_fixed_lines()
 {}
 
 /// The limits of requests and replies, as numbers. `MAX_REQUEST` is the most bytes of a request line. `REPLY_ROOM` is
-/// the room in which any reply but a look and a report is written without allocating.
+/// the room, in bytes, in which any reply but a look and a report is written without allocating.
 pub fn limits()
     ensures request { MAX_REQUEST ≡ 4096 }
     ensures room { REPLY_ROOM ≡ 2048 }
