@@ -54,7 +54,7 @@ pub fn courtships_in_numbers()
 
 /// A courting pointer leads from an unmarried node to a higher node that may still marry it. The potential that counts
 /// these pointers is a number that depends on the configuration. A step of moves whose guards hold lowers it by at
-/// least the number of nodes that move. For n nodes it is at most 3n + 2k, where k is n²/4, rounded down.
+/// least the number of nodes that move. For n nodes the potential is at most 3n + 2k, where k is n²/4, rounded down.
 pub fn step_lowers_courting_potential()
     ensures lower { (c : Configuration) (chosen : ℕ → Option Rule) → IsLawful c → AllHold c chosen →
         courting_potential (step c chosen) + count_below c.size (moves chosen) ≤ courting_potential c }
