@@ -14,7 +14,7 @@ ghost use Rattle.mml_engine.specs.Named.{NamesLast};
 ghost use Rattle.mml_engine.specs.Told.{told_by};
 ghost use Rattle.mml_engine.specs.Turns.{Turn};
 
-/// What a session has seen after it answered a line begins with all events that it had seen before.
+/// The events that a session has seen after it answered a line begin with those that it had seen before.
 pub fn seen_goes_on()
     ensures { (lab : LabValue) (known known' : Option Who) (old new : List Event) (line : List ℕ) (r : Reply) →
         Turn (told_by (λ (e : LabValue). e) (λ e (v : List Event). v)) lab.roster known lab old line r known' lab new →
