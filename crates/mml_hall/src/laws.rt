@@ -46,15 +46,16 @@ pub fn refusals_change_nothing()
         → Turn lab st connection line out → IsRefusal out.reply → IsKept st out.state }
 {}
 
-/// Answering a line makes at most one event. The reply then grants the event, and names its place. With any other
-/// reply, the world and the events stay as they were.
+/// Answering a line makes at most one event. If it makes one, the reply grants the event and names its place. With any
+/// other reply, the world and the events stay as they were.
 pub fn events_grow_by_grants()
     ensures { (lab : LabValue) (st : State) (connection : ℕ) (line : List ℕ) (out : Outcome)
         → Turn lab st connection line out → GrowsByGrant st out }
 {}
 
 /// The journal is halted exactly if the line of a granted event can't be written to its sink. The event then doesn't
-/// happen. Once halted, the journal stays so. If the reply is the refusal `journal`, the journal is halted afterwards.
+/// happen. Once halted, the journal stays halted. If the reply is the refusal `journal`, the journal is halted
+/// afterwards.
 pub fn failed_puts_halt_for_good()
     ensures failed { (lab : LabValue) (st : State) (connection : ℕ) (line : List ℕ)
         → is_grant (plain_turn lab st connection line).reply ≡ true
