@@ -215,8 +215,8 @@ pub fn rulings_name_nodes()
 {}
 
 /// The identifiers of a lab are names of its nodes in the order of their ranks. So the rules do the same with
-/// identifiers as with ranks, in the lab's network and in each world of its nodes. A number that is no identifier has
-/// no link and no pointer, and its m is false.
+/// identifiers as with ranks, in the lab's network and in each world with the lab's nodes. A number that is no
+/// identifier has no link and no pointer, and its m is false.
 pub fn identifiers_are_names()
     ensures lab { (lab : LabValue) → IsLab lab →
         IsRenamed (slice_index lab.ids) (configuration_of lab.network)
