@@ -146,7 +146,7 @@ pub fn refusals_are_of_one_student()
 {}
 
 /// Let each line have the number of a clause and a denial that belongs to this clause, or neither. Then the number of a
-/// student's lines that a clause denied is the sum of the counts of the denials that belong to it.
+/// student's lines that a clause denied is the sum of the counts of the denials that belong to this clause.
 pub fn columns_are_sums_of_denials()
     ensures { (asks : List Ask) (s : ℕ) → AreNamed asks → AreSums (denials_of asks s) (named_of asks s) }
 {}
