@@ -16,7 +16,7 @@ pub struct Retrying<T: Drop> {
 }
 
 impl<T: Drop> Retrying<T> {
-    /// Wraps a reader or a writer. No read or write of it has failed yet because memory ran out.
+    /// Wraps a reader or a writer. `lacked_memory` is false at first.
     pub fn new(inner: T) -> Retrying<T>
         ensures inner { result.inner ≡ inner }
         ensures lacked_memory { result.lacked_memory ≡ false }
