@@ -18,7 +18,7 @@ pub enum FileFault {
 }
 
 impl From<IoError> for FileFault {
-    // Turns the error of a call into a fault: `Memory` if memory ran out, and else `Refused`.
+    // Turns the system's error into a fault: `Memory` if memory ran out, and otherwise `Refused`.
     fn from(error: IoError) -> FileFault
         ensures memory { error_kind error ≡ ErrorKind.OutOfMemory → result ≡ Memory }
         ensures refused { error_kind error ≢ ErrorKind.OutOfMemory → result ≡ Refused }
@@ -50,8 +50,8 @@ impl<T: Drop> From<AllocFailed<T>> for FileFault {
 }
 
 impl From<TryLockError> for FileFault {
-    // Turns the error of locking a file into a fault: `Refused` if another program holds the lock, and else the fault
-    // for the error of the call.
+    // Turns the error of locking a file into a fault: `Memory` if memory ran out, and otherwise `Refused`, also if
+    // another program holds the lock.
     fn from(error: TryLockError) -> FileFault {
         match error {
             TryLockError::Error(error) => FileFault::from(error),

@@ -14,8 +14,8 @@ const LOOKS: u32 = 50;
 const PAUSE: i32 = 20;
 
 /// Opens a named pipe to append to it. Returns `Refused` if nobody reads it within a second (`LOOKS` checks with a
-/// `PAUSE` after each). Opening a pipe only for writing would wait for a reader, so the pipe is held open for reading,
-/// too, while it is opened for writing.
+/// `PAUSE` after each). Opening a pipe only for writing would wait for a reader. So the pipe is first opened for
+/// reading and writing. That handle is closed once a second one is open only for writing.
 pub fn open_pipe<R: Files<File = File>>(rt: &R, path: &str) -> Result<File, FileFault> {
     let both = appending().read(true).open(rt, path)?;
     let file = appending().open(rt, path)?;
