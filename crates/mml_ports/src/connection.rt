@@ -31,8 +31,8 @@ impl<'a, Rt> SharedConnection<'a, Rt> {
 }
 
 impl<'a, Rt: Wait> SharedConnection<'a, Rt> {
-    /// Keeps the reason why the connection is ended, to send it to the other side. Does nothing if there is a reason
-    /// already.
+    /// Keeps `why`, the reason why the connection is ended, to be sent to the other side later. Does nothing if a
+    /// reason was kept already.
     pub fn note_end_reason(&self, why: EndReason) {
         self.socket.note_end_reason(self.rt, why);
     }

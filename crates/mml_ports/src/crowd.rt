@@ -56,7 +56,7 @@ impl Guest {
                 || now.duration_since(self.since) >= Duration::from_millis(GRACE))
     }
 
-    // Returns whether both guests are known as the same participant, and this one isn't leaving.
+    // Returns whether this guest isn't leaving, and its hello was granted to the same participant as the other guest's.
     fn has_name_of(&self, other: &Guest) -> bool {
         match (self.greeting, other.greeting) {
             (Some(own), Some(its)) => own == its && !self.is_leaving,
@@ -144,8 +144,8 @@ impl Crowd {
         self.is_wanted.load(Ordering::SeqCst)
     }
 
-    /// If a new connection waits for a seat, sends away a stranger, if `let_stranger_go` finds one. Does nothing if the
-    /// clock fails. The function is called after a connection was answered, or when the hello of a connection is
+    /// If a new connection waits for a seat, calls `let_stranger_go`, which may send a stranger away. Does nothing if
+    /// the clock fails. The function is called after a connection was answered, or when the hello of a connection is
     /// denied, since this connection may then be sent away.
     pub fn make_room<Rt: Wait + Clock>(&self, rt: &Rt) {
         if self.is_wanted()
@@ -161,9 +161,9 @@ impl Crowd {
         count_strangers(guests) >= (self.seats / STRANGERS).max(1)
     }
 
-    // Sends away the first stranger for whom `may_go` is true at the time `now`. Does so only if strangers hold all the
-    // seats that they may, or if no seat is free and nobody is leaving. Without the second case, a few strangers could
-    // keep the last seats until their deadlines.
+    // Sends away the stranger who came first among those for whom `may_go` is true at the time `now`, if there is one.
+    // Does so only if strangers hold all the seats that they may, or if no seat is free and nobody is leaving. Without
+    // the second case, a few strangers could keep the last seats until their deadlines.
     fn let_stranger_go<Rt: Wait>(&self, rt: &Rt, guests: &mut Vec<Guest>, now: Instant) {
         let is_full = guests.len() >= self.seats && !is_one_leaving(guests);
         if (is_full || self.is_share_taken(guests))
@@ -182,11 +182,12 @@ impl Crowd {
         is_leaving || !self.partings.is_empty(rt)
     }
 
-    /// Returns whether there is a seat for a new connection: one is free, and strangers don't hold all that they may.
-    /// If there is none, sends away at most one guest, and returns `false`. The first choice is a stranger, by
-    /// `let_stranger_go`. The second is the last guest whose participant has too many seats, by `one_too_many`. That
-    /// guest is sent away only if strangers don't hold all that they may, nobody is leaving, and new connections have
-    /// waited for `MOMENT`. `wanted` is how long they have waited.
+    /// Returns whether a new connection may have a seat at the time `now`: a seat is free, and strangers don't hold all
+    /// the seats that they may. Otherwise sends away at most one guest, and returns `false`. The first choice is the
+    /// stranger whom `let_stranger_go` sends away, if any. The second is the guest whom `one_too_many` finds, the last
+    /// one whose participant has too many seats. That guest is sent away only if strangers don't hold all the seats
+    /// that they may, nobody is leaving, and new connections have waited for `MOMENT`. `wanted` is how long they have
+    /// waited.
     pub fn finds_room<Rt: Wait>(&self, rt: &Rt, now: Instant, wanted: Duration) -> bool {
         let mut guests = self.guests.lock(rt);
         let is_share_taken = self.is_share_taken(&guests);
@@ -229,7 +230,8 @@ fn count_strangers(guests: &Vec<Guest>) -> usize {
     count
 }
 
-// Returns the index of the first stranger who may be sent away at the time `now`, or `None` if there is no such guest.
+// Returns the index of the first guest who is a stranger and may be sent away at the time `now`, or `None` if there is
+// none.
 fn first_who_may_go(guests: &Vec<Guest>, now: Instant) -> Option<usize> {
     for index in 0..guests.len() {
         if guests[index].may_go(now) {

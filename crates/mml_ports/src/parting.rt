@@ -37,9 +37,9 @@ struct Parting {
 
 impl Parting {
     // Does the next step for the connection if the step is due at the time `now`, and otherwise returns the connection
-    // unchanged. If everything was sent, closes the connection, and returns `None`. If not, sends the denial of its
-    // hello and the line of `Busy`, and shuts down its writing side. Then returns the connection, to be closed later,
-    // or `None` if `closing` has closed it already.
+    // unchanged. If everything was sent, closes the connection, and returns `None`. If its denial is still to be sent,
+    // sends the denial and the line of `Busy`, and shuts down its writing side. Then returns the connection, to be
+    // closed later, or `None` if `closing` has closed it already.
     fn step(self, now: Instant) -> Option<Parting> {
         if now < self.next {
             return Some(self);
@@ -57,7 +57,7 @@ impl Parting {
 
 // Shuts down the writing side of a non-blocking stream, and drops what the other side sent. Returns the connection,
 // which is to be closed `PARTING` milliseconds after `now`. Closes the stream at once, and returns `None`, if the other
-// side has ended or is gone, or the clock can't represent that time.
+// side has shut down its writing side or is gone, or the clock can't represent that time.
 fn closing(stream: TcpStream, now: Instant) -> Option<Parting> {
     // The shutdown fails if the other side is gone.
     if stream.shutdown(Shutdown::Write).is_err() || !drain(&stream) {
@@ -71,7 +71,7 @@ fn closing(stream: TcpStream, now: Instant) -> Option<Parting> {
     })
 }
 
-// Returns the index of the first connection to which everything was sent, or `None` if there is no such connection.
+// Returns the index of the first connection in the list to which everything was sent, or `None` if there is none.
 fn first_sent(all: &VecDeque<Parting>) -> Option<usize> {
     for index in 0..all.len() {
         if let Some(parting) = all.get(index)
@@ -91,7 +91,7 @@ pub(crate) fn send_line(stream: &TcpStream, line: &[u8]) {
 
 /// Reads and drops up to `PARTING_SIZE` bytes of what the other side sent. Without this, closing the socket would
 /// discard the bytes that the system has still to send. Waits for at most the stream's read timeout. Returns whether
-/// the other side may send more: `false` if it has ended or is gone.
+/// the other side may send more: `false` if it has shut down its writing side or is gone.
 pub(crate) fn drain(stream: &TcpStream) -> bool {
     let mut stream = stream;
     let mut unwanted = [0; PARTING_SIZE];
@@ -136,9 +136,10 @@ impl Partings {
         let _ = self.all.lock(rt).push_back(parting);
     }
 
-    /// Sends a connection the line of `why`, the reason why it ends, if there is a reason and the line fits at once.
-    /// Shuts down the writing side, and adds the connection to the list, so that the other side has time to read.
-    /// Closes it at once if memory runs out, the clock fails, or the system can't make the stream non-blocking.
+    /// Sends a connection the line of `why`, the reason why it ends, if there is one, or as much of the line as the
+    /// other side takes at once. Shuts down the writing side, and adds the connection to the list, so that the other
+    /// side has time to read. Closes the connection at once if the other side has shut down its writing side or is
+    /// gone. Also does so if memory runs out, the clock fails, or the system can't make the stream non-blocking.
     pub fn add_ending<Rt: Wait + Clock>(&self, rt: &Rt, stream: TcpStream, why: Option<EndReason>) {
         if stream.set_nonblocking(true).is_err() {
             return;

@@ -62,7 +62,8 @@ impl<'a, Rt: Clock + Wait + Eprint> Newcomer<'a, Rt> {
     }
 
     // Returns what the newcomer has sent, without taking it from the socket. Once a line is found, the socket isn't
-    // checked any more. The first check makes the socket's reads non-blocking.
+    // checked any more. The first check makes the socket's reads non-blocking. If the system refuses that, returns
+    // `Nothing`.
     fn peek(&mut self) -> Peeked {
         let SharedConnection {
             rt,
@@ -141,8 +142,8 @@ impl<'a, Rt: Clock + Wait + Eprint> Port<'a, Rt> {
     }
 
     // Accepts the next connection, and returns it as a newcomer, which isn't in the queue yet. If the port
-    // `is_hurried`, doesn't wait, and returns the error `WouldBlock` if none has come. Any other error is the system's,
-    // or that memory ran out.
+    // `is_hurried`, doesn't wait, and returns the error `WouldBlock` if no connection has come. Returns another error
+    // if the system refuses a call, the clock fails, or memory runs out.
     fn accept(&mut self) -> io::Result<Newcomer<'a, Rt>> {
         let stream = self.next_stream()?;
         // If the system refuses to send each write at once, replies are still sent, only later.
@@ -178,7 +179,7 @@ impl<'a, Rt: Clock + Wait + Eprint> Port<'a, Rt> {
 
     // Returns the stream of the next connection: the one that was accepted before the port was served, or one that is
     // accepted now. If the port `is_hurried`, doesn't wait for a connection, and returns the error `WouldBlock` if none
-    // has come.
+    // has come. Returns another error if the accept fails.
     fn next_stream(&mut self) -> io::Result<TcpStream> {
         match self.first.take() {
             Some(stream) => Ok(stream),
@@ -206,9 +207,9 @@ impl<'a, Rt: Clock + Wait + Eprint> Port<'a, Rt> {
     }
 
     // Returns the next newcomer to serve, if there is a seat for it, and otherwise `None`. If there is no seat,
-    // `Crowd::finds_room` tries to free one, and the first newcomer is turned away if it has waited for half a second.
-    // Notes in the crowd whether a newcomer waits for a seat, and in `wanted_since` since when. Also returns `None` if
-    // there are no newcomers, or the clock fails.
+    // `Crowd::finds_room` tries to free one, and the first newcomer in the queue is turned away if it has waited for
+    // half a second. Notes in the crowd whether a newcomer waits for a seat, and in `wanted_since` since when. Also
+    // returns `None` if there are no newcomers, or the clock fails.
     fn admit_next(&mut self) -> Option<SocketAccepted<'a, Rt>> {
         let Some(first) = self.waiting.front() else {
             self.wanted_since = None;
@@ -237,8 +238,8 @@ impl<'a, Rt: Clock + Wait + Eprint> Port<'a, Rt> {
     }
 
     // Returns the index of the newcomer to turn away at the time `now` if too many wait. The first choice is the first
-    // newcomer that has sent no line although it had time for one. The second is the first that hasn't sent a hello,
-    // and the last is the first of all.
+    // newcomer in the queue that has sent no line although it had time for one. The second choice is the first that
+    // hasn't sent a hello, and the last choice is the first in the queue.
     fn first_to_drop(&mut self, now: Instant) -> usize {
         let mut first_without_hello = None;
         for index in 0..self.waiting.len() {
@@ -255,8 +256,9 @@ impl<'a, Rt: Clock + Wait + Eprint> Port<'a, Rt> {
         first_without_hello.unwrap_or(0)
     }
 
-    // Returns the index of the newcomer to serve next. The first choice is the first newcomer that has sent a hello.
-    // The second is the first that has sent another line, and the last is the first of all.
+    // Returns the index of the newcomer to serve next. The first choice is the first newcomer in the queue that has
+    // sent a hello. The second choice is the first that has sent another line, and the last choice is the first in the
+    // queue.
     fn first_to_speak(&mut self) -> usize {
         let mut first_with_line = None;
         for index in 0..self.waiting.len() {
@@ -274,9 +276,9 @@ impl<'a, Rt: Clock + Wait + Eprint> Port<'a, Rt> {
     }
 
     // Takes the newcomer that `first_to_speak` chooses from the queue, adds it to the crowd's guests, and returns it,
-    // to be served from `now` on. Makes its socket's reads blocking again if `peek` has changed that. Returns `None` if
-    // there are no newcomers. If memory runs out, notes that in the host's state: the newcomer is served, but isn't
-    // counted as a guest.
+    // to be served from `now` on. Makes its socket's reads blocking again if `peek` has made them non-blocking. Returns
+    // `None` if there are no newcomers. If memory runs out, notes that in the host's state: the newcomer is served, but
+    // isn't counted as a guest.
     fn take_next(&mut self, now: Instant) -> Option<SocketAccepted<'a, Rt>> {
         // A single newcomer is chosen without a check.
         let index = if self.waiting.len() > 1 {
@@ -319,11 +321,11 @@ impl<'a, Rt: Clock + Wait + Eprint> Port<'a, Rt> {
         Accepted::Over
     }
 
-    // Prepares the next accept after one that failed with this kind of error. If memory ran out, notes that. If the
-    // system refused the accept, frees descriptors: closes connections that were sent everything, and turns the first
-    // newcomer away. Then waits until a session ends, but at most for a tenth of a second, or for 5 milliseconds if the
-    // port `is_hurried`. `ended` is how many sessions had ended before the accept. Doesn't wait if a signal or the
-    // other side broke off the accept.
+    // Prepares the next accept after one that failed with an error of this `kind`. If memory ran out, notes that in the
+    // host's state. If the system refused the accept, frees descriptors: closes connections that were sent everything,
+    // and turns the first newcomer in the queue away. Then waits until a session ends, but at most for a tenth of a
+    // second, or for 5 milliseconds if the port `is_hurried`. `ended` is how many sessions had ended before the accept.
+    // Doesn't wait if a signal or the other side broke off the accept.
     fn put_off(&mut self, kind: ErrorKind, ended: u64) {
         match kind {
             ErrorKind::OutOfMemory => self.state.note_memory(self.rt),
@@ -347,8 +349,8 @@ impl<'a, Rt: Clock + Wait + Eprint> Accept<
     SocketCutOff<'a, Rt>,
 > for Port<'a, Rt> {
     // Sends the denials that are due, and returns the next newcomer to serve, if there is a seat for it. If nobody can
-    // be served at once, first accepts one more connection and adds it to the queue. Returns `Nobody` if there is still
-    // no seat, or the accept fails. Once the host is over, turns all newcomers away, and returns `Over`.
+    // be served at once, accepts one more connection, adds it to the queue, and tries again. Returns `Nobody` if there
+    // is still no seat, or the accept fails. Once the host is over, turns all newcomers away, and returns `Over`.
     fn accept_next(&mut self) -> SocketAccepted<'a, Rt> {
         let ended = self.state.ended_count(self.rt);
         if self.state.is_over(self.rt) {
@@ -392,7 +394,8 @@ pub struct EndBell<'a, Rt> {
 impl<'a, Rt: Net<Listener = TcpListener, Stream = TcpStream> + Clock + Wait> Bell
     for EndBell<'a, Rt> {
     // Counts a session that has ended. `is_dismissed` says whether the class is over, by the teacher's bye or because a
-    // port can't be served. If it is, notes that, closes the spare descriptor, and wakes the accepts at both ports.
+    // port can't be served. If it is over, notes that in the host's state, closes the spare descriptor, and wakes the
+    // accepts at both ports.
     fn ring(&self, is_dismissed: bool) {
         self.state.note_end(self.rt, is_dismissed);
         if is_dismissed {
@@ -404,7 +407,7 @@ impl<'a, Rt: Net<Listener = TcpListener, Stream = TcpStream> + Clock + Wait> Bel
     }
 }
 
-// Connects to a port of this host, to wake the accept that waits there. Tries up to 50 times, and stops when a
+// Connects to a port of this host, to wake the accept that waits there. Tries up to 50 times (`WAKE_TRIES`), until a
 // connection is made, or nobody listens there any more.
 fn wake<Rt: Net<Listener = TcpListener, Stream = TcpStream> + Clock>(rt: &Rt, port: SocketAddr) {
     let timeout = Duration::from_millis(WAKE_TIMEOUT);

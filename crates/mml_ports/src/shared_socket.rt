@@ -63,7 +63,8 @@ pub struct SharedSocket {
 }
 
 impl SharedSocket {
-    /// Returns a shared socket over this stream, before anything was read. `number` is that of its connection.
+    /// Returns a shared socket over this stream, before anything was read. `number` is the connection's number among
+    /// those of its port.
     pub fn new(stream: TcpStream, number: u64) -> SharedSocket {
         SharedSocket {
             number,
@@ -84,7 +85,7 @@ impl SharedSocket {
         }
     }
 
-    /// Keeps the reason why the connection is ended. Does nothing if there is a reason already.
+    /// Keeps `why` as the reason why the connection is ended. Does nothing if there is a reason already.
     pub(crate) fn note_end_reason<Rt: Wait>(&self, rt: &Rt, why: EndReason) {
         let mut reason = self.end_reason.lock(rt);
         if reason.is_none() {
@@ -92,14 +93,14 @@ impl SharedSocket {
         }
     }
 
-    /// Returns the reason why the connection is ended, if there is one already.
+    /// Returns the reason why the connection is ended, or `None` if none was kept yet.
     pub(crate) fn end_reason<Rt: Wait>(&self, rt: &Rt) -> Option<EndReason> {
         *self.end_reason.lock(rt)
     }
 
     /// Makes reads and writes of the socket blocking if `is_waiting` is set, and otherwise non-blocking. Returns
-    /// `false` if the stream was taken out, or the system refuses. Called only before the connection is served: `peek`
-    /// needs reads that don't block.
+    /// whether that succeeded: `false` if the stream was taken out, or the system refuses. Called only before the
+    /// connection is served: `peek` needs reads that don't block.
     pub(crate) fn set_waiting<Rt: Wait>(&self, rt: &Rt, is_waiting: bool) -> bool {
         let stream = self.stream.read(rt);
         match &*stream {
@@ -118,13 +119,13 @@ impl SharedSocket {
         }
     }
 
-    /// Returns whether the connection is ended because there is no seat for it.
+    /// Returns whether the reason why the connection is ended is that there is no seat for it.
     pub(crate) fn is_turned_away<Rt: Wait>(&self, rt: &Rt) -> bool {
         matches!(self.end_reason(rt), Some(EndReason::Busy))
     }
 
     /// Ends the connection from another thread than its own. `why` becomes the reason unless there is one already.
-    /// Nothing more is read, no reply begins to be written, and a write that is under way is broken off. If none is
+    /// Nothing more is read, no reply begins to be written, and a write that is under way is broken off. If no write is
     /// under way, the writing side stays open, so that the connection's own thread can still send the reason.
     pub(crate) fn end_with<Rt: Wait>(&self, rt: &Rt, why: EndReason) {
         self.begin_end(rt, why);
@@ -140,8 +141,9 @@ impl SharedSocket {
         }
     }
 
-    // Keeps the reason, unless there is one already, notes that the connection is being ended, and wakes a thread that
-    // waits in `wait_for_end`. The lock on the reason is held all the time, so that the woken thread finds the reason.
+    // Keeps `why` as the reason, unless there is one already. Notes that the connection is being ended, and wakes a
+    // thread that waits in `wait_for_end`. Holds the lock on the reason all the time, so that the woken thread finds
+    // the reason.
     fn begin_end<Rt: Wait>(&self, rt: &Rt, why: EndReason) {
         let mut reason = self.end_reason.lock(rt);
         if reason.is_none() {
@@ -173,14 +175,14 @@ impl SharedSocket {
         self.is_writing.store(false, Ordering::SeqCst);
     }
 
-    /// Counts a hello of the connection that was denied. The denial is the next reply to write.
+    /// Counts a hello of the connection that was denied, and notes that the denial is the next reply to write.
     pub(crate) fn note_denial(&self) {
         self.denied.fetch_add(1, Ordering::SeqCst);
         self.is_denial_next.store(true, Ordering::SeqCst);
     }
 
-    /// Returns whether it is noted that the next reply to write is the denial of a hello. Deletes the note, so that
-    /// each denial is delayed once.
+    /// Returns whether the next reply to write is the denial of a hello, as `note_denial` has noted. Deletes the note,
+    /// so that each denial is delayed once.
     pub(crate) fn take_denial(&self) -> bool {
         self.is_denial_next.swap(false, Ordering::SeqCst)
     }
@@ -197,9 +199,9 @@ impl SharedSocket {
     }
 }
 
-// Returns what has come at a socket with non-blocking reads, judged by its first 512 bytes, which stay in the socket.
-// Returns `Nothing` if these bytes contain no whole line, or the system refuses the check. If memory runs out, a hello
-// counts as any other line.
+// Returns what has come from the other side of `stream`, judged by its first 512 bytes, which stay in the socket. The
+// stream's reads must be non-blocking. Returns `Nothing` if these bytes contain no whole line, or the system refuses
+// the check. If memory runs out, a hello counts as any other line.
 fn peek_at(stream: &TcpStream, alloc: Global) -> Peeked {
     let mut seen = [0; PEEK_SIZE];
     let Ok(count) = stream.peek(&mut seen) else {

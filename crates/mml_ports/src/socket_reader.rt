@@ -76,9 +76,9 @@ impl<'a, Rt: Clock + Wait> SocketReader<'a, Rt> {
         }))
     }
 
-    // Returns how long a read may still wait, or `None` if it may wait for ever. After the hello, a line that hasn't
-    // begun has its whole time, so the socket's timeout needn't be changed for each read. Returns the error `TimedOut`
-    // if the deadline has passed, or another if the clock fails.
+    // Returns how long a read may still wait, or `None` if it may wait for ever. After the hello, a read at the
+    // beginning of a line may wait for the whole time of a line, so the socket's timeout needn't be changed for each
+    // read. Returns the error `TimedOut` if the deadline has passed, or another if the clock fails.
     fn time_left(&self) -> io::Result<Option<Duration>> {
         if self.may_stay && !self.is_in_line {
             return Ok(self.patience);
@@ -93,7 +93,8 @@ impl<'a, Rt: Clock + Wait> SocketReader<'a, Rt> {
         Ok(Some(left))
     }
 
-    // Restarts the deadline of the next line, if lines have one. Returns an error if the clock fails.
+    // Restarts the deadline of the next line, if lines of this connection have one. Returns an error if the clock
+    // fails.
     fn restart_deadline(&mut self) -> io::Result<()> {
         self.deadline = match self.patience {
             Some(patience) => Instant::now(self.connection.rt)?.checked_add(patience),
@@ -125,8 +126,8 @@ impl<'a, Rt: Clock + Wait> SocketReader<'a, Rt> {
     }
 
     // Reads bytes that have come, or come before the deadline, but none after the end of the line, and returns how
-    // many. For that, looks at the bytes before it takes them from the socket. The function is used before the hello is
-    // granted, so that what follows the hello is read later. Returns the same errors as `read_in_time`.
+    // many. For that, looks at the bytes before it takes them from the socket. The function is used until the hello is
+    // granted, so that bytes after the hello's line are read only then. Returns the same errors as `read_in_time`.
     fn read_line_in_time(&mut self, buf: &mut [u8]) -> io::Result<usize>
         ensures { ReadsAtMost result buf.new }
     {
@@ -144,9 +145,9 @@ impl<'a, Rt: Clock + Wait> SocketReader<'a, Rt> {
         }
     }
 
-    // Updates the deadline before a read. If the hello was granted since the last read, or a line was answered since
-    // then, the next line has its whole time from now on. The lines that were read aren't searched for their ends here:
-    // `SocketReplies` notes each line that is answered. Returns an error if the clock fails.
+    // Updates the deadline before a read. If the hello was granted since the last read, or a later line was answered
+    // since then, the next line has its whole time from now on. This function needn't search for the ends of lines,
+    // since `SocketReplies` notes each line that is answered. Returns an error if the clock fails.
     fn update_deadline(&mut self) -> io::Result<()> {
         let socket = &self.connection.socket;
         let has_answered = socket.is_line_answered.swap(false, Ordering::SeqCst);
@@ -214,8 +215,8 @@ impl<'a, Rt: Clock + Wait> Read for SocketReader<'a, Rt> {
     }
 }
 
-// Returns how a line begins, from its first bytes. Skips spaces, tabs and carriage returns. Returns `Awaited` if there
-// are no other bytes.
+// Returns how a line begins, judged by its first `bytes`. Skips spaces, tabs and carriage returns. Returns `Awaited` if
+// there are no other bytes.
 fn beginning_of(bytes: &[u8]) -> FirstLine {
     for byte in bytes.iter() {
         match *byte {
@@ -227,7 +228,7 @@ fn beginning_of(bytes: &[u8]) -> FirstLine {
     FirstLine::Awaited
 }
 
-// Returns how many of the first `count` bytes belong to the first line, with its newline. If no line ends there,
+// Returns how many of the first `count` bytes belong to the first line, with its newline. If none of them is a newline,
 // returns `count`.
 fn end_of_line(bytes: &[u8], count: usize) -> usize
     ensures { result ≤ length bytes.now }

@@ -27,8 +27,8 @@ impl<'a, Rt: Wait> SocketReplies<'a, Rt> {
         SocketReplies { connection }
     }
 
-    // Notes that the hello of `who` was granted, and whether this is the teacher's connection at the desk. The
-    // connection is then no stranger any more, except at the desk, where only the teacher's hello counts.
+    // Notes that the hello of `who` was granted, and whether this is the teacher's connection at the desk. Notes that
+    // the connection is no stranger any more, except for a student's hello at the desk.
     fn note_greeting(&self, who: Who) {
         let SharedConnection {
             rt,
@@ -50,9 +50,9 @@ impl<'a, Rt: Wait> SocketReplies<'a, Rt> {
 }
 
 impl<'a, Rt: Wait> ReplyObserver for SocketReplies<'a, Rt> {
-    // Notes that a line was answered, and what the reply means for the connection. The first granted hello is handled
-    // by `note_greeting`. Until a hello is granted, a denial of a hello's name and key is counted, and the writer will
-    // delay it. If the reply is to the teacher's bye at the desk, notes that the next write dismisses the class.
+    // Notes that a line was answered, and what the reply means for the connection. The first granted hello is passed to
+    // `note_greeting`. Before it, each denial of a hello's name and key is counted, and the writer will delay the
+    // denial. If the reply is to the teacher's bye at the desk, notes that the next write dismisses the class.
     fn note_reply(&mut self, reply: &Reply) {
         let socket = &self.connection.socket;
         socket.is_line_answered.store(true, Ordering::SeqCst);

@@ -85,10 +85,10 @@ impl<'a, Rt: Clock + Wait + Eprint> SocketWriter<'a, Rt> {
         }
     }
 
-    // Waits until the turn of a denial, in two parts. In the second part, the last half second, another thread can end
-    // the wait by ending the connection: then the port keeps the denial, and sends it at its turn (`postpone_denial`).
-    // In the first part no thread can end the wait, so that the port never keeps a denial for longer than half a
-    // second. Returns an error if the clock fails.
+    // Waits until `turn`, the turn of a denial, in two parts. In the last half second, another thread can end the wait
+    // by ending the connection: then the port keeps the denial, and sends it at its turn (`postpone_denial`). Before
+    // that no thread can end the wait, so that the port never keeps a denial for longer than half a second. Returns an
+    // error if the clock fails.
     fn wait_for_turn(&self, turn: Instant) -> io::Result<()> {
         let rt = self.connection.rt;
         let wait = turn.duration_since(Instant::now(rt)?);
@@ -99,8 +99,8 @@ impl<'a, Rt: Clock + Wait + Eprint> SocketWriter<'a, Rt> {
     }
 
     // Writes as many bytes as the other side takes within `WRITE_LIMIT`, and returns how many. Returns an error if the
-    // socket was closed, or refuses the write, or the clock fails. If the other side took fewer than all within the
-    // limit, later writes fail (`is_deaf`).
+    // socket was closed, or refuses the write, or the clock fails. If the other side took only some of the bytes within
+    // that time, later writes fail (`is_deaf`).
     fn write_now(&mut self, buf: &[u8]) -> io::Result<usize>
         ensures { WritesAtMost result buf.now }
     {
@@ -120,8 +120,8 @@ impl<'a, Rt: Clock + Wait + Eprint> SocketWriter<'a, Rt> {
     }
 
     // Leaves the denial to the port if the connection is being ended because there is no seat. Keeps the denial's turn,
-    // at which the port sends it, and returns the length of `buf`, as if all was written. Returns `BrokenPipe` for any
-    // other reply, or if there is another reason for the end.
+    // at which the port sends it, and returns the length of `buf`, as if all was written. Returns `BrokenPipe` if the
+    // reply isn't a denial that waited for its turn, or there is another reason for the end.
     fn postpone_denial(&mut self, buf: &[u8]) -> io::Result<usize>
         ensures { WritesAtMost result buf.now }
     {
@@ -146,10 +146,10 @@ impl<'a, Rt: Clock + Wait + Eprint> SocketWriter<'a, Rt> {
         Ok(taken)
     }
 
-    // Closes a connection, whose stream this is, or passes it to the port's partings to be closed. If a denial is still
-    // to be sent, the partings send it at its turn. If the connection leaves for a new one, or was never served, they
-    // send it the reason for the end, if there is one. Otherwise this function sends the reason, and lingers, so that
-    // the other side can read what was sent.
+    // Closes the connection, whose stream is `stream`, or passes it to the port's partings to be closed. If a denial is
+    // still to be sent, the partings send it at its turn. If the connection was sent away to free its seat, or was
+    // never served, they send it the reason for the end, if there is one. Otherwise this function sends the reason, and
+    // lingers, so that the other side can read what was sent.
     fn close_or_pass_on(&self, stream: TcpStream) {
         let SharedConnection {
             rt,
@@ -182,8 +182,9 @@ impl<'a, Rt: Clock + Wait + Eprint> SocketWriter<'a, Rt> {
 
 impl<'a, Rt: Clock + Wait + Eprint> Write for SocketWriter<'a, Rt> {
     // Writes bytes, and returns how many were sent. First waits for the turn if the bytes are a denial of a name and
-    // key. If the bytes end with the reply to the teacher's bye, that dismisses the class. Fails if the other side took
-    // nothing for too long, or the connection is being ended, unless the bytes are a denial that the port sends later.
+    // key. If the bytes end with the reply to the teacher's bye, that dismisses the class. Fails if the clock or the
+    // socket fails, or the other side took too long in an earlier write (`is_deaf`). Also fails if the connection is
+    // being ended, unless the bytes are a denial that the port sends later.
     fn write(&mut self, buf: &[u8]) -> io::Result<usize> {
         if self.is_deaf {
             return Err(Error::from(ErrorKind::TimedOut));
@@ -314,8 +315,8 @@ impl<'a, Rt: Wait> SocketCutOff<'a, Rt> {
 }
 
 impl<'a, Rt: Wait> CutOff for SocketCutOff<'a, Rt> {
-    // Ends the connection. The reason, unless there is one already, is that the class is over, or otherwise that there
-    // is no seat.
+    // Ends the connection. The reason is `Over` if the host is over, and otherwise `Busy`, unless there is a reason
+    // already.
     fn cut_off(&self) {
         let SharedConnection {
             rt,
@@ -340,9 +341,9 @@ impl<'a, Rt: Clock + Wait + Eprint> Keep<Incoming<'a, Rt>, ReplyWriter<'a, Rt>>
     for SocketSession<'a, Rt> {
     ghost shows = { λ kept. kept.0.value };
 
-    // Drops a session that has ended. The session's connection leaves the crowd, so that its seat is free, and if the
-    // session ran out of memory, that is noted in the host's state. Returns a snapshot of the session, which contracts
-    // alone can read.
+    // Drops a session that has ended. Removes its connection from the crowd, so that its seat is free. If the session
+    // ran out of memory, notes that in the host's state. Returns a snapshot of the session, which contracts alone can
+    // read.
     fn keep(session: ServedSession<Incoming<'a, Rt>, ReplyWriter<'a, Rt>>) -> SocketSession<'a, Rt>
         ensures { result.0.value ≡ session.entry }
     {

@@ -51,7 +51,7 @@ pub struct HostState {
 
 impl HostState {
     /// Returns the state of a host of the lab, before anything was noted. The desk has one seat, and the students' port
-    /// has a seat for each other session of the lab.
+    /// has as many as are left of the sessions that the lab allows.
     pub fn new(alloc: Global, lab: &Lab) -> HostState {
         HostState {
             notes: Mutex::new(Notes {
@@ -84,8 +84,8 @@ impl HostState {
         *self.is_dismissed.read(rt)
     }
 
-    /// Counts a session that has ended. If `is_over`, notes that the host is over. Wakes the threads that wait in
-    /// `wait_past`.
+    /// Counts a session that has ended. If `is_over` is set, notes that the host is over. Wakes the threads that wait
+    /// in `wait_past`.
     pub fn note_end<Rt: Wait>(&self, rt: &Rt, is_over: bool) {
         let mut notes = self.notes.lock(rt);
         notes.ended = notes.ended.wrapping_add(1);
@@ -115,7 +115,7 @@ impl HostState {
         self.notes.lock(rt).lacked_memory
     }
 
-    /// Waits until the number of ended sessions isn't `count` any more, for at most a tenth of a second, or 5
+    /// Waits until the number of ended sessions isn't `count` any more. Waits for at most a tenth of a second, or 5
     /// milliseconds if `is_hurried` is set.
     pub fn wait_past<Rt: Wait + Clock>(&self, rt: &Rt, count: u64, is_hurried: bool) {
         let pause = Duration::from_millis(if is_hurried { SHORT_PAUSE } else { PAUSE });

@@ -32,7 +32,7 @@ pub enum ListenFault {
 }
 
 impl From<io::Error> for ListenFault {
-    // Turns an error that says that memory ran out into `Memory`, and any other error of the system into `Refused`.
+    // Turns the system's error into a fault: `Memory` if memory ran out, and otherwise `Refused`.
     fn from(error: io::Error) -> ListenFault {
         match error.kind() {
             io::ErrorKind::OutOfMemory => ListenFault::Memory,
@@ -52,10 +52,10 @@ pub struct Ports {
     pub desk: u16,
 }
 
-/// Listens on the desk's port and then on the students', for connections of this machine only. If a number is 0, the
-/// system chooses the port. If the desk's number isn't 0, waits for at most a second for a first connection there. So
-/// the teacher's program is connected before a student can see that the class begins. Returns an error if the host
-/// can't listen on one of the two ports.
+/// Listens on the desk's port (number `desk`) and then on the students' (number `port`), for connections of this
+/// machine only. If a number is 0, the system chooses the port. If the desk's number isn't 0, waits for at most a
+/// second for a first connection there. So the teacher's program is connected before a student can see that the class
+/// begins. Returns an error if the host can't listen on one of the two ports.
 pub fn listen_at<R: Clock + Net<Listener = TcpListener, Stream = TcpStream>>(
     rt: &R,
     port: u16,
@@ -79,8 +79,9 @@ pub fn listen_at<R: Clock + Net<Listener = TcpListener, Stream = TcpStream>>(
     })
 }
 
-// Waits for at most a second for the first connection to a listener and returns it, or `None` if none has come, or it
-// couldn't be accepted. Leaves the listener non-blocking. Returns an error if the listener can't be made non-blocking.
+// Waits for at most a second for the first connection to a listener, and returns it. Returns `None` if no connection
+// has come, or it couldn't be accepted. Leaves the listener non-blocking. Returns an error if the listener can't be
+// made non-blocking.
 fn first_within<R: Clock>(rt: &R, listener: &TcpListener) -> io::Result<Option<TcpStream>> {
     listener.set_nonblocking(true)?;
     for _ in 0..FIRST_CHECKS {
@@ -143,7 +144,8 @@ pub struct TwoPorts<A: Drop> {
     pub elsewhere: A,
 }
 
-/// Returns the two ports, the desk's and the students', which accept connections at these listeners.
+/// Returns the two ports, the desk's and the students', which accept connections at the listeners in `ports`. `state`
+/// is the host's state.
 pub fn open_ports<'a, R: Clock + Wait + Eprint>(
     rt: &'a R,
     alloc: Global,
