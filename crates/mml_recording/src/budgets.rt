@@ -79,8 +79,8 @@ impl Spending {
     }
 }
 
-// Returns the index of a participant's account in `Budgets`: 0 for the teacher, and for the students the numbers from 1
-// in the roster's order.
+// Returns the index of a participant's account in `Budgets`: 0 for the teacher, and from 1 on for the students, in the
+// roster's order.
 fn index_of(who: Who) -> usize {
     match who {
         Who::Teacher => 0,
@@ -110,8 +110,8 @@ impl SeatBudget {
         }
     }
 
-    // Charges this many `bytes` to the participant who is known, or to the common counter if nobody is, and returns
-    // `true`. If the counter would then exceed `most`, charges nothing, and returns `false`.
+    // Adds this many `bytes` to the counter of the participant who is known, or to the common counter if nobody is, and
+    // returns `true`. If the counter would then exceed `most`, adds nothing, and returns `false`.
     fn charge(&self, bytes: u64, most: u64) -> bool {
         let spent = self.budgets.spent_by(self.account);
         spent
@@ -137,9 +137,10 @@ impl SeatBudget {
         true
     }
 
-    // Returns what happens to an entry that exceeds the budget of the account with the index `index`, and notes that an
-    // entry of this account was refused. If the entry is that of a granted hello, and the first that is refused, it is
-    // still written (`Last`); recording pauses after it. Any other entry is `Refused`.
+    // Decides on an entry that exceeds the budget of the account with this `index`, and notes that an entry of this
+    // account was refused. Returns `Last` if the entry is that of a granted hello, and the first of the account that is
+    // refused. Such an entry is still written, and recording pauses after it. Returns `Refused` for any other entry,
+    // and if there is no such account.
     fn refuse(&self, index: usize) -> Taking {
         match self.budgets.accounts.get(index) {
             Some(account) => {
@@ -177,8 +178,8 @@ impl Budget for SeatBudget {
     }
 
     // Returns `Taken` if an entry of this many `bytes` may be written, and charges it. The participant who is known may
-    // have at most `BUDGET` bytes; beyond this, returns what `refuse` decides. If nobody is known, `takes_unknown`
-    // decides, and the answer is `Taken` or `Refused`.
+    // have at most `BUDGET` bytes; for an entry that exceeds this, returns what `refuse` decides. If nobody is known,
+    // `takes_unknown` decides, and the answer is `Taken` or `Refused`.
     fn takes_entry(&mut self, bytes: u64) -> Taking {
         match self.account {
             Some(index) => {
