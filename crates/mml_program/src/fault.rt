@@ -93,9 +93,8 @@ impl Fault {
     }
 }
 
-/// Returns the error `Memory` if a reader or writer ran out of memory (`lacked`), and otherwise `fault`. The fault
-/// alone may say only that a read or a write failed, and not why. `F` is `Fault` itself, or an error type that wraps
-/// it.
+/// Returns the error `Memory` if a reader or writer ran out of memory (`lacked`), and otherwise `fault`. Without this,
+/// the error may say only that a read or a write failed. `F` is `Fault` itself, or an error type that wraps it.
 pub fn memory_if_lacked<F: From<Fault> + Drop>(fault: F, lacked: bool) -> F
     ensures memory { lacked ≡ true → F.from_gives Memory result }
     ensures other { lacked ≡ false → result ≡ fault }
@@ -146,7 +145,7 @@ impl From<FileFault> for Fault {
 
 impl From<LabFault> for Fault {
     // Turns the error of a lab file into the program's error: `Lab` with the reason why the file is refused, or
-    // `Memory`.
+    // `Memory` if memory ran out.
     fn from(fault: LabFault) -> Fault {
         match LabRefusal::of(fault) {
             Some(refusal) => Fault::Lab(refusal),
@@ -161,7 +160,7 @@ impl From<AuditFault> for Fault {
     ghost from_gives = { IsAuditError };
 
     // Turns the error of a journal's text into the program's error: `Audit` with the reason why the text is refused, or
-    // `Memory`.
+    // `Memory` if memory ran out.
     fn from(fault: AuditFault) -> Fault {
         match AuditRefusal::of(fault) {
             Some(refusal) => Fault::Audit(refusal),
@@ -175,8 +174,8 @@ impl From<ScriptFault> for Fault {
 
     ghost from_gives = { λ fault e. e ≡ of_script fault };
 
-    // Turns the reason why a script ended early into the program's error. The number of bytes that a failed write had
-    // written isn't kept.
+    // Turns the reason why a script ended early into the program's error. For a failed write, the number of bytes that
+    // were written isn't kept.
     fn from(fault: ScriptFault) -> Fault {
         match fault {
             ScriptFault::BadLine(line) => Fault::BadLine(line),

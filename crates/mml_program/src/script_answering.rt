@@ -23,7 +23,7 @@ use mml_lab::Lab;
 use std::alloc::Global;
 use std::io::{Read, Write};
 
-/// Writes the line with the numbers of a lab's nodes, links and students. Returns `Write` if the write fails, and
+/// Writes a line with the numbers of a lab's nodes, links and students. Returns `Write` if the write fails, and
 /// `Memory` if memory runs out.
 pub fn write_size<W: Write>(alloc: Global, lab: &Lab, writer: &mut W) -> Result<(), Fault>
     ensures { OnOk result
@@ -41,9 +41,9 @@ pub fn write_size<W: Write>(alloc: Global, lab: &Lab, writer: &mut W) -> Result<
     write_pieces(alloc, &pieces, writer)
 }
 
-/// Audits the text of a journal, and writes the line with the number of its events and the configuration that they lead
-/// to. If the text isn't a journal of the lab, writes nothing, and returns the audit's error. Returns `Write` if the
-/// write fails, and `Memory` if memory runs out.
+/// Audits the text of a journal, and writes a line with the number of its events, the number of the configuration that
+/// they lead to, and whether that is stable. If the text isn't a journal of the lab, writes nothing, and returns the
+/// audit's error. Returns `Write` if the write fails, and `Memory` if memory runs out.
 pub fn write_audit<W: Write>(
     alloc: Global,
     lab: &Lab,
@@ -110,8 +110,9 @@ pub fn write_pieces<W: Write>(alloc: Global, pieces: &[Piece], writer: &mut W) -
 }
 
 /// Answers the lines of a script from `reader`, and returns the hall after the last one: the state of the run and of
-/// its connections. Replies are buffered, and all are written before each read. The journal's lines of granted events
-/// are put into the sink. If the script ends early, returns the reason why.
+/// its connections. The replies go to `writer`. They are buffered, and all are written before each read. The lines of
+/// granted events go to the journal's `sink`, which must be fresh, with fewer than 2^64 - 1 failed puts. If the script
+/// ends early, returns the reason.
 pub fn answer_script<R: Read, W: Write, S: Sink + Drop>(
     alloc: Global,
     lab: Lab,

@@ -48,8 +48,8 @@ pub fn run<
 
 /// Does what a task asks for. Returns the error that ended the work, if one did. The order of the steps protects an
 /// existing journal. First the lab is read, then the journal's file is opened, and then the script is read or the port
-/// opened. Only then a new journal is begun, and the earlier bytes are kept under another name. If a step before that
-/// fails, the file stays as it was.
+/// opened. If one of these steps fails, the journal's file stays as it was. Only after these steps a new journal is
+/// begun, and the earlier bytes are kept under another name.
 pub fn run_task<
     R: Files<File = File>
         + Net<Listener = TcpListener, Stream = TcpStream>
@@ -76,8 +76,8 @@ fn check_file<R: Files + Print + AllocGlobal>(rt: &R, path: &str) -> Result<(), 
     write_size(rt.alloc(), &lab, &mut io::writer(rt))
 }
 
-// Answers the script on standard input over the built-in lab, and writes the replies to standard output. Returns the
-// reason if the script ended early, or `Memory` if a read or a write ran out of memory.
+// Answers the script on standard input over the built-in lab, and writes the replies to standard output. If the script
+// ended early, returns the reason, or `Memory` if a read or a write ran out of memory.
 fn answer_input<R: Input + Print + AllocGlobal>(rt: &R) -> Result<(), Fault> {
     let alloc = rt.alloc();
     let lab = lab_in(alloc, BUILT_IN.as_bytes())?;
@@ -111,8 +111,9 @@ fn script_file<R: Files<File = File> + Print + AllocGlobal>(
     }
 }
 
-// Answers the lines of a script over a lab, and writes the replies to standard output. The journal's lines go to the
-// sink. Returns the reason if the script ended early, or `Journal` if the journal was halted.
+// Answers the lines of a script over a lab, and writes the replies to standard output. The journal's lines go to
+// `sink`, which must be fresh. If the script ended early, returns the reason, or `Memory` if a write ran out of memory.
+// Returns `Journal` if the journal was halted.
 fn answer_lines<R: Print + AllocGlobal, S: Sink + Drop>(
     rt: &R,
     lab: Lab,
@@ -151,8 +152,8 @@ fn audit_file<R: Files + Print + AllocGlobal>(
 }
 
 // Serves as many connections as the task says over the lab in a file, and writes a journal if the task names one. If
-// the port can't be used, `begin_journal_with` leaves the journal's file as it was. Returns an error if the lab has
-// fewer sessions than that, a file is refused, the port can't be used, or the server fails.
+// the port can't be used, `begin_journal_with` leaves the journal's file as it was. Returns an error if the task has
+// more connections than the lab has sessions, a file is refused, the port can't be used, or the server fails.
 fn serve_file<
     R: Files<File = File>
         + Net<Listener = TcpListener, Stream = TcpStream>
@@ -199,8 +200,9 @@ struct Service {
 }
 
 // Prints the line with the port, serves the connections of the service, and prints the last line, which has the numbers
-// of events and of the configuration. The journal's lines go to the sink. Returns the reason if the server failed. If a
-// write ran out of memory, returns `Memory` instead of any other error.
+// of events and of the configuration. The journal's lines go to `sink`, which must be fresh. The service must have at
+// least one connection, and at most as many as the lab has sessions. Returns the reason if the server failed, or
+// `Memory` instead if a write ran out of memory.
 fn serve_listener<
     R: Net<Listener = TcpListener, Stream = TcpStream>
         + Threads
@@ -227,8 +229,9 @@ fn serve_listener<
 }
 
 // Writes the line with the port to `writer`, serves the connections, and writes the last line, which has the numbers of
-// events and of the configuration. The journal's lines go to the sink. Returns the result of the house, or the reason
-// if the server failed.
+// events and of the configuration. The journal's lines go to `sink`, which must be fresh. The service must have at
+// least one connection, and at most as many as the lab has sessions. Returns the result of the house, or the reason if
+// the server failed.
 fn serve_lines<R: Threads + Wait + Sync + AllocGlobal, S: Sink + Send + Drop, W: Write>(
     rt: &R,
     lab: Lab,
@@ -257,8 +260,8 @@ fn serve_lines<R: Threads + Wait + Sync + AllocGlobal, S: Sink + Send + Drop, W:
     }
 }
 
-// Listens on a port of this machine, which can't be reached from others, and returns the listener. Returns an error if
-// the port can't be used, or memory runs out.
+// Listens on a port that can be reached only from this machine, and returns the listener. Returns an error if the port
+// can't be used, or memory runs out.
 fn listen<R: Net<Listener = TcpListener, Stream = TcpStream>>(
     rt: &R,
     port: u16,
@@ -296,8 +299,8 @@ pub fn lab_of<R: Files + AllocGlobal>(rt: &R, path: &str) -> Result<Lab, Fault> 
     lab_in(rt.alloc(), bytes.as_slice())
 }
 
-/// Returns the lab that the bytes of a lab file describe. Returns the reason if they describe none, or `Memory` if
-/// memory runs out.
+/// Returns the lab that the `bytes` of a lab file describe. Returns `Lab` with the reason if they describe none, or
+/// `Memory` if memory runs out.
 pub fn lab_in(alloc: Global, bytes: &[u8]) -> Result<Lab, Fault> {
     Ok(read_lab(alloc, bytes)?)
 }

@@ -52,9 +52,9 @@ pub fn read_words<'a>(alloc: Global, words: &'a [String]) -> Result<Task<'a>, Fa
     }
 }
 
-/// Returns the values that the words have for `command`; the first word is the program's name. Returns `CommandLine` if
-/// the words don't fit the command, and `Memory` if memory runs out. Words that begin with `-` are refused here, since
-/// clap would accept `-` and `--`.
+/// Matches the words, of which the first is the program's name, with the description `command`, and returns the values
+/// that they have for it. Returns `CommandLine` if the words don't fit the description, and `Memory` if memory runs
+/// out. Words that begin with `-` are refused here, since clap would accept `-` and `--`.
 pub fn match_words<'a>(command: Command<'a>, words: &'a [String]) -> Result<ArgMatches<'a>, Fault> {
     if words.iter().skip(1).any(|word| word.starts_with('-')) {
         return Err(Fault::CommandLine);
@@ -109,8 +109,8 @@ fn command_line<'a>(alloc: Global) -> Result<Command<'a>, AllocError> {
         )?)
 }
 
-/// Returns the description of a command or subcommand with this name, which requires these values in this order.
-/// Returns an error if memory runs out.
+/// Returns the description of a command or subcommand with this name, which requires values with these names, in this
+/// order. Returns an error if memory runs out.
 pub fn subcommand_of<'a>(
     alloc: Global,
     name: &'a str,
@@ -123,7 +123,8 @@ pub fn subcommand_of<'a>(
     Ok(command)
 }
 
-/// Returns the command with one more value, which comes last and may be left out. Returns an error if memory runs out.
+/// Returns the description `command` with one more value, which is named `value`, comes last and may be left out.
+/// Returns an error if memory runs out.
 pub fn with_optional<'a>(
     alloc: Global,
     command: Command<'a>,
