@@ -26,9 +26,9 @@ use std::io::Write;
 use std::sync::Wait;
 
 impl<C: Observer + Send + Drop> Ready<C> {
-    /// Serves a new class with a new host state. Granted events go to the journal's `sink`, and the host's lines to
-    /// `writer`. Returns the reason if the class can't begin, or fails. If a session ran out of memory, returns that
-    /// error after the last line.
+    /// Serves a new class with a new host state. Granted events go to the journal's `sink`, which must be fresh, and
+    /// the host's lines to `writer`. Returns the reason if the class can't begin, or fails. If the class ended well but
+    /// a session ran out of memory, returns `Memory` after the last line was written.
     pub(crate) fn start<R: System, S: Sink + Send + Drop, W: Write>(
         self,
         rt: &R,
@@ -47,8 +47,9 @@ impl<C: Observer + Send + Drop> Ready<C> {
     }
 
     // Serves a new class in the host state `state`: writes the first line, serves the connections, and writes the last
-    // line. Granted events go to the journal's `sink`. Returns the log whose events the last line counts. Returns the
-    // reason if the class can't begin, or fails. If a session ran out of memory, that is only noted in the state.
+    // line. Granted events go to the journal's `sink`, which must be fresh. Returns the log whose events the last line
+    // counts, or the reason if the class can't begin, or fails. If a session ran out of memory, that is only noted in
+    // the state.
     fn begin<'a, R: System, S: Sink + Send + Drop, W: Write>(
         self,
         rt: &'a R,
@@ -77,8 +78,8 @@ impl<C: Observer + Send + Drop> Ready<C> {
     }
 
     // Serves the connections with this host state and bell until the class is over, and writes the last line. Granted
-    // events go to the journal's `sink`. Returns the log, or the reason if the class fails. If a session ran out of
-    // memory, that is only noted in the state.
+    // events go to the journal's `sink`, which must be fresh. Returns the log, or the reason if the class fails. If a
+    // session ran out of memory, that is only noted in the state.
     fn serve_to_the_end<'a, R: System, S: Sink + Send + Drop, W: Write>(
         self,
         rt: &'a R,
@@ -112,7 +113,7 @@ impl<C: Observer + Send + Drop> Ready<C> {
     }
 }
 
-// Writes the first line of a class that is served at these ports. Returns the bell that counts ended sessions in
+// Writes the first line of a class that is served at these ports, and returns its bell, which counts ended sessions in
 // `state`. Returns an error if the write fails, memory runs out, or the system refuses the bell's descriptor.
 fn announce<'a, R: AllocGlobal, W: Write>(
     rt: &'a R,
@@ -127,8 +128,8 @@ fn announce<'a, R: AllocGlobal, W: Write>(
     Ok(bell_of(rt, state, ports)?)
 }
 
-/// Returns what the program reports for a class that was `served`: its error, or else `Memory` if the host's state
-/// notes that memory ran out, and otherwise `Ok`.
+/// Returns what the program reports for a class whose result is `served`. This is the error of the class, if it has
+/// one. Otherwise it is `Memory` if the host's state notes that memory ran out, and else `Ok`.
 pub(crate) fn told_memory<R: Wait>(
     served: Result<(), Fault>,
     rt: &R,
@@ -153,8 +154,8 @@ pub(crate) fn log_of<S: Drop, K: Drop, C: Drop>(house: Hosted<S, K, C>) -> Log<S
     log
 }
 
-/// Writes the first line of a class, which names its two ports. Returns an error if the write fails, or memory runs
-/// out.
+/// Writes the first line of a class, which names its two ports: the students' (`port`) and the desk's (`desk`). Returns
+/// an error if the write fails, or memory runs out.
 pub fn write_listening<W: Write>(
     alloc: Global,
     port: u16,

@@ -52,7 +52,7 @@ pub(crate) enum ClassJournal<'a> {
 }
 
 impl<'a> ClassJournal<'a> {
-    // Returns the watch of the journal, if it is a plain file.
+    // Returns the watch of the journal if it is a plain file, and otherwise `None`.
     fn watch(&self) -> Option<&'a JournalWatch<'a>> {
         match self {
             ClassJournal::None | ClassJournal::Other(_) => None,
@@ -83,8 +83,8 @@ impl<'a> Model for Class<'a> {
 }
 
 impl<'a> Class<'a> {
-    /// Returns the class with this lab, these ports and this journal. If the class is resumed, the journal has passed
-    /// the audit for this lab.
+    /// Returns the class with this lab, these ports and this journal. If the class is resumed, the journal must have
+    /// passed the audit for this lab.
     pub(crate) fn new(lab: Lab, ports: Ports, journal: ClassJournal<'a>) -> Class<'a>
         requires audited { IsAuditedIn lab journal }
         ensures { result ≡ lab.sessions }
@@ -103,7 +103,7 @@ impl<'a> Class<'a> {
         &self.lab
     }
 
-    // Returns the watch of the class's journal, if that is a plain file.
+    // Returns the watch of the class's journal if that is a plain file, and otherwise `None`.
     fn watch(&self) -> Option<&'a JournalWatch<'a>> {
         self.journal.watch()
     }
@@ -117,8 +117,9 @@ pub(crate) struct Ready<C: Drop> {
     pub observers: Observers<C>,
 }
 
-/// Serves a class until it is over. Records it if there is a folder. If the class's journal is a plain file, lets `eye`
-/// check that file meanwhile. Also returns an error if something wasn't recorded, or the journal's file was lost.
+/// Serves a class until it is over. Records it in `folder`, if there is one. If the class's journal is a plain file,
+/// lets `eye` check that file meanwhile. Also returns an error if something wasn't recorded, or another program removed
+/// or changed the journal's file.
 pub(crate) fn serve_class<R: System + Files<File = File>, L: Look + Sync>(
     rt: &R,
     class: Class<'_>,
@@ -131,9 +132,9 @@ pub(crate) fn serve_class<R: System + Files<File = File>, L: Look + Sync>(
     }
 }
 
-// Serves a class, while another thread lets `eye` check the journal's file, whose watch this is. If no thread can be
-// started, checks the file once, at the end. Returns the error of the class, or else a journal fault if the file was
-// removed or changed.
+// Serves a class, while another thread lets `eye` check the journal's file. `watch` is the watch of this file. If no
+// thread can be started, checks the file once, at the end. Returns the error of the class. If it has none, returns a
+// journal fault if the file was removed or changed.
 fn serve_watched<R: System + Files<File = File>, L: Look + Sync>(
     rt: &R,
     class: Class<'_>,
@@ -183,8 +184,8 @@ fn serve_unrecorded<R: System + Files<File = File>>(rt: &R, class: Class<'_>) ->
     }
 }
 
-// Serves a class, and records it in this folder. Returns the error of the class, or else `Unrecorded` if something
-// couldn't be recorded.
+// Serves a class, and records it in this folder. Returns the error of the class. If it has none, returns `Unrecorded`
+// if something couldn't be recorded.
 fn serve_in_folder<R: System + Files<File = File>>(
     rt: &R,
     class: Class<'_>,
@@ -256,8 +257,9 @@ fn serve_synced<R: System + Files<File = File>, C: Observer + Send + Drop>(
     )
 }
 
-// Returns what the program reports for a class that was `served`: its error, or else `Unrecorded` if a write to the
-// record or a sync of its files has failed, and otherwise `Ok`. `state` is the record's.
+// Returns what the program reports for a class whose result is `served`. This is the error of the class, if it has one.
+// Otherwise it is `Unrecorded` if a write to the record or a sync of its files has failed, and else `Ok`. `state` is
+// the record's.
 fn told_whole(served: Result<(), Fault>, state: &RecordState) -> Result<(), Fault> {
     if served.is_ok() && state.has_failed() {
         Err(Fault::Unrecorded)
@@ -266,8 +268,8 @@ fn told_whole(served: Result<(), Fault>, state: &RecordState) -> Result<(), Faul
     }
 }
 
-// Serves a class until it is over, and prints the host's lines: the ports, the state after an earlier journal, and the
-// end. If a write ran out of memory, returns `Memory` instead of any other error.
+// Serves a class until it is over, and prints the host's lines: the ports, the state after an earlier journal if there
+// is one, and the end. If a write ran out of memory, returns `Memory` instead of any other error.
 fn serve_ports<R: System + Files<File = File>, C: Observer + Send + Drop>(
     rt: &R,
     class: Class<'_>,
@@ -282,8 +284,9 @@ fn serve_ports<R: System + Files<File = File>, C: Observer + Send + Drop>(
     }
 }
 
-// Serves a class at its ports with its kind of journal: none, a plain file that is synced and watched, a file that
-// can't be synced, or the journal from which the class is resumed. `writer` gets the host's lines.
+// Serves a class at its ports, with the sink for its kind of journal. There are four kinds: no journal, a plain file
+// that is synced and watched, a file that can't be synced, and the journal from which the class is resumed. The host's
+// lines go to `writer`.
 fn serve_journaled<R: System + Files<File = File>, C: Observer + Send + Drop, W: Write>(
     rt: &R,
     class: Class<'_>,

@@ -95,14 +95,16 @@ impl From<ListenFault> for Fault {
     }
 }
 
-/// Returns the host's error for the fault of a journal's file: a journal fault, or `Memory`.
+/// Returns the host's error for the fault of a journal's file: `Memory` if memory ran out, and otherwise a journal
+/// fault.
 pub(crate) fn of_journal(fault: FileFault) -> Fault
     ensures { result ≡ Fault.Common (of_journal_file fault) }
 {
     Fault::Common(ProgramFault::from(fault))
 }
 
-/// Returns the host's error for the fault of a record's folder, or of a file in it: `Unrecorded`, or `Memory`.
+/// Returns the host's error for the fault of a record's folder, or of a file in it: `Memory` if memory ran out, and
+/// otherwise `Unrecorded`.
 pub(crate) fn of_record(fault: FileFault) -> Fault
     ensures { result ≡ of_record fault }
 {
@@ -113,7 +115,7 @@ pub(crate) fn of_record(fault: FileFault) -> Fault
 }
 
 impl From<Memory> for Fault {
-    // Turns memory that ran out into the same error as in `mml_program`.
+    // Returns the error of `mml_program` for memory that ran out.
     fn from(_memory: Memory) -> Fault
         ensures { result ≡ Fault.Common ProgramFault.Memory }
     {

@@ -22,9 +22,9 @@ use std::rt::Files;
 use std::time::Clock;
 
 /// Serves a new class, as the command line asks. `eye` checks the journal's file meanwhile. Returns the reason if the
-/// class can't begin, or fails. The order of the steps protects an existing journal: first the lab is read and the
-/// system's limits are checked, then the journal's file is opened, then both ports are opened, and only then the
-/// journal is begun. If a step before that fails, the file stays as it was.
+/// class can't begin, or fails. The order of the steps protects an existing journal. First the lab is read and the
+/// system's limits are checked. Then the journal's file, both ports and the record's folder are opened. If one of these
+/// steps fails, the journal's file stays as it was. Only after them the journal is begun.
 pub(crate) fn host<R: System + Files<File = File>, L: Look + Sync>(
     rt: &R,
     eye: &L,
@@ -90,8 +90,8 @@ fn host_opened<R: System + Files<File = File>, L: Look + Sync>(
     }
 }
 
-// Serves a new class of this lab, whose journal is the plain `file` at `path`, and has the file watched. Returns the
-// reason if the system can't identify the file, or the class can't begin, or fails.
+// Serves a new class of this lab, whose journal is the plain `file` at `path`, and lets `eye` check this file
+// meanwhile. Returns the reason if the system can't identify the file, or the class can't begin, or fails.
 fn host_watched<R: System + Files<File = File>, L: Look + Sync>(
     rt: &R,
     eye: &L,
@@ -139,9 +139,10 @@ fn open_new<'a, R: System + Files<File = File>>(
 
 // Opens what a new class with a journal needs: the journal's file at `path`, then both ports, then the record's folder
 // if one is named. Returns all of them. The journal is begun only after these steps. If its file is a plain one, the
-// file is emptied then: its earlier bytes stay under another name, and a copy of the lab's file, whose bytes are `lab`,
+// file is emptied then. Its earlier bytes stay under another name, and a copy of the lab's file, whose bytes are `lab`,
 // is written beside it. Returns the first error. If the file, the ports or the folder can't be opened, the journal's
-// file is as it was. If the journal can't be begun, the record's folder is restored.
+// file stays as it was. If the journal can't be begun, the record is taken back, and what had its path before is put
+// back.
 fn begin_into<
     'a,
     R: Files<File = File> + Net<Listener = TcpListener, Stream = TcpStream> + Clock + AllocGlobal,

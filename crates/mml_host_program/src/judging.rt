@@ -54,9 +54,9 @@ fn judge_journal<R: Files + Print + AllocGlobal>(rt: &R, task: TallyTask<'_>) ->
     result_of(written, writer.lacked_memory)
 }
 
-// Checks the record of a class against its journal, and prints the tally of both (`is_tallied`), or else what was
-// found. Returns an error if the lab, the journal or the record is refused or can't be read, a write fails, or memory
-// runs out.
+// Checks the record of a class against its journal. If `is_tallied` is set, prints the tally of both, and otherwise
+// what the check found. Returns an error if the lab, the journal or the record is refused or can't be read, a write
+// fails, or memory runs out.
 fn judge_record<R: Files<File = File> + Print + AllocGlobal>(
     rt: &R,
     task: VerifyTask<'_>,

@@ -17,9 +17,9 @@ const FILES: usize = 7;
 // journal, and one for a connection at each port.
 const THREADS: usize = 4;
 
-/// Checks whether the system allows the files and threads that a class needs at least. For that, opens so many files
-/// and starts so many threads, and closes and ends them again. Returns `FewFiles` or `FewThreads` if the system allows
-/// fewer, or `Memory` if memory runs out.
+/// Checks whether the system allows the files and threads that a class needs at least: `FILES` files and `THREADS`
+/// threads. For that, opens that many files and closes them again, and then starts that many threads and lets them end.
+/// Returns `FewFiles` or `FewThreads` if the system allows fewer, or `Memory` if memory runs out.
 pub fn look_at_limits<R: Files<File = File> + Threads + Wait + Sync>(
     rt: &R,
     alloc: Global,

@@ -13,7 +13,8 @@ use std::time::Clock;
 
 /// Opens the ports of the class, and then the record's folder, if one is named. `lab` has the bytes of the lab's file.
 /// If `events` is `None`, the class is new, and its record is begun. Otherwise the class is resumed after this many
-/// events, and its record is continued. Returns the ports and the folder, or an error if one of them can't be opened.
+/// events, and its record is continued. Returns the ports and the folder (`None` if none is named), or an error if one
+/// of them can't be opened.
 pub(crate) fn open_ports_and_folder<
     R: Files<File = File> + Net<Listener = TcpListener, Stream = TcpStream> + Clock + AllocGlobal,
 >(

@@ -30,8 +30,8 @@ use std::rt::Files;
 
 impl<C: Observer + Send + Drop> Ready<C> {
     /// Serves a class that is resumed from the journal `past`, with a new host state. The host's lines go to `writer`.
-    /// Returns the reason if the class isn't resumed, or fails. If a session ran out of memory, returns that error
-    /// after the last line.
+    /// Returns the reason if the class isn't resumed, or fails. If the class ended well but a session ran out of
+    /// memory, returns `Memory` after the last line was written.
     pub(crate) fn resume<R: System + Files<File = File>, W: Write>(
         self,
         rt: &R,
@@ -49,7 +49,7 @@ impl<C: Observer + Send + Drop> Ready<C> {
     }
 
     // Serves a class that is resumed from the journal `past`, in the host state `state`: writes the first two lines,
-    // serves the connections, and writes the last line. Returns the log whose events the last line counts. Returns the
+    // serves the connections, and writes the last line. Returns the log whose events the last line counts, or the
     // reason if the class isn't resumed, or fails. If a session ran out of memory, that is only noted in the state.
     fn go_on<'a, R: System + Files<File = File>, W: Write>(
         self,
@@ -77,8 +77,8 @@ impl<C: Observer + Send + Drop> Ready<C> {
         }
     }
 
-    // Does what `go_on` does, after `opening` was made: the first line and the bell. Makes the store, by which the file
-    // of the journal is cut to its whole lines.
+    // Does what `go_on` does, with the first line's text and the bell, which are ready in `opening`. Makes the store,
+    // which cuts the journal's file to its whole lines.
     fn go_on_opened<'a, R: System + Files<File = File>, W: Write>(
         self,
         rt: &'a R,
@@ -178,8 +178,8 @@ fn first_line(alloc: Global, ports: &Ports) -> Result<Vec<u8>, ProgramFault>
     Ok(line)
 }
 
-// Returns the host's error for a class that wasn't resumed, or failed. If the journal couldn't be cut and memory had
-// run out (`lacked`), the error is `Memory`, and otherwise that of the fault.
+// Returns the host's error for `fault`, the reason why a class wasn't resumed, or failed. If the journal couldn't be
+// cut and memory had run out (`lacked`), returns `Memory`.
 fn told_as(fault: ResumeFault, lacked: bool) -> Fault {
     match fault {
         ResumeFault::Store if lacked => Fault::Common(ProgramFault::Memory),

@@ -101,9 +101,9 @@ pub struct TallyTask<'a> {
     pub journal: &'a str,
 }
 
-/// Returns the task that these words ask for; the first word is the program's name. If the second isn't a subcommand of
-/// `SUBCOMMANDS`, `mml_program` reads the words. Returns `CommandLine` if the words don't fit any task, and `Memory` if
-/// memory runs out.
+/// Returns the task that these words ask for; the first word is the program's name. If the second word isn't a
+/// subcommand of `SUBCOMMANDS`, `read_words` of `mml_program` reads them. Returns `CommandLine` if the words don't fit
+/// any task, and `Memory` if memory runs out.
 pub fn read_words<'a>(alloc: Global, words: &'a [String]) -> Result<Task<'a>, ProgramFault> {
     if !has_own_subcommand(words) {
         return Ok(Task::Common(read_common_words(alloc, words)?));
@@ -115,7 +115,8 @@ pub fn read_words<'a>(alloc: Global, words: &'a [String]) -> Result<Task<'a>, Pr
     }
 }
 
-// Returns whether the first word after the program's name is a subcommand that only the program for people has.
+// Returns whether the first word after the program's name is a subcommand of `SUBCOMMANDS`, which only the program for
+// people has.
 fn has_own_subcommand(words: &[String]) -> bool {
     match words.get(1) {
         Some(word) => SUBCOMMANDS.iter().any(|it| it.0 == word.as_str()),
@@ -132,8 +133,8 @@ fn command_line<'a>(alloc: Global, subcommands: &[Subcommand]) -> Result<Command
     Ok(command)
 }
 
-// Returns the description of a subcommand with this name, which requires the first values, and then may have the
-// others. Returns an error if memory runs out.
+// Returns the description of a subcommand with this name. It requires the values named in `required`, after which those
+// named in `optional` may follow. Returns an error if memory runs out.
 fn subcommand_with<'a>(
     alloc: Global,
     name: &'a str,
@@ -199,7 +200,8 @@ fn judging_task<'a>(name: &str, values: &ArgMatches<'a>) -> Option<JudgingTask<'
     judging_task_over(lab, name, values)
 }
 
-// Returns the same as `judging_task`, for values whose lab is the file `lab`.
+// Returns the task of the subcommand `name` with these values, of which the lab is `lab`. Returns `None` if the
+// subcommand isn't `answer`, `verify` or `tally`, or another value that it requires is missing.
 #[tactic(auto, unfolding(crate::specs::Words::wanted_over))]
 fn judging_task_over<'a>(
     lab: &'a str,
@@ -235,7 +237,7 @@ fn verify_over<'a>(lab: &'a str, values: &ArgMatches<'a>) -> Option<JudgingTask<
 }
 
 // Returns the task of printing the tally of the journal that these values name, for the lab in the file `lab`. If they
-// name a record, the tally is of both. Returns `None` if the journal is missing.
+// also name a record, the task is to print the tally of both. Returns `None` if the journal is missing.
 #[tactic(auto, unfolding(crate::specs::Words::tally_in))]
 fn tally_over<'a>(lab: &'a str, values: &ArgMatches<'a>) -> Option<JudgingTask<'a>>
     ensures { option_map wanted_by result ≡ tally_in lab.now (found_of values.now) }

@@ -23,8 +23,9 @@ pub enum ClassError {
     Write,
 }
 
-/// Returns the result of a subcommand, which is `Ok` if all was written (`written`). Otherwise returns the program's
-/// error, which is `Memory` if the writer ran out of memory (`lacked`).
+/// Returns the result of a subcommand whose writing ended with `written`. Returns `Ok` if all was written. Otherwise
+/// returns `Memory` if the writer ran out of memory (`lacked`), and else the program's error for the reason in
+/// `written`.
 pub(crate) fn result_of(written: Result<(), ClassError>, lacked: bool) -> Result<(), Fault>
     ensures ok { OnOk written (result ≡ Ok tt) }
     ensures lacked { IfErr written (λ _. lacked ≡ true →

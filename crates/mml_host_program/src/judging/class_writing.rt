@@ -15,8 +15,8 @@ use mml_lines::put_all;
 use std::alloc::Global;
 use std::io::Write;
 
-/// Audits the text `journal`, and frees it. Returns its events and the board that they lead to. Returns the reason if
-/// the text doesn't pass, or `AuditFault::Memory` if memory runs out.
+/// Audits the text `journal`, and frees it. Returns the text's events and the board that they lead to. Returns the
+/// reason if the text doesn't pass the audit, or `AuditFault::Memory` if memory runs out.
 pub(crate) fn audit_class(alloc: Global, lab: &Lab, journal: Vec<u8>) -> Result<Audited, AuditFault>
     ensures journal { IfOk result (λ a. IsJournalOf lab.now a.events.items journal.items) }
     ensures legal { IfOk result (λ a. is_legal_in lab.now a.events.items ≡ true) }
@@ -27,8 +27,8 @@ pub(crate) fn audit_class(alloc: Global, lab: &Lab, journal: Vec<u8>) -> Result<
     audit_events(alloc, lab, &journal)
 }
 
-/// Writes the text that `verify` or `tally` has made. Returns `Write` if a write fails, after which only a beginning of
-/// the text may have been written.
+/// Writes the text that `verify` or `tally` has made. Returns `Write` if a write fails; then only a part from the
+/// text's beginning was written, or nothing.
 pub(crate) fn write_class<W: Write>(text: &[u8], writer: &mut W) -> Result<(), ClassError>
     ensures all { OnOk result (Appends (W.contents writer.old) (W.contents writer.new) text.now) }
     ensures part { IfErr result (λ error. (error ≡ ClassError.Write) × ((n : ℕ) × (n < length text.now)

@@ -26,13 +26,15 @@ impl<'a, R: Files<File = File> + AllocGlobal> Seats<File> for Folder<'a, R> {
 
     ghost text = { λ _ _. None };
 
-    // Opens the file `begun`, which has the number of events before the record. Returns an error if it can't be opened.
+    // Opens the file `begun`, which has the number of events before the record. Returns an error if the file can't be
+    // opened or isn't plain, or memory runs out.
     fn open_begun(&self) -> Result<File, SeatFault> {
         let path = begun_path(self.rt.alloc(), self.path)?;
         open_part(self.rt, path.as_str())
     }
 
-    // Opens the file with the record of the seat with this number. Returns an error if it can't be opened.
+    // Opens the file of the seat with this number. Returns an error if the file can't be opened or isn't plain, or
+    // memory runs out.
     fn open_seat(&self, number: u8) -> Result<File, SeatFault> {
         let path = record_path(self.rt.alloc(), self.path, number)?;
         open_part(self.rt, path.as_str())
@@ -60,8 +62,8 @@ fn record_path(alloc: Global, folder: &str, seat: u8) -> Result<String, Memory>
     }
 }
 
-// Opens a plain file of the record. Returns `Memory` if memory runs out, or `Read` if the file can't be opened, or
-// there is a folder, a pipe or a device instead.
+// Opens the plain file of the record at `path`. Returns `Memory` if memory runs out. Returns `Read` if the file can't
+// be opened, or isn't plain but a folder, a pipe or a device.
 fn open_part<R: Files<File = File> + AllocGlobal>(rt: &R, path: &str) -> Result<File, SeatFault> {
     match open_plain(rt, path) {
         Ok(Some(file)) => Ok(file),
@@ -82,7 +84,7 @@ fn open_fault(error: &IoError) -> SeatFault
     }
 }
 
-// Opens a plain file. Returns `None` if there is another kind of file; this is checked first, because opening a pipe
+// Opens the file at `path` if it is plain, and otherwise returns `None`. Checks the kind first, because opening a pipe
 // would wait for a writer. Returns the system's error if the check or the opening fails.
 fn open_plain<R: Files<File = File>>(rt: &R, path: &str) -> io::Result<Option<File>> {
     if fs::metadata(rt, path)?.is_file() {
