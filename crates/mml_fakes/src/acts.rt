@@ -28,7 +28,7 @@ pub fn seduction(node: u64, at: u64) -> Command
 }
 
 /// Returns whether an answer grants a close as the second event, which leads to configuration 1. The close must apply
-/// only the move of the first node (rank 0, which is node 1 in the path of three).
+/// exactly one move, that of the first node (rank 0, which is node 1 in the path of three).
 pub fn is_first_close(answer: &Answer) -> bool {
     match answer {
         Answer::Granted {

@@ -7,9 +7,9 @@ const PEOPLE: &str = r#"teacher = { name = "tess", key = "chalk" }
 student = [{ name = "ana", key = "a-key" }, { name = "ben", key = "b-key" }]
 "#;
 
-/// Returns the lab file of a cycle of `nodes` nodes (three or more), numbered from 1, with these limits of events and
-/// sessions. The student ana owns the first half of the nodes, rounded down, and ben the others; the teacher is tess.
-/// Returns an error if memory runs out.
+/// Returns the lab file of a cycle of `nodes` nodes (three or more), numbered from 1, with at most `events` events and
+/// `sessions` sessions. The student ana owns the first half of the nodes, rounded down, and ben the others; the teacher
+/// is tess. Returns an error if memory runs out.
 pub fn cycle(alloc: Global, nodes: u64, events: u64, sessions: u64) -> Result<String, AllocError> {
     let mut text = String::from_str(alloc, PEOPLE)?;
     write!(text, "events = {events}\nsessions = {sessions}\n")?;

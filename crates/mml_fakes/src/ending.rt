@@ -20,7 +20,7 @@ pub enum Ending {
     Astray(Astray),
 }
 
-/// Returns how a house has ended, by `end`, the result of ending it: the counts of its log, or its `Astray`.
+/// Returns how a house has ended: the counts of its log, or its `Astray`. `end` is the result of ending the house.
 pub fn ending_of<S: Sink>(end: &Result<Log<S>, Astray>) -> Ending {
     match end {
         Ok(log) => Ending::Log {
@@ -32,7 +32,7 @@ pub fn ending_of<S: Sink>(end: &Result<Log<S>, Astray>) -> Ending {
     }
 }
 
-/// Returns whether a house has left a log, and its sink has exactly this journal.
+/// Returns whether a house has left a log whose sink has exactly the text `journal`.
 pub fn has_journal(end: &Result<Log<MemorySink>, Astray>, journal: &str) -> bool {
     match end {
         Ok(log) => log.sink.bytes() == journal.as_bytes(),

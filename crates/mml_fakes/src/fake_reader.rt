@@ -31,8 +31,8 @@ impl<'a> FakeReader<'a> {
 }
 
 impl<'a> Read for FakeReader<'a> {
-    // Counts the read, and copies at most `step` of the next bytes to `buf`. Returns how many these are, 0 at the end.
-    // Fails with an error of `kind` if no more reads are to succeed.
+    // Counts the read, copies at most `step` of the next bytes to `buf`, and returns how many were copied: 0 at the
+    // end. Fails with an error of `kind` if no more reads are to succeed.
     fn read(&mut self, buf: &mut [u8]) -> io::Result<usize> {
         self.reads = self.reads.saturating_add(1);
         if self.good == 0 {
@@ -54,8 +54,8 @@ pub struct Parts<'a> {
 }
 
 impl<'a> Read for Parts<'a> {
-    // Copies what fits of the first part, until that is empty; then at most `step` bytes of the second. Returns how
-    // many these are, 0 at the end of the second.
+    // Copies as much of the first part as `buf` has room for. If the first part was read to its end, copies at most
+    // `step` bytes of the second. Returns how many bytes were copied: 0 at the end of the second.
     fn read(&mut self, buf: &mut [u8]) -> io::Result<usize> {
         if self.first.is_empty() {
             let len = self.step.min(buf.len());

@@ -45,8 +45,8 @@ impl FakeWriter {
 }
 
 impl Write for FakeWriter {
-    // Stores at most `step` bytes, and returns how many. If no more writes are to succeed, returns 0 or an error, as
-    // `refusal` says. Returns an error if memory runs out.
+    // Stores at most `step` bytes, and returns how many. If no more writes are to succeed, stores nothing, and returns
+    // 0 or an error, as `refusal` says. Returns an error if memory runs out.
     fn write(&mut self, buf: &[u8]) -> io::Result<usize> {
         if self.good == 0 {
             return match self.refusal {
@@ -60,7 +60,8 @@ impl Write for FakeWriter {
         Ok(len)
     }
 
-    // Succeeds `good_flushes` times. Then fails with the error of `refusal`, or with `Other` if that is `TakesNothing`.
+    // Succeeds as long as `good_flushes` isn't 0. Then fails with the error of `refusal`, or with `Other` if that is
+    // `TakesNothing`.
     fn flush(&mut self) -> io::Result<()> {
         if self.good_flushes == 0 {
             return match self.refusal {

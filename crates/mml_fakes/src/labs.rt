@@ -14,8 +14,8 @@ pub fn boxed_lab(alloc: Global, document: &str) -> Result<Box<Lab>, Fail> {
     Ok(Box::new(alloc, read_lab(alloc, document.as_bytes())?)?)
 }
 
-/// Returns the board of a lab at the beginning of a run, in a box, which keeps a test's proof short, as `boxed_lab`
-/// says. Returns an error if memory runs out.
+/// Returns the board of a lab at the beginning of a run. The board is in a box, which keeps a test's proof short, as
+/// `boxed_lab` says. Returns an error if memory runs out.
 pub fn boxed_board(alloc: Global, lab: &Lab) -> Result<Box<Board>, Fail> {
     Ok(Box::new(alloc, Board::new(alloc, lab)?)?)
 }

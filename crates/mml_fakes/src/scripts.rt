@@ -1,7 +1,8 @@
 //! Scripts that several tests share, with their replies.
 use crate::lines;
 
-/// Returns the first `count` lines of a text, each with its newline, or the whole text if it has fewer newlines.
+/// Returns the first `count` lines of a text, each with its newline. Returns the whole text if it has fewer newlines
+/// than that.
 pub fn first_lines(text: &str, count: u64) -> &str {
     let mut rest = text;
     for _ in 0..count {

@@ -18,8 +18,8 @@ fn move_by(node: u64, rule: Asked, at: u64) -> Command
     Command::Move { node, rule, at }
 }
 
-/// Returns the command of the stored run that is granted at this place, counted from 1. The journal of all ten is
-/// `scripts::TEN_LINES`. Returns a close if there is no such place.
+/// Returns the act of the stored run that is granted at this place, counted from 1. The journal of all ten acts is
+/// `scripts::TEN_LINES`. Returns a close if `place` isn't from 1 to 10.
 pub fn act(place: u64) -> Command
     ensures { is_act result ≡ true }
 {
@@ -34,8 +34,8 @@ pub fn act(place: u64) -> Command
     }
 }
 
-/// Returns the participant who asks for the command that is granted at this place, counted from 1. Returns the teacher
-/// if there is no such place.
+/// Returns the participant who asks for the act that is granted at this place, counted from 1. Returns the teacher if
+/// `place` isn't from 1 to 10.
 pub fn asker(place: u64) -> Who {
     match place {
         1 | 9 => student(0),

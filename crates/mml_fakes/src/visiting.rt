@@ -19,8 +19,9 @@ use std::alloc::Global;
 use std::sync::Wait;
 use std::test::Fail;
 
-/// Opens a house over the path of three, and returns it before it is started. The house's sink fails from its put
-/// number `fail_at` on, counted from 1, or never if that is `None`. Returns an error if memory runs out.
+/// Opens a house over the path of three, and returns it before it is started. The house has a sink in memory, which
+/// fails from its put number `fail_at` on, counted from 1, or never if that is `None`. Returns an error if memory runs
+/// out.
 pub fn open_path<R: Wait>(
     rt: &R,
     alloc: Global,
@@ -43,7 +44,7 @@ pub trait Visit<S: Sink> {
 /// Makes a visit through the last two of these `windows`, and returns its result. The last window is the visit's first
 /// window, and the one before it is the second. Afterwards puts the first window back, and then the second, so that
 /// they have swapped their positions in the list. Returns `None` if memory runs out before both are put back. Also
-/// returns `None` if there are fewer than two windows; then none is left.
+/// returns `None`, without a visit, if there are fewer than two windows; then none is left.
 pub fn visit_windows<V: Visit<S> + Drop, S: Sink + Drop, H: House, R: Wait>(
     rt: &R,
     alloc: Global,
@@ -66,7 +67,7 @@ pub fn visit_windows<V: Visit<S> + Drop, S: Sink + Drop, H: House, R: Wait>(
 pub type Visited<T, S> = (Option<T>, Result<Log<S>, Astray>);
 
 /// Starts the opened house `blank`, whose name is `H`, makes a visit through two of its windows, and ends the house.
-/// Returns the result of the visit, and how the house has ended. Returns an error if memory runs out at the start.
+/// Returns the result of the visit, and how the house has ended. Returns an error if memory runs out before the visit.
 pub fn visit_house<V: Visit<S> + Drop, S: Sink + Drop, H: House, R: Wait>(
     rt: &R,
     alloc: Global,
@@ -80,8 +81,9 @@ pub fn visit_house<V: Visit<S> + Drop, S: Sink + Drop, H: House, R: Wait>(
     Ok((outcome, desk.finish(rt, windows)))
 }
 
-/// Opens a house over the lab in `file`, makes a visit, and ends the house. Returns the result of the visit, and how
-/// the house has ended. Returns an error if the file doesn't describe a lab, or memory runs out before the visit.
+/// Opens a house over the lab whose file has the text `file`, makes a visit, and ends the house. The house's journal
+/// goes to `sink`, which must be fresh. Returns the result of the visit, and how the house has ended. Returns an error
+/// if the file doesn't describe a lab, or memory runs out before the visit.
 pub fn visit_lab<V: Visit<S> + Drop, S: Sink + Drop, R: Wait>(
     rt: &R,
     alloc: Global,
@@ -97,8 +99,9 @@ pub fn visit_lab<V: Visit<S> + Drop, S: Sink + Drop, R: Wait>(
     visit_house::<_, _, Brand, _>(rt, alloc, blank, visit)
 }
 
-/// Opens a house over the path of three, makes a visit, and ends the house. Returns the result of the visit, and how
-/// the house has ended. Returns an error if memory runs out before the visit.
+/// Opens a house over the path of three, makes a visit, and ends the house. The house's journal goes to `sink`, which
+/// must be fresh. Returns the result of the visit, and how the house has ended. Returns an error if memory runs out
+/// before the visit.
 pub fn visit_path<V: Visit<S> + Drop, S: Sink + Drop, R: Wait>(
     rt: &R,
     alloc: Global,

@@ -26,7 +26,7 @@ pub struct WindowAtDesk<'a, S: Sink, H: House, R: Wait> {
 }
 
 impl<'a, S: Sink + Drop, H: House, R: Wait> WindowAtDesk<'a, S, H, R> {
-    /// Asks the desk for an act of `who` through the window, and returns the answer.
+    /// Asks the desk through the window for the act `command`, as the participant `who`, and returns the answer.
     pub fn ask(&mut self, who: Who, command: &Command) -> Answer
         requires { is_act command.now ≡ true }
     {
@@ -82,7 +82,7 @@ impl<'a, S: Sink + Drop, H: House, R: Wait> Pair<'a, S, H, R> {
         }
     }
 
-    /// Returns the first and the second window. The two windows are needed to end the house.
+    /// Returns the first and the second window, without the desk. The windows are needed to end the house.
     pub fn into_windows(self) -> (Window<H>, Window<H>) {
         let Pair { one, two } = self;
         let WindowAtDesk { window: first, .. } = one;
