@@ -92,8 +92,8 @@ fn texts_of<'a>(
     Texts::of(alloc, &said, count)
 }
 
-/// Serves the connections of these talks in a house over a cycle of six nodes. `out` gets what the host prints. Returns
-/// the result of the house, or the fault of the host. Returns an error (`Fail`) if memory runs out.
+/// Serves the connections of these talks in a house over a cycle of six nodes. What the host prints is appended to
+/// `out`. Returns the result of the house, or the fault of the host. Returns an error (`Fail`) if memory runs out.
 fn host<R: Threads + Wait + Sync>(
     rt: &R,
     alloc: Global,
@@ -107,9 +107,9 @@ fn host<R: Threads + Wait + Sync>(
     Ok(host_in_memory(rt, alloc, lab, at_desk, at_port, &count, out))
 }
 
-/// Serves these connections at the desk and at the port in a house of this lab, with a journal in memory and no record.
-/// `count` counts the sessions that have ended, and `out` gets what the host prints. Returns the result of the house,
-/// or the fault of the host.
+/// Serves the connections `at_desk` and `at_port` in a house of this lab, with a journal in memory and no record.
+/// `count` counts the sessions that have ended. What the host prints is appended to `out`. Returns the result of the
+/// house, or the fault of the host.
 fn host_in_memory<'a, R: Threads + Wait + Sync>(
     rt: &'a R,
     alloc: Global,
@@ -164,8 +164,9 @@ fn sessions_come_one_after_another(rt: HostRuntime) -> Result<(), Fail> {
     Ok(())
 }
 
-/// Serves two connections in a house: one says bye at the desk without a hello, and the teacher says bye at the port.
-/// Returns whether the house ends with the fault `Undismissed`, and without printing a last line.
+/// Serves two connections in a house: one says bye at the desk without a hello, and the teacher says bye at the
+/// students' port. Returns whether the house ends with the fault `Undismissed`, and prints no last line. Returns an
+/// error if memory runs out.
 fn is_undismissed<R: Threads + Wait + Sync>(rt: &R, alloc: Global) -> Result<bool, Fail> {
     let mut out = Vec::new(alloc);
     let left = host(rt, alloc, &[NOBODY, ELSEWHERE], &mut out)?;

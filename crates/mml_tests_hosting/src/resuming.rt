@@ -65,8 +65,8 @@ const LONG: &str = "1 0 grant ana 1 seduction
 struct Shelf(Global);
 
 impl Store<MemorySink> for Shelf {
-    // Returns a new sink in memory that has the bytes `whole`, which are the whole lines of the old journal. If there
-    // are none, puts nothing, since a put needs at least one byte. Returns `None` if memory runs out.
+    // Returns a new sink in memory that has the bytes `whole`, which are the whole lines of the old journal. If `whole`
+    // is empty, puts nothing, since a put needs at least one byte. Returns `None` if memory runs out.
     fn shorten_to(self, whole: &[u8]) -> Option<MemorySink>
         ensures holds { IfSome result (λ sink. sink.bytes ≡ whole.now) }
         ensures countable { IfSome result (λ sink. sink.failures < 2 ^ 64 - 1) }
@@ -83,8 +83,8 @@ impl Store<MemorySink> for Shelf {
 }
 
 /// Resumes a class from the journal `old`, over a cycle of six nodes, with this limit of `events`. Ana connects to the
-/// port and, when she has left, the teacher connects to the desk. `out` gets what the class prints. Returns the result
-/// of the class, or its fault. Returns an error (`Fail`) if memory runs out.
+/// students' port and, when she has left, the teacher connects to the desk. What the class prints is appended to `out`.
+/// Returns the result of the class, or its fault. Returns an error (`Fail`) if memory runs out.
 fn resume<R: Threads + Wait + Sync>(
     rt: &R,
     alloc: Global,
@@ -109,8 +109,8 @@ fn resume<R: Threads + Wait + Sync>(
     Ok(resume_in(rt, alloc, lab, old, at_desk, at_port, &count, out))
 }
 
-/// Resumes a class of this lab from the journal `old`, with these connections at the desk and at the port, and no
-/// record. `count` counts the sessions that have ended, and `out` gets what the class prints. Returns the result of the
+/// Resumes a class of this lab from the journal `old`, with the connections `at_desk` and `at_port`, and no record.
+/// `count` counts the sessions that have ended. What the class prints is appended to `out`. Returns the result of the
 /// class, or its fault.
 fn resume_in<'a, R: Threads + Wait + Sync>(
     rt: &'a R,
@@ -140,8 +140,8 @@ fn resume_in<'a, R: Threads + Wait + Sync>(
     )
 }
 
-/// Resumes a class from the journal `old`, with this limit of `events`. Returns its fault, or `None` if it ended well.
-/// Also returns whether nothing was printed.
+/// Resumes a class from the journal `old`, with this limit of `events`. Returns the fault of the class, or `None` if it
+/// ended well. Also returns whether nothing was printed.
 fn fault_of_class<R: Threads + Wait + Sync>(
     rt: &R,
     alloc: Global,
@@ -189,8 +189,8 @@ fn is_refused<R: Threads + Wait + Sync>(
     Ok(fault_of_class(rt, alloc, events, old)? == (Some(ResumeFault::Refused(wanted)), true))
 }
 
-/// Returns three answers: whether each of these journals is refused for the right reason. One has an illegal event, one
-/// has more events than the limit, and one ends with a torn line that is too long.
+/// Returns for each of three journals whether it is refused for the right reason. The first has an illegal event, the
+/// second more events than the limit, and the third ends with a torn line that is too long.
 fn are_refused<R: Threads + Wait + Sync>(rt: &R, alloc: Global) -> Result<[bool; 3], Fail> {
     let illegal = AuditFault::Illegal(1, Denial::Empty);
     let is_empty = is_refused(rt, alloc, 100, "1 0 close\n", illegal)?;

@@ -75,7 +75,7 @@ impl HangUp for NumberedWriter {
 impl Observed for NumberedWriter {
     type Replies = NoReplies;
 
-    // Returns an observer that does nothing: these tests don't need one.
+    // Returns an observer that does nothing, since these tests don't observe replies.
     fn reply_observer(&mut self) -> NoReplies {
         NoReplies
     }
@@ -148,8 +148,8 @@ fn ends_of(alloc: Global, timed: &Timed<'_>) -> Result<TextEnds, AllocError> {
 impl<'a> Accept<VecDeque<u8>, NumberedWriter, Nothing> for Texts<'a> {
     ghost to_come = { λ t. Some (into_iter_items t.coming) };
 
-    // Returns the next connection, when as many sessions have ended as it needs, or when `wait_for` has given up.
-    // Returns `Over` if no connection is left.
+    // Returns the next connection, when as many sessions have ended as its `after` says, or when `wait_for` has given
+    // up. Returns `Over` if no connection is left.
     fn accept_next(&mut self) -> Accepted<VecDeque<u8>, NumberedWriter, Nothing>
         ensures { Brings (Some (into_iter_items self.old.coming))
             (Some (into_iter_items self.new.coming)) result }

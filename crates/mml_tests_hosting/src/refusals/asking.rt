@@ -26,8 +26,8 @@ fn granted_or_refused(answer: &Answer, place: u64, was_none: bool) -> Option<boo
 }
 
 /// Asks for the act of the stored run at this place, while the nth request for memory is refused. Returns `true` if the
-/// act was granted. Returns `false` if it was refused for memory, and the window's configuration is as before. Returns
-/// `None` in any other case.
+/// act was granted at this place. Returns `false` if it was refused for memory, and the window's configuration is as
+/// before. Returns `None` in any other case.
 fn ask_with_refusal<H: House, R: Wait>(
     at_desk: &mut WindowAtDesk<'_, NullSink, H, R>,
     place: u64,
@@ -42,7 +42,7 @@ fn ask_with_refusal<H: House, R: Wait>(
     is_kept.then_some(is_granted)
 }
 
-/// Asks for the act at this place until it is granted. In the nth try, its nth request for memory is refused. Returns
+/// Asks for the act at this place until it is granted. In the nth try, the nth request for memory is refused. Returns
 /// how often the act was refused. Returns `None` if an answer was wrong, or the act wasn't granted in `MOST` tries.
 fn refusals_of<H: House, R: Wait>(
     at_desk: &mut WindowAtDesk<'_, NullSink, H, R>,
@@ -105,9 +105,9 @@ impl Visit<NullSink> for FirstThenSecond {
     /// the second act wasn't granted at the next place.
     type Outcome = Option<bool>;
 
-    // Asks for both acts through the first window. Returns whether the first was granted, or refused for memory
-    // (`false`). Returns `None` if it was answered otherwise, or the second wasn't granted at the next place: 2 if the
-    // first was granted, and otherwise 1.
+    // Asks for both acts through the first window. Returns `true` if the first was granted, and `false` if it was
+    // refused for memory. Returns `None` if the first was answered otherwise, or the second wasn't granted at the next
+    // place. This place is 2 if the first was granted, and otherwise 1.
     fn visit<H: House, R: Wait>(self, pair: &mut Pair<'_, NullSink, H, R>) -> Option<bool> {
         let at_desk = &mut pair.one;
         let was_granted = ask_with_refusal(at_desk, 1, self.nth, self.is_there)?;
@@ -117,8 +117,9 @@ impl Visit<NullSink> for FirstThenSecond {
     }
 }
 
-/// Makes the visit `FirstThenSecond` in a new house over the path of three. Returns whether the first act was granted.
-/// Returns `None` if an act was answered wrongly, or the house didn't end with exactly the granted acts.
+/// Makes the visit `FirstThenSecond` in a new house over the path of three. Returns whether the first act was granted;
+/// `false` if it was refused for memory. Returns `None` if an act was answered wrongly, or the house didn't end with
+/// exactly the granted acts.
 fn was_first_granted<R: Wait>(
     rt: &R,
     alloc: Global,
@@ -143,8 +144,8 @@ fn was_first_granted<R: Wait>(
 }
 
 /// Makes the visit `FirstThenSecond` in one new house after another until the first act is granted. In the nth house,
-/// the nth request for memory of this act is refused. Returns how often the first act was refused. Returns `None` if a
-/// house went wrong, or the act was never granted.
+/// the nth request for memory of this act is refused. Returns how often the first act was refused. Returns `None` if
+/// `was_first_granted` returned `None` for a house, or the act wasn't granted in `MOST` houses.
 fn refusals_of_first<R: Wait>(
     rt: &R,
     alloc: Global,

@@ -59,9 +59,9 @@ enum Grant {
     Halted,
 }
 
-/// Returns the outcome of the first move, as its reply shows it. Returns `None` if the reply shows none of the three
-/// outcomes. Also returns `None` if the hall's events or its journal don't fit the outcome, or the journal is wrongly
-/// halted or not.
+/// Returns the outcome of the first move, as its `reply` shows it. Returns `None` if the reply shows none of the three
+/// outcomes. Also returns `None` if the hall doesn't fit the outcome: its events, its journal, or whether the journal
+/// is halted.
 fn grant_of(hall: &Hall<MemorySink>, reply: &[u8]) -> Option<Grant> {
     let (found, events) = if reply == GRANTED.as_bytes() {
         (Grant::Made, 1)
@@ -88,8 +88,8 @@ fn stays_halted(alloc: Global, hall: &mut Hall<MemorySink>, is_there: bool) -> b
     }
 }
 
-/// Says hello as ana and moves node 1, while the nth request for memory of the move is refused. Returns the outcome,
-/// and whether no request was refused. Returns `None` if the reply or the hall is wrong, or a halted hall doesn't stay
+/// Says hello as ana and moves node 1, while the nth request for memory of the move is refused. Returns the outcome of
+/// the move, and whether no request was refused. Returns `None` if `grant_of` does, or a halted hall doesn't stay
 /// halted.
 fn grant_in(
     alloc: Global,
@@ -117,8 +117,8 @@ fn grant_in_new_hall(
 }
 
 /// Moves node 1 in one new hall after another until the move is granted. In the nth hall, the nth request for memory is
-/// refused. Returns in how many halls the move was refused, and how many halls were halted. Returns `None` if a hall
-/// went wrong, or the move was never granted.
+/// refused. Returns in how many halls the move was refused, and how many halls were halted. Returns `None` if the
+/// outcome in a hall was wrong, or the move wasn't granted in `MOST` halls.
 fn results_of_grants(alloc: Global, is_there: bool) -> Result<Option<(usize, usize)>, Fail> {
     let (mut refused, mut halted) = (0usize, 0usize);
     for nth in 1..MOST {

@@ -83,8 +83,8 @@ const AFTER: &[(u8, &str, &str)] = &[
     (1, line!(bye), line!(left)),
 ];
 
-/// Answers a connection's request. Then writes the reply line into `out`, in place of what it had, while each request
-/// for memory is refused. Returns `Memory` if the line needs more memory than `out` has, or the lab has no such
+/// Answers a connection's request. Then writes the reply line into `out`, in place of its former contents, while each
+/// request for memory is refused. Returns `Memory` if the line needs more memory than `out` has, or the lab has no such
 /// connection.
 fn answer_without_memory(
     alloc: Global,
@@ -175,7 +175,7 @@ fn hall_of_256(alloc: Global) -> Result<Box<Hall<NullSink>>, Fail> {
 
 /// Sends the requests of `BEFORE`, the moves, the close and the requests of `AFTER` to a hall over the row of 256
 /// nodes. Returns whether each reply is right, and is written without more memory. Also returns whether a report of all
-/// nodes is written without more memory, though it is too long for that.
+/// nodes is written without more memory, though its line is longer than `REPLY_ROOM`.
 fn results_of_replies(alloc: Global) -> Result<(bool, bool), Fail> {
     let closed = closed(alloc)?;
     let out = &mut Vec::with_capacity(alloc, REPLY_ROOM)?;

@@ -17,8 +17,8 @@ use std::alloc::Global;
 use std::sync::Wait;
 use std::test::Fail;
 
-/// Asks through the window for the act of the stored run at this place. Returns whether it is refused as `wanted` (or
-/// denied, if `wanted` is `None`), and no memory was requested for it.
+/// Asks through the window for the act of the stored run at this place. Returns whether the act is refused as `wanted`,
+/// or denied if `wanted` is `None`, and no memory was requested meanwhile.
 fn takes_none<H: House, R: Wait>(
     at_desk: &mut WindowAtDesk<'_, MemorySink, H, R>,
     place: u64,
@@ -78,7 +78,7 @@ impl Visit<MemorySink> for AfterFirst {
 /// Makes the visit `AfterFirst` in a house over the path of three. The text `events` replaces the line of the lab file
 /// with the limit of events. The sink fails from its put number `fail_at` on, or never if that is `None`. Returns the
 /// outcome of the visit: whether all answers are right, and no memory was requested after the first two. Returns `None`
-/// if there were fewer than two windows, or one couldn't be put back.
+/// if there were fewer than two windows, or memory ran out before both were put back.
 fn takes_none_after_first<R: Wait>(
     rt: &R,
     alloc: Global,
