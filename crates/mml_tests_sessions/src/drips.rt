@@ -14,8 +14,8 @@ use std::sync::Wait;
 use std::test::Fail;
 
 /// Returns whether an answer to the act at this place is right, if the sink fails at the line of event `last`. Acts at
-/// earlier places must be granted. The act at place `last` must be refused for the journal, and later acts must be
-/// denied, or refused for the journal.
+/// places before `last` must be granted at their places. The act at place `last` must be refused for the journal, and
+/// later acts must be denied, or refused for the journal.
 fn is_right_answer(answer: &Answer, place: u64, last: u64) -> bool {
     match answer {
         Answer::Granted { place: granted, .. } => place < last && *granted == place,
@@ -24,8 +24,8 @@ fn is_right_answer(answer: &Answer, place: u64, last: u64) -> bool {
     }
 }
 
-/// Asks for the ten acts in their order, if the sink fails at the line of event `last`. Returns whether each answer is
-/// right, and the window then shows the configuration to which the granted acts lead.
+/// Asks for the ten acts in their order, in a house whose sink fails at the line of event `last`. Returns whether each
+/// answer is right, and after each the window shows the configuration to which the granted acts lead.
 fn answers_ten_acts<H: House, R: Wait>(
     at_desk: &mut WindowAtDesk<'_, Drip, H, R>,
     last: u64,
@@ -57,8 +57,8 @@ impl Visit<Drip> for Acts {
     }
 }
 
-/// Returns how a house must have ended in which all ten acts were asked for. The house's sink failed at the line of
-/// event `last`, or never if that is 11.
+/// Returns how a house must end in which all ten acts are asked for, if its sink fails at the line of event `last`, or
+/// never if that is 11.
 fn ending_at(last: u64) -> Ending {
     Ending::Log {
         events: last.saturating_sub(1) as usize,
@@ -67,7 +67,7 @@ fn ending_at(last: u64) -> Ending {
     }
 }
 
-/// Returns whether a house has left a log, and its sink has exactly these bytes. One put must have failed if the
+/// Returns whether a house has left a log whose sink has exactly the bytes `wanted`. One put must have failed if the
 /// journal was halted, and otherwise none.
 fn has_dripped(end: &Result<Log<Drip>, Astray>, wanted: &[u8]) -> bool {
     match end {
@@ -78,9 +78,9 @@ fn has_dripped(end: &Result<Log<Drip>, Astray>, wanted: &[u8]) -> bool {
     }
 }
 
-/// Asks for the ten acts in a house whose sink stores `puts` bytes and then fails. Returns whether all is right. The
-/// acts must be answered rightly, the sink must have exactly the first `puts` bytes of their journal, and the house one
-/// event for each whole line in these bytes.
+/// Asks for the ten acts in a house whose sink stores `puts` bytes and then fails. Returns whether the acts are
+/// answered rightly, and the sink has exactly the first `puts` bytes of their journal. The house must have one event
+/// for each whole line in these bytes.
 fn fails_rightly_after<R: Wait>(rt: &R, alloc: Global, puts: usize) -> Result<bool, Fail> {
     let (wanted, _) = TEN_LINES.as_bytes().split_at(puts.min(TEN_LINES.len()));
     let last = (ended_lines(wanted) as u64).saturating_add(1);

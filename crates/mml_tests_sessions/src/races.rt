@@ -61,9 +61,9 @@ fn lab_of_sixteen(alloc: Global) -> Result<Lab, Fail> {
     Ok(read_lab(alloc, file.as_bytes())?)
 }
 
-/// Serves the first `connections` of these scripts over `lab_of_sixteen`, with this sink for the journal and this gate,
-/// and writes the server's last line to `out`. Returns the result of the house, or the fault because of which there is
-/// none. Returns an error (`Fail`) if memory runs out, or the lab has fewer sessions.
+/// Serves the first `connections` of these scripts over `lab_of_sixteen`, with this gate. The journal goes to `sink`,
+/// which must be fresh, and the server's last line to `out`. Returns the result of the house, or the fault because of
+/// which there is none. Returns an error (`Fail`) if memory runs out, or the lab has fewer sessions than `connections`.
 fn serve<'a, S: Sink + Send + Drop, R: Threads + Wait + Sync, G: Gate + Sync>(
     rt: &R,
     alloc: Global,
@@ -93,7 +93,8 @@ fn serve<'a, S: Sink + Send + Drop, R: Threads + Wait + Sync, G: Gate + Sync>(
     ))
 }
 
-/// Returns whether the connections are numbered from 1 in their order, and each got exactly its replies.
+/// Returns whether the connections are as many as `replies`, are numbered from 1 in their order, and each got exactly
+/// its replies.
 fn are_answered<S: Drop>(house: &ServedHouse<S, Bytewise<'_>, Vec<u8>>, replies: &[&str]) -> bool {
     let mut number = 0u8;
     for session in house.sessions.iter() {
@@ -147,8 +148,8 @@ fn is_some_outcome(
     false
 }
 
-/// Serves the sessions of a race. Returns whether there is an allowed outcome, and the sessions waited as they should
-/// and each took the race's number of steps. Returns `false` if the sessions couldn't be served to their end.
+/// Serves the sessions of a race. Returns whether the outcome is an allowed one, and the gate's `were_kept` is `true`
+/// for the race's number of steps. Returns `false` if the sessions couldn't be served to their end.
 fn is_run<R: Threads + Wait + Sync>(rt: &R, alloc: Global, race: &Race) -> Result<bool, Fail> {
     let (scripts, holds, steps, outcomes) = race;
     let connections = u8::try_from(scripts.len()).map_err(|_| "too many scripts")?;
@@ -308,15 +309,15 @@ fn first_other<R: Threads + Wait + Sync>(rt: &R, alloc: Global) -> Result<Option
     Ok(None)
 }
 
-/// Checks that each race has an outcome that some order of its lines allows, and its sessions wait and step as it says.
+/// Checks that each race has one of its allowed outcomes, and its sessions wait and take steps as the race says.
 #[test]
 fn held_sessions_are_answered_one_by_one(rt: HostRuntime) -> Result<(), Fail> {
     assert_eq!(rt; first_other(&rt, rt.alloc())?, None);
     Ok(())
 }
 
-/// Serves two of three connections. Returns whether exactly the first two are served and answered rightly, and the
-/// house has them in their order.
+/// Serves two connections, though three come. Returns whether exactly the first two are served and answered rightly,
+/// and the house has them in their order.
 fn are_two_left<R: Threads + Wait + Sync>(rt: &R, alloc: Global) -> Result<bool, Fail> {
     let mut out = Vec::new(alloc);
     let sink = MemorySink::new(alloc, None);
@@ -346,8 +347,8 @@ fn results_of_arrivals<R: Threads + Wait + Sync>(
     Ok((are_two_left(rt, alloc)?, is_lack_told(rt, alloc)?))
 }
 
-/// Checks that a server for two connections serves the first two of three, and has them in their order, and that too
-/// few connections are an error.
+/// Checks that a server for two connections serves the first two of three, and has them in their order. Also checks
+/// that it ends with an error if only one comes.
 #[test]
 fn connections_are_left_in_the_order_in_which_they_came(rt: HostRuntime) -> Result<(), Fail> {
     assert_eq!(rt; results_of_arrivals(&rt, rt.alloc())?, (true, true));

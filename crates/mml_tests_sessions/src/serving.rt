@@ -27,8 +27,8 @@ struct After {
 }
 
 impl Gate for After {
-    // Counts the replies to connection 1. Makes any other connection wait at each point until there are enough of
-    // these, or gives up after many checks.
+    // Counts the replies to connection 1. Makes any other connection wait at each point until `wanted` replies were
+    // counted, or `wait_for` gives up.
     fn pass(&self, connection: u8, point: Point) {
         if connection == 1 && point == Point::Told {
             self.replies.fetch_add(1, Ordering::SeqCst);
@@ -40,7 +40,7 @@ impl Gate for After {
 }
 
 /// Connects a client to this address, sends the text, and shuts down the sending side. Returns the stream, from which
-/// the replies can be read.
+/// the replies can be read, or the system's error.
 fn client<R: Net<Listener = TcpListener, Stream = TcpStream>>(
     rt: &R,
     address: SocketAddr,
@@ -53,8 +53,8 @@ fn client<R: Net<Listener = TcpListener, Stream = TcpStream>>(
 }
 
 /// Serves two connections of a listener over the path of three. The second one waits until the first has had two
-/// replies. Returns whether the server ended without an error, and wrote exactly `last`. Returns `false` if the lab has
-/// fewer than two sessions, which `serve_on` requires.
+/// replies. Returns whether the server ended without an error, and wrote exactly `last`, its last line. Returns `false`
+/// if the lab has fewer than two sessions, which `serve_on` requires.
 fn is_served<R: Threads + Wait + Sync>(
     rt: &R,
     alloc: Global,
@@ -75,7 +75,7 @@ fn is_served<R: Threads + Wait + Sync>(
     Ok(ended.is_ok() && out.as_slice() == last.as_bytes())
 }
 
-/// Returns whether a client got exactly these replies before its connection ended.
+/// Reads from a client's stream until the connection ends. Returns whether the client got exactly these replies.
 fn is_answered(alloc: Global, stream: TcpStream, replies: &str) -> io::Result<bool> {
     let found = io::read_to_string(alloc, &stream)?;
     Ok(found.as_str() == replies)
@@ -102,8 +102,8 @@ fn results_of_two<
     Ok((is_served, is_granted, is_closed))
 }
 
-/// Checks that two clients are served and answered rightly. If connections had other numbers, the gate would let the
-/// close come first, and the reply to it would be another one.
+/// Checks that two clients are served and answered rightly. If the connections were numbered the other way round, the
+/// gate would let the close come first, and its reply would be another one.
 #[test]
 fn connections_are_numbered_as_they_come(rt: HostRuntime) -> Result<(), Fail> {
     assert_eq!(rt; results_of_two(&rt)?, (true, true, true));

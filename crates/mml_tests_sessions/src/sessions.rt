@@ -76,7 +76,8 @@ fn serve<'a, R: Wait>(
     }
 }
 
-/// Returns how the house must end: with a move and its close if `is_closed`, and otherwise with no event.
+/// Returns how the house must end: with a move and its close if the close applied the move (`is_closed`), and otherwise
+/// with no event.
 fn ending_after(is_closed: bool) -> Ending {
     Ending::Log {
         events: if is_closed { 2 } else { 0 },
@@ -152,8 +153,8 @@ fn ana_moving(step: usize) -> FakeReader<'static> {
 }
 
 /// Serves `ANA_MOVES` with a writer that stores one byte in each write, and fails after `good` bytes. Returns whether
-/// exactly these bytes are written, and the session ends with `WriteFault`, or with `End` if these are all bytes. The
-/// move must stay granted: the close applies it even if its reply wasn't written.
+/// exactly the first `good` bytes of the replies are written, and the session ends with `WriteFault`, or with `End` if
+/// these are all bytes. The move must stay granted: the close applies it even if its reply wasn't written.
 fn tells_a_write<R: Wait>(rt: &R, alloc: Global, good: usize) -> Result<bool, Fail> {
     let reader = ana_moving(usize::MAX);
     let mut writer = FakeWriter::failing_after(good, alloc);
@@ -218,7 +219,8 @@ fn tells_a_read<R: Wait>(rt: &R, alloc: Global, good: usize) -> Result<bool, Fai
     )
 }
 
-/// Returns the first number of bytes for which `tells_a_read` is `false`, or `None` if there is no such number.
+/// Tries a reader that fails after each number of bytes of `ANA_MOVES`. Returns the first number for which
+/// `tells_a_read` is `false`, or `None` if there is no such number.
 fn first_other_read<R: Wait>(rt: &R, alloc: Global) -> Result<Option<usize>, Fail> {
     for good in 0..=ANA_MOVES.len() {
         if !tells_a_read(rt, alloc, good)? {
@@ -236,8 +238,8 @@ fn failed_reads_are_told(rt: HostRuntime) -> Result<(), Fail> {
     Ok(())
 }
 
-/// Serves `ANA_MOVES` with at most `step` bytes in a read. Returns how many writes the replies take, or `None` if the
-/// replies are wrong, or the house ends wrongly.
+/// Serves `ANA_MOVES`, which comes in reads of at most `step` bytes. Returns how many writes the replies take, or
+/// `None` if the replies are wrong, or the house ends wrongly.
 fn writes_at<R: Wait>(rt: &R, alloc: Global, step: usize) -> Result<Option<usize>, Fail> {
     let reader = ana_moving(step);
     let (served, is_ended) = serve(rt, alloc, reader, FakeWriter::patient(alloc))?;

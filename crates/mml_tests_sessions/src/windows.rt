@@ -44,7 +44,7 @@ fn is_first_move(answer: &Answer) -> bool {
 }
 
 /// Returns whether the teacher's window shows configuration 1, in which node 1 points at node 2, and all three nodes
-/// are free. Asks for the number of the configuration, a see, a student's look and a report.
+/// are free. For that, asks for the number of the configuration, a see, a student's look and a report.
 fn sees_the_close<H: House, R: Wait>(teacher: &mut WindowAtDesk<'_, MemorySink, H, R>) -> bool {
     let number = teacher.window.number() == Ok(1);
     let see = match teacher.window.see(Who::Teacher, 1) {
@@ -109,9 +109,9 @@ struct HouseResult {
     has_journal: bool,
 }
 
-/// Starts the house `blank`, whose name is `H`, asks for a move and a close in it, and ends it. If `with_all` is set,
-/// ends it with all its windows, and otherwise without the last one, through which ana moved. Returns the result, or
-/// `Memory` if memory runs out.
+/// Starts the house `blank`, whose name is `H`, makes the visit `MoveAndClose`, and ends the house. If `with_all` is
+/// set, ends it with all its windows, and otherwise without the last one, through which ana moved. Returns the result,
+/// or `Memory` if memory runs out.
 fn in_house<H: House, R: Wait>(
     rt: &R,
     alloc: Global,
@@ -136,15 +136,15 @@ fn in_house<H: House, R: Wait>(
     })
 }
 
-/// Asks for a move and a close in a house over the path of three, and ends it. If `with_all` is set, ends it with all
-/// its windows, and otherwise without the last one, through which ana moved. Returns the result.
+/// Does what `in_house` does, in a new house over the path of three, and returns its result. Returns an error if memory
+/// runs out.
 fn ended_with<R: Wait>(rt: &R, alloc: Global, with_all: bool) -> Result<HouseResult, Fail> {
     let blank = open_path(rt, alloc, None)?;
     Ok(in_house::<Brand, _>(rt, alloc, blank, with_all)?)
 }
 
-/// Returns the result of a house in which all went well, and which has ended as `ending`. `has_journal` is whether it
-/// left the journal of a move and its close.
+/// Returns the result of a house in which the visit went well and the windows showed the right numbers, and which has
+/// ended as `ending`. `has_journal` says whether the house has left the journal `CLOSED_JOURNAL`.
 fn good_result(ending: Ending, has_journal: bool) -> HouseResult {
     HouseResult {
         is_visited: true,
@@ -173,7 +173,8 @@ fn a_house_ends_with_all_its_windows(rt: HostRuntime) -> Result<(), Fail> {
     Ok(())
 }
 
-/// Returns whether a window shows nothing any more: its number, a see, a look and a report all say that it is closed.
+/// Returns whether a window is closed: asking for the number of its configuration, a see, a look and a report all
+/// return `Closed`.
 fn is_closed<H: House>(alloc: Global, window: &mut Window<H>) -> bool {
     let see = window.see(Who::Teacher, 1);
     let look = window.look(alloc, Who::Teacher, 1);
@@ -233,8 +234,8 @@ fn refuses_the_second<H: House, R: Wait>(
 }
 
 /// Starts the house `blank`, whose name is `H` and whose sink fails at its second line, and takes the book out of it.
-/// Returns the result of `refuses_the_second` for the book, and how the house has ended. Through the windows of this
-/// house no event was granted, so they have no places. Returns `Memory` if memory runs out.
+/// Returns the result of `refuses_the_second` for the book, and how the house has ended. No event was granted through
+/// the windows of this house, so they have no places. Returns `Memory` if memory runs out.
 fn decides_alone<H: House, R: Wait>(
     rt: &R,
     alloc: Global,

@@ -13,8 +13,8 @@ use mml_serving::write_listening;
 use std::alloc::Global;
 use std::test::Fail;
 
-/// Returns whether a call ended with the error `wanted` (or well, if that is `None`), and its writer has exactly the
-/// bytes of `out`.
+/// Returns whether a call ended with the error `wanted`, or well if that is `None`, and its writer has exactly the
+/// bytes `out`. `ended` is the call's result.
 fn has_written(
     ended: Result<(), Fault>,
     writer: &FakeWriter,
@@ -40,7 +40,7 @@ fn is_listening_told(alloc: Global) -> bool {
 }
 
 /// Returns whether the line of `check` for this lab is `SIZE`, and the line of `audit` is `AUDITED`, each with one
-/// write. A failed write of the first line must be reported, with nothing written.
+/// write. If the write of the line of `check` fails, this must be reported, and nothing be written.
 fn are_lines_told(alloc: Global, lab: &Lab) -> bool {
     let mut size = FakeWriter::failing_after(1, alloc);
     let is_size = write_size(alloc, lab, &mut size);

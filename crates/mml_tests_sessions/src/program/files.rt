@@ -12,14 +12,14 @@ use std::path::{Path, PathBuf};
 use std::test::Fail;
 use std::{env, fs, process};
 
-/// Returns a path in the folder for temporary files. The file's name has this process's number, and ends with `end`.
+/// Returns a path in the folder for temporary files. The name has this process's number, and ends with `end`.
 fn path_of_process(rt: &HostRuntime, end: &str) -> Result<PathBuf, Fail> {
     let name = format!(in rt.alloc(); "mml_tests_sessions_{}{end}", process::id(rt.process()))?;
     let folder = env::temp_dir(rt)?;
     Ok(folder.join(rt.alloc(), name.as_str())?)
 }
 
-/// Returns whether the result of a read is as wanted: the same bytes, or the same fault.
+/// Returns whether the result `found` of a read is as `wanted`: the same bytes, or the same fault.
 fn is_read(found: Result<Vec<u8>, Fault>, wanted: Result<&[u8], Fault>) -> bool {
     match (found, wanted) {
         (Ok(bytes), Ok(wanted)) => bytes.as_slice() == wanted,
@@ -28,7 +28,7 @@ fn is_read(found: Result<Vec<u8>, Fault>, wanted: Result<&[u8], Fault>) -> bool 
     }
 }
 
-/// Opens a journal at a path and begins it by `begin_journal_with`. The number 7 stands for what is needed. Returns
+/// Opens a journal at a path, and begins it by `begin_journal_with`, with the number 7 as what is needed. Returns
 /// whether the number is returned, and the journal's sink takes a whole line.
 fn is_begun(rt: &HostRuntime, path: &str) -> bool {
     let Ok(journal) = OpenJournal::open(rt, path, &[]) else {
@@ -42,8 +42,8 @@ fn is_begun(rt: &HostRuntime, path: &str) -> bool {
     }
 }
 
-/// Begins a journal at `path`, at which the file of the built-in lab is. Returns whether this lab is read from `path`
-/// before, the journal's line is read from there afterwards, and the lab's text is then found at `kept`.
+/// Begins a journal at `path`, the path of a file with the built-in lab. Returns whether the lab is read from `path`
+/// before, and the journal's line is read from there afterwards. The lab's text must then be at `kept`.
 fn is_kept(rt: &HostRuntime, path: &str, kept: &str) -> bool {
     let old = lab_of(rt, path).is_ok_and(|lab| lab.node_count() == 3);
     let is_begun = is_begun(rt, path);
@@ -55,8 +55,8 @@ fn is_kept(rt: &HostRuntime, path: &str, kept: &str) -> bool {
     old && is_begun && new && kept
 }
 
-/// Writes the built-in lab's file at `path`, returns the result of `is_kept`, and removes both files. Returns an error
-/// if a file can't be written or removed.
+/// Writes the built-in lab's file at `path`, calls `is_kept`, and removes the files at `path` and `kept`. Returns the
+/// result of `is_kept`, or an error if a file can't be written or removed.
 fn check_paths(rt: &HostRuntime, path: Path<'_>, kept: Path<'_>) -> Result<bool, Fail> {
     fs::write(rt, path, BUILT_IN.as_bytes())?;
     let text = path.to_str().ok_or("a path")?;
@@ -79,7 +79,7 @@ fn files_are_read_and_journals_begun(rt: HostRuntime) -> Result<(), Fail> {
     Ok(())
 }
 
-/// Checks that a path with a null byte, which no command line has, isn't read, and that the fault is the given one.
+/// Checks that reading a path with a null byte, which no command line has, fails with the fault that was passed for it.
 #[test]
 fn a_path_with_a_null_is_not_read(rt: HostRuntime) {
     let lab = is_read(read_file(&rt, "a\0b", Fault::ReadLab), Err(Fault::ReadLab));

@@ -6,7 +6,7 @@ use std::alloc::Global;
 use std::test::Fail;
 
 /// Splits a line at each space, and returns the words. Two spaces in a row have an empty word between them, and a space
-/// at the end has one after it.
+/// at the end has one after it. Returns an error if memory runs out.
 fn given(alloc: Global, line: &str) -> Result<Vec<String>, Fail> {
     let mut words = Vec::new(alloc);
     for word in line.split(' ') {
@@ -62,8 +62,8 @@ const FORMS: &[(&str, &str)] = &[
     ),
 ];
 
-/// Returns whether these words are read as the task with the debug text `wanted`. Returns an error if they aren't a
-/// task.
+/// Returns whether these words are read as the task with the debug text `wanted`. Returns an error if they are no task,
+/// or memory runs out.
 fn is_task(alloc: Global, words: &[String], wanted: &str) -> Result<bool, Fail> {
     let task = read_words(alloc, words)?;
     let found = format!(in alloc; "{task:?}")?;

@@ -47,8 +47,8 @@ impl<'a> Sink for Slow<'a> {
     ghost failures = { λ s. s.failures };
 
     // Stores all bytes. For `Steps`, the first put is one more connection: it waits until the second session has come
-    // to its second line, and the third has got its second reply. Then the put lets other threads run `TURNS` times. If
-    // memory runs out, fails and counts that.
+    // to its second line, and the third has got its second reply. Then the put lets other threads run `TURNS` times.
+    // Fails, and counts the failure, if memory runs out.
     fn put(&mut self, bytes: &[u8]) -> Result<usize, SinkFault> {
         if self.bytes.is_empty() {
             self.steps.come(PUT, Point::Line);
@@ -99,7 +99,8 @@ fn results_of_a_slow_put<R: Threads + Wait + Sync>(
     Ok((are_so, steps.were_led()))
 }
 
-/// Checks three sessions during a slow put, which holds the lock: a view must not wait for the lock, and an act must.
+/// Checks three sessions, of which one makes a slow put that holds the lock. Meanwhile a view of another session
+/// mustn't wait for the lock, and an act of the third must.
 #[test]
 fn a_lock_that_is_held_is_waited_for_by_acts_alone(rt: HostRuntime) -> Result<(), Fail> {
     assert_eq!(rt; results_of_a_slow_put(&rt, rt.alloc())?, (true, true));

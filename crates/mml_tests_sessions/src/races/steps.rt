@@ -56,8 +56,8 @@ impl<'a> Steps<'a> {
     }
 
     /// Waits until `come`, the counter of a connection's steps, is at least `wanted`. If that takes too long, gives up,
-    /// and counts that in `given_up`. Gives up at once, and counts that too, if `come` is `None`, since the connection
-    /// doesn't exist.
+    /// and counts the wait in `given_up`. Also does so, at once, if `come` is `None`, since the connection doesn't
+    /// exist.
     fn wait_until(&self, come: Option<&AtomicU64>, wanted: u64) {
         let has_come = match come {
             Some(come) => wait_for(come, wanted),
@@ -69,14 +69,15 @@ impl<'a> Steps<'a> {
     }
 
     /// Waits until all connections have come to this step, that is, until each counter is at least `step + 1`. Gives up
-    /// on each that takes too long, and counts that.
+    /// on each that takes too long, as `wait_until` does.
     fn hold_together(&self, step: u64) {
         for come in self.steps.iter() {
             self.wait_until(Some(come), step.saturating_add(1));
         }
     }
 
-    /// Makes a connection wait at this step, for each hold that names the connection and the step, one after another.
+    /// Makes a connection wait at this step as each of these holds says that names the connection and the step, one
+    /// hold after another.
     fn hold_each(&self, holds: &[Hold], connection: u8, step: u64) {
         for (held, at, other, wanted) in holds.iter() {
             if *held == connection && *at == step {
@@ -110,7 +111,7 @@ impl<'a> Steps<'a> {
 
     /// Counts the next step of a connection, and makes the connection wait there as `holds` says. The even steps, from
     /// 0, are lines, and the odd ones replies. Counts one more in `misled` if `point` is of the other kind. For a
-    /// connection that doesn't exist, nothing is counted, and the step is `u64::MAX`.
+    /// connection that doesn't exist, no step is counted, and the step is taken as `u64::MAX`.
     pub fn come(&self, connection: u8, point: Point) {
         let step = match self.count_of(connection) {
             Some(come) => come.fetch_add(1, Ordering::SeqCst),
