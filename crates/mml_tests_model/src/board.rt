@@ -35,7 +35,8 @@ fn grant(index: u64, rule: Rule) -> Option<Event> {
     })
 }
 
-/// Appends a node to a text: its registers p (as a rank) and m, and the rule that is enabled there.
+/// Appends a node of the board to a text: its registers p (as a rank) and m, and the kind of the rule that is enabled
+/// there.
 fn push_node(text: &mut String, board: &Board, node: Rank) -> Result<(), AllocError>
     requires { node < length board.now.network.registers }
 {
@@ -45,8 +46,8 @@ fn push_node(text: &mut String, board: &Board, node: Rank) -> Result<(), AllocEr
     write!(text, "; {p:?} {} {kind:?}", regs.m)
 }
 
-/// Appends to a text `true` if no move is chosen at a node, and otherwise `false`. Then appends one character for each
-/// node of the board: `-` if the two nodes are linked, and `.` if not.
+/// Appends to a text `true` if no move is chosen at `node`, a node of the board, and otherwise `false`. Then appends
+/// one character for each node of the board: `-` if it is linked to `node`, and `.` if not.
 fn push_links(text: &mut String, board: &Board, node: Rank) -> Result<(), AllocError>
     requires { node < length board.now.network.registers }
 {
@@ -90,19 +91,19 @@ fn is_opening(alloc: Global, board: &Board) -> Result<bool, Fail> {
     Ok(told.as_str() == OPENING)
 }
 
-/// Returns whether the text of a board's copy is `OPENING`.
+/// Returns whether the text of a board's copy, with links, is `OPENING`.
 fn is_copy_opening(alloc: Global, board: &Board) -> Result<bool, Fail> {
     let copy = board.try_copy(alloc)?;
     is_opening(alloc, &copy)
 }
 
-/// Returns whether the texts of a board and of its copy are `OPENING`.
+/// Returns whether the texts of a board and of its copy, with links, are `OPENING`.
 fn are_both_opening(alloc: Global, board: &Board) -> Result<bool, Fail> {
     Ok(is_opening(alloc, board)? && is_copy_opening(alloc, board)?)
 }
 
-/// Returns a look at the first node of a board as text, or `no node` if the board has none. This is tested, since the
-/// contract of `look_of` requires the node.
+/// Returns a look at the first node of a board as text, or `no node` if the board has no nodes. That is tested, since
+/// the contract of `look_of` requires the node.
 fn look_at_the_first(alloc: Global, board: &Board) -> Result<String, Fail> {
     let node = Rank::at(0);
     if node.index() >= board.size() {
@@ -130,9 +131,9 @@ fn push_near(text: &mut String, near: &[(Rank, Regs)]) -> Result<(), AllocError>
     Ok(())
 }
 
-/// Returns the journal's line of an abandonment by the second node, as the first event. The buffer for it had the text
-/// `what stood there` before. Returns this text if the event isn't legal, isn't the first, or lab and board differ in
-/// size. These conditions are tested, since the contract of `next_line` requires them.
+/// Returns the journal's line of an abandonment by the second node, as the first event. The buffer for the line has the
+/// text `what stood there` before. Returns this text if the event isn't legal, isn't the first, or lab and board differ
+/// in size. These cases are tested, since the contract of `next_line` excludes them.
 fn first_event_line(alloc: Global, lab: &Lab, board: &Board) -> Result<Vec<u8>, Fail> {
     let mut line = Vec::from_slice(alloc, b"what stood there")?;
     if let Some(event) = &grant(1, Rule::Abandonment) {

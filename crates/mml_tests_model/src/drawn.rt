@@ -70,8 +70,9 @@ fn node_at(nodes: u64, index: u64) -> Rank {
     Rank::at((index % nodes.max(1)).min(255))
 }
 
-/// Returns the rule that is enabled at a node; for a marriage, the rule with `partner`. Returns Update if none is
-/// enabled, or the board has no such node. The latter is tested, since the contract of `enabled` requires the node.
+/// Returns the rule that is enabled at a node; for a marriage, the rule with `partner`. Returns Update if no rule is
+/// enabled, or the board has no such node. The node is tested, since the contract of `enabled` requires that the board
+/// has it.
 fn enabled_rule(board: &Board, node: Rank, partner: Rank) -> Rule {
     if node.index() >= board.size() {
         return Rule::Update;
@@ -84,8 +85,8 @@ fn enabled_rule(board: &Board, node: Rank, partner: Rank) -> Rule {
     }
 }
 
-/// Returns the event of a move at a node by the rule that `enabled_rule` returns. Usually its student, ana or the
-/// second one, owns the node, and in one of eight cases doesn't. The event may be illegal.
+/// Returns the event of a move at a node by the rule that `enabled_rule` returns. The event's student, ana or the
+/// second one, owns the node, except in one of eight cases on average. The event may be illegal.
 fn grant(board: &Board, numbers: &mut Numbers, node: Rank, partner: Rank) -> Event {
     let is_ana = (node.index() < board.size() / 2) != (numbers.below(8) == 0);
     Event::Grant {
@@ -95,8 +96,8 @@ fn grant(board: &Board, numbers: &mut Numbers, node: Rank, partner: Rank) -> Eve
     }
 }
 
-/// Returns the event of a fault at a node, with drawn registers. p points at `other`, or in one of four cases nowhere,
-/// and m is true or false.
+/// Returns the event of a fault at a node, with drawn registers. p points at `other`, or in one of four cases on
+/// average nowhere, and m is true or false.
 fn fault(numbers: &mut Numbers, node: Rank, other: Rank) -> Event {
     let p = if numbers.below(4) == 0 {
         None
@@ -111,8 +112,8 @@ fn fault(numbers: &mut Numbers, node: Rank, other: Rank) -> Event {
 }
 
 /// Returns the event that is drawn at this index; most are moves. The event may be illegal. Its nodes are close to each
-/// other in the cycle: the second is from two before the first to three after it. The region of both moves on by one
-/// node every eight events.
+/// other in the cycle: the second is at most two before the first, and at most three after it. The first is one of
+/// eight neighbouring nodes, and these move on by one node every eight events.
 fn drawn(board: &Board, numbers: &mut Numbers, index: u64) -> Event {
     let place = (index / 8).wrapping_add(numbers.below(8));
     let other = place
@@ -130,9 +131,9 @@ fn drawn(board: &Board, numbers: &mut Numbers, index: u64) -> Event {
     }
 }
 
-/// Draws `DRAWS` events over a board, and applies each legal one to it. The board's size is the first state of the
-/// pseudo-random numbers. Returns one letter for each legal event. The letter says how many illegal events came after
-/// the legal one before, from `a` for none to `z` for 25 or more.
+/// Draws `DRAWS` events over a board, and applies each legal one to it. The pseudo-random numbers begin with the
+/// board's size as their state. Returns one letter for each legal event. The letter says how many illegal events came
+/// between the legal event before and this one, from `a` for none to `z` for 25 or more.
 fn letters_on(alloc: Global, lab: &Lab, board: &mut Board) -> Result<Vec<u8>, AllocError> {
     let mut numbers = Numbers {
         state: board.size(),
@@ -152,8 +153,7 @@ fn letters_on(alloc: Global, lab: &Lab, board: &mut Board) -> Result<Vec<u8>, Al
     Ok(letters)
 }
 
-/// Draws events over the first board of a lab, as `letters_on` does. Returns one letter for each legal event. The
-/// letter says how many illegal events came after the legal one before, from `a` for none to `z` for 25 or more.
+/// Draws events over the first board of a lab, as `letters_on` does, and returns its letters: one for each legal event.
 fn letters_over(alloc: Global, lab: &Lab) -> Result<Vec<u8>, Fail> {
     let mut board = boxed_board(alloc, lab)?;
     Ok(letters_on(alloc, lab, &mut board)?)
@@ -165,7 +165,7 @@ fn cycle_lab(alloc: Global, nodes: u64) -> Result<Box<Lab>, Fail> {
     boxed_lab(alloc, file.as_str())
 }
 
-/// Returns whether the letters for a cycle of `nodes` nodes are `wanted`.
+/// Returns whether the letters of `letters_over` for a cycle of `nodes` nodes are `wanted`.
 fn are_letters(alloc: Global, nodes: u64, wanted: &str) -> Result<bool, Fail> {
     let lab = cycle_lab(alloc, nodes)?;
     Ok(letters_over(alloc, &lab)?.as_slice() == wanted.as_bytes())
@@ -178,7 +178,7 @@ fn are_both_letters(alloc: Global) -> Result<(bool, bool), Fail> {
     Ok((of_64, are_letters(alloc, 256, OF_256)?))
 }
 
-/// Checks that the drawn events are legal on the board exactly if they are in the plain model.
+/// Checks that each drawn event is legal on the board exactly if it is legal in the plain model.
 #[test]
 fn drawn_events_are_legal_as_in_the_plain_model(rt: HostRuntime) -> Result<(), Fail> {
     assert_eq!(rt; are_both_letters(rt.alloc())?, (true, true));

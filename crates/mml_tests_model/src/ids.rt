@@ -11,7 +11,7 @@ fn index_of(table: &IdTable, id: u64) -> Option<u64> {
     Some(table.rank_of(id)?.index())
 }
 
-/// Returns whether the table has an identifier, and its rank leads back to the same identifier.
+/// Returns whether the table has the identifier `id`, and leads from its rank back to `id`.
 fn comes_back(table: &IdTable, id: u64) -> bool {
     match table.rank_of(id) {
         Some(node) => table.id_of(node) == id,
@@ -40,19 +40,18 @@ fn first_other_rank(table: &IdTable) -> Option<u64> {
     None
 }
 
-/// Returns how many identifiers the table of 9, 1, 7 and 4 has, and the first of `RANKS` that is wrong in it, if one
-/// is.
+/// Makes the table of 9, 1, 7 and 4. Returns how many identifiers it has, and the result of `first_other_rank` for it.
 fn results_of_ranks(alloc: Global) -> Result<(u64, Option<u64>), IdFault> {
     let table = IdTable::new(alloc, &[9, 1, 7, 4])?;
     Ok((table.len(), first_other_rank(&table)))
 }
 
-/// Returns the number itself if `NodeId` accepts it as an identifier, and otherwise `None`.
+/// Returns `id` if `NodeId` accepts it as an identifier, and otherwise `None`.
 fn identifier(id: u64) -> Option<u64> {
     Some(NodeId::new(id)?.get())
 }
 
-/// Returns the number itself if `Rank` accepts it as a rank, and otherwise `None`.
+/// Returns `index` if `Rank` accepts it as a rank, and otherwise `None`.
 fn rank(index: u64) -> Option<u64> {
     Some(Rank::new(index)?.index())
 }

@@ -13,7 +13,7 @@ use mml_rules::{Regs, Rule};
 use std::alloc::Global;
 use std::test::Fail;
 
-/// Returns the event of a move at a node by this rule, by the student with the index `student`, who needn't own the
+/// Returns the event of a move at a node by this rule, for the student with the index `student`, who needn't own the
 /// node.
 fn grant(student: u16, node: Rank, rule: Rule) -> Event {
     Event::Grant {
@@ -106,8 +106,8 @@ fn other_events() -> [Event; 6] {
     ]
 }
 
-/// Reads the event of a line, and writes the line of this event. Returns the event, and whether the written line is the
-/// same as the line that was read. Returns `None` if the line isn't an event's.
+/// Reads the event of a line, and makes the text of this event's line. Returns the event, and whether this text is the
+/// line that was read. Returns `None` if the line isn't an event's.
 fn read_and_written(
     alloc: Global,
     lab: &Lab,

@@ -12,9 +12,9 @@ use mml_rules::Network;
 use std::alloc::{AllocError, Global};
 use std::test::Fail;
 
-/// Returns a character for the relation of a node to another one. For two linked nodes the character is `>` if the node
-/// points at the other, and `-` if it doesn't. For two nodes without a link it is `!` if the node points at the other,
-/// and `.` if it doesn't.
+/// Returns a character for the relation of a node of the lab to the node `other`. For two linked nodes the character is
+/// `>` if the node points at the other, and `-` if it doesn't. For two nodes without a link it is `!` if the node
+/// points at the other, and `.` if it doesn't.
 fn mark(lab: &Lab, node: Rank, other: Rank) -> &'static str
     requires { node < length lab.now.ids }
 {
@@ -39,8 +39,8 @@ fn push_owners(text: &mut String, lab: &Lab, node: Rank) -> Result<(), AllocErro
     Ok(())
 }
 
-/// Appends characters to a text, one for each node of the lab, in the order of ranks. Each is the one that `mark`
-/// returns for `node` and that node of the lab.
+/// Appends characters to a text, one for each node of the lab, in the order of ranks. Each character is the one that
+/// `mark` returns for `node`, a node of the lab, and that node.
 fn push_marks(text: &mut String, lab: &Lab, node: Rank) -> Result<(), AllocError>
     requires { node < length lab.now.ids }
 {
@@ -50,7 +50,8 @@ fn push_marks(text: &mut String, lab: &Lab, node: Rank) -> Result<(), AllocError
     Ok(())
 }
 
-/// Appends a node's line to a text: its identifier, its m, its owners, and its relations to all nodes.
+/// Appends a newline and the line of a node of the lab to a text: its identifier, its m, its owners, and its relations
+/// to all nodes.
 fn push_node(text: &mut String, lab: &Lab, node: Rank) -> Result<(), AllocError>
     requires { node < length lab.now.ids }
 {
@@ -148,8 +149,8 @@ fn is_copied(alloc: Global, network: &Network) -> Result<bool, Memory> {
     Ok(copy.size() == network.size())
 }
 
-/// Returns a lab as text, whether its network can be copied exactly, and the result of `first_other_index` for its
-/// roster.
+/// Returns three results: a lab as text, whether a copy of its network is right, and the result of `first_other_index`
+/// for its roster.
 fn shown_of_lab(alloc: Global, lab: &Lab) -> Result<(String, bool, Option<&'static str>), Fail> {
     let text = shown(alloc, lab)?;
     Ok((
@@ -159,7 +160,7 @@ fn shown_of_lab(alloc: Global, lab: &Lab) -> Result<(String, bool, Option<&'stat
     ))
 }
 
-/// Reads the lab of a lab file. Returns whether its text is `wanted`, whether its network can be copied exactly, and
+/// Reads the lab of a lab file. Returns whether the lab's text is `wanted`, whether a copy of its network is right, and
 /// the result of `first_other_index` for its roster.
 fn is_document_shown(
     alloc: Global,
@@ -171,8 +172,8 @@ fn is_document_shown(
     Ok((text.as_str() == wanted, is_copied, other))
 }
 
-/// Checks that the numbers, links, registers, owners and names of `DOCUMENT` are read rightly, and its network is
-/// copied.
+/// Checks that the numbers, links, registers, owners and names of `DOCUMENT` are read rightly. Also checks that a copy
+/// of its network is right.
 #[test]
 fn a_document_is_read(rt: HostRuntime) -> Result<(), Fail> {
     assert_eq!(rt;

@@ -29,8 +29,9 @@ fn ruling_name(ruling: &Ruling) -> &'static str {
 /// The limit of events, whether the journal is halted, and a command.
 type Case = (u64, bool, Command);
 
-/// Returns the name of the ruling on the command of a case, if `who` asks. Returns `another size` if the board and the
-/// lab differ in size. This is tested, since the contract of `rule_on` requires the same size.
+/// Returns the name of the ruling on the command of a case, if the participant `who` asks. Returns `another size` if
+/// the board and the lab differ in size. The sizes are compared, since the contract of `rule_on` requires that they are
+/// equal.
 fn ruled(
     alloc: Global,
     lab: &Lab,

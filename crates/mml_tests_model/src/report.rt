@@ -54,8 +54,8 @@ fn push_privileged(text: &mut String, nodes: &[(Rank, Kind)]) -> Result<(), Allo
     text.push_str(";")
 }
 
-/// Appends an open link (between two free nodes) to a text, with its witness, a privileged node, and the rule enabled
-/// there.
+/// Appends an open link, one between two free nodes, to a text: its two nodes, its witness (a privileged node), and the
+/// rule that is enabled at the witness.
 fn push_link(text: &mut String, link: &OpenLink) -> Result<(), AllocError> {
     let [a, b, node] = [link.a.index(), link.b.index(), link.node.index()];
     write!(text, " {a}-{b} {node} {:?}", link.kind)

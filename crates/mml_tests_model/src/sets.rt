@@ -3,8 +3,8 @@
 //! Sums saturate or wrap, since a plain sum needs a proof that it doesn't overflow.
 use mml_ids::{MAX_NODES, NodeSet, Rank};
 
-/// Takes all ranks out of a copy of a set, the least first, and returns whether they are exactly `ranks`, in this
-/// order.
+/// Takes all ranks out of a copy of a set, each time the least one. Returns whether their indexes are exactly `ranks`,
+/// in this order.
 fn gives_in_order(set: NodeSet, ranks: &[u64]) -> bool {
     let mut left = set;
     for index in ranks {
@@ -15,13 +15,13 @@ fn gives_in_order(set: NodeSet, ranks: &[u64]) -> bool {
     least_taken(&mut left).is_none()
 }
 
-/// Takes the least rank out of a set and returns its index, or returns `None` if the set is empty.
+/// Takes the least rank out of the set `left`, and returns the rank's index. Returns `None` if the set is empty.
 fn least_taken(left: &mut NodeSet) -> Option<u64> {
     Some(left.take_least()?.index())
 }
 
-/// Returns whether a set has exactly `ranks`, which are in rising order. Compares membership, length, the least and the
-/// greatest rank, and the order in which ranks are taken out.
+/// Returns whether a set has exactly the ranks with the indexes `ranks`, which are in rising order. Compares
+/// membership, length, the least and the greatest rank, and the order in which ranks are taken out.
 fn has_only(set: NodeSet, ranks: &[u64]) -> bool {
     ranks.iter().all(|index| has(set, *index))
         && set.len() == ranks.len() as u64
@@ -30,8 +30,8 @@ fn has_only(set: NodeSet, ranks: &[u64]) -> bool {
         && gives_in_order(set, ranks)
 }
 
-/// Returns the index of the first of seven sets that doesn't have exactly the ranks in its list, or `None` if all have.
-/// Also returns how many ranks are above 63.
+/// Compares seven sets with the lists of ranks that they should have. Returns the index of the first set that differs,
+/// or `None` if none does. Also returns how many ranks `NodeSet::above` has for the rank 63.
 fn results_of_sets() -> (Option<usize>, u64) {
     let none = NodeSet::empty();
     let some = none
@@ -54,8 +54,8 @@ fn results_of_sets() -> (Option<usize>, u64) {
     (other, above.len())
 }
 
-/// Returns whether a rank is in the pseudo-random set of this seed. In some words (of 64 ranks) such a set has many
-/// ranks, and in others few. The numbers in the formula are arbitrary.
+/// Returns whether the rank with this index is in the pseudo-random set of this seed. In some words (of 64 ranks) such
+/// a set has many ranks, and in others few. The numbers in the formula are arbitrary.
 fn is_drawn(seed: u64, index: u64) -> bool {
     let spread = seed.wrapping_add(index.wrapping_mul(37));
     spread % 16 < 1 + (index / 64).wrapping_mul(seed) % 16
@@ -80,13 +80,13 @@ fn has(set: NodeSet, index: u64) -> bool {
     }
 }
 
-/// Returns the least rank of a set, or `None` if the set is empty.
+/// Returns the index of the least rank of a set, or `None` if the set is empty.
 fn least_of(set: NodeSet) -> Option<u64> {
     let mut left = set;
     least_taken(&mut left)
 }
 
-/// Returns the greatest rank of a set, or `None` if the set is empty.
+/// Returns the index of the greatest rank of a set, or `None` if the set is empty.
 fn greatest_of(set: NodeSet) -> Option<u64> {
     Some(set.greatest()?.index())
 }
@@ -108,8 +108,9 @@ fn is_list(set: NodeSet, list: &[bool]) -> bool {
     (set.len(), least_of(set), greatest_of(set)) == (count, least, greatest)
 }
 
-/// Compares four sets with plain lists, and returns whether all are equal. The sets are that of the seed `a`, its ranks
-/// that are also in the set of the seed `b`, its ranks that aren't, and all ranks above `rank`.
+/// Compares four sets with plain lists, and returns whether all are equal. The first is the set of the seed `a`. The
+/// second has those of its ranks that are also in the set of the seed `b`, and the third its other ranks. The fourth
+/// has all ranks above `rank`.
 fn sets_are_lists(a: u64, b: u64, rank: Rank) -> bool {
     let mut first = [false; 256];
     let mut both = [false; 256];

@@ -12,8 +12,8 @@ use mml_lab::Lab;
 use std::alloc::Global;
 use std::test::Fail;
 
-/// Reads the event of a line, and appends its text to a journal. Returns whether it was appended: `false` if the line
-/// isn't an event's, or a put has failed, now or before.
+/// Reads the event of a line, and appends the event's text to a journal. Returns whether that succeeded: `false` if the
+/// line isn't an event's, or a put into the journal's sink has failed, now or before.
 fn put_line<S: Sink>(
     alloc: Global,
     lab: &Lab,
@@ -38,8 +38,8 @@ fn put_lines<S: Sink>(alloc: Global, lab: &Lab, journal: &mut Journal<S>) -> Res
 }
 
 /// Appends the ten lines to a journal whose sink fails from its put number `fail_at` on, counted from 1, or never if
-/// that is `None`. Returns whether the sink then has exactly the first `lines` of them, and the journal is halted
-/// exactly if some are missing.
+/// that is `None`. Returns whether exactly the first `lines` of them are appended and in the sink, and the journal is
+/// halted exactly if some are missing.
 fn takes_lines(alloc: Global, lab: &Lab, fail_at: Option<u64>, lines: usize) -> Result<bool, Fail> {
     let text = first_lines(TEN_LINES, lines as u64);
     let mut journal = Journal::new(MemorySink::new(alloc, fail_at));
@@ -48,8 +48,8 @@ fn takes_lines(alloc: Global, lab: &Lab, fail_at: Option<u64>, lines: usize) -> 
     Ok(count == lines && is_halted && journal.into_sink().bytes() == text.as_bytes())
 }
 
-/// Tries sinks that take 0 to 10 lines and fail at the next. Returns the first number of lines for which `takes_lines`
-/// is `false`, or `None` if there is no such number.
+/// Tries sinks that take from 0 to 10 lines, and fail at the line after these. Returns the first number of lines for
+/// which `takes_lines` is `false`, or `None` if there is no such number.
 fn first_other_count(alloc: Global, lab: &Lab) -> Result<Option<usize>, Fail> {
     for lines in 0..=10usize {
         if !takes_lines(alloc, lab, Some(lines as u64 + 1), lines)? {
@@ -59,9 +59,9 @@ fn first_other_count(alloc: Global, lab: &Lab) -> Result<Option<usize>, Fail> {
     Ok(None)
 }
 
-/// Returns three results. The first is that of `first_other_count`. The second is whether a sink that fails from the
-/// beginning gets no line and halts its journal. The third is whether a sink that never fails gets all ten lines and
-/// doesn't halt it.
+/// Returns three results. The first is that of `first_other_count`. The second is whether a sink with `fail_at` 0 gets
+/// no line, and its journal is halted. The third is whether a sink that never fails gets all ten lines, and its journal
+/// isn't halted.
 fn faults_of_sinks(alloc: Global, lab: &Lab) -> Result<(Option<usize>, bool, bool), Fail> {
     let other = first_other_count(alloc, lab)?;
     let none = takes_lines(alloc, lab, Some(0), 0)?;
