@@ -7,8 +7,8 @@ use mml_plain::{Fields, LineScratch, read_fields};
 use std::alloc::{AllocError, Global};
 use std::test::Fail;
 
-/// Returns the result of reading a request as text: the line that `write_request` writes for it, or the name of the
-/// error.
+/// Returns as text what reading a request has returned: the line that `write_request` writes for the request, or the
+/// name of the error.
 fn text_or_fault(alloc: Global, read: Result<Request, LineFault>) -> Result<String, Fail> {
     match read {
         Ok(request) => line_of_request(alloc, &request),
@@ -74,7 +74,7 @@ const LINES: &[(&[u8], &str)] = &[
     (b"[1]", "Malformed"),
 ];
 
-/// Returns whether a line is read as `wanted`, which is a request's text or an error's name, as from `text_or_fault`.
+/// Returns whether a line is read as `wanted`, a request's line or an error's name in the form of `text_or_fault`.
 /// Tries both `read_request`, which allocates its memory, and `read_request_with`, which uses `scratch`.
 fn is_read_as(
     alloc: Global,
@@ -114,8 +114,8 @@ const HELLOS: &[Hello] = &[
     (("\"", r#"\""#, 983), ("k", "k", 2001), 4000),
 ];
 
-/// Returns whether the line of the hello with this name and key is `text`, and `text` is read as a request whose line
-/// is `text` again.
+/// Returns whether the line written for the hello with this name and key is `text`, and `text` is read as a request
+/// whose line is `text` again.
 fn is_hello_written_as(
     alloc: Global,
     scratch: &mut LineScratch,
@@ -156,8 +156,8 @@ fn first_other_hello(alloc: Global, scratch: &mut LineScratch) -> Result<Option<
     Ok(None)
 }
 
-/// Returns the number under the key `node` in a line, or `None` if the line isn't read as an object, or has no number
-/// there.
+/// Returns the number under the key `node` in a line. Returns `None` if the line isn't read as an object, or has no
+/// number under that key. Returns an error if memory runs out.
 fn named_node(scratch: &mut LineScratch, line: &[u8]) -> Result<Option<u64>, Fail> {
     let mut fields = Fields::empty();
     if read_fields(line, scratch, &mut fields)? {

@@ -16,8 +16,8 @@ const TEXT: &[u8] = b"ab\n\ncd\ne";
 /// The answers of `Lines::next` for `TEXT`, in the form of `steps_text`. The rest isn't a line.
 const TOLD: &str = "Line ab\nLine \nLine cd\nEnd \n";
 
-/// Calls `next` until its first answer that isn't `Line`, at most ten times. Returns each answer with the line's bytes,
-/// as a text.
+/// Calls `next` until its first answer that isn't `Line`, at most ten times. Returns as a text each answer, with the
+/// bytes that `Lines::bytes` returns after it.
 fn steps_text<R: Read>(
     lines: &mut Lines,
     alloc: Global,
@@ -34,8 +34,8 @@ fn steps_text<R: Read>(
     Ok(text)
 }
 
-/// Reads the lines of a reader to the end, with this limit on a line's length. Returns the answers of `next` as a text.
-/// Appends `and another end` if a later call gives another answer, or reads on.
+/// Reads the lines of a reader to the end, with this limit on a line's length. Returns the answers of `next` in the
+/// form of `steps_text`. Appends `and another end` if a call after the last answer gives a different one, or reads on.
 fn steps_to_the_end<R: Read>(alloc: Global, limit: usize, reader: &mut R) -> Result<String, Fail> {
     let mut lines = Lines::new(alloc, limit.min(MAX_LIMIT))?;
     let mut text = steps_text(&mut lines, alloc, reader)?;
@@ -45,8 +45,8 @@ fn steps_to_the_end<R: Read>(alloc: Global, limit: usize, reader: &mut R) -> Res
     Ok(text)
 }
 
-/// Asks for two more answers, now with another reader. Returns whether both are the last answer in `text`, which has
-/// the answers so far, and no byte of that reader is read.
+/// Asks for two more answers, now with another reader. Returns whether both are equal to the last answer in `text`,
+/// which has the answers so far, and no byte of the other reader is read.
 fn is_repeated(lines: &mut Lines, alloc: Global, text: &str) -> Result<bool, AllocError> {
     let mut late = b"late\n".as_slice();
     let again = steps_text(lines, alloc, &mut late)?;
@@ -100,8 +100,8 @@ fn wanted(alloc: Global, line: &str, is_line: bool, last: &str) -> Result<String
     }
 }
 
-/// Returns whether the digits of a row, with what follows them and with the row's limit on a line's length, give the
-/// row's answers.
+/// Returns whether the digits of a row, and the text that follows them, give the row's answers if they are read with
+/// the row's limit on a line's length.
 fn is_length_told(alloc: Global, row: &Length) -> Result<bool, Fail> {
     let (limit, len, end, is_line, last) = row;
     let line = digits(alloc, *len)?;
@@ -170,8 +170,8 @@ const READS: &[Reads] = &[
     (100, 1, "Line ab\nLine \nLine cd\nReadFault \n", 2),
 ];
 
-/// Returns whether `TEXT`, from the reader of a row, gives the row's answers with the row's number of reads, if a line
-/// may have two bytes.
+/// Returns whether `TEXT`, from the reader of a row and with a limit of two bytes on a line's length, gives the row's
+/// answers with the row's number of reads.
 fn are_reads_told(alloc: Global, row: &Reads) -> Result<bool, Fail> {
     let (step, good, wanted, reads) = row;
     let mut reader = FakeReader::failing_after(*good, TEXT);
@@ -192,8 +192,8 @@ fn first_other_reads(alloc: Global) -> Result<Option<usize>, Fail> {
 }
 
 /// Returns three results, each `None` if all is right. The first is the first offset at which cutting `TEXT` in two
-/// changes the answers, if the second part comes in reads of one byte. The second is the same for reads of up to 100
-/// bytes. The third is the index of the first row of `READS` that is wrong.
+/// changes the answers, if the second part comes in reads of one byte. The second is the first such offset for reads of
+/// up to 100 bytes. The third is the index of the first row of `READS` that is wrong.
 fn first_others(alloc: Global) -> Result<[Option<usize>; 3], Fail> {
     let by_bytes = first_cut_that_changes(alloc, 1)?;
     let at_once = first_cut_that_changes(alloc, 100)?;
@@ -220,7 +220,7 @@ fn count_lines(lines: &mut Lines, reader: &mut FakeReader) -> (u32, Step) {
     (u32::MAX, Step::Line)
 }
 
-/// Reads newlines, one more than the number of reads that are allowed, one byte in each read. Returns how many empty
+/// Reads one newline more than the reads that are allowed (`MAX_READS`), one byte in each read. Returns how many empty
 /// lines come, the answer that ends them, and how many bytes are left unread.
 fn lines_of_many_newlines(alloc: Global) -> Result<(u32, Step, usize), Fail> {
     let breaks = vec![in alloc; b'\n'; MAX_READS as usize + 1]?;
@@ -236,16 +236,16 @@ fn counted_in(alloc: Global, breaks: &[u8]) -> Result<(u32, Step, usize), Fail> 
     Ok((count, step, reader.rest.len()))
 }
 
-/// Reads a line of 4,096 bytes, the limit, one byte in each read. Returns whether it is returned whole, followed by the
-/// end, and how many reads were made.
+/// Reads a line of 4,096 bytes, the limit, one byte in each read. Returns whether the line is returned whole, and then
+/// the end, and how many reads were made.
 fn longest_line_by_bytes(alloc: Global) -> Result<(bool, usize), Fail> {
     let mut text = digits(alloc, 4096)?;
     text.push('\n')?;
     line_by_bytes(alloc, text.as_bytes())
 }
 
-/// Reads the line in `text`, which ends with a newline, one byte in each read. Returns whether it is returned whole,
-/// followed by the end, and how many reads were made.
+/// Reads the line in `text`, which ends with a newline, one byte in each read. Returns whether the line is returned
+/// whole, and then the end, and how many reads were made.
 fn line_by_bytes(alloc: Global, text: &[u8]) -> Result<(bool, usize), Fail> {
     let mut reader = FakeReader::failing_after(usize::MAX, text);
     let mut lines = Lines::new(alloc, 4096)?;

@@ -15,7 +15,8 @@ use mml_stable::{Report, report};
 use std::alloc::Global;
 use std::test::Fail;
 
-/// Returns the line that `write_reply` writes for a reply, into a buffer that had other text before.
+/// Returns the line that `write_reply` writes for a reply, into a buffer that had other text before. The lab must have
+/// the reply's nodes and participants.
 fn line_of(alloc: Global, lab: &Lab, reply: &Reply) -> Result<String, Fail>
     requires { IsAbout lab.now.ids lab.now.roster reply.now }
 {
@@ -37,8 +38,8 @@ fn line_of_see(alloc: Global, lab: &Lab) -> Result<String, Fail> {
     line_of(alloc, lab, &Reply::See(See { at, node, regs }))
 }
 
-/// Makes the reply to a granted report on a board with `reply_of`. Returns whether it is a report with the same number
-/// of the configuration as the given one, and the same stability.
+/// Makes the reply to a granted report on a board with `reply_of`. Returns whether it is a report with the
+/// configuration's number and the stability that the given report has.
 fn is_reported(alloc: Global, board: &Board, told: &Report) -> Result<bool, Fail> {
     match reply_of(alloc, board, Ruling::Reported)? {
         Reply::Report(other) => Ok(other.at == told.at && other.stable == told.stable),
@@ -67,8 +68,8 @@ fn room_after(alloc: Global, lab: &Lab, denial: Denial, out: &mut Vec<u8>) -> Re
     Ok(out.capacity())
 }
 
-/// Returns the capacity of a vector with memory for a reply: when it is new, and after each of two denials that are
-/// written into it. The three should be the same.
+/// Returns three capacities of a vector with memory for a reply: when it is new, and after each of two denials was
+/// written into it. The three should be equal.
 fn rooms(alloc: Global, lab: &Lab) -> Result<[usize; 3], Fail> {
     let mut out = Vec::with_capacity(alloc, REPLY_ROOM)?;
     let first = out.capacity();
@@ -77,16 +78,15 @@ fn rooms(alloc: Global, lab: &Lab) -> Result<[usize; 3], Fail> {
     Ok([first, second, third])
 }
 
-/// Returns the line of the reply to a see, and the line of the lab's report. Also returns whether a vector with memory
-/// for a reply keeps its capacity when a reply is written into it.
+/// Returns the lines of `line_of_see` and of `report_line` for a lab. Also returns whether a vector with memory for a
+/// reply keeps its capacity when replies are written into it.
 fn replies_of_lab(alloc: Global, lab: &Lab) -> Result<(String, String, bool), Fail> {
     let rooms = rooms(alloc, lab)?;
     let stays = rooms[1] == rooms[0] && rooms[2] == rooms[0];
     Ok((line_of_see(alloc, lab)?, report_line(alloc, lab)?, stays))
 }
 
-/// Returns the results of `replies_of_lab` for the lab of two nodes far apart. These are the line of the reply to a
-/// see, the line of the lab's report, and whether a vector keeps its capacity.
+/// Returns the three results of `replies_of_lab` for the lab `FAR_APART`, of two nodes far apart.
 fn replies_far_apart(alloc: Global) -> Result<(String, String, bool), Fail> {
     let lab = boxed_lab(alloc, FAR_APART)?;
     replies_of_lab(alloc, &lab)

@@ -26,8 +26,8 @@ const LOOK: &str =
     "{\"at\":0,\"chosen\":null,\"m\":false,\"near\":[{\"m\":false,\"node\":5,\"p\":3}],\"node\":9,\"ok\":\"look\",\"p\":null,\"rule\":null}\n";
 
 /// Returns the line of the reply to a request on the first connection, with its newline. If memory runs out, the line
-/// is that of the refusal `memory`. Returns an empty list if the hall's lab has no session. This is tested, since the
-/// contract of `Hall::answer` requires the connection.
+/// is that of the refusal `memory`. Returns an empty list if the hall's lab allows no session. That is tested, since
+/// the contract of `Hall::answer` requires that the connection exists.
 fn answer(alloc: Global, hall: &mut Hall<NullSink>, line: &str) -> Result<Vec<u8>, Fail> {
     let mut out = Vec::with_capacity(alloc, REPLY_ROOM)?;
     if hall.lab().sessions() < 1 {
@@ -89,8 +89,7 @@ fn is_one_beginning(alloc: Global) -> Result<bool, Fail> {
     are_one(alloc, document.as_str(), &lab)
 }
 
-/// Returns two answers. The first is whether a look is answered rightly and doesn't change the board. The second is
-/// whether the first boards of the largest lab all have the same world.
+/// Returns the results of `is_look_answered` and of `is_one_beginning`.
 fn are_looks_and_beginnings_right(alloc: Global) -> Result<(bool, bool), Fail> {
     Ok((is_look_answered(alloc)?, is_one_beginning(alloc)?))
 }

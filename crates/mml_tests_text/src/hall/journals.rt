@@ -25,8 +25,7 @@ fn has_dripped(hall: &Hall<Drip>, puts: usize) -> bool {
         && hall.board().place() == lines as u64
 }
 
-/// Returns whether the bytes of a journal pass `audit` in the hall's lab, and the board to which their events lead is
-/// the hall's.
+/// Returns whether a journal passes `audit` in the hall's lab, and the audit returns the hall's board.
 fn leads_to_board(alloc: Global, hall: &Hall<Drip>, journal: &[u8]) -> bool {
     match audit(alloc, hall.lab(), journal) {
         Ok(board) => board.is_same(hall.board()),
@@ -34,7 +33,7 @@ fn leads_to_board(alloc: Global, hall: &Hall<Drip>, journal: &[u8]) -> bool {
     }
 }
 
-/// Returns whether a journal passes `audit_events` over the hall's lab, with the hall's events, and leads to the hall's
+/// Returns whether a journal passes `audit_events` in the hall's lab, and the audit returns the hall's events and
 /// board.
 fn is_listed(alloc: Global, hall: &Hall<Drip>, journal: &[u8]) -> bool {
     match audit_events(alloc, hall.lab(), journal) {
@@ -66,8 +65,8 @@ fn hall_of(alloc: Global, script: &str, puts: usize) -> Result<Box<Hall<Drip>>, 
     Ok(Box::new(alloc, hall)?)
 }
 
-/// Answers a script over a sink that fails after `puts` bytes. Returns whether the hall after it passes `has_dripped`
-/// and `is_audited`.
+/// Answers a script with a sink that fails after `puts` bytes. Returns whether `has_dripped` and `is_audited` are
+/// `true` for the hall after the script.
 fn fails_rightly_after(alloc: Global, script: &str, puts: usize) -> Result<bool, Fail> {
     let hall = hall_of(alloc, script, puts)?;
     Ok(has_dripped(&hall, puts) && is_audited(alloc, &hall))

@@ -19,8 +19,9 @@ type End = (usize, Option<ScriptFault>, usize);
 const FAILED: Option<ScriptFault> = Some(ScriptFault::Read);
 
 /// Answers a script that comes in reads of at most `step` bytes. `end` says how many reads succeed, with which error
-/// the script must end, and how many bytes must be left unread. Returns whether the script ends like this, has exactly
-/// these replies, and takes the right number of reads. These are the ones that succeed, and one more if a read fails.
+/// the script must end, and how many bytes must be left unread. Returns whether the script ends as `end` says, with
+/// exactly the replies in `replies`, and takes the right number of reads. This is the number of reads that succeed, and
+/// one more if a read fails.
 fn is_script_answered(
     alloc: Global,
     script: &str,
@@ -40,7 +41,7 @@ fn is_script_answered(
 }
 
 /// Returns whether a script has exactly these replies, both if it comes byte by byte and if it comes in one read. In
-/// each case one more read finds the end.
+/// each case there must be exactly one more read, which finds the end.
 fn is_read_once(alloc: Global, script: &str, replies: &str) -> Result<bool, Fail> {
     let by_bytes = (script.len().saturating_add(1), None, 0);
     let is_read_by_bytes = is_script_answered(alloc, script, replies, 1, by_bytes)?;
@@ -49,8 +50,8 @@ fn is_read_once(alloc: Global, script: &str, replies: &str) -> Result<bool, Fail
 }
 
 /// Runs the script `GREETING` once for each number from 0 to its length. In each run, this number of reads return one
-/// byte each, and the next read fails. The run must end with this error, and answer exactly the lines that came whole.
-/// Returns the first number for which `is_script_answered` is `false`, or `None` if there is no such number.
+/// byte each, and the next read fails. The run must end with the error `FAILED`, and answer exactly the lines that came
+/// whole. Returns the first number for which `is_script_answered` is `false`, or `None` if there is no such number.
 fn first_other_read(alloc: Global) -> Result<Option<usize>, Fail> {
     let script = GREETING.as_bytes();
     for good in 0..=script.len() {
@@ -73,7 +74,8 @@ const BUFFERS: [(usize, End); 5] = [
     (600, (4, None, 0)),
 ];
 
-/// Returns the index of the first row of `BUFFERS` that is wrong, or `None` if all are right.
+/// Runs the script of 600 byes once for each row of `BUFFERS`. Returns the index of the first row that is wrong, or
+/// `None` if all are right.
 fn first_other_buffer(alloc: Global) -> Result<Option<usize>, Fail> {
     let script = lines!("2 ", bye).repeat(alloc, 600)?;
     for (row, (answered, end)) in BUFFERS.iter().enumerate() {

@@ -31,8 +31,9 @@ struct Asker<'a> {
 }
 
 impl<'a> Read for Asker<'a> {
-    // Returns the next line, as far as there is room, or 0 bytes at the end. Sets `is_late` if there isn't one written
-    // reply for each earlier read, or some of their bytes aren't flushed.
+    // Copies the next line to `buf`, as far as there is room, and returns how many bytes were copied: 0 at the end.
+    // Sets `is_late` if there isn't one written reply for each earlier read, or some bytes of the replies aren't
+    // flushed.
     fn read(&mut self, buf: &mut [u8]) -> io::Result<usize> {
         if self.replies.unflushed.get() > 0 || self.replies.count.get() != self.reads {
             self.is_late = true;
@@ -104,8 +105,8 @@ fn calls(writer: &FakeWriter) -> (usize, usize) {
     )
 }
 
-/// Answers `FIRST_LOOK`, which comes in two reads and is cut at this offset. Returns whether it ends well with exactly
-/// its replies, in at most two writes and three flushes.
+/// Answers `FIRST_LOOK`, which comes in two reads: the bytes before the offset `cut`, and the others. Returns whether
+/// it ends well with exactly its replies, in at most two writes and three flushes.
 fn is_answered_in_parts(alloc: Global, cut: usize) -> Result<bool, Fail> {
     let (first, second) = FIRST_LOOK.as_bytes().split_at(cut.min(FIRST_LOOK.len()));
     let mut reader = Parts {
@@ -137,8 +138,7 @@ type Writes = ((bool, usize), (bool, usize), Option<usize>);
 
 /// Answers the scripts `FIRST_LOOK` and `GREETING`, which come one line in each read. Returns for each what
 /// `answer_line_by_line` does: whether the replies are right and are sent before each next read, and how many reads
-/// there were. Also returns the first offset for which `FIRST_LOOK`, cut there into two reads, is answered otherwise,
-/// or `None`.
+/// there were. Also returns the result of `first_cut_that_changes`.
 fn writes_before_reads(alloc: Global) -> Result<Writes, Fail> {
     let looks = answer_line_by_line(alloc, FIRST_LOOK, FIRST_LOOK_REPLIES)?;
     let greets = answer_line_by_line(alloc, GREETING, GREETING_REPLIES)?;

@@ -11,7 +11,7 @@ use std::alloc::Global;
 use std::io::ErrorKind;
 use std::test::Fail;
 
-/// Returns how many of these bytes follow the last newline; all of them if there is none.
+/// Returns how many of these bytes follow the last newline. Returns the number of all bytes if there is no newline.
 fn after_last_line(bytes: &[u8]) -> usize {
     let last = bytes.iter().rev().position(|byte| *byte == b'\n');
     last.unwrap_or(bytes.len())
@@ -19,7 +19,7 @@ fn after_last_line(bytes: &[u8]) -> usize {
 
 /// Answers `FIRST_LOOK` with a writer that takes `step` bytes in each of `good` writes and then refuses, in the way
 /// `refusal`. Returns whether exactly the bytes of these writes are written, and the error says how many of them belong
-/// to a line that isn't written whole. If all replies are written, there must be no error.
+/// to the line that isn't written whole. If all replies are written, there must be no error.
 fn tells_a_write(alloc: Global, step: usize, good: usize, refusal: Refusal) -> Result<bool, Fail> {
     let replies = FIRST_LOOK_REPLIES.as_bytes();
     let (out, rest) = replies.split_at(usize::saturating_mul(step, good).min(replies.len()));
@@ -42,8 +42,9 @@ const FAILS: Refusal = Refusal::Fails(ErrorKind::Other);
 // How many bytes each write takes, and how writes are refused later.
 const WRITERS: [(usize, Refusal); 3] = [(1, FAILS), (1, Refusal::TakesNothing), (7, FAILS)];
 
-/// Tries writers that fail after each number of bytes of the replies. Returns the first number for which
-/// `tells_a_write` is `false`, and the number of bytes in each write. Returns `None` if there is no such number.
+/// Tries the writers of `WRITERS`, each with every number of good writes from 0 to the number of bytes of the replies.
+/// Returns the first number for which `tells_a_write` is `false`, and how many bytes each write takes. Returns `None`
+/// if there is no such number.
 fn first_other_write(alloc: Global) -> Result<Option<(usize, usize)>, Fail> {
     for good in 0..=FIRST_LOOK_REPLIES.len() {
         for (step, refusal) in WRITERS {
@@ -84,8 +85,7 @@ fn first_other_flush(alloc: Global) -> Result<Option<usize>, Fail> {
 /// The results of `first_other_write` and of `first_other_flush`; each is `None` if all is right.
 type Others = (Option<(usize, usize)>, Option<usize>);
 
-/// Returns the first failed write, and the first failed flush, that doesn't end a script as it should. Each is `None`
-/// if all failures do.
+/// Returns the results of `first_other_write` and of `first_other_flush`; each is `None` if all is right.
 fn first_others(alloc: Global) -> Result<Others, Fail> {
     Ok((first_other_write(alloc)?, first_other_flush(alloc)?))
 }

@@ -6,8 +6,8 @@ use std::alloc::Global;
 use std::io::ErrorKind;
 use std::test::Fail;
 
-/// Calls `read_whole` with a limit of six bytes, for a reader that returns one byte in a read and fails with `kind`
-/// after `good` reads. Returns the bytes as text, or the name of the error.
+/// Calls `read_whole` with a limit of six bytes, for a reader of `input` that returns one byte in a read and fails with
+/// `kind` after `good` reads. Returns the bytes as text, or the name of the error.
 fn bytes_or_fault(
     alloc: Global,
     input: &[u8],
@@ -128,17 +128,17 @@ fn sent(alloc: Global) -> Result<[usize; 3], Fail> {
 /// The results of `first_other_put` for writers that fail and for writers that write nothing, and that of `sent`.
 type Written = (Option<usize>, Option<usize>, [usize; 3]);
 
-/// Returns the results of the three checks of this file's second test. The first is the first row of `PUTS` that is
-/// wrong for a writer that fails. The second is the first that is wrong for a writer that writes nothing. Both are
-/// `None` if all rows are right. The third is the result of `sent`.
+/// Returns three results. The first is the index of the first row of `PUTS` that is wrong for a writer that fails, and
+/// the second for a writer that writes nothing. Both are `None` if all rows are right. The third is the result of
+/// `sent`.
 fn results_of_writes(alloc: Global) -> Result<Written, Fail> {
     let failed = first_other_put(alloc, Refusal::Fails(ErrorKind::Other))?;
     let refused = first_other_put(alloc, Refusal::TakesNothing)?;
     Ok((failed, refused, sent(alloc)?))
 }
 
-// Checks that the writer has exactly the bytes that it took, and the error says how many. Also checks that 512 lines
-// are all buffered, and are written when another line comes.
+// Checks that `put_all` writes exactly what the writer takes, and its error says how many bytes these are. Also checks
+// that an `Outgoing` buffers 512 lines of four bytes, and writes them when another line comes.
 #[test]
 fn writes_tell_what_went_out(rt: HostRuntime) -> Result<(), Fail> {
     assert_eq!(rt;
