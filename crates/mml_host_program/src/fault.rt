@@ -128,8 +128,9 @@ impl From<ResumeFault> for Fault {
 
     ghost from_gives = { IsToldAs };
 
-    // Turns the reason why a class wasn't resumed into the host's error: the audit's error, `Memory`, a journal fault
-    // if the journal couldn't be cut, or the error of serving the class.
+    // Turns the reason why a class wasn't resumed into the host's error. This is the audit's error if the journal was
+    // refused, and `Memory` if memory ran out. It is a journal fault if the journal couldn't be cut, and otherwise the
+    // error of serving the class.
     fn from(fault: ResumeFault) -> Fault {
         match fault {
             ResumeFault::Refused(why) => Fault::Common(ProgramFault::from(why)),

@@ -149,7 +149,7 @@ fn subcommand_with<'a>(
 }
 
 // Returns the task of the subcommand `name` with these values. Returns `None` if there is no such subcommand, a value
-// is missing, or a text isn't a port.
+// is missing, or `read_port` doesn't accept the value of a port.
 fn task_of<'a>(name: &str, values: &ArgMatches<'a>) -> Option<Task<'a>> {
     match name {
         "host" => Some(Task::Host(HostTask {
@@ -166,7 +166,7 @@ fn task_of<'a>(name: &str, values: &ArgMatches<'a>) -> Option<Task<'a>> {
 }
 
 // Returns the class that these values name: its lab, its ports, and the folder of its record. Returns `None` if the lab
-// or a port is missing, or a text isn't a port.
+// or a port is missing, or `read_port` doesn't accept the value of a port.
 fn class_task<'a>(values: &ArgMatches<'a>) -> Option<ClassTask<'a>> {
     Some(ClassTask {
         lab: values.get_str("lab")?,
@@ -200,7 +200,7 @@ fn judging_task<'a>(name: &str, values: &ArgMatches<'a>) -> Option<JudgingTask<'
     judging_task_over(lab, name, values)
 }
 
-// Returns the task of the subcommand `name` with these values, of which the lab is `lab`. Returns `None` if the
+// Returns the task of the subcommand `name` with these values, for the lab in the file `lab`. Returns `None` if the
 // subcommand isn't `answer`, `verify` or `tally`, or another value that it requires is missing.
 #[tactic(auto, unfolding(crate::specs::Words::wanted_over))]
 fn judging_task_over<'a>(

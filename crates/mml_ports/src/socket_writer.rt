@@ -226,8 +226,8 @@ pub struct ReplyWriter<'a, Rt> {
 }
 
 impl<'a, Rt: Clock + Wait + Eprint> ReplyWriter<'a, Rt> {
-    /// Returns a writer to the connection's socket, before anything was written, with the observer of the replies to
-    /// the connection.
+    /// Returns a writer to the connection's socket, before anything was written. `replies` is the observer of the
+    /// connection's replies.
     pub fn new(
         connection: SharedConnection<'a, Rt>,
         replies: SocketReplies<'a, Rt>,

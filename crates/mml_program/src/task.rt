@@ -139,8 +139,8 @@ fn fault_if_halted<S: Sink>(hall: &Hall<S>) -> Result<(), Fault> {
     Ok(())
 }
 
-// Audits the journal in a file over the lab in a file, and prints the number of its events, the configuration that they
-// lead to, and whether that is stable. Returns an error if one of the files is refused, or the write failed.
+// Audits the journal in a file over the lab in a file. Prints the number of its events, the number of the configuration
+// that they lead to, and whether that is stable. Returns an error if one of the files is refused, or the write failed.
 fn audit_file<R: Files + Print + AllocGlobal>(
     rt: &R,
     lab: &str,

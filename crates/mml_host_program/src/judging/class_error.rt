@@ -50,7 +50,8 @@ fn fault_of(error: ClassError) -> Fault
     }
 }
 
-// Returns the program's error for texts that aren't the record of a class, or can't be read.
+// Returns the program's error for texts that aren't the record of a class, or can't be read: `Record` with the reason,
+// or `ReadRecord`. Returns `Memory` if memory ran out while they were read.
 fn record_fault(why: ClassFault) -> Fault
     ensures { IsOfRecord why result }
 {

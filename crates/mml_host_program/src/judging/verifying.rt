@@ -21,9 +21,9 @@ use mml_tally::{Findings, put_recorded};
 use std::alloc::Global;
 use std::io::{Read, Write};
 
-/// Audits a journal, checks the texts of `seats` as the record of its class, and writes what was found. If the journal
-/// or the record is refused, a text can't be read, or memory runs out, writes nothing and returns the reason. Returns
-/// `Write` if a write fails, after which a beginning of the text may have been written.
+/// Audits a journal, checks the texts of `seats` as the record of its class, and writes what the check found. If the
+/// journal or the record is refused, a text can't be read, or memory runs out, writes nothing and returns the reason.
+/// Returns `Write` if a write fails, after which a beginning of the text may have been written.
 pub fn verify_class<R: Read + Drop, S: Seats<R>, W: Write>(
     alloc: Global,
     lab: &Lab,
@@ -89,8 +89,8 @@ fn text_beside<R: Read + Drop, S: Seats<R>>(
     }
 }
 
-// Returns the lines about what was found in the record of a class whose journal has this many events. Returns `Memory`
-// if memory runs out.
+// Returns the lines about `class`, the record of a class whose journal has this many `events`. Returns `Memory` if
+// memory runs out.
 fn text_of(
     alloc: Global,
     lab: &Lab,
