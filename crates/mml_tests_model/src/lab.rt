@@ -128,7 +128,7 @@ fn first_other_index(roster: &Roster) -> Option<&'static str> {
 }
 
 /// Returns whether two networks have the same links and registers at a node. Returns `false` too if the node is missing
-/// in one of them. This is tested first, since the contracts of the other calls require the node.
+/// in one of them. The sizes are compared first, since the contracts of the other calls require the node.
 fn is_same_at(network: &Network, other: &Network, node: Rank) -> bool {
     if node.index() >= network.size() || node.index() >= other.size() {
         return false;

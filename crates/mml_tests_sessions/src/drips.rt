@@ -57,8 +57,8 @@ impl Visit<Drip> for Acts {
     }
 }
 
-/// Returns how a house must end in which all ten acts are asked for, if its sink fails at the line of event `last`, or
-/// never if that is 11.
+/// Returns how a house must end after all ten acts were asked for in it. The house's sink fails at the line of event
+/// `last`, or never if that is 11.
 fn ending_at(last: u64) -> Ending {
     Ending::Log {
         events: last.saturating_sub(1) as usize,

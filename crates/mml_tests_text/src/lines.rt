@@ -91,7 +91,7 @@ fn are_steps(
     Ok(steps_to_the_end(alloc, limit, &mut text.as_bytes())?.as_str() == wanted)
 }
 
-/// Returns the right answers as a text: the line if `is_line`, and then the last answer.
+/// Returns the right answers as a text: the one for `line` if `is_line` is set, and then `last`, the last answer.
 fn wanted(alloc: Global, line: &str, is_line: bool, last: &str) -> Result<String, AllocError> {
     if is_line {
         format!(in alloc; "Line {line}\n{last}")
@@ -220,8 +220,8 @@ fn count_lines(lines: &mut Lines, reader: &mut FakeReader) -> (u32, Step) {
     (u32::MAX, Step::Line)
 }
 
-/// Reads one newline more than the reads that are allowed (`MAX_READS`), one byte in each read. Returns how many empty
-/// lines come, the answer that ends them, and how many bytes are left unread.
+/// Reads newlines, one more than the number of reads that are allowed (`MAX_READS`), and one in each read. Returns how
+/// many empty lines come, the answer that ends them, and how many bytes are left unread.
 fn lines_of_many_newlines(alloc: Global) -> Result<(u32, Step, usize), Fail> {
     let breaks = vec![in alloc; b'\n'; MAX_READS as usize + 1]?;
     counted_in(alloc, breaks.as_slice())
@@ -236,16 +236,16 @@ fn counted_in(alloc: Global, breaks: &[u8]) -> Result<(u32, Step, usize), Fail> 
     Ok((count, step, reader.rest.len()))
 }
 
-/// Reads a line of 4,096 bytes, the limit, one byte in each read. Returns whether the line is returned whole, and then
-/// the end, and how many reads were made.
+/// Reads a line of 4,096 bytes, the limit, one byte in each read. Returns whether the answers are the whole line and
+/// then the end, and how many reads were made.
 fn longest_line_by_bytes(alloc: Global) -> Result<(bool, usize), Fail> {
     let mut text = digits(alloc, 4096)?;
     text.push('\n')?;
     line_by_bytes(alloc, text.as_bytes())
 }
 
-/// Reads the line in `text`, which ends with a newline, one byte in each read. Returns whether the line is returned
-/// whole, and then the end, and how many reads were made.
+/// Reads the line in `text`, which ends with a newline, one byte in each read. Returns whether the answers are the
+/// whole line and then the end, and how many reads were made.
 fn line_by_bytes(alloc: Global, text: &[u8]) -> Result<(bool, usize), Fail> {
     let mut reader = FakeReader::failing_after(usize::MAX, text);
     let mut lines = Lines::new(alloc, 4096)?;

@@ -20,7 +20,7 @@ const MADE: usize = 0x13 << 56;
 const MET: usize = 0x14 << 56;
 
 /// Returns whether a request for this many bytes is granted. The bytes are freed again. The library recognises the
-/// sizes above.
+/// sizes above as orders or questions.
 fn is_granted(alloc: Global, bytes: usize) -> bool {
     let block: Result<Vec<u8>, _> = Vec::with_capacity(alloc, bytes);
     block.is_ok()

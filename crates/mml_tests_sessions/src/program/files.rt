@@ -42,8 +42,8 @@ fn is_begun(rt: &HostRuntime, path: &str) -> bool {
     }
 }
 
-/// Begins a journal at `path`, the path of a file with the built-in lab. Returns whether the lab is read from `path`
-/// before, and the journal's line is read from there afterwards. The lab's text must then be at `kept`.
+/// Begins a journal at `path`, the path of a file with the built-in lab. Returns whether the lab can be read from
+/// `path` before, the journal's line can be read from there afterwards, and the lab's text is then at `kept`.
 fn is_kept(rt: &HostRuntime, path: &str, kept: &str) -> bool {
     let old = lab_of(rt, path).is_ok_and(|lab| lab.node_count() == 3);
     let is_begun = is_begun(rt, path);

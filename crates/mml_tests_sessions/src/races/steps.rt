@@ -76,8 +76,8 @@ impl<'a> Steps<'a> {
         }
     }
 
-    /// Makes a connection wait at this step as each of these holds says that names the connection and the step, one
-    /// hold after another.
+    /// Goes through these holds in their order. For each one that names this connection and this step, waits as the
+    /// hold says.
     fn hold_each(&self, holds: &[Hold], connection: u8, step: u64) {
         for (held, at, other, wanted) in holds.iter() {
             if *held == connection && *at == step {

@@ -38,8 +38,8 @@ fn line_of_see(alloc: Global, lab: &Lab) -> Result<String, Fail> {
     line_of(alloc, lab, &Reply::See(See { at, node, regs }))
 }
 
-/// Makes the reply to a granted report on a board with `reply_of`. Returns whether it is a report with the
-/// configuration's number and the stability that the given report has.
+/// Makes the reply to a granted report on a board with `reply_of`. Returns whether this reply is a report with the same
+/// configuration number and the same stability as the given report.
 fn is_reported(alloc: Global, board: &Board, told: &Report) -> Result<bool, Fail> {
     match reply_of(alloc, board, Ruling::Reported)? {
         Reply::Report(other) => Ok(other.at == told.at && other.stable == told.stable),

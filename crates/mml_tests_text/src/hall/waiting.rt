@@ -137,8 +137,8 @@ fn first_cut_that_changes(alloc: Global) -> Result<Option<usize>, Fail> {
 type Writes = ((bool, usize), (bool, usize), Option<usize>);
 
 /// Answers the scripts `FIRST_LOOK` and `GREETING`, which come one line in each read. Returns for each what
-/// `answer_line_by_line` does: whether the replies are right and are sent before each next read, and how many reads
-/// there were. Also returns the result of `first_cut_that_changes`.
+/// `answer_line_by_line` does: whether the replies are right, and were written and flushed before the next read, and
+/// how many reads there were. Also returns the result of `first_cut_that_changes`.
 fn writes_before_reads(alloc: Global) -> Result<Writes, Fail> {
     let looks = answer_line_by_line(alloc, FIRST_LOOK, FIRST_LOOK_REPLIES)?;
     let greets = answer_line_by_line(alloc, GREETING, GREETING_REPLIES)?;

@@ -17,9 +17,9 @@ fn after_last_line(bytes: &[u8]) -> usize {
     last.unwrap_or(bytes.len())
 }
 
-/// Answers `FIRST_LOOK` with a writer that takes `step` bytes in each of `good` writes and then refuses, in the way
-/// `refusal`. Returns whether exactly the bytes of these writes are written, and the error says how many of them belong
-/// to the line that isn't written whole. If all replies are written, there must be no error.
+/// Answers `FIRST_LOOK` with a writer that takes `step` bytes in each of `good` writes and then refuses, as `refusal`
+/// says. Returns whether exactly the bytes of these writes are written, and the error says how many of them belong to
+/// the line that isn't written whole. If all replies are written, there must be no error.
 fn tells_a_write(alloc: Global, step: usize, good: usize, refusal: Refusal) -> Result<bool, Fail> {
     let replies = FIRST_LOOK_REPLIES.as_bytes();
     let (out, rest) = replies.split_at(usize::saturating_mul(step, good).min(replies.len()));

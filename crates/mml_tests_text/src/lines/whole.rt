@@ -53,10 +53,9 @@ fn readers_are_read_up_to_a_limit(rt: HostRuntime) -> Result<(), Fail> {
     Ok(())
 }
 
-/// Calls `put_all` for a writer that takes `step` bytes in each of `good` writes and then refuses, in the way
-/// `refusal`. Returns whether exactly the bytes of these writes are written, and nothing is flushed, so that
-/// `good_flushes` is still `usize::MAX`. If bytes are left, the result must be an error that says how many were
-/// written.
+/// Calls `put_all` for a writer that takes `step` bytes in each of `good` writes and then refuses, as `refusal` says.
+/// Returns whether exactly the bytes of these writes are written, and nothing is flushed, so that `good_flushes` is
+/// still `usize::MAX`. If bytes are left, the result must be an error that says how many were written.
 fn puts(alloc: Global, bytes: &[u8], step: usize, good: usize, refusal: Refusal) -> bool {
     let mut writer = FakeWriter::failing_after(good, alloc);
     writer.step = step;
@@ -109,7 +108,8 @@ fn first_other_put(alloc: Global, refusal: Refusal) -> Result<Option<usize>, Fai
 }
 
 /// Puts 512 lines of four bytes each into an `Outgoing`, then one more line, and then flushes it. Returns how many
-/// bytes the writer has after each of the three. The writer never refuses, so the results of the calls are ignored.
+/// bytes the writer has after each of these three steps. The writer never refuses, so the results of the calls are
+/// ignored.
 fn sent(alloc: Global) -> Result<[usize; 3], Fail> {
     let mut outgoing = Outgoing::new(alloc)?;
     let mut writer = FakeWriter::patient(alloc);
