@@ -62,9 +62,10 @@ pub fn step_lowers_courting_potential()
         courting_potential c ≤ 3 * c.size + 2 * most_courtships c.size }
 {}
 
-/// The bound on rounds is 2n for n nodes, or 2n - 1 if n is odd. For no number of nodes from 2 to 256 can it be
-/// lowered. Let one student own all nodes of the network `halves_world`. Then some legal list of grants and closes has
-/// one round less than the bound, and some node is still privileged after it. There is also such a list in which each
+/// By `rounds_are_bounded`, a legal list of grants, releases and closes that ends with a privileged node has fewer than
+/// `rounds_for n` rounds. This bound is 2n for n nodes, or 2n - 1 if n is odd. It can't be lowered for any n from 2 to
+/// 256, if one student owns all nodes of the world `halves_world n`. From this world, some legal list of grants and
+/// closes has one round less than the bound, and ends with a privileged node. There is also such a list in which each
 /// close applies only one move.
 pub fn rounds_are_reached()
     ensures world { (n : ℕ) → n ≤ MAX_NODES →
@@ -83,9 +84,10 @@ pub fn rounds_are_reached()
         (¬ IsStable (configuration (world_of (halves_world n) es))) }
 {}
 
-/// The bound on moves is 3n + 2k for n nodes, if k is n²/4, rounded down. For each even n from 4 to 256, a run reaches
-/// this bound. For each odd n from 5 to 255, a run applies one move less. Each of these runs is a legal list of grants
-/// and closes in the dense network (`crowd_world`), in which one student owns all nodes.
+/// Let k be n²/4, rounded down. By `moves_are_few`, a legal list of grants, releases and closes on n nodes applies at
+/// most 3n + 2k moves. For each even n from 4 to 256, some list applies as many. For each odd n from 5 to 255, some
+/// list applies one move less. Each of these is a legal list of grants and closes from the world `crowd_world n`, a
+/// dense network of which one student owns all nodes.
 pub fn moves_are_reached()
     ensures world { (n : ℕ) → 4 ≤ n → n ≤ MAX_NODES →
         IsWorld (crowd_world n) × (size (crowd_world n) ≡ n) }

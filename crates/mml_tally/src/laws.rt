@@ -109,8 +109,9 @@ pub fn who_has_no_close_has_no_applied_move()
         (marks_of r es s).closes ≡ 0 → total (marks_of r es s).applied ≡ 0 }
 {}
 
-/// The counts of a student's moves don't change if the other students get other names, or several of them become one.
-/// `f` maps each student to the new one, and maps only `s` to `s`.
+/// The marks of the student `s` don't depend on who was granted the other moves. `f` maps each student to the one who
+/// replaces it in all events: `s` to `s`, and no other student to `s`. Several students may be replaced by the same
+/// one.
 pub fn marks_depend_on_no_other_name()
     ensures { (r : RosterValue) (es : List Event) (s : ℕ) (f : ℕ → ℕ) →
         ((t : ℕ) → (f t ≡ s) ↔ (t ≡ s)) → marks_of r (map (asked_as f) es) s ≡ marks_of r es s }
@@ -151,8 +152,9 @@ pub fn columns_are_sums_of_denials()
     ensures { (asks : List Ask) (s : ℕ) → AreNamed asks → AreSums (denials_of asks s) (named_of asks s) }
 {}
 
-/// If the lines of others get other names, the counts for a student don't change: the denials, the refusals, and the
-/// moves that the student asked for at a node. `f` maps each student to the new one, and maps only `s` to `s`.
+/// The counts for the lines of the student `s` don't depend on who sent the other lines. These are the counts of denied
+/// and malformed lines, of each denial, of refusals, and of the moves that `s` asked for at a node. `f` maps each
+/// student to the one who replaces it in all lines: `s` to `s`, and no other student to `s`.
 pub fn asks_depend_on_no_other_name()
     ensures denied { (asks : List Ask) (s : ℕ) (f : ℕ → ℕ) → ((t : ℕ) → (f t ≡ s) ↔ (t ≡ s)) →
         denials_of (map (asked_under f) asks) s ≡ denials_of asks s }

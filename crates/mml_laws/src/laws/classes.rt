@@ -45,10 +45,11 @@ pub fn a_class_is_a_house<S, K, C, R, W>()
         × IsEachOnceFrom (length r.begun) (length house.log.events) (named_by sessions) }
 {}
 
-/// Suppose that the recorders of a class were empty at the beginning. Then each has recorded the sessions of its seat.
-/// These sessions led the seat's window from the events before the class to its final state. So what each recorder has
-/// kept is the text of a record that fits the class's one list of events, or a beginning of that text. The last clause
-/// says that the assumption holds if each recorder that the class is given is empty.
+/// `given n` is what the recorder of seat n had kept when the class began. Suppose that each recorder had kept nothing.
+/// Then each has recorded the sessions of its seat. These sessions led the seat's window from the events before the
+/// class to its final state. So what each recorder has kept is the text of a record that fits the class's one list of
+/// events, or a beginning of that text. The clause `kept` is for the contracts of `serve_host` and `resume_class`, in
+/// which `given` is `kept_from` of a list of recorders. If each recorder in this list was empty, the assumption holds.
 pub fn a_class_has_recorded_seats<S, K, C, R, W>()
     ensures seats { (begun : List Event) (given : ℕ → Option Kept) (lab : LabValue)
         (sink : S → Option (List ℕ)) (remaining : R → Option (List ℕ)) (contents : W → Option (List ℕ))

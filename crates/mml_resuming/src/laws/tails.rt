@@ -5,9 +5,10 @@
 ghost use Rattle.std.specs.Prelude.{◌≢◌, ◌<◌, ◌+◌, ℕ, List, length};
 ghost use Rattle.mml_resuming.specs.Resuming.{counted_of, whole_of};
 
-/// If bytes after the last newline of an old journal are dropped, they are fewer than 102, the length of the longest
-/// line of an event. So they may be the beginning of such a line, but not a whole one. `counted_of` is the part of the
-/// journal that isn't dropped.
+/// Bytes after the last newline of an old journal are dropped only if they are fewer than 102, the length of the
+/// longest line of an event with its newline. So they may be the beginning of such a line, but not a whole one. If they
+/// are more, nothing is dropped, and all bytes are audited. `whole_of` has the bytes up to the last newline, and
+/// `counted_of` those that aren't dropped.
 pub fn a_tail_is_shorter_than_a_line()
     ensures { (bytes : List ℕ) → counted_of bytes ≢ bytes →
         length bytes < length (whole_of bytes) + 102 }
