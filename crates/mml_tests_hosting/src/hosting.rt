@@ -142,8 +142,8 @@ fn are_answered(left: &Left, talks: &[Talk]) -> bool {
 }
 
 /// Serves `TALKS` in a house. Returns three answers: whether each connection gets the right replies, whether the
-/// journal has exactly a move and its close, and whether the last printed line counts both events. Returns an error if
-/// the house ends with a fault.
+/// journal has exactly a move and its close, and whether the printed line counts both events. Returns an error if the
+/// house ends with a fault.
 fn results_of_talks<R: Threads + Wait + Sync>(rt: &R, alloc: Global) -> Result<[bool; 3], Fail> {
     let mut out = Vec::new(alloc);
     match host(rt, alloc, TALKS, &mut out)? {
@@ -156,8 +156,8 @@ fn results_of_talks<R: Threads + Wait + Sync>(rt: &R, alloc: Global) -> Result<[
     }
 }
 
-/// Checks a house that serves the connections of `TALKS` one after another: each must get its replies, and the journal
-/// and the last line must be right.
+/// Checks a house that serves the connections of `TALKS` one after another. Each must get its replies, the journal must
+/// be right, and so must what the host prints at the end.
 #[test]
 fn sessions_come_one_after_another(rt: HostRuntime) -> Result<(), Fail> {
     assert_eq!(rt; results_of_talks(&rt, rt.alloc())?, [true; 3]);
@@ -165,7 +165,7 @@ fn sessions_come_one_after_another(rt: HostRuntime) -> Result<(), Fail> {
 }
 
 /// Serves two connections in a house: one says bye at the desk without a hello, and the teacher says bye at the
-/// students' port. Returns whether the house ends with the fault `Undismissed`, and prints no last line. Returns an
+/// students' port. Returns whether the house ends with the fault `Undismissed`, and the host prints nothing. Returns an
 /// error if memory runs out.
 fn is_undismissed<R: Threads + Wait + Sync>(rt: &R, alloc: Global) -> Result<bool, Fail> {
     let mut out = Vec::new(alloc);
@@ -173,8 +173,8 @@ fn is_undismissed<R: Threads + Wait + Sync>(rt: &R, alloc: Global) -> Result<boo
     Ok(matches!(left, Err(HostFault::Undismissed)) && out.is_empty())
 }
 
-/// Checks that a house ends with the fault `Undismissed`, without a last line, if the teacher has said bye only at the
-/// students' port.
+/// Checks that a house ends with the fault `Undismissed`, and the host prints nothing, if the teacher has said bye only
+/// at the students' port.
 #[test]
 fn a_bye_at_the_port_ends_no_house(rt: HostRuntime) -> Result<(), Fail> {
     assert!(rt; is_undismissed(&rt, rt.alloc())?);

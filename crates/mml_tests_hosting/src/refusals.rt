@@ -6,5 +6,5 @@ mod library;
 mod replies;
 mod untouched;
 
-/// The most requests for memory that one of the tried calls makes.
+/// A limit on the tries. The nth try refuses the nth request for memory, and no tried call makes so many requests.
 const MOST: usize = 100_000;

@@ -172,8 +172,8 @@ fn opening_board(rt: HostRuntime) -> Result<(), Fail> {
     Ok(())
 }
 
-/// A part of a story (a list of events): an event, and the board's text that is right after it. The event is `None`
-/// only for a rank that doesn't exist; then nothing is applied.
+/// A part of a story (a list of events): an event, and the board that is right after it, as `board_text` shows it
+/// without links. The event is `None` only for a rank that doesn't exist; then nothing is applied.
 type Part = (Option<Event>, &'static str);
 
 /// Returns a story in which one close applies two chosen moves. Two of its events are illegal, and must change nothing.

@@ -59,9 +59,9 @@ fn first_other_count(alloc: Global, lab: &Lab) -> Result<Option<usize>, Fail> {
     Ok(None)
 }
 
-/// Returns three results. The first is that of `first_other_count`. The second is whether a sink with `fail_at` 0 gets
-/// no line, and its journal is halted. The third is whether a sink that never fails gets all ten lines, and its journal
-/// isn't halted.
+/// Returns three results. The first is that of `first_other_count`. The second is about a sink whose `fail_at` is 0, so
+/// that it fails from its first put on: whether it gets no line, and its journal is halted. The third is whether a sink
+/// that never fails gets all ten lines, and its journal isn't halted.
 fn faults_of_sinks(alloc: Global, lab: &Lab) -> Result<(Option<usize>, bool, bool), Fail> {
     let other = first_other_count(alloc, lab)?;
     let none = takes_lines(alloc, lab, Some(0), 0)?;

@@ -200,8 +200,8 @@ fn first_others(alloc: Global) -> Result<[Option<usize>; 3], Fail> {
     Ok([by_bytes, at_once, first_other_reads(alloc)?])
 }
 
-// Checks that the same lines are read, however the input is cut into reads. A failed read must be the last answer, and
-// the number of reads must be right.
+// Checks that `TEXT` gives the same answers wherever it is cut in two. Then checks the rows of `READS`: a failed read
+// must be the last answer, after the right lines and the right number of reads.
 #[test]
 fn cuts_change_nothing_and_a_failed_read_ends_the_lines(rt: HostRuntime) -> Result<(), Fail> {
     assert_eq!(rt; first_others(rt.alloc())?, [None; 3]);

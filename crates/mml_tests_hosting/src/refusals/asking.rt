@@ -43,7 +43,8 @@ fn ask_with_refusal<H: House, R: Wait>(
 }
 
 /// Asks for the act at this place until it is granted. In the nth try, the nth request for memory is refused. Returns
-/// how often the act was refused. Returns `None` if an answer was wrong, or the act wasn't granted in `MOST` tries.
+/// how often the act was refused. Returns `None` if an answer was wrong, or the act wasn't granted in any of `MOST` - 1
+/// tries.
 fn refusals_of<H: House, R: Wait>(
     at_desk: &mut WindowAtDesk<'_, NullSink, H, R>,
     place: u64,
@@ -145,7 +146,7 @@ fn was_first_granted<R: Wait>(
 
 /// Makes the visit `FirstThenSecond` in one new house after another until the first act is granted. In the nth house,
 /// the nth request for memory of this act is refused. Returns how often the first act was refused. Returns `None` if
-/// `was_first_granted` returned `None` for a house, or the act wasn't granted in `MOST` houses.
+/// `was_first_granted` returned `None` for a house, or the act wasn't granted in any of `MOST` - 1 houses.
 fn refusals_of_first<R: Wait>(
     rt: &R,
     alloc: Global,

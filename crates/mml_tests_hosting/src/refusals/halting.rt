@@ -117,8 +117,9 @@ fn grant_in_new_hall(
 }
 
 /// Moves node 1 in one new hall after another until the move is granted. In the nth hall, the nth request for memory is
-/// refused. Returns in how many halls the move was refused, and how many halls were halted. Returns `None` if the
-/// outcome in a hall was wrong, or the move wasn't granted in `MOST` halls.
+/// refused. Returns in how many halls the move was refused as `memory`, and in how many the journal was halted. Returns
+/// `None` if the move wasn't granted in any of `MOST` - 1 halls, or an outcome was wrong. An outcome is also wrong if
+/// the move was granted though a request was refused, or the other way round.
 fn results_of_grants(alloc: Global, is_there: bool) -> Result<Option<(usize, usize)>, Fail> {
     let (mut refused, mut halted) = (0usize, 0usize);
     for nth in 1..MOST {

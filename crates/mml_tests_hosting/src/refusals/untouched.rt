@@ -35,8 +35,8 @@ fn takes_none<H: House, R: Wait>(
     }
 }
 
-/// Asks the window for the number of the configuration, and for the teacher's see of node 2. Returns whether the number
-/// is 0, the see succeeds, and no memory was requested for them.
+/// Reads through the window the number of the configuration, and then the teacher's see of node 2. Returns whether the
+/// number is 0, the see succeeds, and no memory was requested meanwhile.
 fn views_take_none<H: House, R: Wait>(
     at_desk: &mut WindowAtDesk<'_, MemorySink, H, R>,
     is_there: bool,
