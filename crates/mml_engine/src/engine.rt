@@ -45,7 +45,8 @@ pub trait Engine {
         ensures { result.now ≡ (lab self.now).roster };
 
     /// Puts the reply to a view of `who` into `reply`. The command must be a view. `at` is the part of the engine that
-    /// belongs to the session. Returns `Closed`, and puts no reply, if the engine shows nothing any more.
+    /// belongs to the session. The reply is the refusal `memory` if memory runs out. Returns `Closed`, and puts no
+    /// reply, if the engine shows nothing any more.
     fn view(
         &mut self,
         at: &mut Self::View,
@@ -62,8 +63,10 @@ pub trait Engine {
         ensures about { OnOk result (IsAbout (lab self.old).ids (lab self.old).roster reply.new) }
         ensures closed { IfErr result (λ _. may_close × (self.new ≡ self.old) × (at.new ≡ at.old)) };
 
-    /// Puts the reply to an act of `who` into `reply`. The command must be an act. If it is granted, its event happens.
-    /// `at` is the part of the engine that belongs to the session.
+    /// Puts the reply to an act of `who` into `reply`. The command must be an act. `at` is the part of the engine that
+    /// belongs to the session. If the act is granted, its event happens. Otherwise no event happens, and the reply is a
+    /// denial or a refusal. An act that isn't denied is refused if memory runs out, the journal takes no more lines, or
+    /// the lab allows no more events.
     fn act(
         &mut self,
         at: &mut Self::View,

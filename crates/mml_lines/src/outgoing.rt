@@ -165,8 +165,9 @@ impl Outgoing {
     }
 }
 
-// Returns how many bytes were written of the first line that isn't written whole. `lengths` has the lengths of the
-// lines, in the order in which they are written. `out` is the number of bytes that were written of all lines together.
+// Returns how many bytes were written of the first line that isn't written whole, or 0 if all lines are. `lengths` has
+// the lengths of the lines, in the order in which they are written. `out` is the number of bytes that were written of
+// all lines together, so it is at most the sum of `lengths`.
 fn part_of(lengths: &[usize], out: usize) -> usize
     ensures { result ≡ part_in lengths.now out }
 {

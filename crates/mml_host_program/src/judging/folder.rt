@@ -1,6 +1,7 @@
 //! The folder of a record, from which the check of a class reads.
 //!
-//! The folder has a file for each seat, and the file `begun` with the number of events before the record.
+//! The folder has a file for each seat, and the file `begun` with the number of events before the record. A plain file
+//! is a regular one, not a folder, a pipe or a device.
 ghost use Rattle.std.specs.Prelude.{◌≡◌, ◌≢◌, ◌++◌, codes, decimal, string_bytes, IfOk};
 ghost use Rattle.std.specs.IoError.{error_kind};
 
@@ -62,8 +63,8 @@ fn record_path(alloc: Global, folder: &str, seat: u8) -> Result<String, Memory>
     }
 }
 
-// Opens the plain file of the record at `path`. Returns `Memory` if memory runs out. Returns `Read` if the file can't
-// be opened, or isn't plain but a folder, a pipe or a device.
+// Opens the file of the record at `path`. Returns `Memory` if memory runs out. Returns `Read` if the file can't be
+// opened or isn't plain.
 fn open_part<R: Files<File = File> + AllocGlobal>(rt: &R, path: &str) -> Result<File, SeatFault> {
     match open_plain(rt, path) {
         Ok(Some(file)) => Ok(file),
@@ -84,8 +85,8 @@ fn open_fault(error: &IoError) -> SeatFault
     }
 }
 
-// Opens the file at `path` if it is plain, and otherwise returns `None`. Checks the kind first, because opening a pipe
-// would wait for a writer. Returns the system's error if the check or the opening fails.
+// Opens the file at `path`, and returns `None` if it isn't plain. Checks the kind first, because opening a pipe would
+// wait for a writer. Returns the system's error if the check or the opening fails.
 fn open_plain<R: Files<File = File>>(rt: &R, path: &str) -> io::Result<Option<File>> {
     if fs::metadata(rt, path)?.is_file() {
         Ok(Some(fs::open(rt, path)?))
