@@ -64,9 +64,9 @@ fn push_links(text: &mut String, board: &Board, node: Rank) -> Result<(), AllocE
     Ok(())
 }
 
-/// Returns a board as text. The text has the numbers of the configuration, of events, of privileged nodes and of chosen
-/// moves, and then each node as `push_node` shows it. If `with_links` is set, the links of each node follow it, as
-/// `push_links` shows them.
+/// Returns a board as text. The text begins with the configuration's number, and with how many events, privileged nodes
+/// and chosen moves there are. Then it has each node as `push_node` shows it. If `with_links` is set, each node is
+/// followed by its links, as `push_links` shows them.
 fn board_text(alloc: Global, board: &Board, with_links: bool) -> Result<String, AllocError> {
     let (number, place) = (board.number(), board.place());
     let (privileged, chosen) = (board.privileged_count(), board.chosen_set().len());
@@ -176,7 +176,8 @@ fn opening_board(rt: HostRuntime) -> Result<(), Fail> {
 /// without links. The event is `None` only for a rank that doesn't exist; then nothing is applied.
 type Part = (Option<Event>, &'static str);
 
-/// Returns a story in which one close applies two chosen moves. Two of its events are illegal, and must change nothing.
+/// Returns a story (events, each with the board's text after it) in which one close applies two chosen moves. Two of
+/// its events are illegal, and must change nothing.
 fn story_of_moves() -> [Part; 5] {
     [
         (
@@ -205,8 +206,8 @@ fn story_of_moves() -> [Part; 5] {
     ]
 }
 
-/// Returns the story that follows `story_of_moves`: a chosen move, a fault that drops it, a cut, a link, and an illegal
-/// cut, which must change nothing.
+/// Returns the story that follows `story_of_moves` on the same board. Its events are a chosen move, a fault that drops
+/// it, a cut, a link, and an illegal cut, which must change nothing.
 fn story_of_changes() -> [Part; 5] {
     let [a, b, c] = [Rank::at(0), Rank::at(1), Rank::at(2)];
     let fault = Event::Fault {

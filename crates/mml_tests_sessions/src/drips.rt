@@ -14,8 +14,8 @@ use std::sync::Wait;
 use std::test::Fail;
 
 /// Returns whether an answer to the act at this place is right, if the sink fails at the line of event `last`. Acts at
-/// places before `last` must be granted at their places. The act at place `last` must be refused for the journal, and
-/// later acts must be denied, or refused for the journal.
+/// places before `last` must be granted at their places. The act at place `last` must be refused with `Journal`, and
+/// later acts must be denied, or refused with `Journal`.
 fn is_right_answer(answer: &Answer, place: u64, last: u64) -> bool {
     match answer {
         Answer::Granted { place: granted, .. } => place < last && *granted == place,
@@ -25,7 +25,8 @@ fn is_right_answer(answer: &Answer, place: u64, last: u64) -> bool {
 }
 
 /// Asks for the ten acts in their order, in a house whose sink fails at the line of event `last`. Returns whether each
-/// answer is right, and after each the window shows the configuration to which the granted acts lead.
+/// answer is right. After each answer, the window must show the number of the configuration to which the granted acts
+/// lead.
 fn answers_ten_acts<H: House, R: Wait>(
     at_desk: &mut WindowAtDesk<'_, Drip, H, R>,
     last: u64,

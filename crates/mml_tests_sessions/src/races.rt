@@ -121,8 +121,8 @@ type Race = (
     &'static [Outcome],
 );
 
-/// Returns whether a house has the outcome `wanted`: the journal, the replies to each session, and the server's last
-/// line, which is `out`.
+/// Returns whether the outcome of a house is `wanted`. `house` has its journal and the replies to each session. `out`
+/// is the last line that the server wrote.
 fn is_outcome(
     house: &ServedHouse<MemorySink, Bytewise<'_>, Vec<u8>>,
     out: &[u8],
@@ -134,7 +134,7 @@ fn is_outcome(
         && are_answered(house, replies)
 }
 
-/// Returns whether a house has one of these outcomes. `out` is the server's last line.
+/// Returns whether the outcome of a house is one of `outcomes`. `house` and `out` are as in `is_outcome`.
 fn is_some_outcome(
     house: &ServedHouse<MemorySink, Bytewise<'_>, Vec<u8>>,
     out: &[u8],
@@ -148,8 +148,8 @@ fn is_some_outcome(
     false
 }
 
-/// Serves the sessions of a race. Returns whether the outcome is an allowed one, and the gate's `were_kept` is `true`
-/// for the race's number of steps. Returns `false` if the sessions couldn't be served to their end.
+/// Serves the sessions of a race. Returns whether the outcome is allowed, and each session waited and took steps as the
+/// race says. Returns `false` if the sessions couldn't be served to their end.
 fn is_run<R: Threads + Wait + Sync>(rt: &R, alloc: Global, race: &Race) -> Result<bool, Fail> {
     let (scripts, holds, steps, outcomes) = race;
     let connections = u8::try_from(scripts.len()).map_err(|_| "too many scripts")?;
@@ -299,7 +299,8 @@ const RACES: &[Race] = &[
     ),
 ];
 
-/// Returns the index of the first of `RACES` for which `is_run` is `false`, or `None` if there is no such race.
+/// Returns the index of the first of `RACES` that doesn't run as it says (`is_run`), or `None` if there is no such
+/// race.
 fn first_other<R: Threads + Wait + Sync>(rt: &R, alloc: Global) -> Result<Option<usize>, Fail> {
     for (number, race) in RACES.iter().enumerate() {
         if !is_run(rt, alloc, race)? {
@@ -316,8 +317,8 @@ fn held_sessions_are_answered_one_by_one(rt: HostRuntime) -> Result<(), Fail> {
     Ok(())
 }
 
-/// Serves two connections, though three come. Returns whether exactly the first two are served and answered rightly,
-/// and the house has them in their order.
+/// Serves two connections, although three come. Returns whether exactly the first two are served and answered rightly,
+/// and the result has their sessions in the order in which they came.
 fn are_two_left<R: Threads + Wait + Sync>(rt: &R, alloc: Global) -> Result<bool, Fail> {
     let mut out = Vec::new(alloc);
     let sink = MemorySink::new(alloc, None);
@@ -338,8 +339,8 @@ fn is_lack_told<R: Threads + Wait + Sync>(rt: &R, alloc: Global) -> Result<bool,
     Ok(matches!(one, Err(ServeFault::Accept)) && out.is_empty())
 }
 
-/// Returns two answers about a server for two connections. The first is whether it serves exactly the first two of
-/// three, in their order. The second is whether it ends with the fault `Accept` if only one comes.
+/// Returns two answers about a server for two connections: that of `are_two_left`, for three connections that come, and
+/// that of `is_lack_told`, for only one.
 fn results_of_arrivals<R: Threads + Wait + Sync>(
     rt: &R,
     alloc: Global,
@@ -347,8 +348,8 @@ fn results_of_arrivals<R: Threads + Wait + Sync>(
     Ok((are_two_left(rt, alloc)?, is_lack_told(rt, alloc)?))
 }
 
-/// Checks that a server for two connections serves the first two of three, and has them in their order. Also checks
-/// that it ends with an error if only one comes.
+/// Checks that a server for two connections serves the first two of the three that come, and returns their sessions in
+/// the order in which they came. Also checks that it ends with an error if only one comes.
 #[test]
 fn connections_are_left_in_the_order_in_which_they_came(rt: HostRuntime) -> Result<(), Fail> {
     assert_eq!(rt; results_of_arrivals(&rt, rt.alloc())?, (true, true));

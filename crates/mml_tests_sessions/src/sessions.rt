@@ -113,8 +113,8 @@ const BYES: &[Row] = &[
     (0, "\n{\"do\":\"bye\"}\n", SessionEnd::Bye, LEFT, 13, 13),
 ];
 
-/// Serves a session with the line of a row. Returns whether it ends, writes and reads as the row says, and its house
-/// ends rightly.
+/// Serves a session whose reader has the bytes that a row describes: a bye, spaces, and the text after them. Returns
+/// whether the session ends, writes and reads as the row says, and the house ends rightly, as `serve` defines it.
 fn ends_as_in<R: Wait>(rt: &R, alloc: Global, row: &Row) -> Result<bool, Fail> {
     let (spaces, after, end, written, reads, rest) = row;
     let line = bye(alloc, *spaces, after)?;
@@ -128,7 +128,8 @@ fn ends_as_in<R: Wait>(rt: &R, alloc: Global, row: &Row) -> Result<bool, Fail> {
     )
 }
 
-/// Returns the index of the first row of `BYES` for which `ends_as_in` is `false`, or `None` if there is no such row.
+/// Returns the index of the first row of `BYES` whose session doesn't end as the row says (`ends_as_in`), or `None` if
+/// there is no such row.
 fn first_other_row<R: Wait>(rt: &R, alloc: Global) -> Result<Option<usize>, Fail> {
     for (number, row) in BYES.iter().enumerate() {
         if !ends_as_in(rt, alloc, row)? {
@@ -238,8 +239,8 @@ fn failed_reads_are_told(rt: HostRuntime) -> Result<(), Fail> {
     Ok(())
 }
 
-/// Serves `ANA_MOVES`, which comes in reads of at most `step` bytes. Returns how many writes the replies take, or
-/// `None` if the replies are wrong, or the house ends wrongly.
+/// Serves `ANA_MOVES`, which comes in reads of at most `step` bytes. Returns how many writes the replies take. Returns
+/// `None` if the replies are wrong, or the house doesn't end rightly, as `serve` defines it.
 fn writes_at<R: Wait>(rt: &R, alloc: Global, step: usize) -> Result<Option<usize>, Fail> {
     let reader = ana_moving(step);
     let (served, is_ended) = serve(rt, alloc, reader, FakeWriter::patient(alloc))?;

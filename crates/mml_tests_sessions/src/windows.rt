@@ -217,8 +217,8 @@ fn a_window_that_outlives_its_house_is_closed(rt: HostRuntime) -> Result<(), Fai
 }
 
 /// Asks a book, whose sink fails at its second line, for three moves. Returns whether the first is granted, the second
-/// is refused for the journal, and the third, which is the first again, is denied as chosen. The book must then have
-/// one event.
+/// is refused with `Journal`, and the third, which is the first again, is denied as chosen. The book must then have one
+/// event.
 fn refuses_the_second<H: House, R: Wait>(
     rt: &R,
     alloc: Global,

@@ -48,7 +48,8 @@ fn views_take_none<H: House, R: Wait>(
 }
 
 /// A visit that asks for the first two acts, and then makes the calls that should request no memory. `wanted` is the
-/// refusal that the second act should get. `is_there` says whether the library that counts requests is loaded.
+/// refusal that the second act should get when it is asked for again. `is_there` says whether the library that counts
+/// requests is loaded.
 #[derive(Clone, Copy)]
 struct AfterFirst {
     wanted: Refusal,
@@ -61,7 +62,7 @@ impl Visit<MemorySink> for AfterFirst {
 
     // Asks through the first window for the first act and the second. Then asks for both again, and for the views.
     // Returns whether all answers are right, and no memory was requested after the first two. The first act must be
-    // granted, and denied the second time. The second act must be refused, and the second time as `wanted`.
+    // granted, and denied when it is asked for again. The second act must be refused both times, and then as `wanted`.
     fn visit<H: House, R: Wait>(self, pair: &mut Pair<'_, MemorySink, H, R>) -> bool {
         let (at_desk, is_there) = (&mut pair.one, self.is_there);
         let first = at_desk.ask(asker(1), &act(1));
@@ -98,8 +99,9 @@ fn takes_none_after_first<R: Wait>(
     Ok(hold)
 }
 
-/// Checks that a denied act, an act over the limit of events, an act while the journal is halted, and a view get the
-/// right answer, and request no memory.
+/// Checks that a denied act, a refused act and views get the right answers, and request no memory. The visit
+/// `AfterFirst` asks for them, first in a house of a lab that allows one event, and then in one whose journal is halted
+/// at the second event.
 #[test]
 fn refusals_that_take_no_memory(rt: HostRuntime) -> Result<(), Fail> {
     let is_there = is_there(rt.alloc());

@@ -15,8 +15,8 @@ use mml_stable::{Report, report};
 use std::alloc::Global;
 use std::test::Fail;
 
-/// Returns the line that `write_reply` writes for a reply, into a buffer that had other text before. The lab must have
-/// the reply's nodes and participants.
+/// Returns the line that `write_reply` writes for a reply. The buffer has another text before, which the line should
+/// replace. The lab must have the reply's nodes and participants.
 fn line_of(alloc: Global, lab: &Lab, reply: &Reply) -> Result<String, Fail>
     requires { IsAbout lab.now.ids lab.now.roster reply.now }
 {
