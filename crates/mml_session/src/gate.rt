@@ -1,6 +1,6 @@
 //! Gates: points at which tests can stop a session.
 //!
-//! A seat serves one connection after another, each through the seat's window.
+//! The number of a connection is the one with which `serve_one` serves it.
 /// A point at which a gate may pause a session.
 #[derive(Clone, Copy, Debug, PartialEq, Eq)]
 pub enum Point {
@@ -13,7 +13,7 @@ pub enum Point {
 /// An object that can pause a session at each `Point`, for any length of time. The session holds no lock there. Tests
 /// pause sessions to choose the order of their steps.
 pub trait Gate {
-    /// Returns when the session of this connection may go on from `point`. Until then it blocks.
+    /// Blocks until the session may go on from `point`. `connection` is the number of the session's connection.
     fn pass(&self, connection: u8, point: Point);
 }
 

@@ -1,7 +1,8 @@
 //! A session: the lines of one connection are answered in order, to its end.
 //!
 //! A window is one session's view of the published events and board. An account is known on a connection from its
-//! granted hello to its bye.
+//! granted hello to its bye. `connection` is the number with which the caller serves the session: that of the
+//! connection, or that of its seat.
 ghost use Rattle.std.specs.Prelude.{◌≡◌, ◌<◌, ◌≤◌, [], None, IfOk, IfSome, IsTrue, length, vec_capacity};
 ghost use Rattle.std.specs.Io.KnownBytes.{prepend_known};
 ghost use Rattle.mml_lines.specs.LinesOf.{IsWithinLimit};
@@ -229,9 +230,9 @@ fn serve_next<Y: SessionTypes, H: House, O: Observer>(
     }
 }
 
-// Returns whether the session goes on after a line whose reply was handled as `said` says, or how it ended. If the
-// reply is written or buffered, counts it as `count_told` does. If a write failed, sets the count to 0, and doesn't
-// call the observer.
+// Returns whether the session goes on after a line, or how it ended. `said` is what happened to the line's reply, or
+// `Closed` if the line has none. If the reply was written or buffered, counts it in `held.replies` as `count_told`
+// does. If a write failed, sets this count to 0, so that the observer counts none of these replies as written.
 fn go_on<O: Observer>(
     said: Result<Sent, Closed>,
     held: &mut Held,
@@ -270,7 +271,7 @@ fn count_told<O: Observer>(held: &mut Held, observer: &mut O, connection: u8)
 }
 
 // If the buffer is empty, so that all counted replies are written, calls the observer's `wrote` with their number, and
-// starts the count again. Otherwise does nothing.
+// sets the count to 0. Otherwise does nothing.
 fn pass_told<O: Observer>(held: &mut Held, observer: &mut O, connection: u8)
     ensures held { held.new.bytes.items ≡ held.old.bytes.items }
     ensures kept { O.kept observer.new ≡ O.kept observer.old }
@@ -376,7 +377,7 @@ fn serve_line<Y: SessionTypes, H: House, O: Observer>(
 // A line that was answered, and what is needed to record and send its reply.
 #[derive(Clone, Copy)]
 struct Judged<'a> {
-    // The number of the seat in which the line came.
+    // The number of the session's connection, or of its seat.
     number: u8,
     // How many events the window had seen when the line was answered.
     seen: u64,

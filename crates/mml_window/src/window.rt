@@ -247,8 +247,9 @@ impl<H: House> Window<H> {
         report
     }
 
-    /// Reads the published data until its board is the one that `press`, the writer, has published last. The window has
-    /// then seen events that lead to this board.
+    /// Reads the published data until the window has seen the board that `press`, the writer, has published last, and
+    /// events that lead to this board. Waits for a reader's slot if the window has none and none is free. With a slot,
+    /// one reading is enough, since nothing is published while `press` is borrowed.
     #[tactic(auto, using(crate::proofs::ClimbingLemmas::climbs_on))]
     pub(crate) fn read_until_board<R: Wait>(&mut self, rt: &R, press: &Press<H>)
         ensures on { SeesOn H.lab self.old self.new }
@@ -260,7 +261,8 @@ impl<H: House> Window<H> {
         });
     }
 
-    /// Reads the published data until the window has seen all events that `press`, the writer, has published.
+    /// Reads the published data until the window has seen all events that `press`, the writer, has published. Waits for
+    /// a slot as `read_until_board` does.
     #[tactic(auto, using(crate::proofs::ClimbingLemmas::climbs_on))]
     pub(crate) fn read_until_all<R: Wait>(&mut self, rt: &R, press: &Press<H>)
         ensures window { self.new ≡ window_with press.now.desk.shown.value.events.items
