@@ -3,6 +3,7 @@
 //! The fields of a reply are in byte order of their keys. A `Row` has a key, its value and the fields after it, and
 //! `End` is the end of the object. The place of an event is its number in the list of events, from 1. A clause is a
 //! condition under which a request is granted. `ids` must have an identifier for each node that a reply names.
+//! `numbers` has the place of the event that a reply grants, and the number of the configuration after it.
 ghost use Rattle.std.specs.Prelude.{◌≡◌, ◌≤◌, ◌<◌, ◌^◌, ◌∷◌, length};
 ghost use Rattle.mml_ids.specs.Pieces.{Puts};
 ghost use Rattle.mml_lab.specs.Rosters.{name_of, IsPrincipal};
@@ -110,8 +111,8 @@ pub(crate) fn put_see(ids: &IdTable, see: &See, out: &mut Vec<u8>) -> Result<(),
     put_object(ids, &fields, out)
 }
 
-/// Appends the text of the reply to a granted move to `out`. `numbers` are those of the event, `node` is the node, and
-/// `kind` is the kind of the rule that was chosen for it. Returns `Memory` if memory runs out.
+/// Appends the text of the reply to a granted move to `out`. `node` is the node, and `kind` is the kind of the rule
+/// that was chosen for it. Returns `Memory` if memory runs out.
 #[tactic(auto, unfolding(crate::specs::Facts::object_text))]
 pub(crate) fn put_move(
     ids: &IdTable,
@@ -148,8 +149,8 @@ pub(crate) fn put_move(
     put_object(ids, &fields, out)
 }
 
-/// Appends the text of the reply to a granted close to `out`. `numbers` are those of the event, and `moved` has the
-/// nodes whose moves were applied. Returns `Memory` if memory runs out.
+/// Appends the text of the reply to a granted close to `out`. `moved` has the nodes whose moves were applied. Returns
+/// `Memory` if memory runs out.
 #[tactic(auto, unfolding(crate::specs::Facts::object_text))]
 pub(crate) fn put_close(
     ids: &IdTable,
@@ -181,7 +182,7 @@ pub(crate) fn put_close(
     put_object(ids, &fields, out)
 }
 
-/// Appends the text of the reply to a granted fault to `out`. `numbers` are those of the event, `node` is the node, and
+/// Appends the text of the reply to a granted fault to `out`. `node` is the node whose registers were set, and
 /// `dropped` is how many chosen moves were dropped. Returns `Memory` if memory runs out.
 #[tactic(auto, unfolding(crate::specs::Facts::object_text))]
 pub(crate) fn put_fault(
@@ -219,9 +220,8 @@ pub(crate) fn put_fault(
     put_object(ids, &fields, out)
 }
 
-/// Appends the text of the reply to a granted link or cut to `out`. `word` is `link` or `cut`, `numbers` are those of
-/// the event, `ends` are the two nodes, and `dropped` is how many chosen moves were dropped. Returns `Memory` if memory
-/// runs out.
+/// Appends the text of the reply to a granted link or cut to `out`. `word` is `link` or `cut`, `ends` are the two
+/// nodes, and `dropped` is how many chosen moves were dropped. Returns `Memory` if memory runs out.
 #[tactic(auto, unfolding(crate::specs::Facts::object_text))]
 pub(crate) fn put_ends(
     ids: &IdTable,
@@ -265,8 +265,8 @@ pub(crate) fn put_ends(
     put_object(ids, &fields, out)
 }
 
-/// Appends the text of the reply to a granted release to `out`. `numbers` are those of the event, and `node` is the
-/// node. Returns `Memory` if memory runs out.
+/// Appends the text of the reply to a granted release to `out`. `node` is the node whose chosen move was dropped.
+/// Returns `Memory` if memory runs out.
 #[tactic(auto, unfolding(crate::specs::Facts::object_text))]
 pub(crate) fn put_release(
     ids: &IdTable,

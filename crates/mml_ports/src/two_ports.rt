@@ -144,8 +144,8 @@ pub struct TwoPorts<A: Drop> {
     pub elsewhere: A,
 }
 
-/// Returns the two ports, the desk's and the students', which accept connections at the listeners in `ports`. `state`
-/// is the host's state.
+/// Returns the two ports, the desk's and the students', which accept connections at the listeners in `ports`. The first
+/// connection of the desk is `ports.first`, if there is one. `state` is the host's state.
 pub fn open_ports<'a, R: Clock + Wait + Eprint>(
     rt: &'a R,
     alloc: Global,

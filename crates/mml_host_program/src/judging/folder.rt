@@ -1,7 +1,7 @@
 //! The folder of a record, from which the check of a class reads.
 //!
 //! The folder has a file for each seat, and the file `begun` with the number of events before the record. A plain file
-//! is a regular one, not a folder, a pipe or a device.
+//! is one that isn't a folder, a pipe or a device.
 ghost use Rattle.std.specs.Prelude.{◌≡◌, ◌≢◌, ◌++◌, codes, decimal, string_bytes, IfOk};
 ghost use Rattle.std.specs.IoError.{error_kind};
 
@@ -27,15 +27,15 @@ impl<'a, R: Files<File = File> + AllocGlobal> Seats<File> for Folder<'a, R> {
 
     ghost text = { λ _ _. None };
 
-    // Opens the file `begun`, which has the number of events before the record. Returns an error if the file can't be
-    // opened or isn't plain, or memory runs out.
+    // Opens the file `begun`, which has the number of events before the record. Returns `Read` if the file can't be
+    // opened or isn't a plain file, and `Memory` if memory runs out.
     fn open_begun(&self) -> Result<File, SeatFault> {
         let path = begun_path(self.rt.alloc(), self.path)?;
         open_part(self.rt, path.as_str())
     }
 
-    // Opens the file of the seat with this number. Returns an error if the file can't be opened or isn't plain, or
-    // memory runs out.
+    // Opens the file of the seat with this number. Returns `Read` if the file can't be opened or isn't a plain file,
+    // and `Memory` if memory runs out.
     fn open_seat(&self, number: u8) -> Result<File, SeatFault> {
         let path = record_path(self.rt.alloc(), self.path, number)?;
         open_part(self.rt, path.as_str())
@@ -63,8 +63,8 @@ fn record_path(alloc: Global, folder: &str, seat: u8) -> Result<String, Memory>
     }
 }
 
-// Opens the file of the record at `path`. Returns `Memory` if memory runs out. Returns `Read` if the file can't be
-// opened or isn't plain.
+// Opens the plain file of the record at `path`. Returns `Memory` if memory runs out. Returns `Read` if the file can't
+// be opened or isn't a plain file.
 fn open_part<R: Files<File = File> + AllocGlobal>(rt: &R, path: &str) -> Result<File, SeatFault> {
     match open_plain(rt, path) {
         Ok(Some(file)) => Ok(file),
