@@ -1,7 +1,7 @@
-"""Many short runs without a server: `mml answer` answers each line of a script as it comes.
+"""Runs without a server: the command `mml answer` of the program reads requests from its input, and prints the replies.
 
-A *lab* is a network with its students. A *script* is a list of request lines, each after the number of its connection,
-and replies have the same numbers. The command `answer` of the program replies to a script over a lab.
+A *lab* is a network with its students, and `mml answer` gets one lab when it starts. A *script* is a list of request
+lines, each after the number of its connection, and replies have the same numbers.
 """
 from __future__ import annotations
 
@@ -23,8 +23,8 @@ SOME = 24  # the most lines that are sent before their replies are read
 
 
 def started(lab: labs.Lab) -> subprocess.Popen[bytes]:
-    """Starts the program over a lab, and returns its process. The lab's file has no name, so that a student's program
-    can't find it. Raises `Fault` if the program isn't built."""
+    """Starts `mml answer` for a lab, and returns its process, whose input, output and errors are pipes. The lab's file
+    has no name, so that a student's program can't find it. Raises `Fault` if the program isn't built."""
     program = host()
     file = os.memfd_create("lab")
     try:
@@ -39,8 +39,8 @@ def started(lab: labs.Lab) -> subprocess.Popen[bytes]:
 
 
 def all_of(lab: labs.Lab, script: list[str]) -> str:
-    """Runs a whole script over a lab. Returns the replies, one per line, each after its connection number. Raises
-    `Fault` if the program isn't built, fails, or doesn't reply to each line."""
+    """Runs `mml answer` for a lab with a whole script as its input. Returns the replies, one per line, each after the
+    number of its connection. Raises `Fault` if the program isn't built, fails, or doesn't reply to each line."""
     with started(lab) as process:
         out, error = process.communicate("\n".join([*script, ""]).encode("ascii"))
     replies, said = out.decode("ascii"), error.decode(errors="replace").strip()
@@ -52,15 +52,15 @@ def all_of(lab: labs.Lab, script: list[str]) -> str:
 
 
 class Answering:
-    """A process of the program over a lab, which answers lines one after another."""
+    """A process of `mml answer` for one lab, which replies to one request line after another."""
 
     def __init__(self, lab: labs.Lab) -> None:
-        """Starts the program over a lab. Raises `Fault` if the program isn't built."""
+        """Starts `mml answer` for a lab. Raises `Fault` if the program isn't built."""
         self.lab = lab
         self.process = started(lab)
-        self.size = self.place = 0  # the last event's place
+        self.size = self.place = 0  # the number of bytes in `granted`, and the place (the number) of the last event
         self.granted: list[bytes] = []  # the lines of the script that repeats what was granted
-        self.names: dict[int, str] = {}
+        self.names: dict[int, str] = {}  # the name that has greeted on each connection
 
     def answers(self, lines: list[tuple[int, bytes]]) -> list[bytes]:
         """Sends lines, each with the number of its connection. Returns the replies in the same order, without
@@ -88,13 +88,13 @@ class Answering:
         return replies
 
     def ended(self) -> Fault:
-        """Kills the program, which has ended or doesn't answer. Returns the fault for the caller to raise, whose text
-        has the program's exit status and error output."""
+        """Kills the program, which has ended or doesn't answer. Returns the fault for the caller to raise. Its text has
+        the program's exit status and error output."""
         assert self.process.stderr is not None
         self.process.kill()
         said = self.process.stderr.read().decode(errors="replace").strip()
         status = self.process.wait()
-        return Fault(f"`mml answer` has ended unexpectedly, {how_ended(status)}. It printed: {said or 'nothing'}", 4)
+        return Fault(f"`mml answer` has ended unexpectedly, {how_ended(status)}. It printed: {said or 'nothing'}. Try again, and report the error to the developers if it comes again", 4)
 
     def answer(self, connection: int, line: bytes) -> dict[str, Any]:
         """Sends a line on a connection, and returns the values of the JSON reply. Adds the line to the script of
@@ -104,8 +104,9 @@ class Answering:
         return reply
 
     def keep(self, connection: int, line: bytes, reply: dict[str, Any]) -> None:
-        """Adds a line to `script`, which repeats the run, if its `reply` shows a granted hello, a bye or an event. Does
-        nothing if the script would become larger than MOST_SCRIPT. Also notes the place of the last event."""
+        """Adds a line to `script`, which repeats the run, if `reply` grants a hello or a bye, or has the place of a new
+        event. Leaves the line out if the script would become larger than MOST_SCRIPT. Also notes in `place` the place
+        of the last event."""
         self.place = reply.get("place", self.place)
         if (reply.get("ok") in ("hello", "bye") or "place" in reply) and self.size + len(line) < MOST_SCRIPT:
             self.granted.append(b"%d %s\n" % (connection, line))
@@ -123,7 +124,8 @@ class Answering:
 
     def greet(self, connection: int, name: str) -> None:
         """Sends a hello with the key of the student or teacher `name`, and a bye before it if another name has greeted
-        on that connection. Does nothing if `name` has greeted there already. Raises like `ask`."""
+        on that connection. Does nothing if `name` has greeted there already. Raises `Denied`, `Refused` or `Fault` as
+        `ask` does."""
         if self.names.get(connection) == name:
             return
         if connection in self.names:
@@ -133,11 +135,11 @@ class Answering:
         self.names[connection] = name
 
     def script(self) -> bytes:
-        """Returns the script, a list of request lines, with all lines that `keep` has added."""
+        """Returns the script that repeats the run: a list of request lines, with all lines that `keep` has added."""
         return b"".join(self.granted)
 
     def close(self) -> None:
-        """Ends the process of the program."""
+        """Kills the process of the program, and waits for its end."""
         for pipe in (self.process.stdin, self.process.stdout, self.process.stderr):
             assert pipe is not None
             try:

@@ -1,5 +1,5 @@
-"""The program over one network, which serves several runs one after another. Each run begins by setting all
-registers.
+"""One process of `mml answer` that serves several runs over the same network, one after another. Each run begins by
+setting all registers.
 
 A *lab* is a network with its students. A node's enabled *rule* is the move that it can make, and the *report* is the
 reply that lists the nodes with such a rule. One program serves many short runs, because starting one takes much longer
@@ -17,7 +17,7 @@ from classroom.core.answering import Answering
 from classroom.core.program import Fault
 
 TEACHER, STUDENT = 1, 2
-ROOM = 4  # how many events a run can need for each move of its bound: moves and closes, and some to spare
+ROOM = 4  # the most events of a run for each move that its bound allows: the move and its close, and some to spare
 
 
 def network(nodes: list[labs.Node], links: list[tuple[int, int]]) -> labs.Lab:
@@ -28,10 +28,11 @@ def network(nodes: list[labs.Node], links: list[tuple[int, int]]) -> labs.Lab:
 
 
 class Bench:
-    """A program over a network. New runs begin on it until its events are used up."""
+    """A process of `mml answer` for one network. New runs begin on it until its events are used up."""
 
     def __init__(self, made: labs.Lab) -> None:
-        """Starts a program over a lab that `network` has made."""
+        """Starts `mml answer` for a lab that `network` has made, and greets as its teacher and as its student. Raises
+        `Fault` if the program isn't built."""
         self.made, self.events = made, 0
         self.program = Answering(made)
         self.program.greet(TEACHER, made.teacher[0])
@@ -40,8 +41,8 @@ class Bench:
         self.before = 0  # the number of the configuration at which the current run begins
 
     def has_room(self, made: labs.Lab) -> bool:
-        """Returns whether a run over the network of `made` can follow on this program: the links are the same, and
-        enough events are left."""
+        """Returns whether this process can also serve a run of the lab `made`: the lab has the same links, and enough
+        events are left."""
         most = ROOM * bounds.of_lab(made).moves + 2 * len(made.nodes)
         return made.links == self.made.links and self.events + most < self.made.events
 
@@ -56,14 +57,14 @@ class Bench:
         replies: list[dict[str, Any]] = [json.loads(reply) for reply in self.program.answers(lines)]
         for (_, request), reply in zip(requests, replies):
             if "ok" not in reply:
-                raise Fault(f"`mml answer` didn't grant the request {json.dumps(request)}. Its reply is {json.dumps(reply)}", 4)
+                raise Fault(f"`mml answer` didn't grant the request {json.dumps(request)}. Its reply is {json.dumps(reply)}. This is an error of the program: report it to its developers", 4)
             self.events += "place" in reply
         self.requests += requests
         return replies
 
     def begin(self, made: labs.Lab) -> dict[str, Any]:
-        """Begins a run: sets the registers to those of the lab `made`, which has the same network. Returns the report
-        on the configuration at which the run begins. Raises `Fault` like `asked`."""
+        """Begins a run: sets the registers to those of the lab `made`, which has the same network as this process.
+        Returns the report on the configuration at which the run begins. Raises `Fault` like `asked`."""
         self.requests = []
         faults = [{"do": "fault", "node": node.id, "p": node.p, "m": node.m} for node in made.nodes]
         report = self.asked(TEACHER, [*faults, {"do": "report"}])[-1]
@@ -84,9 +85,9 @@ class Bench:
         return "".join(f"{who} {json.dumps(request)}\n" for who, request in [*hello, *own]).encode()
 
     def step(self, report: dict[str, Any], nodes: list[int], partner_of: Callable[[Sequence[int]], int]) -> dict[str, Any]:
-        """Moves these nodes in one step, each by its enabled rule in `report`, the latest report. A node that marries
-        takes the partner that `partner_of` chooses among the nodes that point at it. Returns the report after the step.
-        Raises `Fault` like `asked`."""
+        """Moves these nodes in one step, each by its enabled rule in `report`, the latest report. A node whose rule is
+        `marriage` takes the partner that `partner_of` chooses among the nodes that point at it. Returns the report
+        after the step. Raises `Fault` like `asked`."""
         rules = dict(report["privileged"])
         suited = [node for node in nodes if rules[node] == "marriage"]
         looks = self.asked(STUDENT, [{"do": "look", "node": node} for node in suited])

@@ -18,14 +18,14 @@ STDERR = 2  # the build's output goes to standard error, since standard output h
 
 
 def lacks_program() -> bool:
-    """Returns whether this is a clone in which the program hasn't been built yet, and the environment doesn't name
-    other programs for all commands."""
+    """Returns whether this is a clone in which the program hasn't been built yet, and the environment variables in
+    NAMING don't both name another program."""
     return is_clone() and not all(map(os.environ.get, NAMING)) and not os.access(built(), os.X_OK)
 
 
 class Signals:
-    """Handlers of the signals that would end this process, until `close` is called. The last such signal is noted in
-    `came`, with its time."""
+    """Handlers of the signals that would end this process, until `close` is called. The number of the last such signal
+    is noted in `came`, which is 0 before, and its time in `at`."""
 
     def __init__(self) -> None:
         """Replaces the handlers, except those of ignored signals."""

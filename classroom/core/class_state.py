@@ -7,10 +7,10 @@ a second and only if something has changed:
 - `stable`: whether it is stable
 - `privileged`: a list of [node, rule]
 - `pairs`: a list of [node, node], the married pairs
-- `open`: how many links are open
+- `open`: how many open links the report has
 - `moves`, `most`: the moves since the last fault, link or cut, and how many there can be at most (null if that isn't known)
 - `events`, `limit`: how many events the journal has, and how many it may have
-- `closing`: how steps are closed, as the word `daemon` takes it
+- `closing`: how steps are closed, as an argument of the command `daemon`
 - `waiting`: a list of {`node`, `owners`, `rule`}: the privileged nodes that have no chosen move
 - `missing`: the students with a node who have no connection, as a list of names
 - `idle`: the students whom no move was granted yet, as a list of names

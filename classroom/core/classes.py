@@ -65,9 +65,9 @@ class Class:
         return made
 
     def is_valid(self) -> bool:
-        """Returns whether a class may have these values, since another user may have written the file. The types have
-        to be right. There has to be a network, and all networks have to be valid and have different names. `page` has
-        to be a possible port, `looks` and `ends` have to be ASCII, and `door` has no NUL."""
+        """Returns whether all values are valid. They are checked because another user may have written the file. The
+        types have to be right. There has to be a network, and all networks have to be valid and have different names.
+        `page` has to be a possible port, `looks` and `ends` have to be ASCII, and `door` has no NUL."""
         names = [network.name for network in self.networks]
         return (
             bool(names) and len(set(names)) == len(names) and all(network.is_valid() for network in self.networks)

@@ -123,10 +123,10 @@ class Record:
             return None
 
     def is_valid(self) -> bool:
-        """Returns whether a run may have these values, since another user may have written the file. Texts have to be
-        strings without NUL, and `looks` has to be ASCII. `until` has to be `stable` or None, `anonymous` a bool, and
-        `stand_in` above 0 and below MOST_SECONDS. Ports are at most LAST_PORT, and the numbers of processes are
-        integers."""
+        """Returns whether all values are valid. They are checked because another user may have written the file. Texts
+        have to be strings without NUL, and `looks` has to be ASCII. `until` has to be `stable` or None, `anonymous` a
+        bool, and `stand_in` above 0 and below MOST_SECONDS. Ports are at most LAST_PORT, and the numbers of processes
+        are integers."""
         texts = [self.lab, self.close, self.run.start, self.server.start, *self.played, *filter(None, (self.until, self.looks, self.ends, self.door))]
         numbers = [self.port, self.desk, *(each for each in (self.page, self.play) if each is not None)]
         seconds = 1.0 if self.stand_in is None else self.stand_in

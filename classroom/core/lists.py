@@ -20,7 +20,7 @@ IDS = ("sis user id", "id number", "student id", "student number", "matriculatio
 EMAILS = ("email address", "e-mail address", "email", "e-mail", "mail")
 SHEETS = (".xlsx", ".xlsm", ".xls", ".ods", ".numbers")  # a spreadsheet's own files
 MARKS = ((codecs.BOM_UTF8, "utf-8-sig"), (codecs.BOM_UTF16_LE, "utf-16"), (codecs.BOM_UTF16_BE, "utf-16"))
-NOBODY = ("points possible", "student, test")
+NOBODY = ("points possible", "student, test")  # the names in rows that learning platforms add, and that are no student's
 
 
 @dataclass(frozen=True)
@@ -84,7 +84,7 @@ def read(path: Path, words: argparse.Namespace) -> People:
     except OSError as error:
         raise Fault(f"{path}: {error.strerror}", 4) from None
     except UnicodeDecodeError as error:
-        raise Fault(f"{path}: {error.reason}") from None
+        raise Fault(f"{path}: this file isn't a text in UTF-8 or UTF-16 ({error.reason}). Save it as UTF-8") from None
     first = text.partition("\n")[0]
     email, group = getattr(words, "email", None), getattr(words, "groups_by", None)
     named = any((words.column, words.first_name, words.last_name, words.id, email, group))
@@ -121,8 +121,8 @@ def table(path: Path, text: str, words: argparse.Namespace) -> People:
 
     parts = [whole] if whole is not None else [index for index in (first, last) if index is not None]
     if not parts:
-        raise Fault(f"{path}: {columns_told(heads)}, and none of them is called name. Name the column with the names by --column COL, "
-                    "or two columns by --first-name COL and --last-name COL")
+        raise Fault(f"{path}: {columns_told(heads)}, and none of them is called name. Say which column has the names, by --column COL, "
+                    "or which two have them, by --first-name COL and --last-name COL")
     rows: list[tuple[list[str], Person | None]] = []
     for row in lines[1:]:
         row += [""] * (len(heads) - len(row))

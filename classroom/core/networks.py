@@ -85,7 +85,7 @@ def within(nodes: int) -> int:
     """Returns the same number of nodes. Raises `Fault` if a lab can't have this number of nodes."""
     most = limits.allowed().nodes
     if not 1 <= nodes <= most:
-        raise Fault(f"this network would have {nodes} nodes, but a lab has 1 to {most}")
+        raise Fault(f"this network would have {nodes} nodes, but a lab can have 1 to {most}. Choose a network of another size")
     return nodes
 
 

@@ -14,7 +14,7 @@ class Book:
         """Begins at the first configuration, in which no node has a chosen move. `students` are the names of all
         students."""
         self.idle = dict.fromkeys(students)  # The names of the students who had no move granted.
-        self.chosen: dict[int, tuple[str, str]] = {}
+        self.chosen: dict[int, tuple[str, str]] = {}  # The student and the rule of each node's chosen move.
         self.links = 0  # How many more links there are than at the beginning.
         self.moves = 0
         self.since = 0  # Moves since the last fault, link or cut.

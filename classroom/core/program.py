@@ -29,7 +29,7 @@ class Fault(Exception):
     """An error that ends a subcommand: a line for people, and the exit status."""
 
     def __init__(self, text: str, status: int = 1) -> None:
-        """`text` is the line that the subcommand prints, and `status` the one with which it exits."""
+        """`text` is the line that the subcommand prints, and `status` its exit status."""
         super().__init__(text)
         self.status = status
 

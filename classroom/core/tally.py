@@ -73,7 +73,7 @@ class Tally:
     links: int = 0
     cuts: int = 0
     moves: int = 0
-    since: tuple[int, int] = (0, 0)
+    since: tuple[int, int] = (0, 0)  # the moves and the closes since the last fault, link or cut
     # The rounds since the last fault, link or cut; None if the program is of an older version, which prints none.
     rounds: int | None = None
     bounds: Bounds = Bounds(0, 0, 0)
@@ -83,7 +83,7 @@ class Tally:
 
 
 def of(lab: Path, journal: Path, files: tuple[int, ...] = (), record: Path | None = None) -> Tally:
-    """Returns the tally of a journal over a lab, and of its record if one is given. The program inherits the open files
+    """Returns the tally of the journal of a lab, and of its record if one is given. The program inherits the open files
     with the descriptors `files`. Raises `Fault` if the journal doesn't pass the audit."""
     answer = host_call("tally", lab, journal, *([] if record is None else [record]), files=files)
     if answer.status != 0:
@@ -105,8 +105,8 @@ def in_memory(text: str) -> Iterator[int]:
 
 
 def of_texts(lab: str, journal: str) -> Tally:
-    """Returns the tally of the journal with this text over the lab with that text. Raises `Fault` if the journal
-    doesn't pass the audit."""
+    """Returns the tally of a journal of a lab, both given as texts. Raises `Fault` if the journal doesn't pass the
+    audit."""
     with in_memory(lab) as first, in_memory(journal) as second:
         return of(Path(f"/dev/fd/{first}"), Path(f"/dev/fd/{second}"), (first, second))
 

@@ -14,7 +14,7 @@ TEXT = "text/plain; charset=utf-8"
 
 
 class BadRequest(Exception):
-    """A request that isn't passed to a page. The door answers it with a status and a line."""
+    """A request that the door doesn't pass on to a page. The door answers it with a status and a line of text."""
 
     def __init__(self, status: str, text: str) -> None:
         """`status` is the HTTP status with its name, and `text` the line that the other end is shown."""
@@ -91,7 +91,8 @@ class RequestHead:
         return found[1], found[2]
 
     def head_for_page(self, port: int, path: str) -> bytes:
-        """Returns the bytes of the head to send to the server of a page, which has this port and this path."""
+        """Returns the bytes of the head to send to the server of a page. `port` is that of the server, and `path` is
+        the page's path there. Raises `BadRequest` if the body would be too large."""
         own = [f"{self.method} {path} HTTP/1.0", f"Host: 127.0.0.1:{port}", "Connection: close"]
         kept = [f"{name}: {self.heads[name]}" for name in KEPT if name in self.heads]
         size = [f"Content-Length: {self.body_size()}"] if self.method == "POST" else []

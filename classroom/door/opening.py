@@ -108,8 +108,9 @@ class OpenDoor:
 
 
 def open_door(place: Place, into: Path, file: Path, tell: Callable[[str], None]) -> OpenDoor:
-    """Opens a door at `place` with the certificate in `file`. The door's folder is made in `into`, the folder of the
-    runs. The callback prints a line. Raises `Fault` if the certificate, the address or the folder can't be used."""
+    """Opens a door at `place` with the certificate in `file`, and returns it. The door's folder is made in `into`, the
+    folder of the runs. The callback prints a line. Raises `Fault` if the certificate, the address or the folder can't
+    be used."""
     certificate.context(file)
     listener = listen(place)
     folder = (into / FOLDER.format(listener.getsockname()[1])).resolve()
@@ -124,8 +125,9 @@ def open_door(place: Place, into: Path, file: Path, tell: Callable[[str], None])
 
 
 def reopen(folder: Path, tell: Callable[[str], None]) -> OpenDoor | None:
-    """Opens the door of a folder again, at its earlier address. The callback prints a line. Returns None if the door is
-    still open. Raises `Fault` if the folder has no door, or its certificate or address can't be used."""
+    """Opens the door of a folder again, at its earlier address, and returns it. The callback prints a line. Returns
+    None if the door is still open. Raises `Fault` if the folder has no door, or its certificate or address can't be
+    used."""
     kept = DoorData.read(folder)
     if kept is None:
         raise Fault(f"{folder}: the data of the door in this folder are missing or damaged. Open a door by --door [ADDRESS:]PORT", FAILED)
@@ -155,7 +157,8 @@ def route_to(folder: Path, lab: Path, run: Path) -> None:
 
 
 def misled_labs(labs: Iterable[Path], file: Path, port: int) -> list[str]:
-    """Returns the labs with a slip that doesn't lead to a door with the certificate in `file` and this port."""
+    """Returns the files of those labs that have a slip with another door than this one. This door has the certificate
+    in `file` and this port."""
     known = certificate.fingerprint(file)
 
     def leads(slip: Slip, lab: Path) -> bool:

@@ -69,7 +69,7 @@ async def secure_counted(sock: socket.socket, origin: str, door: Door) -> Secure
 
 @dataclass
 class Passing:
-    """A connection after its handshake, with its origin."""
+    """A TLS connection after its handshake, with the origin by which it is counted."""
 
     it: Secured
     origin: str

@@ -87,13 +87,13 @@ def announce(folder: Path, name: str, run: Path, hosts: list[str]) -> None:
 
 def announce_all(folder: Path, port: int, looks: str) -> None:
     """Makes the door in `folder` forward requests for the page for all networks, which this process serves at `port`.
-    `looks` is the token in its address to look at."""
+    `looks` is the token in the page's address."""
     write_json(folder / HALL, {"port": port, "looks": looks, "process": asdict(Process.of(os.getpid()))})
 
 
 def page_for_all(folder: Path) -> Record | None:
-    """Returns a record of a run that has only the page for all networks, from the door's folder. Returns None if no
-    process serves that page."""
+    """Returns a record with the port and the token of the page for all networks, and no other port, from the door's
+    folder. Returns None if no process serves that page."""
     try:
         it = json.loads(plain.read(folder / HALL, plain.MOST_KEPT))
         desk = Process(**it["process"])
@@ -150,7 +150,7 @@ class Routes:
     def named(self, name: str | None) -> str:
         """Returns the name of the network that a client asks for by `name`, the host name in its handshake. If `name`
         is None or the name of a host, returns the only network, if there is just one. Otherwise returns an empty text,
-        also for an unknown network, because it may be about to begin."""
+        also for the name of an unknown network, because its run may be about to begin."""
         if name not in self.networks:
             self.reload()
         if name in self.networks:

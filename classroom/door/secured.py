@@ -19,7 +19,8 @@ class Secured:
     """The server's side of a TLS connection."""
 
     def __init__(self, reader: asyncio.StreamReader, writer: asyncio.StreamWriter, context: ssl.SSLContext) -> None:
-        """Begins before the handshake. `reader` and `writer` are those of the encrypted bytes."""
+        """Begins a connection without its handshake. `reader` and `writer` carry the encrypted bytes, and `context` has
+        the TLS settings."""
         self.reader, self.writer = reader, writer
         self.incoming, self.outgoing = ssl.MemoryBIO(), ssl.MemoryBIO()
         self.tls = context.wrap_bio(self.incoming, self.outgoing, server_side=True)
@@ -88,8 +89,8 @@ class Secured:
             await self.writer.drain()
 
     async def end(self, passes: Callable[[int], Awaitable[None]]) -> None:
-        """Ends this direction, and closes the connection after the client has closed it or is late. Drops the bytes
-        that the client still sends, and awaits `passes` with their number."""
+        """Tells the client that nothing more is sent. Closes the connection when the client has closed it, or after
+        LEAVING seconds. Drops the bytes that the client still sends, and awaits `passes` with their number."""
         try:
             self.tls.unwrap()
         except ssl.SSLError:  # The other end hasn't closed its side yet.
@@ -105,6 +106,5 @@ class Secured:
         self.writer.transport.abort()
 
     def drop(self) -> None:
-        """Closes the connection at once, without the end of TLS. The function is for a connection whose handshake has
-        failed."""
+        """Closes a connection whose handshake has failed, without TLS's own message about the end."""
         self.writer.close()

@@ -58,10 +58,11 @@ class Comeback:
 
 
 class Recount(Replay):
-    """A search for the recoveries in a journal, which asks the program for the journal's events again."""
+    """A count of the recoveries in a journal. Sends the journal's events to the program again, as requests, to learn
+    the privileged nodes after each."""
 
     def __init__(self, lab: labs.Lab, events: list[Event], counted: Comeback) -> None:
-        """`counted` counts the recoveries as the events of the lab's journal come."""
+        """`lab` is that of the journal with these events, and `counted` counts its recoveries."""
         super().__init__(lab, events)
         self.counted = counted
         self.before: set[int] = set()
@@ -79,7 +80,8 @@ class Recount(Replay):
         self.moved = reply.get("moved", [])
 
     def report_taker(self, event: Event | None) -> Callable[[dict[str, Any]], None]:
-        """Returns the function that handles the report after an event, or at the beginning if it is None."""
+        """Returns a function to call with the report after `event`, or with that at the beginning of the run if `event`
+        is None."""
         def takes(report: dict[str, Any]) -> None:
             """Notes the privileged nodes in a report. Counts the edit or close before it, if there is one. If no node
             is privileged after a close, appends its place to `rests`."""
@@ -102,9 +104,8 @@ class Recount(Replay):
 
 
 def told(lab: labs.Lab, events: list[Event]) -> str:
-    """Returns the line with the counts of the recovery that ends with the last of these events, by the program's tally
-    of them. The events are the first ones of a run over the lab. Raises `Fault` if the program is too old to count
-    rounds."""
+    """Returns the line with the counts of the recovery that ends with the last of these events, the first ones of a run
+    of the lab. The counts are those of the proved program. Raises `Fault` if the program is too old to count rounds."""
     journal = "".join(f"{event.place} {event.at} {' '.join(event.words)}\n" for event in events)
     found = tallies.of_texts(labs.text(lab), journal)
     if found.rounds is None:
@@ -114,7 +115,7 @@ def told(lab: labs.Lab, events: list[Event]) -> str:
 
 
 def recoveries(lab: labs.Lab, events: list[Event]) -> list[str]:
-    """Returns a line for each recovery of a run over the lab, which has these events. The line begins with the place at
+    """Returns a line for each recovery in a run of the lab, whose events are these. The line begins with the place at
     which the recovery ended. If the run has more than MOST_COUNTED edits, returns a single line that says so."""
     edits = sum(event.is_edit for event in events)
     if edits > MOST_COUNTED:

@@ -134,7 +134,7 @@ def by_node(shared: dict[int, dict[str, Counter[str]]]) -> dict[str, dict[str, d
 
 
 def marked(lab_file: Path, journal: Path) -> Run:
-    """Returns the run of a journal over a lab, with its tally and the verdicts on its records. Raises `Fault` if the
+    """Returns the run of the journal of a lab, with its tally and the verdicts on its records. Raises `Fault` if the
     lab or the journal is refused, if the run is still going on, or if the program contradicts itself."""
     try:
         told = tally.of(lab_file, journal)
@@ -154,8 +154,8 @@ def marked(lab_file: Path, journal: Path) -> Run:
 
 
 def recorded(journal: Path) -> list[Recorded]:
-    """Returns the verdicts on the records beside a journal in the folder of a run. For a journal elsewhere, returns the
-    verdict that there is none."""
+    """Returns the verdicts on the records in the folder of a run, which has the journal. If the journal isn't in the
+    folder of a run with a record, returns only NONE, the verdict that there is no record."""
     if journal.name != "journal" or not record.kept(journal.parent):
         return [NONE]
     with vouched(journal.parent) as parts:

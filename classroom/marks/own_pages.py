@@ -31,9 +31,9 @@ def rows_by_student(folder: Path, lab: labs.Lab) -> tuple[list[str], dict[str, l
 
 
 def write_pages(folder: Path, tell: Callable[[str], None]) -> None:
-    """Writes a page for each student who sent something in the run in `folder`, with each denial at its moment. If the
-    pages would take too much room, writes none and calls the callback with a line about how to make one. Raises `Fault`
-    if the lab or the run can't be read."""
+    """Writes a page for each student who sent something in the run in `folder`. The page shows each denial at its
+    moment. If the pages would take too much room, writes none and calls `tell` with a line about how to make one.
+    Raises `Fault` if the lab or the run can't be read."""
     lab_file, journal = folder / "lab.toml", folder / "journal"
     lab = labs.read(lab_file)
     told, every = rows_by_student(folder, lab)

@@ -30,7 +30,7 @@ def difference(word: str, *files: Path) -> str:
     lines = zip_longest((proved.output + proved.error).splitlines(), (plain.output + plain.error).splitlines())
     first, second = next((pair for pair in lines if pair[0] != pair[1]), (f"status {proved.status}", f"status {plain.status}"))
     return (f"the two programs disagree about `{word}`: mml prints {'nothing' if first is None else repr(first)}, and the plain model prints "
-            f"{'nothing' if second is None else repr(second)}")
+            f"{'nothing' if second is None else repr(second)}. One of them has an error: report this to the developers")
 
 
 def differences(lab: Path, journal: Path) -> list[str]:

@@ -114,8 +114,8 @@ def by_labs(runs: Runs, rule: Rule | None = None) -> list[list[str]]:
 
 
 def by_roster(runs: Runs, roster: People, rule: Rule | None = None) -> tuple[list[list[str]], list[str]]:
-    """Returns the table of a class list with the totals after each of its rows, and the names of the persons in the
-    labs that the list lacks."""
+    """Returns the table of a class list with the totals after each of its rows. Also returns the names, as in the class
+    list of the labs, of the persons in the labs whom the list `roster` lacks."""
     left = summed(runs)
     heads, names = roster.heads or ["name"], rule.names if rule else []
     rows = [[*heads, *HEADS, *names]]

@@ -70,9 +70,8 @@ def has_ended(run: Path) -> bool:
 
 def entries_up_to(text: bytes, events: int) -> bytes:
     """Returns the complete entries at the beginning of a seat's text that belong to the first `events` events of the
-    journal. Which entries belong to them is seen from the numbers of events before the entries, and by the events that
-    they granted. Later entries belong to a run that is still going on. Searches from the end, because the numbers of
-    events never fall."""
+    journal. Entries show that by the number of events before them, and by the event that they granted. Later entries
+    belong to a run that is still going on. Searches from the end, because the numbers of events never fall."""
     end = text.rfind(b"\n") + 1
     while end:
         start = text.rfind(b"\n", 0, end - 1) + 1

@@ -34,16 +34,16 @@ class Adversary:
     program of the bench can't be started or asked."""
 
     def __init__(self, seed: str, partner_of: Partner = min) -> None:
-        """`seed` determines the random choices. `partner_of` chooses the node to marry among those that point at a
-        node. The lowest makes runs longest, and a student's client takes the highest."""
+        """`seed` determines the random choices. `partner_of` chooses a node's partner among the nodes that point at it.
+        Runs are longest with the lowest one. A student's client takes the highest."""
         self.chance, self.partner_of = random.Random(f"{seed} adversary"), partner_of
         self.bench: Bench | None = None
         self.registers: dict[int, tuple[int | None, bool]] = {}
 
     def search_of(self, how: Daemon, rules: Mapping[int, str], seen: Callable[[], labs.Lab]) -> Search:
-        """Returns the function by which `how`, the schedule or the adversary, chooses among nodes that may move.
-        `rules` has the rule of each node's move, and `seen` returns the network with its present registers. The
-        function may raise `Fault`."""
+        """Returns a function that chooses among nodes that may move, as the daemon `how` does, which is the schedule or
+        the adversary. `rules` has the rule of each node's move, and `seen` returns the network with its present
+        registers. The function raises `Fault` if the program of the bench can't be asked."""
         return lambda nodes: [scheduled(rules, nodes)] if how.kind == "schedule" else self.choose(seen(), nodes)
 
     def choose(self, made: labs.Lab, chosen: Sequence[int]) -> list[int]:
@@ -65,8 +65,8 @@ class Adversary:
         return ways[worth.index(max(worth))]
 
     def bench_over(self, made: labs.Lab) -> Bench:
-        """Returns a bench over the network with enough events for a search. Starts a new one if the present one has
-        other links or too few events left."""
+        """Returns a bench for the network of the lab `made`, with enough events for a search. Starts a new one if the
+        present one has other links or too few events left."""
         if self.bench is None or self.bench.made.links != made.links or self.bench.events > USED * self.bench.made.events:
             self.close()
             self.bench = Bench(made)
@@ -80,10 +80,10 @@ class Adversary:
         return [first, *(others if len(others) < FIRST else self.chance.sample(others, FIRST - 1))]
 
     def value_of(self, bench: Bench, report: dict[str, Any], nodes: list[int], steps: int) -> int:
-        """Moves these nodes now, and then one node in each step by the schedule, until no node is privileged or `steps`
-        steps are done. Returns the value of that. The value is the sum of the number of moves and the number of
-        privileged nodes after them. `report` is the bench's report of the configuration before the moves. Undoes all
-        moves afterwards, and sets the number of the configuration in `report` to the present one."""
+        """Returns the value of moving these nodes now, and then one node in each step by the schedule, until no node is
+        privileged or `steps` steps are done. The value is the number of these moves, and of the nodes that are still
+        privileged after them. `report` is the bench's report of the configuration before the moves. Undoes all moves
+        afterwards, and sets the number of the configuration in `report` to the present one."""
         after, moves, moved = bench.step(report, nodes, self.partner_of), len(nodes), {*nodes}
         for _ in range(steps - 1):
             rules = {node: rule for node, rule in after["privileged"]}

@@ -27,7 +27,7 @@ LOOKS, PAUSE = 30, 0.1  # how often the server's output is read for the reason o
 
 
 def report_line(report: Report) -> str:
-    """Returns a report as a line for people."""
+    """Returns the text of a report for people, in one line."""
     lists = {
         "pairs": [f"{a}-{b}" for a, b in report.pairs],
         "free nodes": [str(node) for node in report.free],
@@ -42,20 +42,21 @@ class Announcer:
     """A printer of a run's events and state, as lines."""
 
     def __init__(self, lab: labs.Lab, folder: Path, known: Follower, tell: Callable[[str], None]) -> None:
-        """`folder` is that of the run, `known` has its journal and its report, and the callback prints a line."""
+        """`folder` is that of the run, and `known` follows its journal and has its report. The callback prints a
+        line."""
         self.lab, self.known, self.tell = lab, known, tell
         self.shown = lab.without_house()
         self.folder = folder
         self.go_on = f"{CLASS} run --resume {folder}"
-        self.told_waiting: list[str] = []
-        self.over = ""
+        self.told_waiting: list[str] = []  # the texts of the nodes that were last printed as waited for
+        self.over = ""  # `full` or `journal` once nothing more is granted for this reason
         self.lost_journal: Callable[[], str] = str  # Returns the server's text about a journal that can't be written.
         self.comeback = Comeback(lab)
         self.edits: list[Event] = []  # the faults, links and cuts that weren't printed yet
 
     def announce_resumed(self) -> None:
-        """Counts the present recovery along the past events, and prints the configuration from which the class
-        continues. Ends the run if all events of the lab are used."""
+        """Counts the moves and rounds of the present recovery in the past events, and prints the configuration from
+        which the class continues. Ends the run if all events of the lab are used."""
         self.recount()
         self.known.ask_report()
         self.tell(f"the class continues at configuration {self.known.report.at}; {self.events_used()}")
@@ -63,8 +64,8 @@ class Announcer:
             self.end_by("full")
 
     def recount(self) -> None:
-        """Counts the present recovery along the past events. If the program can't be asked, prints that, and the next
-        line about a stable class has no counts."""
+        """Counts the moves and rounds of the present recovery in the past events. If the program can't be asked, prints
+        that. The next line about a stable class then has no counts."""
         past = self.known.past
         try:
             Recount(self.lab, past, self.comeback).counts()
@@ -76,8 +77,8 @@ class Announcer:
             self.comeback.miss()
 
     def event(self, news: News) -> None:
-        """Prints the line of an event. Grants have no line. Faults, links and cuts are kept for `tell_edits`. If a
-        close ends the recovery, prints its counts too."""
+        """Prints the line of a new event, and the counts of the recovery if a close ends it. A grant has no line. Keeps
+        faults, links and cuts for `tell_edits`, which prints them."""
         event = news.event
         if event.is_edit:
             self.comeback.edit(event)
@@ -151,7 +152,7 @@ class Announcer:
         self.told_waiting = now
 
     def wait(self) -> None:
-        """Prints all nodes that the class waits for, or that it waits for none."""
+        """Prints all nodes that the class waits for, or that it waits for no node."""
         self.told_waiting = self.waiting()
         self.tell(f"waiting for {', '.join(self.told_waiting) or 'no node'}")
 

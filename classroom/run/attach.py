@@ -32,7 +32,7 @@ def add_words(words: argparse.ArgumentParser) -> None:
 
 def wait_for_desk(folder: Path, record: Record) -> None:
     """Waits until no process holds the desk of the run in a folder. `record` has the values of the folder's `run.json`.
-    A process that has lost its terminal is asked to leave the desk. Raises `Fault` if this process still holds the desk
+    Asks a process that has lost its terminal to leave the desk. Raises `Fault` if this process still holds the desk
     after a minute, or if the process that holds the desk hasn't lost its terminal."""
     holder = record.run
     if holder.lives() and not record.left:
@@ -43,14 +43,14 @@ def wait_for_desk(folder: Path, record: Record) -> None:
         end = time.monotonic() + PATIENCE
         while holder.lives():
             if time.monotonic() > end:
-                raise Fault(f"{folder}: process {holder.number} was asked to leave the desk of this run, but hasn't left it. End this process, and try again")
+                raise Fault(f"{folder}: process {holder.number} was asked to leave the desk of this run, but hasn't left it. End it by `kill {holder.number}`, and type this command again")
             time.sleep(0.05)
 
 
 def attach(words: argparse.Namespace) -> int:
     """Takes the desk of the run or class in the folder that the arguments name, and continues it to its end. Returns
-    the exit status. Raises `Fault` if the server has ended, if another process keeps the desk, or if the options don't
-    suit the run."""
+    the exit status. Raises `Fault` if the server has ended, if another process keeps the desk, or if the options can't
+    be used in this run."""
     folder = Path(words.folder)
     if is_class(folder):
         return class_again.hold_again(words, folder)

@@ -84,11 +84,14 @@ def unlinked_file(folder: Path) -> IO[bytes] | None:
 
 
 class DiskRoom:
-    """The room for a journal's lines: on the disk, and by the limit on the size of the server's files."""
+    """Checks whether there is room for a journal's lines: on the disk, and by the limit on the size of the server's
+    files."""
 
     def __init__(self, folder: Path, server: int | None = None) -> None:
-        """`folder` is that of the run, and `server` the number of the server's process."""
+        """`folder` is that of the run. `server` is the number of the server's process, or None if the limit on the size
+        of files isn't to be checked."""
         self.folder, self.server = folder, server
+        # When the next check is due, and the states that the last one found: of the disk, and of the limit.
         self.due, self.told, self.told_limit = 0.0, "", ""
         self.file = unlinked_file(folder)
 
@@ -116,7 +119,7 @@ class DiskRoom:
 
     def news(self) -> list[str]:
         """Returns the lines about changes since the last check: little room, no room, or room again. Returns none if
-        the last check is less than a second ago."""
+        nothing has changed, or if the last check is less than a second ago."""
         now = time.monotonic()
         if now < self.due:
             return []
@@ -124,7 +127,8 @@ class DiskRoom:
         return [*self.disk_news(), *self.limit_news()]
 
     def disk_news(self) -> list[str]:
-        """Returns a line if the state of the disk has changed to little room, to none, or from none to enough."""
+        """Returns a line if the disk has little room or none now, or has enough room after it had none. Returns an
+        empty list if the state is that of the last check."""
         left = self.left()
         kind, line = disk_line(left, self.write_error() if left >= LITTLE else "")
         before, self.told = self.told, kind
@@ -133,8 +137,8 @@ class DiskRoom:
         return [line] if line else [AGAIN_ROOM] if before == "full" else []
 
     def limit_news(self) -> list[str]:
-        """Returns a line if the limit on the size of files leaves little room for the journal, or none, and the last
-        check found something else."""
+        """Returns a line if the limit on the size of files now leaves little room for the journal, or none, and the
+        last check found another state. Returns an empty list otherwise."""
         limit = limit_of(self.server) if self.server is not None else None
         journal = self.folder / "journal"
         left = LITTLE if limit is None or not journal.exists() else limit - journal.stat().st_size
@@ -144,10 +148,10 @@ class DiskRoom:
 
 
 def turn(desk: Desk, room: DiskRoom, until_stable: bool) -> str:
-    """Reads new events, lets the house play, and prints what is new: events, connections, the room for the journal, and
-    the end of the lesson. If the desk's connection was lost, first connects again, and does nothing else if that fails.
-    Returns the reason if the run ends, and an empty text otherwise. `until_stable` says whether the run ends as soon as
-    its configuration is stable."""
+    """Does what is due at the desk: reads new events, lets the house play, and prints what is new. New are events,
+    connections, the room for the journal, and the end of the lesson. If the desk's connection was lost, first connects
+    again, and does nothing else if that fails. Returns the reason if the run ends, and an empty text otherwise.
+    `until_stable` says whether the run ends as soon as its configuration is stable."""
     if not desk.reconnect():
         return ""
     desk.read()
@@ -186,9 +190,9 @@ def next_typed(typed: Typed, seconds: float) -> str | None:
 
 
 def run_typed(desk: Desk, line: str | None, hung: Callable[[], None]) -> str:
-    """Runs a typed line at the desk, if there is one. Calls `hung` if the line says that the terminal is closed.
-    Returns the reason if the line ends the run, and an empty text otherwise. While the desk has no connection, only
-    `end` is run, and for other lines the reason is printed."""
+    """Runs a line that was typed at the desk, and does nothing if `line` is None. Calls `hung` if the line says that
+    the terminal is closed. Returns the reason if the line ends the run, and an empty text otherwise. While the desk has
+    no connection, only `end` is run, and for other lines the reason is printed."""
     if line is None:
         return ""
     if line == HUNG:

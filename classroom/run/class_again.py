@@ -19,9 +19,9 @@ PATIENCE = 60.0  # seconds in which a process that has lost its terminal has to 
 
 
 def wait_for_desks(folder: Path, kept: Class) -> None:
-    """Waits until no process holds the desks of the class in a folder, of which `kept` is the description. A process
-    that has lost its terminal is asked to leave them. Raises `Fault` if it still has them after a minute, or if the
-    process that holds them hasn't lost its terminal."""
+    """Waits until no process holds the desks of the class in a folder. `kept` is the content of the folder's
+    `class.json`. Asks a process that has lost its terminal to leave them. Raises `Fault` if it still has them after a
+    minute, or if the process that holds them hasn't lost its terminal."""
     if not kept.desk.lives():
         return
     if not kept.left:
@@ -32,14 +32,14 @@ def wait_for_desks(folder: Path, kept: Class) -> None:
     while kept.desk.lives():
         if time.monotonic() > end:
             raise Fault(f"{folder}: process {kept.desk.number} was asked to leave the desks of this class, but hasn't left them. "
-                        "End this process, and try again")
+                        f"End it by `kill {kept.desk.number}`, and type this command again")
         time.sleep(0.05)
 
 
 def begin(member: Member, several: Several, again: bool, starts: bool) -> None:
     """Takes the desk of a network in a class. If the network's server has ended, starts the server first if `starts` is
     set, and otherwise marks the network as down and prints its alarm. If the network's run was ended on purpose, only
-    marks the network as ended, unless both `starts` and `again` are set."""
+    marks the network as ended, unless both `starts` and `again` are set. `several` is the desk of the class."""
     record = Record.read(member.folder)
     if record is not None and record.ended and not record.goes_on() and not (starts and again):
         member.status = ENDED

@@ -32,8 +32,8 @@ def next_time(word: str, now: datetime) -> datetime:
 
 
 def kept_end(text: str | None, now: datetime) -> datetime | None:
-    """Returns the time in `text`, at which a run is to end, as its folder keeps it. Returns None if `text` is None or
-    isn't a local time, or if this time has come."""
+    """Returns the date and time in `text`, which the folder of a run has as the end of the lesson. Returns None if
+    `text` is None or isn't a local date and time, or if this time has come."""
     try:
         end = datetime.fromisoformat(text) if text else None
     except ValueError:
@@ -62,7 +62,7 @@ class Clock:
         self.left = [minutes for minutes in WARNINGS if end - timedelta(minutes=minutes) >= begun]
 
     def warning(self, now: datetime) -> str:
-        """Returns the line of the last warning that is due, once, or an empty text."""
+        """Returns the line of the latest warning that is due, if it wasn't returned before, or an empty text."""
         due = [minutes for minutes in self.left if now >= self.end - timedelta(minutes=minutes)]
         self.left = [minutes for minutes in self.left if minutes not in due]
         return f"the lesson ends at {self.end:%H:%M}, in {plural(due[-1], 'minute')}" if due and not self.is_over(now) else ""

@@ -26,8 +26,8 @@ def rows() -> Iterator[Row]:
 
 
 def leads_to(end: Path, wanted: str) -> bool:
-    """Returns whether the descriptor `end` of a process, a path in /proc, is the wanted socket. Returns false if the
-    descriptor has been closed. Raises `OSError` if this user may not read it."""
+    """Returns whether a process's file descriptor, given by its path `end` in /proc, is the socket `wanted`. Returns
+    false if the descriptor has been closed. Raises `OSError` if this user may not read it."""
     try:
         return os.readlink(end) == wanted
     except FileNotFoundError:
@@ -54,9 +54,9 @@ class Connected:
 
     def __init__(self, port: int, seats: int, but: int, names: dict[int, str] | None = None,
                  tells: bool = True) -> None:
-        """`port` is the students' port, `seats` the number of seats, and `but` the port of the desk's own end, which
-        isn't counted. `names` has texts for clients that are known otherwise than by a process, by the port of their
-        end. Without `tells`, connections aren't reported here, because a record shows them, but only full seats."""
+        """`port` is the students' port, and `seats` the number of seats. `but` is the port of the desk's own end, which
+        isn't counted. `names` has a text for each client that isn't shown by its process, by the port of the client's
+        end. If `tells` is false, only full seats are reported, since the run's record shows who connects."""
         self.port, self.seats, self.but, self.tells = port, seats, but, tells
         self.names = {} if names is None else names
         self.known: dict[int, str] = {}
@@ -76,9 +76,9 @@ class Connected:
             return []
 
     def look(self) -> list[Row]:
-        """Returns the system's sockets. The system's list isn't of one moment, so it is read again, a few times, while
-        a new connection lacks its client's end. Clients on other machines have none in it. Raises `OSError` if the
-        system doesn't report its sockets."""
+        """Returns the system's sockets. Reads them a few times if the list has a server's end without its client's end,
+        because the system's list isn't of one moment. The list never has the ends of clients on other machines. Raises
+        `OSError` if the system doesn't report its sockets."""
         for _ in range(READINGS):
             found = list(rows())
             if not self.tells or self.client_ports(found) <= self.client_sockets(found).keys() | self.known.keys():
@@ -87,11 +87,11 @@ class Connected:
         return found
 
     def client_sockets(self, found: list[Row]) -> dict[int, str]:
-        """Returns the numbers of the sockets that are clients' ends on this machine, by their ports."""
+        """Returns the number of each socket in `found` that is a client's end on this machine, by its port."""
         return {own: number for own, other, state, number in found if other == self.port and state == ESTABLISHED}
 
     def client_ports(self, found: list[Row]) -> set[int]:
-        """Returns the ports of all clients, as the server's ends name them, without the desk's."""
+        """Returns the ports of all clients, without the desk's. They are taken from the server's ends in `found`."""
         return {other for own, other, state, _ in found if own == self.port and state == ESTABLISHED} - {self.but}
 
     def changes(self, found: list[Row]) -> list[str]:

@@ -76,8 +76,8 @@ def heads(nodes: Sequence[int], probability: float, chance: random.Random) -> li
 
 def applied(how: Daemon, sight: Sight, chance: random.Random, patience: float, search: Search = list) -> list[int]:
     """Returns the nodes whose moves a close applies now, or none if no step is closed yet. The other chosen moves are
-    released before the close. The random daemon tosses coins, and a searching daemon calls `search`, once each
-    privileged node has a chosen move, or none was granted for `patience` seconds."""
+    released before the close. The random daemon tosses coins, and the schedule and the adversary call `search`. These
+    three wait until each privileged node has a chosen move, or none was granted for `patience` seconds."""
     if not sight.chosen:
         return []
     if how.kind == "central":
@@ -96,7 +96,7 @@ def applied(how: Daemon, sight: Sight, chance: random.Random, patience: float, s
 
 def movers(how: Daemon, privileged: Sequence[int], chance: random.Random, search: Search = list) -> list[int]:
     """Returns the privileged nodes that move in the next step under a daemon, if each of them asks at once, as in an
-    experiment. A searching daemon calls `search`."""
+    experiment. The schedule and the adversary choose by calling `search`."""
     if how.kind == "central":
         return [chance.choice(list(privileged))]
     if how.kind == "random":

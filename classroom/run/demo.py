@@ -21,8 +21,8 @@ SIGNALS = (signal.SIGINT, signal.SIGTERM)
 
 
 def bots_of(lab: labs.Lab, port: int, room: Path) -> list[subprocess.Popen[bytes]]:
-    """Writes the slips of a lab into the folder `slips` of the folder `room`, and starts a bot for each student, which
-    connects to the port. Returns the processes."""
+    """Writes the slips of a lab into the folder `slips` in `room`, and starts a bot for each student, which connects to
+    the port. Returns the processes."""
     slips.write_all(lab, Way(port, "demo"), room / "slips")
     return [
         subprocess.Popen([sys.executable, TOP / "examples/bot.py", room / "slips" / f"{name}.slip"],
@@ -32,8 +32,8 @@ def bots_of(lab: labs.Lab, port: int, room: Path) -> list[subprocess.Popen[bytes
 
 
 def demo(words: argparse.Namespace) -> int:
-    """Calls `run` over the cycle of `examples/`, with a bot for each of its four students, until it is stable. Returns
-    the exit status of `run`. Raises `Fault` if there are no `examples/`, or if the server isn't built."""
+    """Runs the cycle of `examples/` by `class run`, with a bot for each of its four students, until it is stable.
+    Returns the exit status of `run`. Raises `Fault` if there are no `examples/`, or if the server isn't built."""
     if not LAB.exists():
         raise Fault("the archive for students has no finished bots, so there is nothing to show. To try your own bot, type: ./class practise 'python3 bot.py'")
     server.require_built(False)

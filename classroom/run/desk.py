@@ -40,8 +40,8 @@ class Desk:
         self.known = Follower(lab, journal, client)
         self.announcer = Announcer(lab, journal.parent, self.known, tell)
         self.watch: Watch | None = None
-        self.another_page: Callable[[], None] | None = None
-        self.another_key: Callable[[str], None] | None = None
+        self.another_page: Callable[[], None] | None = None  # gives the page to act another address
+        self.another_key: Callable[[str], None] | None = None  # gives the student of this name another key
         self.connected: Connected | None = None
         self.house: House | None = None
         self.heard: Heard | None = None
@@ -100,8 +100,8 @@ class Desk:
         self.tell(f"the desk has lost its connection to the server, and tries to connect again: {error}")
 
     def catch_up(self) -> None:
-        """Counts the events that the journal has already. Prints only the configuration from which the class
-        continues."""
+        """Counts the events that the journal has already, without a line for each. Prints the configuration from which
+        the class continues."""
         self.known.catch_up()
         if self.heard:
             self.heard.catch_up(self.known.last_step)
@@ -109,7 +109,7 @@ class Desk:
 
     def read(self) -> None:
         """Reads the new events of the journal, prints each one except grants, and updates the pages. Ends the run if
-        all events of the lab are used, or if the journal is halted."""
+        all events of the lab are used, or if no line can be written to the journal."""
         for news in self.known.news():
             self.announcer.event(news)
             if self.watch:
@@ -127,8 +127,8 @@ class Desk:
             self.announcer.end_by("journal")
 
     def start_watch(self) -> Watch:
-        """Returns the data for the pages, beginning with all past events. `read` keeps the data up to date from now
-        on."""
+        """Starts to keep the data for the pages, beginning with all past events, and returns the object with them. From
+        now on `read` updates it."""
         self.watch = Watch(self.lab, self.client, self.known.report, spelled(self.closing))
         for event in self.known.past:
             self.watch.note_event(self.names.event(event))
@@ -220,10 +220,10 @@ class Desk:
             self.tell(self.house.told())
 
     def house_for(self, name: str) -> House:
-        """Returns the house, which is to play the nodes of the student `name`. Raises `ValueError` with the reason if
-        it can't."""
+        """Returns the house, for a command that lets it play the nodes of the student `name`. Raises `ValueError` with
+        the reason if there is no house or it can't play."""
         if self.house is None and self.lab.held():
-            raise ValueError("the house can't play, because this run was started with --serve")
+            raise ValueError("the house can't play, because this run was started with --serve. Start the next run without it")
         if self.house is None:
             raise ValueError(f"the house can't play for {name}, because it owns no node in this lab. {HOW}")
         return self.house
@@ -247,11 +247,12 @@ class Desk:
     def renew_key(self, name: str) -> None:
         """Gives the student `name` another key. Raises `ValueError` if that isn't possible."""
         if self.another_key is None:
-            raise ValueError("the key can't be changed, because this run was started with --serve")
+            raise ValueError("the key can't be changed, because this run was started with --serve. End the run, and change the key by `class key`")
         self.another_key(name)
 
     def close_by(self, word: str) -> None:
-        """Lets steps be closed by the daemon that a word names from now on. Raises `ValueError` if it names none."""
+        """Changes the daemon that closes steps to the one that `word` names, and prints that. Raises `ValueError` if it
+        names none."""
         self.closing = closing(word)
         self.tell(f"from now on steps are closed by the daemon {spelled(self.closing)}")
         if self.watch:

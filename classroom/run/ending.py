@@ -15,8 +15,8 @@ from classroom.pages import kept_layout, play
 
 def put_back(journal: IO[bytes], path: Path, tell: Callable[[str], None]) -> None:
     """Writes the content of an open journal to its path again if the file there is gone. If there is another file,
-    writes it to this path with `.saved` at its end. Does nothing if the file at the path is the open one. Gives `tell`
-    a line that says where the content is saved, or why it can't be saved there."""
+    writes the content to a file beside it whose name ends in `.saved`. Does nothing if the file at the path is the open
+    one. Calls `tell` with a line that says where the content is saved, or why it can't be saved there."""
     try:
         if os.path.samestat(os.fstat(journal.fileno()), path.stat()):
             return

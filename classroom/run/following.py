@@ -19,8 +19,8 @@ ASKED, PAUSE = 50, 0.1  # how often the first report is asked for at most, and s
 
 
 def first_report(client: Client) -> Report:
-    """Returns the report at the beginning. Asks for it again while the server is out of memory. Raises `Refused` if it
-    is out of memory for too long, or if the server refuses for another reason."""
+    """Returns the report at the beginning. Asks for it again while the server is out of memory. Raises `Refused` if
+    that lasts for more than ASKED attempts, or if the server refuses for another reason."""
     for _ in range(ASKED):
         try:
             return client.report()
@@ -51,7 +51,8 @@ class Follower:
     it."""
 
     def __init__(self, lab: Lab, journal: Path, client: Client) -> None:
-        """Opens the journal, and asks for the first report on the desk's connection."""
+        """Opens the file `journal`, and asks for the first report on the desk's connection `client`. Raises `OSError`
+        if the file can't be opened, and `Closed` or `Refused` if there is no report."""
         self.client = client
         self.journal = journal.open("rb")
         self.book = Book([*lab.without_house().students])
@@ -72,7 +73,8 @@ class Follower:
             self.take(event)
 
     def take(self, event: Event) -> list[tuple[int, str, str]]:
-        """Counts an event. Returns the moves that it applied, each with its node, student and rule."""
+        """Counts an event. Returns the moves that it applied, each with its node, student and rule. Only a close
+        applies moves."""
         self.count = event.place
         self.last_step = event.place if event.makes_configuration else self.last_step
         return self.book.add(event)
@@ -105,8 +107,8 @@ class Follower:
         return is_torn or os.fstat(self.journal.fileno()).st_size < self.journal.tell()
 
     def ask_report(self) -> None:
-        """Asks for the report, and keeps it in `report`. If the server is out of memory, keeps the old one there and
-        sets `is_old`, and `news` asks again."""
+        """Asks for the report, and keeps it in `report`. If the server is out of memory, leaves the old one there and
+        sets `is_old`, so that `news` asks again. Raises any other refusal, `Refused`."""
         try:
             self.report = self.client.report()
             self.is_old = False

@@ -57,8 +57,8 @@ def denial_words(word: str) -> str:
 
 
 def together(what: str, who: list[str]) -> list[str]:
-    """Returns the lines that say `what` (`connected` or `disconnected`) of the names in `who`. There is one line for each name,
-    or one for all if they are more than FEW."""
+    """Returns the lines that say `what` (`connected` or `disconnected`) about the names in `who`: one line for each
+    name, or one line for all if they are more than FEW."""
     if len(who) <= FEW:
         return [f"{what}: {each}" for each in who]
     return [f"{what}: {plural(len(who), 'student')}: {'; '.join(who)}"]
@@ -86,8 +86,8 @@ class Heard:
         self.due = self.last = time.monotonic()
 
     def catch_up(self, step: int) -> None:
-        """Counts what the record has already, so that no later line is about it. `step` is the place of the last
-        step."""
+        """Counts what the record has already, so that later lines are only about what is new. `step` is the place of
+        the last step."""
         while self.read():
             pass
         self.forget_before(step)
@@ -98,8 +98,8 @@ class Heard:
         self.over = ""
 
     def begin(self) -> None:
-        """Notes in `came` whether a student is connected now, when a new server has started. Students who had come to
-        an earlier server of the run don't count."""
+        """Sets `came` to whether a student is connected now. It is called when a new server has started, so students
+        who were connected to an earlier server of the run don't count."""
         self.came = not self.students.isdisjoint(self.connected())
 
     def news(self, step: int) -> list[str]:
@@ -180,8 +180,8 @@ class Heard:
         return together("connected", come) + together("disconnected", gone)
 
     def note_if_news(self, key: tuple[str, str], count: int, least: int) -> bool:
-        """Returns whether the line `key` with a count is to be printed. The count has to be at least `least`, and at
-        least twice the last one that was printed. If so, notes that it was printed."""
+        """Returns whether the line about `key` with this count is to be printed, and notes the count if so. The count
+        has to be at least `least`, and at least twice the last one that was printed for `key`."""
         if count < max(least, 2 * self.told[key]):
             return False
         self.told[key] = count

@@ -93,7 +93,7 @@ class Running:
         return is_class(self.folder.absolute().parent)
 
     def update_record(self, **other: Any) -> None:
-        """Changes these values of the record in the folder, if there is one."""
+        """Changes these values of the record in the run's folder. Does nothing if there is no record."""
         record = Record.read(self.folder)
         if record is not None:
             replace(record, **other).write(self.folder)
@@ -110,9 +110,9 @@ class Running:
 
 
 def open_desk(it: server.Server, run: Running) -> Desk:
-    """Writes the record into the run's folder, connects to the desk of the server `it`, and sets up the house, the
-    clock and the watch on connections. Catches up with a run that continues. Raises `Left` if another process wants the
-    desk, and `Closed`, `Refused` or `Denied` if it can't be connected to."""
+    """Writes the record into the run's folder, connects to the desk of the server `it`, and returns the desk with its
+    house, its clock and its watch on connections. Catches up with a run that continues. Raises `Left` if another
+    process wants the desk, and `Closed`, `Refused` or `Denied` if it can't be connected to."""
     run.record(it).write(run.folder)
     client = take_desk(it, run.lab.teacher, run.typed, run.tell, run.hung)
     desk = Desk(run.lab, run.folder / "journal", client, run.close, run.tell)
@@ -140,9 +140,9 @@ def open_desk(it: server.Server, run: Running) -> Desk:
 
 
 def renew(run: Running, it: server.Server, desk: Desk, name: str) -> None:
-    """Gives the student `name` another key, which replaces the values of the server `it` by those of a new server, and
-    connects the desk to it. Prints the key if only the teacher can read what is printed. Raises `ValueError` if there
-    is no such student, and `Fault` if the class can't continue."""
+    """Gives the student `name` another key. For that, replaces the server `it` by a new one, whose values `it` has
+    afterwards, and connects the desk to it. Prints the key if only the teacher can read what is printed. Raises
+    `ValueError` if there is no such student, and `Fault` if the class can't continue."""
     renewing.renew(run.folder, run.lab, it, desk, name)
     if run.hands is not None:
         run.hands.students = it.port
@@ -154,8 +154,9 @@ def renew(run: Running, it: server.Server, desk: Desk, name: str) -> None:
 
 
 def show(pages: projector.Pages, desk: Desk, tell: Teller, typed: bool) -> None:
-    """Starts to serve the page, and shows on it what is printed from now on. Prints its addresses. The address to act
-    at is printed only on the terminal, or if a program types the commands, as `typed` says."""
+    """Starts to serve the pages for the projector and for the teacher, and shows on them what is printed from now on.
+    Prints their addresses. The address of the teacher's page is printed only if nobody else can read it. `typed` says
+    whether a program types the commands, so that this program reads what is printed."""
     watch = desk.start_watch()
 
     def act() -> None:
@@ -232,8 +233,8 @@ def hold(run: Running, it: server.Server) -> int | None:
 
 
 def give_up(it: server.Server, run: Running, seconds: float) -> int | None:
-    """Ends the server `it`, because its desk can't be held, and returns the exit status. If another process started the
-    server, waits for its end at most `seconds` seconds, and returns None if it continues."""
+    """Ends the server `it`, because its desk can't be used, and returns the exit status. If another process started the
+    server, only waits for its end, at most `seconds` seconds, and returns None if it continues."""
     ended = it.has_ended(seconds)
     if it.child is None and not ended:
         leave(it, run)
@@ -249,9 +250,10 @@ def leave(it: server.Server, run: Running) -> None:
 
 
 def take_leave(it: server.Server, desk: Desk, why: str, run: Running) -> int | None:
-    """Says bye at the desk, waits for the end of the server `it`, or ends it if it isn't hosted, and prints how the run
-    ended. `why` is the reason, a word that `attend` returns. After `died` says no bye, and after `left` only closes the
-    connection, since another process takes over the desk. Returns the exit status, or None if the server continues."""
+    """Ends the server `it` after the run, and prints how the run ended. `why` is the reason, a word that `attend`
+    returns. Says bye at the desk, which ends a hosted server. After `died` says no bye, and after `left` only closes
+    the connection, since another process takes over the desk. Returns the exit status, or None if the server
+    continues."""
     tell = run.tell
     if why == "left":
         desk.client.hang_up()

@@ -65,7 +65,7 @@ class House:
         return name
 
     def told(self) -> str:
-        """Returns the line about whom the house plays for."""
+        """Returns the line that says for whom the house plays."""
         names = ", ".join(name for name in self.students if name in self.played)
         late = f"at each node for which the class has waited {self.seconds:g} seconds" if self.seconds is not None else ""
         whom = " and ".join(filter(None, (f"for {names}" if names else "", late)))
@@ -82,8 +82,9 @@ class House:
             self.since.pop(event.nodes[0], None)
 
     def due(self, waiting: Collection[int], now: float) -> list[int]:
-        """Returns the nodes that the house may play at the time `now`, among those that the class waits for. The node
-        for which it has waited longest comes first. No time is counted before a first student has come."""
+        """Returns the nodes in `waiting`, those that the class waits for, that the house may play at the time `now`.
+        The node for which the class has waited longest comes first. No time is counted before a first student has
+        come."""
         before = self.since if self.student_came else {}
         self.since = {node: before.get(node, now) for node in waiting if node in self.held}
         at_once = set[int]().union(*(self.students[name] for name in self.played))

@@ -29,9 +29,10 @@ def add_words(words: argparse.ArgumentParser) -> None:
 
 @contextmanager
 def door(words: argparse.Namespace, labs: Iterable[Path], tell: Callable[[str], None], before: str | None = None) -> Iterator[str | None]:
-    """Opens a door if the options in `words` ask for one, or opens again the one whose folder is `before`. Yields the
+    """Opens a door if the options in `words` ask for one, or opens the one whose folder is `before` again. Yields the
     door's folder, or None if there is none, and closes the door at the end. A door that another process has opened
-    stays open. `labs` are the files of the labs. Raises `Fault` if the door can't be opened."""
+    stays open. `labs` are the files of the labs, and `tell` prints a line. Raises `Fault` if the door can't be
+    opened."""
     every, opened, folder = [*labs], None, words.door_at
     if words.door is not None:
         file = words.certificate or certificate.beside(every[0])

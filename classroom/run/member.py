@@ -105,8 +105,8 @@ class Member:
         self.news.put(partial(ended, self))
 
     def note_line(self, line: str) -> bool:
-        """Notes what a printed line of the process says: a fact, that the process accepts commands, or why it ends.
-        Returns whether the class's desk shows the line."""
+        """Takes from a line that the process has printed a fact, that the process accepts commands, or why it ends.
+        Returns whether the class's desk prints the line."""
         fact, value = fact_in(line)
         is_new = fact != "" and fact not in self.facts
         if fact:
@@ -120,7 +120,7 @@ class Member:
         return not LEFT_OUT.fullmatch(line)
 
     def send(self, line: str) -> bool:
-        """Sends a typed line to the process. Returns whether the process accepts lines."""
+        """Sends a typed line to the process. Returns whether the process could be sent it."""
         try:
             assert self.child is not None and self.child.stdin is not None
             self.child.stdin.write(line + "\n")
@@ -152,7 +152,8 @@ class Member:
         self.alarm = f"{what}; {self.remedy(record is not None or not self.has_desk)}"
 
     def remedy(self, can_resume: bool = True) -> str:
-        """Returns the commands for a network that is down, as the end of its alarm."""
+        """Returns which commands help if a network is down, as the end of its alarm. `can_resume` says whether the
+        command `resume` is one of them."""
         resume = f"`resume {self.number}` to continue it, or " if can_resume else ""
         return f"type {resume}`end {self.number}` to give it up"
 

@@ -102,7 +102,8 @@ def run_lab(words: argparse.Namespace) -> int:
 
 
 def check_stand_in(words: argparse.Namespace, lab: labs.Lab, file: Path) -> None:
-    """Raises `Fault` if the arguments ask for --stand-in, and the lab in a file has no house or --serve is used."""
+    """Raises `Fault` if the arguments have the option --stand-in, but the lab in a file has no house, or the arguments
+    also have --serve."""
     if words.stand_in is not None:
         house.require_house(lab, file)
         if getattr(words, "serve", False):

@@ -93,9 +93,9 @@ class Server:
 
 
 def first_line(process: subprocess.Popen[bytes], output: Path, before: int, wait: Callable[[float], None] = time.sleep) -> str:
-    """Waits for the line with a server's ports, and returns the line. If the server ends before, returns all its
-    output. `output` is the file with its output, which had `before` bytes when the process was started, and `wait`
-    waits between two reads of the file."""
+    """Waits for the line with a server's ports, and returns the line. If the server ends before it prints this line,
+    returns all its output. `output` is the file with the output, which had `before` bytes when the process was started,
+    and `wait` waits between two reads of the file."""
     while True:
         ended = process.poll() is not None
         text = output.read_bytes()[before:].decode(errors="replace")
@@ -124,9 +124,9 @@ class Call:
     record: Path  # the folder in which a host keeps its record
 
     def at(self, port: int, desk: int = 0) -> Server | None:
-        """Starts a server that listens at this port, and returns it, or None if a port is taken. `desk` may be 0 for
-        any port. While a host starts, this process already tries to connect to its desk, so that no other process is
-        first. Raises `Fault` if the server doesn't start for another reason than a taken port."""
+        """Starts a server that listens at this port, and returns it, or None if a port is taken. `desk` is the desk's
+        port, or 0 for any free one. While a host starts, this process already tries to connect to its desk, so that no
+        other process is first. Raises `Fault` if the server doesn't start for another reason than a taken port."""
         hosting = host() if self.by_number is None else None
         if hosting is None:
             return self.start([program(), "serve"], port, self.by_number or 0, None)
@@ -158,9 +158,10 @@ class Call:
 
 def start(folder: Path, lab: Path, port: int, journal: Path, by_number: int | None = None,
           resumed: Record | None = None) -> Server:
-    """Starts a host over a lab at the first free port from this one on, with its output and record in the folder, and
-    returns it. With `resumed`, the host continues a class, if possible at its own ports. With `by_number`, starts `mml
-    serve` for that number of connections, one of which is the teacher's. Raises `Fault` if no server can be started."""
+    """Starts a host for a lab at `port` or the next free port, with its output and record in the folder, and returns
+    it. If `resumed` is given, the host continues the run with that record, if possible at its own ports. If `by_number`
+    is given, starts `mml serve` instead for that number of connections, one of which is the teacher's. Raises `Fault`
+    if no server can be started."""
     require_built(by_number is not None)
     call = Call(folder, lab, journal, by_number, resumed is not None, folder / record.FOLDER)
     again = call.at(resumed.port, resumed.desk) if resumed is not None else None

@@ -46,8 +46,8 @@ class Several:
     """The desk of a class, at which lines are typed for one network or several."""
 
     def __init__(self, folder: Path, members: list[Member], news: News, is_typed: bool, clock: Clock | None = None) -> None:
-        """`is_typed` says whether lines are typed, on a terminal or by a program. `clock` has the end of the lesson, if
-        there is one."""
+        """`folder` is that of the class, and `news` is the queue of functions for the desk to call. `is_typed` says
+        whether lines are typed, on a terminal or by a program. `clock` has the end of the lesson, if there is one."""
         self.folder, self.members, self.news, self.is_typed, self.clock = folder, members, news, is_typed, clock
         self.names = [member.name for member in members]
         self.terminal: Terminal | None = None
@@ -144,8 +144,8 @@ class Several:
             self.say(f"{member.name}: not done: {'this network has ended' if member.status == ENDED else member.alarm or 'this network is still starting'}")
 
     def act(self, line: str) -> None:
-        """Runs a line that was sent by the page on which the teacher acts. The page asks before an end, so that one
-        line ends a network."""
+        """Runs a line that was sent by the page on which the teacher acts. The page has already asked the teacher
+        whether to end a network, so the first `end` ends it."""
         try:
             indices, rest = addressed.addressed(line, self.names)
         except ValueError:
@@ -191,8 +191,8 @@ class Several:
             self.say(f"{READY}help lists them; {addressed.HOW}")
 
     def tick(self) -> None:
-        """Does what is due by the clock: warnings, the end of the lesson, repeated alarms, and a new state for the
-        page."""
+        """Does what is due at this time: prints warnings before the end of the lesson, ends the class then, repeats
+        alarms, and updates the page."""
         self.tell_table()
         now = time.monotonic()
         self.check_clock()
@@ -391,8 +391,8 @@ def write_class(several: Several, end: datetime | None, door: str | None) -> Non
 
 
 def with_door(words: argparse.Namespace) -> argparse.Namespace:
-    """Returns the arguments together with those of a door, which `attach` doesn't have. With these an earlier door is
-    opened again."""
+    """Returns the arguments, with None for each option of a door that they lack, as those of `attach` do. If no option
+    names a door, an earlier door of the class is opened again."""
     return argparse.Namespace(**{"door": None, "door_at": None, "certificate": None, **vars(words)})
 
 

@@ -20,9 +20,9 @@ class Left(Exception):
 
 def take_desk(it: Server, teacher: tuple[str, str], typed: Typed, tell: Callable[[str], None], hung: Callable[[], None]) -> Client:
     """Connects to the desk of the server `it`, with the name and key of the teacher, and returns the connection. Tries
-    again for a minute if that fails, and prints once that it does. Meanwhile reads `typed`, the queue of
-    typed lines, for signals, and calls `hung` if the terminal was closed. Raises the last `Closed` or `Refused` after
-    the minute, or if the server has ended or the run is to end. Raises `Denied` at once if the name and the key aren't
+    again for a minute if that fails, and prints a line about it once. Meanwhile reads `typed`, the queue of typed
+    lines, for signals, and calls `hung` if the terminal was closed. Raises the last `Closed` or `Refused` after the
+    minute, or if the server has ended or the run is to end. Raises `Denied` at once if the name and the key aren't
     those of the teacher, and `Left` if another process wants the desk."""
     end, is_told = time.monotonic() + PATIENCE, False
     while True:

@@ -36,7 +36,7 @@ class Teller:
         """`folder` is that of the run, in which the lines are kept."""
         self.path = folder / "run.txt"
         self.also: list[Callable[[str], None]] = []
-        self.around: Callable[[str], str] = str  # What a terminal shows instead while a line is typed there.
+        self.around: Callable[[str], str] = str  # Returns the characters that print a text while a line is typed at the terminal.
 
     def __call__(self, line: str) -> None:
         """Prints a line, appends it to the file, and passes it on to the functions in `also`."""

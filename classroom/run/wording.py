@@ -22,7 +22,7 @@ def moves(moved: Sequence[tuple[int, str, str]]) -> str:
 
 
 def edit(event: Event) -> str:
-    """Returns a text for an event that isn't a close."""
+    """Returns a text for an event other than a grant and a close."""
     if event.kind in ("link", "cut"):
         return f"{'added' if event.kind == 'link' else 'removed'} the link between {event.words[1]} and {event.words[2]}"
     if event.kind == "release":

@@ -34,8 +34,8 @@ OTHERS = 128  # how many characters a key is taken to be drawn from if one of it
 
 
 def refused(path: Path, error: str) -> Iterator[str]:
-    """Yields the lines to print about a lab's file that the program refuses with the text `error`. These lines have the
-    error, the line in the file at which it is, and suggestions for unknown keys."""
+    """Yields the lines to print about a lab's file that the program has refused with the message `error`. These lines
+    have the error, the line in the file at which it is, and suggestions for unknown keys."""
     text = path.read_bytes().decode("utf-8-sig", errors="replace")
     yield f"{path}: {error}"
     line, what = place_of_error(text, error)
@@ -47,8 +47,9 @@ def refused(path: Path, error: str) -> Iterator[str]:
 
 
 def place_of_error(text: str, error: str) -> tuple[int | None, str]:
-    """Returns the number of the line that the program's error about a lab's text refers to, or None. Also returns a
-    text to print after the number: the message of the TOML reader, or the identifier of a node."""
+    """Returns the number of the line that the program's error about a lab's text refers to, or None if the line isn't
+    found. Also returns a text to print after the number, which may be empty: the message of the TOML reader, or the
+    identifier of a node."""
     if error == "lab: not a TOML document":
         try:
             tomllib.loads(text)
@@ -91,8 +92,8 @@ def line_of_key(text: str, key: str) -> tuple[int | None, str]:
 
 
 def unknown_keys(text: str) -> Iterator[tuple[int, str, str | None]]:
-    """Yields the keys and tables in a lab's text that the format doesn't have: the line, the key, and the most similar
-    known one, or None."""
+    """Yields the keys and tables in a lab's text that the format doesn't have. Each is the number of its line, the key
+    or table, and the most similar known one, or None if none is similar."""
     for table in positions.tables(text):
         known = KNOWN.get(table.name)
         if known is None:
@@ -247,8 +248,8 @@ def warnings(path: Path) -> Iterator[str]:
 
 
 def size_line(path: Path, told: str) -> str:
-    """Returns the line about the size of the lab in a file, which the program has printed. If the lab can be read, the
-    line is changed so that the house, a student without a person, is counted separately."""
+    """Returns `told`, the line that the program has printed about the size of the lab in a file. If the lab can be
+    read, the line is changed so that the house, a student without a person, is counted separately."""
     try:
         return labs.with_house_apart(told, labs.read(path))
     except Fault:

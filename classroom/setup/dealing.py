@@ -36,13 +36,13 @@ def in_groups(people: list[str], count: int) -> list[list[str]]:
 def parts(people: People, count: int | None, column: str | None) -> list[Part]:
     """Returns the students of each network. Without a `column` there are `count` networks, or one if that is None. If
     `column` names the column with rooms, each room has networks of its own, as `networks_of` says. `people` are the
-    students by their names in the lab. Raises `Fault` if there are too few students or networks, or a student has no
-    room."""
+    students by their names in the lab. Raises `Fault` if there are fewer students than networks, or fewer networks than
+    rooms, or if a student has no room."""
     if column is None:
         return [Part(names) for names in in_groups([*people], count or 1)]
     lost = [person.written for person in people.values() if not person.group]
     if lost:
-        raise Fault(f"--groups-by {column}: this column is empty for these students: {', '.join(lost)}")
+        raise Fault(f"--groups-by {column}: this column is empty for these students: {', '.join(lost)}. Write a room for each of them")
     rooms: dict[str, list[str]] = {}
     for name, person in people.items():
         rooms.setdefault(person.group, []).append(name)
@@ -70,7 +70,7 @@ def deal(identifiers: list[int], students: list[str], each: int) -> list[labs.No
     """Returns nodes with these identifiers, each with `each` owners, who are taken from the students in rotation. The
     numbers of nodes of two students differ by at most one. Raises `Fault` if there are fewer students than `each`."""
     if len(students) < each:
-        raise Fault(f"with --pairs each node has {each} owners, so each network needs at least {each} students, but one has only {len(students)}")
+        raise Fault(f"with --pairs each node has {each} owners, so each network needs at least {each} students, but one has only {len(students)}. Make fewer networks, or leave out --pairs")
     turns = itertools.cycle(students)
     return [labs.Node(node, [next(turns) for _ in range(each)]) for node in identifiers]
 

@@ -65,8 +65,8 @@ def teacher_of(lab: Path) -> Path:
 
 
 def slip(made: Lab, name: str, port: int) -> list[str]:
-    """Returns those lines that every client reads of the slip of the student or teacher `name`. The slip is for the lab
-    `made`, whose server has this port."""
+    """Returns the lines that every client reads in the slip of the student or teacher `name`: the port of the server,
+    the name, the key and the nodes. The slip is for the lab `made`."""
     key = made.students[name] if name in made.students else made.teacher[1]
     nodes = ",".join(map(str, made.nodes_of(name)))
     return [f"port {port}", f"name {name}", f"key {key}", *([f"nodes {nodes}"] if nodes else [])]
