@@ -42,7 +42,7 @@ STOPS = {  # why a program stops, with its exit status; 0 means the run's end, 1
     "hidden": (3, "a node isn't shown to you: take the nodes from your slip"),
     "not-teacher": (3, "only the teacher may do this"),
     "malformed": (3, "the server couldn't read a line as a request: correct the program"),
-    "busy": (5, "all seats were taken for a minute: come again later"),
+    "busy": (5, "all seats were taken for a minute: try again later"),
     **dict.fromkeys(("full", "journal"), (6, "nothing is granted any longer: tell your teacher")),
 }
 NODE, OPTIONS, TOLD, PASSING = "a whole number", ("--log", "--tunnel"), "; --help prints what to type", ("busy", "memory")
@@ -64,10 +64,10 @@ class Denied(Exception):
 
 
 class Refused(Exception):
-    """A line is refused, by this word: `malformed`, `full`, `journal`, `memory`, or `busy`: no seat was free, or a newcomer needed this one."""
+    """A refused line. `word` says why: `malformed`, `full`, `journal`, `memory`, or `busy` (no seat was free, or a newcomer needed this one)."""
 
     def __init__(self, word: str) -> None:
-        super().__init__("busy: all seats are taken; come again later" if word == "busy" else word)
+        super().__init__("busy: all seats are taken; try again later" if word == "busy" else word)
         self.word = word
 
 
@@ -100,7 +100,7 @@ class NoDoor(NoServer):
 
 
 class NoSlip(Exception):
-    """A slip that can't be used, or an argument that is neither a slip nor anything else that is expected."""
+    """A slip, or another argument of the command line, that can't be used. The text says why."""
 
 
 class NotReply(Closed):
@@ -265,7 +265,7 @@ def tls() -> Any:
 
 
 def connected(port: int, limit: float, slip: Slip | None = None, host: str = "127.0.0.1") -> socket.socket:
-    """Returns a connection to a port, or through a slip's door if it has one, within `limit` seconds. Raises NoServer, NoDoor, or Refused (no room)."""
+    """Returns a connection to a port, or through a slip's door if it has one, within `limit` seconds. Raises NoServer, NoDoor, or Refused (a full door)."""
     it: Any = None
     try:
         if slip is None or not slip.door:
@@ -287,7 +287,7 @@ class Client:
     """A connection after its hello. Not for several threads at once."""
 
     def __init__(self, port: int, name: str, key: str, host: str = "127.0.0.1", limit: float = 30.0, connection: socket.socket | None = None) -> None:
-        """Connects and says hello. A reply may take `limit` seconds. If `connection` is given, uses this open one. Raises like `connected` and `ask`."""
+        """Connects and says hello. A reply may take `limit` seconds. If `connection` is given, uses this open one. Raises Closed, Denied or Refused."""
         self.name, self.port, self.limit, self._rest, self._ended = name, port, limit, b"", False
         self._socket = connection or connected(port, limit, host=host)
         try:
@@ -298,12 +298,12 @@ class Client:
 
     @staticmethod
     def from_slip(path: str | Path, limit: float = 30.0) -> Client:
-        """Connects by the slip in a file and says hello. Returns the connection. A reply may take `limit` seconds. Raises NoSlip, or like `of`."""
+        """Returns a connection by the slip in a file, after its hello. A reply may take `limit` seconds. Raises NoSlip, Closed, Denied or Refused."""
         return Client.of(Slip.read(path), limit)
 
     @staticmethod
     def of(slip: Slip, limit: float = 30.0) -> Client:
-        """Connects by a slip and says hello. Returns the connection. A reply may take `limit` seconds. Raises like `connected` and `ask`."""
+        """Returns a connection by a slip, after its hello. A reply may take `limit` seconds. Raises Closed, Denied or Refused."""
         return Client(slip.port, slip.name, slip.key, limit=limit, connection=connected(slip.port, limit, slip))
 
     def own_port(self) -> int:
@@ -344,7 +344,7 @@ class Client:
         return line
 
     def ask(self, **request: object) -> dict[str, Any]:
-        """Sends a request, and returns its reply if that is `ok`. Raises Malformed, and sends nothing, if it is wrong; otherwise Denied, Refused or Closed."""
+        """Sends a request, and returns its reply. Raises Malformed, and sends nothing, if the request is wrong, and Denied, Refused or Closed if it fails."""
         if self._ended:
             raise Closed("this connection has ended: make another Client, and say hello again")
         line = line_of(request)
@@ -383,7 +383,7 @@ class Client:
         raise Moving(f"in {tries} attempts the configuration changed between two looks: try again")
 
     def move(self, look: Look, rule: Rule | None = None, partner: int | None = None) -> Move:
-        """Asks for a move by the look's enabled rule, or by `rule`. A marriage is with `partner`, or the highest suitor. Raises Malformed if there is none."""
+        """Asks for a move by the look's rule, or by `rule`. Marries `partner`, or the highest node that points here. Raises Malformed if there is none."""
         if rule is None and look.rule is None:
             raise Malformed(f"the look at node {look.node} shows no rule: ask for no move there, or name a rule")
         request: dict[str, object] = {"do": "move", "node": look.node, "at": look.at, "rule": rule or look.rule}
@@ -422,7 +422,7 @@ class Client:
         return self._edit(do="release", node=node)
 
     def _edit(self, **request: object) -> Edit:
-        """Asks for a fault, a link, a cut or a release, and returns what it did. The reply to a release doesn't say how many moves it dropped: one."""
+        """Asks for a fault, a link, a cut or a release, and returns what it did. The reply to a release doesn't say that it dropped one move."""
         it = self.ask(**request)
         return Edit(it["at"], it["place"], it.get("dropped", 1))
 
@@ -434,7 +434,7 @@ class Client:
 
 
 def no_server(port: int, error: BaseException) -> NoServer | None:
-    """Returns the error to raise if a hello failed by this error because no server of a class is at the port, or None for any other error."""
+    """Returns the error to raise if a hello failed by `error` because no server of a class is at the port, or None if it failed for another reason."""
     if isinstance(error, NotReply):
         return NoServer(f"at port {port} is another program: it answers {error}")
     return NoServer(f"no server at port {port} answers a hello: {error}") if isinstance(error, Silent) else None
@@ -463,26 +463,26 @@ def reply_of(line: bytes) -> dict[str, Any]:
 
 
 def stop(error: Exception) -> tuple[int, str]:
-    """Returns the exit status and the message of a program that stops because of this error."""
+    """Returns the exit status and the message with which a program stops because of this error."""
     if isinstance(error, Denied | Refused) and error.word in STOPS:
         status, sentence = STOPS[error.word]
         return status, str(error) if isinstance(error, Malformed) else sentence
     if isinstance(error, NoSlip):
         return 1, str(error)
     if isinstance(error, NoServer):
-        return 4, f"{error}; ask your teacher for the {'certificate' if isinstance(error, NoDoor) else 'port'}"
+        return 4, f"{error}; ask your teacher for {'a new slip' if isinstance(error, NoDoor) else 'the port'}"
     if isinstance(error, Over):
         return 0, "the run is over"
     return (LOST, f"{LOST_SO} ({error})") if isinstance(error, Closed) else (3, str(error))
 
 
 def goes_on(error: Denied | Refused) -> bool:
-    """Returns whether a bot looks again after this error, because correct bots meet it too or memory was short. If not, the bot stops."""
+    """Returns whether a bot looks again after this error, since correct bots meet it too or the server is out of memory. If false, the bot stops."""
     return error.word not in STOPS
 
 
 def enter(slip: Slip, patience: float = 60.0) -> Client:
-    """Returns a connection by a slip, as `Client.of` does. If no seat is free or memory is out, tries again each second for `patience` seconds."""
+    """Returns a connection by a slip, after its hello. While no seat is free or the server is out of memory, retries each second, for `patience` seconds."""
     end = time.monotonic() + patience
     while True:
         try:
@@ -632,7 +632,7 @@ def sent(line: str) -> bytes:
 
 
 def whole(text: str) -> int | float:
-    """Returns the integer in a text: -1 for any number with a sign, since it is out of range, and infinity beyond the greatest double."""
+    """Returns the integer that a text spells. For a number with a sign, which is out of range, returns -1, and infinity beyond the greatest double."""
     return -1 if text.startswith("-") else int(text) if float(text) < float("inf") else float("inf")
 
 

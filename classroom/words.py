@@ -159,7 +159,7 @@ def parser(asked: str | None = None) -> argparse.ArgumentParser:
     with the name `asked` has them, and the modules of the others aren't imported."""
     every = Parser(prog="class", description="Prepares, runs and marks classes, and tests bots.", epilog=TABLE)
     every.add_argument("--version", action="store_true", help="show version, commit and toolchain, and exit")
-    each = every.add_subparsers(title="words", required=True)
+    each = every.add_subparsers(title="commands", required=True)
     for name, (what, add) in EACH.items():
         words = each.add_parser(name, help=what, description=what, epilog=EXAMPLES[name])
         if asked in (None, name):

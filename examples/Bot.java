@@ -60,7 +60,7 @@ public class Bot {
                 if (!wasGreeted) stop(4, "no server at port " + port + " answers a hello; ask your teacher for the port");
             }
         }
-        stop(wasGreeted ? 7 : 5, wasGreeted ? "the connection was lost: start again" : "all seats were taken for a minute: come again later");
+        stop(wasGreeted ? 7 : 5, wasGreeted ? "the connection was lost: start again" : "all seats were taken for a minute: try again later");
     }
 
     public static void main(String[] words) throws Exception {

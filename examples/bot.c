@@ -57,7 +57,7 @@ static void play(const char *port, const char *name, const char *key, const char
         for (is_in &= !strncmp(reply, "{\"ok\"", 5), was_greeted |= is_in; is_in; second = 0, usleep(100000))
             for EACH(node, nodes, ',') is_in = is_in && move(strtol(node, NULL, 10));
     }
-    STOP(was_greeted ? 7 : 5, "%s", was_greeted ? "the connection was lost: start again" : "all seats were taken for a minute: come again later");
+    STOP(was_greeted ? 7 : 5, "%s", was_greeted ? "the connection was lost: start again" : "all seats were taken for a minute: try again later");
 }
 
 int main(int count, char **words) {

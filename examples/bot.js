@@ -62,7 +62,7 @@ async function play(port, name, key, nodes) {
       if (!wasGreeted) stop(4, `no server at port ${port} answers a hello; ask your teacher for the port`);
     }
   }
-  stop(...(wasGreeted ? [7, "the connection was lost: start again"] : [5, "all seats were taken for a minute: come again later"]));
+  stop(...(wasGreeted ? [7, "the connection was lost: start again"] : [5, "all seats were taken for a minute: try again later"]));
 }
 
 const words = process.argv.slice(2);

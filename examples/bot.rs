@@ -45,7 +45,7 @@ fn enter(port: u16, name: &str, key: &str, is_lost: bool) -> BufReader<TcpStream
             _ => {}
         }
     }
-    stop(if is_lost { 7 } else { 5 }, if is_lost { "the connection was lost: start again" } else { "all seats were taken for a minute: come again later" })
+    stop(if is_lost { 7 } else { 5 }, if is_lost { "the connection was lost: start again" } else { "all seats were taken for a minute: try again later" })
 }
 
 /// Looks at a node, and asks for the rule that is enabled there. Returns `None` if the connection is lost.

@@ -41,15 +41,15 @@ Seen = tuple[tuple[tuple[str, str], ...], tuple[str, ...]]  # what a bot sees: i
 
 
 class Fails(Exception):
-    """The reason why a bot fails a case."""
+    """Raised if the bot fails a case. The text is the reason."""
 
 
 class NotStarted(Fails):
-    """The system can't run the bot's command."""
+    """Raised if the system can't run the bot's command."""
 
 
 class Stopped(Exception):
-    """The grade was interrupted."""
+    """Raised if the grade was interrupted."""
 
 
 @dataclass(frozen=True)
@@ -130,7 +130,8 @@ class Attempt:
             if self.stop.is_set():
                 raise Stopped
             if time.monotonic() > end:
-                raise Fails(f"the bot can't be started: the system took more than {LATEST:g} seconds to make the namespaces that isolate it")
+                raise Fails(f"the bot can't be started: the system took more than {LATEST:g} seconds to make the namespaces that isolate it; "
+                            "use --at-once with a smaller number")
 
     def turn(self) -> None:
         """Runs the class for a few milliseconds, and checks what the bot did. Raises `Fails` if the bot has ended or
@@ -148,7 +149,7 @@ class Attempt:
             raise Fails(self.end_reason(how))
 
     def connections_fault(self) -> str:
-        """Returns what is wrong with the number of the bot's connections, or an empty text."""
+        """Returns what is wrong with the number of the bot's connections, or an empty text if nothing is."""
         nodes = len(self.nodes())
         relay, most = self.playing.relay, most_connections(nodes)
         if len(relay.callers) > most_open(nodes):

@@ -144,8 +144,8 @@ class RunningBot:
         return self.how
 
     def last_output(self) -> str:
-        """Returns the line that the keeper printed before it ended, or an empty text if the keeper was killed. Never
-        waits, since the bot may hold the pipe open too."""
+        """Returns the line that the keeper printed before it ended, or an empty text if the keeper was killed. Reads
+        without waiting, since the bot may hold the pipe open too."""
         assert self.process.stdout is not None
         os.set_blocking(self.process.stdout.fileno(), False)
         try:

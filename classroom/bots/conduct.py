@@ -44,7 +44,7 @@ def most_quits(nodes: int) -> int:
 
 def polling_fault(lines: int, seconds: float, nodes: int) -> str:
     """Returns what is wrong with a bot of `nodes` nodes that sent `lines` lines in `seconds` seconds while nothing
-    changed, or an empty text."""
+    changed, or an empty text if these aren't too many."""
     if lines <= RATE * (nodes + 1) * seconds:
         return ""
     return (f"the bot sent {lines / seconds:.0f} lines a second while nothing changed: a bot waits a tenth of a second when it has looked at all its "
@@ -77,8 +77,8 @@ class Conduct:
     wrong: str = ""
 
     def take(self, asked: dict[str, Any], told: dict[str, Any], paused: bool) -> None:
-        """Checks one line of the program and the reply that the program got. The reply is empty if it was lost, and
-        `paused` says whether the program waited before this line."""
+        """Checks one line of the program and the reply that it got. `asked` has the values of the line, and `told`
+        those of the reply, or none if the reply was lost. `paused` says whether the program waited before this line."""
         self.pauses.append(paused)
         node, at = number_of(asked.get("node")), number_of(asked.get("at"))
         if told.get("ok") in ("look", "see"):
@@ -87,7 +87,7 @@ class Conduct:
             self.check_move(node, at, told)
 
     def take_look(self, told: dict[str, Any]) -> None:
-        """Notes the node, the number and the chosen move in a reply to `look` or `see`."""
+        """Notes the node, the number and the chosen move in `told`, the values of a reply to `look` or `see`."""
         node, at = told["node"], told["at"]
         self.looked.add((node, at))
         self.seen.add(node)
@@ -100,7 +100,7 @@ class Conduct:
 
     def check_move(self, node: int, at: int, told: dict[str, Any]) -> None:
         """Checks a request for a move of a node with the number `at` against what the program knew, and notes its
-        reply. Records a fault in `wrong`."""
+        reply, whose values are `told`. Records a fault in `wrong`."""
         if not told:
             self.unanswered.add((node, at))
         if (node, at) not in self.looked and (node, at) in self.before:
@@ -140,6 +140,6 @@ class Conduct:
 
     def is_flooding(self, nodes: int) -> bool:
         """Returns whether the last FLOOD lines of a bot with `nodes` nodes came almost without pauses. A correct bot
-        pauses after it has looked at all its nodes. So one pause is enough for 4 * nodes + 4 lines. With fewer lines
-        than FLOOD, returns false."""
+        pauses after it has looked at all its nodes, so one pause is enough for 4 * nodes + 4 lines. Returns false if
+        the bot has sent fewer lines than FLOOD."""
         return len(self.pauses) == FLOOD and sum(self.pauses) * (4 * nodes + 4) < FLOOD

@@ -50,7 +50,7 @@ def sizes(word: str) -> range:
     found, known = re.fullmatch(r"(\d+)(?:\.\.(\d+))?(?:/(\d+))?", word), limits.known()
     least, most = (int(found[1]), int(found[2] or found[1])) if found else (0, 0)
     if not found or not 1 <= least <= most <= (known.nodes if known else most) or found[3] == "0":
-        raise argparse.ArgumentTypeError(f"{word} isn't a number of nodes, A..B or A..B/STEP, with numbers from 1{f' to {known.nodes}' if known else ' on'}")
+        raise argparse.ArgumentTypeError(f"{word}: write a number of nodes, A..B or A..B/STEP, with numbers from 1{f' to {known.nodes}' if known else ' on'}")
     return range(least, most + 1, int(found[3] or 1))
 
 
@@ -144,7 +144,7 @@ def line_of(row: Row) -> str:
 
 
 def follow_parent() -> None:
-    """Makes this worker process end together with its parent process, and ignore interrupts."""
+    """Makes this process, a worker that measures runs, end together with its parent process, and ignore interrupts."""
     ctypes.CDLL(None).prctl(DIES, signal.SIGKILL, 0, 0, 0)
     signal.signal(signal.SIGINT, signal.SIG_IGN)
 
@@ -220,7 +220,7 @@ def spread(counts: list[int], bound: int) -> str:
 
 
 def closest(family: str, daemon: str, own: list[Row]) -> str:
-    """Returns the line about the runs that came closest to the bounds of their networks, among the runs `own` of one
+    """Returns the line about the runs that came closest to the bounds of their networks. `own` are all runs of one
     family under one daemon."""
     (_, by_moves, moves, most_moves), (_, by_rounds, rounds, most_rounds) = chart.closest_to_bounds(own)
     return (f"{family:10} {daemon:14} closest to the bounds: {moves} of at most {most_moves} moves ({by_moves.nodes} nodes, seed {by_moves.seed}); "

@@ -107,7 +107,7 @@ def results_of(bots: list[Bot], cases: list[Case], words: argparse.Namespace, to
         except OSError as error:
             why += f"{error.filename or tempfile.gettempdir()}: {error.strerror}; name another folder for temporary files by the environment variable TMPDIR"
         except Exception as error:  # An error in one case must not lose the results of others.
-            why += f"error of the program, {type(error).__name__}: {error}"
+            why += f"error of the program, {type(error).__name__}: {error}; report it to the developers"
         return Result(bot.name, case.lab, case.daemon.spelled(), case.seed, False, why)
 
     for group in [bots] if seen_by else [[bot] for bot in bots]:

@@ -185,7 +185,7 @@ class Watch:
         return found
 
     def fault(self) -> str:
-        """Returns a text about the first limit that the program exceeds, or an empty text."""
+        """Returns a text about the first limit that the program exceeds, or an empty text if it exceeds none."""
         every = below(os.getpid())
         if len(every) > MOST_PROCESSES:
             return f"it had more than {MOST_PROCESSES} processes"
@@ -197,8 +197,8 @@ class Watch:
 
 
 def wait_for_end(process: subprocess.Popen[bytes], fault: Callable[[], str]) -> str:
-    """Waits until a process ends, standard input ends, or `fault` returns a reason to end the process. Returns `ended
-    STATUS` or `killed REASON`. Doesn't end the process."""
+    """Waits until a process ends, standard input ends, or `fault` returns a text, the reason to end the process.
+    Returns `ended STATUS` or `killed REASON`. Doesn't end the process."""
     while True:
         if select.select([sys.stdin], [], [], LOOK)[0] and not os.read(0, 4096):
             return "killed asked"

@@ -68,16 +68,17 @@ def drawn(setting: Setting, seed: int) -> labs.Lab:
 
 
 def partner_chooser(how: Daemon, chance: random.Random) -> Callable[[Sequence[int]], int]:
-    """Returns the function that chooses the node to marry among the nodes that point at a node. The function chooses
-    the lowest if the daemon searches for long runs, and otherwise a random one."""
+    """Returns the function that chooses a node's partner among the nodes that point at it. The function chooses the
+    lowest if the daemon searches for long runs, and otherwise a random one."""
     if how.kind in SEARCHING:
         return min
     return chance.choice
 
 
 def run(bench: Bench, setting: Setting, made: labs.Lab, seed: int) -> Row:
-    """Runs the network of `made` until it is stable, or until there are more moves than the proved bound. Returns the
-    row with the run's counts. Raises `Fault` if the program of the bench denies or refuses a request, or ends."""
+    """Runs the network of `made` on a bench until it is stable, or until there are more moves than the proved bound.
+    Returns the row with the run's counts. Raises `Fault` if the program of the bench denies or refuses a request, or
+    ends."""
     named = f"{setting.family} {setting.nodes} {setting.start} {seed} {setting.daemon.spelled()}"
     chance = random.Random(named)
     partner_of = partner_chooser(setting.daemon, chance)

@@ -86,5 +86,5 @@ def merged(words: argparse.Namespace, order: Sequence[Case]) -> int:
     if missing:
         some = ", ".join(" ".join(case) for case in missing[:MOST_NAMED])
         print(printable(f"class: no file has a result of {plural(len(missing), 'case')} (bot, lab, daemon and seed): {some}"
-                        f"{' ..' if len(missing) > MOST_NAMED else ''}"))
+                        f"{' ..' if len(missing) > MOST_NAMED else ''}. Name the files of all parts after --merge"))
     return WARNED if missing or not all(result.passed for result in results) else 0

@@ -163,8 +163,8 @@ class Playing:
         return shown
 
     def speaker(self, connection: int, reply: dict[str, Any]) -> str:
-        """Returns the student who has greeted on a connection. Notes the name if this reply grants a hello. If nobody
-        has greeted there, returns the first program's student."""
+        """Returns the student who has greeted on a connection. Notes the name if this reply grants a hello, and counts
+        the hello. If nobody has greeted there, returns the first program's student."""
         if reply.get("ok") == "hello":
             self.names[connection] = reply["who"]
             self.heard.setdefault(reply["who"], Heard()).greeted += 1
@@ -186,10 +186,10 @@ class Playing:
         return is_refused
 
     def interfere(self, node: int, rule: str) -> None:
-        """Disturbs a program's request for a move just before it is answered. Does the first of three things that is
-        due: makes a new configuration (`overtakes`); sets the registers of the node, if the house doesn't play it, so
-        that another rule is enabled (`turns`); or lets the house, if it plays the node too, ask for its move
-        (`forestalls`). Does nothing if none of them is due."""
+        """Disturbs a program's request for a move of this node by this rule, just before it is answered. Does the first
+        of three things that is due: makes a new configuration (`overtakes`); sets the registers of the node, if the
+        house doesn't play it, so that another rule is enabled (`turns`); or lets the house, if it plays the node too,
+        ask for its move (`forestalls`). Does nothing if none of them is due."""
         if self.overtakes:
             self.overtakes -= 1
             self.next_configuration()
@@ -201,7 +201,7 @@ class Playing:
 
     def hide_rule(self, who: str, reply: bytes, told: dict[str, Any]) -> bytes:
         """Returns the bytes of a reply as the program of the student `who` gets them. With `own_rule`, the enabled rule
-        in a look is replaced by null, and this is counted. The last parameter has the values of the reply."""
+        in a look is replaced by null, and this is counted. `told` has the values of the reply."""
         if not self.own_rule or told.get("ok") != "look" or told["rule"] is None:
             return reply
         self.heard[who].conduct.rules_hidden += 1
@@ -214,8 +214,8 @@ class Playing:
 
     def record_line(self, who: str, asked: dict[str, Any], sent: bytes, told: dict[str, Any]) -> None:
         """Counts a line of the program of the student `who` by its reply. Calls `on_no` if the line was denied or
-        refused. `asked` has the line's values, `sent` is the line after its connection's number, and the last parameter
-        has the reply's values."""
+        refused. `asked` has the line's values, `sent` is the line after its connection's number, and `told` has the
+        reply's values."""
         heard, line = self.heard[who], sent.partition(b" ")[2]
         self.note_row(who, sent, told)
         heard.lines += 1
@@ -238,9 +238,9 @@ class Playing:
             self.on_no(NotGranted(who, told["refuse"], f"{text}; the line is {line[:SHOWN_LINE].decode(errors='backslashreplace')}", kind, sent))
 
     def note_row(self, who: str, sent: bytes, told: dict[str, Any]) -> None:
-        """Appends a row about a line to `rows` if a move was granted to it, or if it was denied or refused. Appends
-        nothing once there are KEPT_ROWS rows. The rows are shown on the programs' own pages. `sent` is the line after
-        its connection's number, and the last parameter has the reply's values."""
+        """Appends a row about a line to `rows`, which the programs' own pages show, if a move was granted to it, or if
+        it was denied or refused. Appends nothing once there are KEPT_ROWS rows. `who` is the student, `sent` the line
+        after its connection's number, and `told` has the reply's values."""
         if told.get("ok") not in ("move", None) or len(self.rows) >= KEPT_ROWS:
             return
         connection, _, line = sent.partition(b" ")
@@ -348,8 +348,8 @@ class Playing:
         self.chosen.pop(node)
 
     def next_configuration(self) -> None:
-        """Makes a new configuration: closes a step with all chosen moves. If no move is chosen, sets a node's registers
-        to their present values by a fault."""
+        """Makes a new configuration: closes a step with all chosen moves. If no move is chosen, makes a fault instead
+        that sets a node's registers to their present values."""
         if self.chosen:
             return self.close(list(self.chosen))
         node = next((each for each in self.lab.nodes if not set(each.owners) & set(self.programs)), self.lab.nodes[0])

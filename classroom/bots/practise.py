@@ -99,9 +99,9 @@ def made(words: argparse.Namespace, names: list[str]) -> labs.Lab:
 
 
 def opened(lab: labs.Lab, names: list[str], words: argparse.Namespace) -> Playing:
-    """Returns the class of a lab, in which programs play the students in `names`. The class's port is that of the
-    arguments or the next free one. If the arguments have a bot but no port, the port is any free one. Raises `Fault` if
-    no port is free."""
+    """Returns the class of a lab, in which programs play the students in `names`, at its port. The port is that of the
+    arguments or the next free one. If the arguments have a bot but no port, it is any free one. Raises `Fault` if no
+    port is free."""
     def at(port: int) -> Playing | None:
         """Returns the class at that port, or None if the port is taken."""
         try:
@@ -207,8 +207,8 @@ class Practice:
 
 
 def write_run(playing: Playing, folder: Path, tell: Callable[[str], None]) -> None:
-    """Writes the files of the run and a page for each program into the folder, and prints their paths. Raises
-    `Fault` if the page can't be made, and `OSError` if a file can't be written."""
+    """Writes the files of the run and a page for each program into the folder, and calls `tell` with a line about them.
+    Raises `Fault` if the page can't be made, and `OSError` if a file can't be written."""
     playing.write(folder)
     answer = call("script", folder / "lab.toml", folder / "script", folder / "journal")
     if answer.status != 0:

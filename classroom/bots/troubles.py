@@ -1,8 +1,8 @@
 """The run of a case: a class that becomes stable, and the troubles during the run. A bot meets each trouble in real
 classes too.
 
-Each trouble is a function here. Most of them *hurt* a node afterwards: they set its registers so that it is privileged,
-and the bot has to move it. Then these functions run the class until it is stable again. All raise `Fails` if the bot
+Each trouble is a function here. Most of them make a fault at a node of the bot afterwards: they set its registers so
+that it is privileged, and the bot has to move it. Then these functions run the class until it is stable again. All raise `Fails` if the bot
 does something wrong or is too late, and `Stopped` after an interrupt. The *number* is that of the present
 configuration, and a move is *stale* if it has an earlier one.
 """
@@ -25,7 +25,7 @@ from classroom.core.program import Fault
 QUIET = 0.6  # seconds for which a bot is watched while its class is stable
 LATE = 0.2  # seconds of rest after which a bot's requests are counted
 RESTING, LONGEST_REST, LONG_OPEN, GONE, TURNED_AWAY = 12.0, 65.0, 2.0, 8.0, 3.0  # All are in seconds.
-MOST_FAULTS = 4  # nodes of the bot that are hurt one after another
+MOST_FAULTS = 4  # nodes of the bot at which faults are made one after another
 OVERTAKES, ROUNDS = 5, 8  # the number of moves before which a step is closed, and the most faults that are made for them
 TURNS = 2  # the number of moves before which their node is set to other registers
 DRAWS, TRIES = 20, 12  # the number of different configurations at a node, and the most draws for each
@@ -67,8 +67,9 @@ def check_rest(attempt: Attempt, seconds: float) -> None:
 
 
 def hurt(attempt: Attempt, of: list[int] | None = None) -> int:
-    """Sets the registers of a random node so that it is privileged, and returns the node. It is one of those in `of`,
-    or if `of` is None one that the bot owns alone. Raises `Fails` if no registers make one of these privileged."""
+    """Makes a fault at a random node of the bot, which sets its registers so that it is privileged, and returns the
+    node. The node is one of those in `of`, or if `of` is None one that the bot owns alone. Raises `Fails` if no
+    registers make one of these privileged."""
     playing, nodes = attempt.playing, attempt.nodes_owned_alone() if of is None else of
     for node in attempt.chance.sample(nodes, len(nodes)):
         look = playing.program.ask(TEACHER, do="look", node=node)
@@ -97,15 +98,17 @@ def until_granted(attempt: Attempt, node: int, what: str) -> None:
 
 
 def fault(attempt: Attempt) -> None:
-    """Hurts several nodes of the bot, one after another."""
+    """Makes faults at several nodes of the bot, one after another. Runs the class until it is stable after each. Raises
+    `Fails` if the bot does something wrong or is too late."""
     for each in attempt.chance.sample(attempt.nodes_owned_alone(), min(MOST_FAULTS, len(attempt.nodes_owned_alone()))):
         node = hurt(attempt, [each])
         attempt.until_stable(f"a fault at node {node}")
 
 
 def cut(attempt: Attempt) -> None:
-    """Closes the bot's connections, and hurts a node. If the case sends replies in pieces, closes them in the middle of
-    a reply."""
+    """Closes the bot's connections, if the case sends replies in pieces in the middle of a reply, and waits until it
+    says hello again. Then makes a fault at a node of the bot. Raises `Fails` if the bot does something wrong or is too
+    late."""
     before, port, end = attempt.heard.greeted, attempt.playing.relay, time.monotonic() + attempt.limits.seconds
     while attempt.case.piece and not any(caller.held for caller in port.callers) and time.monotonic() < end:
         attempt.turn()
@@ -119,8 +122,8 @@ def cut(attempt: Attempt) -> None:
 
 
 def rest(attempt: Attempt, seconds: float = RESTING) -> None:
-    """Lets the class rest for `seconds` seconds, and hurts a node. Raises `Fails` if the bot didn't
-    look at all its nodes meanwhile."""
+    """Runs the stable class for `seconds` seconds, and then makes a fault at a node of the bot. Raises `Fails` if the
+    bot didn't look at all its nodes meanwhile, or doesn't move the node."""
     attempt.doing = f", after the network was stable for some seconds{ON}"
     recent = attempt.heard.conduct.recent
     recent.clear()
@@ -134,12 +137,14 @@ def rest(attempt: Attempt, seconds: float = RESTING) -> None:
 
 
 def long_rest(attempt: Attempt) -> None:
-    """Lets the class rest for more than a minute, and hurts a node."""
+    """Runs the stable class for more than a minute, and then makes a fault at a node of the bot. Raises `Fails` like
+    `rest`."""
     rest(attempt, LONGEST_REST)
 
 
 def open_step(attempt: Attempt) -> None:
-    """Hurts a node, and leaves the step open for LONG_OPEN seconds after the bot's move of this node was granted."""
+    """Makes a fault at a node of the bot, and leaves the step open for LONG_OPEN seconds after the bot's move of this
+    node was granted. Raises `Fails` if the bot does something wrong or is too late."""
     attempt.playing.is_held = True
     node = hurt(attempt)
     until_granted(attempt, node, f"the bot didn't ask for a move of node {node}, which a fault made privileged,")
@@ -150,7 +155,8 @@ def open_step(attempt: Attempt) -> None:
 
 
 def release(attempt: Attempt) -> None:
-    """Drops the bot's granted move without a close, so that the number stays the same. The bot has to ask again."""
+    """Drops the bot's granted move without a close, so that the number of the configuration stays the same, and checks
+    that the bot asks for it again. Raises `Fails` if it doesn't."""
     playing = attempt.playing
     playing.is_held = True
     node = hurt(attempt)
@@ -164,8 +170,8 @@ def release(attempt: Attempt) -> None:
 
 
 def overtake(attempt: Attempt) -> None:
-    """Hurts nodes until a step was closed OVERTAKES times between the bot's look and its move, so that the move is
-    stale. Gives up after ROUNDS nodes."""
+    """Closes a step OVERTAKES times between the bot's look and its move, so that the move is stale. For that, makes
+    faults at nodes of the bot, ROUNDS at most. Raises `Fails` if the bot does something wrong or is too late."""
     attempt.doing = f", after a step was closed between its look and its move (`stale` is no error: look again){ON}"
     attempt.playing.overtakes = OVERTAKES
     for _ in range(ROUNDS):
@@ -177,8 +183,8 @@ def overtake(attempt: Attempt) -> None:
 
 
 def turn(attempt: Attempt) -> None:
-    """Hurts a node TURNS times. Each time changes its registers again between the bot's look and its move, so that
-    another rule is enabled there."""
+    """Makes a fault at a node of the bot, TURNS times. Each time changes its registers again between the bot's look and
+    its move, so that another rule is enabled there. Raises `Fails` if the bot does something wrong or is too late."""
     attempt.doing = f", after a step was closed between its look and its move (`stale` is no error: look again){ON}"
     for _ in range(TURNS):
         attempt.playing.turns = 1
@@ -189,7 +195,7 @@ def turn(attempt: Attempt) -> None:
 
 def drop(attempt: Attempt) -> None:
     """Drops the bot's granted move by a fault at another node, which sets that node's registers to their present
-    values. The bot has to ask again."""
+    values, and checks that the bot asks for the move again. Raises `Fails` if it doesn't."""
     playing = attempt.playing
     playing.is_held = True
     node = hurt(attempt)
@@ -206,7 +212,8 @@ def drop(attempt: Attempt) -> None:
 
 def link_nodes(attempt: Attempt, node: int, other: int) -> None:
     """Links a node of the bot with the node `other`, which isn't its neighbour. Sets registers so that `other` is the
-    only node that points at the bot's node. The bot has to ask for the marriage."""
+    only node that points at the bot's node, and checks that the bot asks for the marriage. Raises `Fails` if it
+    doesn't."""
     playing = attempt.playing
     playing.is_held = True
     playing.relink("link", node, other)
@@ -221,7 +228,8 @@ def link_nodes(attempt: Attempt, node: int, other: int) -> None:
 
 def cut_pair(attempt: Attempt, node: int, other: int) -> None:
     """Sets registers so that a node of the bot is married to its neighbour `other`. Waits until the bot has looked at
-    the node, and cuts the link between the two. The bot has to move the node then."""
+    the node, cuts the link between the two, and checks that the bot asks for a move of the node. Raises `Fails` if it
+    doesn't."""
     playing = attempt.playing
     playing.is_held = True
     for each in near_of(attempt, node):
@@ -237,7 +245,7 @@ def cut_pair(attempt: Attempt, node: int, other: int) -> None:
 
 def relink(attempt: Attempt) -> None:
     """Adds a link at a node of the bot and cuts it. If the node is linked with all other nodes, cuts a link first and
-    adds it again."""
+    adds it again. Raises `Fails` if the bot doesn't move the node after each change."""
     node = attempt.chance.choice(attempt.nodes_owned_alone())
     near = near_of(attempt, node)
     far = [each.id for each in attempt.case.made.nodes if each.id not in (node, *near)]
@@ -247,7 +255,8 @@ def relink(attempt: Attempt) -> None:
 
 
 def memory(attempt: Attempt) -> None:
-    """Refuses a few of the bot's looks and moves with `memory`, as a server that is out of memory."""
+    """Refuses a few of the bot's looks and moves with `memory`, as a server that is out of memory does. Raises `Fails`
+    if the bot does something wrong or is too late afterwards."""
     attempt.doing = f", after the refusal `memory`, which means: ask again a little later{ON}"
     attempt.playing.short.update({"look": 2, "move": 1})
     node = hurt(attempt)
@@ -258,7 +267,7 @@ def memory(attempt: Attempt) -> None:
 
 def seat(attempt: Attempt) -> None:
     """Closes the bot's connections with the line `busy`, as if newcomers needed its seats, waits until it says hello
-    again, and hurts a node."""
+    again, and makes a fault at a node of the bot. Raises `Fails` if the bot does something wrong or is too late."""
     before = attempt.heard.greeted
     attempt.playing.relay.end_all(relay.BUSY)
     attempt.until_greeted_again(before, "seat was given to a new connection, with the last line `busy`")
@@ -268,7 +277,7 @@ def seat(attempt: Attempt) -> None:
 
 def taken(attempt: Attempt) -> None:
     """Lets another owner of a shared node ask for its move first: once before the bot looks, and then between the bot's
-    look and its move."""
+    look and its move. Raises `Fails` if the bot does something wrong or is too late."""
     playing, shared = attempt.playing, [node for node in attempt.nodes() if node not in attempt.nodes_owned_alone()]
     attempt.doing = f", after another owner asked first for the move of a shared node (`chosen` is no error: look again a little later){ON}"
     playing.is_held = True
@@ -283,8 +292,9 @@ def taken(attempt: Attempt) -> None:
 
 
 def lost(attempt: Attempt) -> None:
-    """Drops the reply to a granted move of the bot and closes its connections. Doesn't listen for GONE seconds, like
-    the server of a class that is resumed. Raises `Fault` if another program has taken the port meanwhile."""
+    """Drops the reply to a granted move of the bot and closes its connections. Then doesn't listen for GONE seconds,
+    like the server of a class that is resumed. Raises `Fails` if the bot doesn't connect again or does something wrong,
+    and `Fault` if another program has taken the port meanwhile."""
     playing = attempt.playing
     playing.is_held = playing.loses = True
     node, before = hurt(attempt), attempt.heard.greeted
@@ -304,15 +314,15 @@ def lost(attempt: Attempt) -> None:
     try:
         playing.relay.resume()
     except OSError as error:
-        raise Fault(f"port {playing.relay.port} can't be opened again: {error.strerror}", 4) from None
+        raise Fault(f"port {playing.relay.port} can't be opened again: {error.strerror}; try the bot again", 4) from None
     attempt.until_greeted_again(before, what)
     playing.is_held = playing.loses = playing.has_lost = False
     attempt.until_stable(f"a fault at node {node} and {GONE:g} seconds without a server")
 
 
 def turned_away(attempt: Attempt) -> None:
-    """Answers the bot's connections with `busy` for TURNED_AWAY seconds, and checks that it doesn't connect too often
-    meanwhile. Then waits for its hello."""
+    """Answers the bot's connections with `busy` for TURNED_AWAY seconds, and then waits for its hello. Raises `Fails`
+    if the bot connects too often meanwhile, or says no hello in time."""
     port, end = attempt.playing.relay, time.monotonic() + attempt.limits.seconds
     while not port.calls:
         if time.monotonic() > end:
@@ -329,7 +339,8 @@ def turned_away(attempt: Attempt) -> None:
 
 
 def over(attempt: Attempt) -> None:
-    """Ends the class, and checks that the bot ends too."""
+    """Ends the class, and waits for the end of the bot. Raises `Fails` if the bot keeps running or is killed, and
+    `Stopped` after an interrupt."""
     assert attempt.kept is not None
     attempt.playing.relay.end_class()
     end = time.monotonic() + attempt.limits.seconds
@@ -376,7 +387,8 @@ def draw_registers(attempt: Attempt, node: int, known: set[tuple[str | None, int
 
 def rules(attempt: Attempt) -> None:
     """Draws configurations around a node of the bot, one after another without a close. Checks that in each the bot
-    asks for the rule that the proved program reports, and for nothing if there is none."""
+    asks for the rule that the proved program reports, and for nothing if there is none. Raises `Fails` if it
+    doesn't."""
     playing, links = attempt.playing, attempt.case.made.links
     node = max(attempt.nodes_owned_alone(), key=lambda node: (any(node == b for a, b in links) + any(node == a for a, b in links), -node))
     known: set[tuple[str | None, int, bool]] = set()

@@ -94,7 +94,8 @@ class Answering:
         self.process.kill()
         said = self.process.stderr.read().decode(errors="replace").strip()
         status = self.process.wait()
-        return Fault(f"`mml answer` has ended unexpectedly, {how_ended(status)}. It printed: {said or 'nothing'}. Try again, and report the error to the developers if it comes again", 4)
+        return Fault(f"`mml answer` has ended unexpectedly, {how_ended(status)}. It printed: {said or 'nothing'}. "
+                     "Try again. If it happens again, report it to the developers", 4)
 
     def answer(self, connection: int, line: bytes) -> dict[str, Any]:
         """Sends a line on a connection, and returns the values of the JSON reply. Adds the line to the script of

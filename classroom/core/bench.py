@@ -57,7 +57,8 @@ class Bench:
         replies: list[dict[str, Any]] = [json.loads(reply) for reply in self.program.answers(lines)]
         for (_, request), reply in zip(requests, replies):
             if "ok" not in reply:
-                raise Fault(f"`mml answer` didn't grant the request {json.dumps(request)}. Its reply is {json.dumps(reply)}. This is an error of the program: report it to its developers", 4)
+                raise Fault(f"`mml answer` didn't grant the request {json.dumps(request)}. Its reply is {json.dumps(reply)}. "
+                            "This is an error of the program: report it to its developers", 4)
             self.events += "place" in reply
         self.requests += requests
         return replies

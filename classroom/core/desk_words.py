@@ -108,7 +108,7 @@ WORDS = {
     "page": Word("", "give the page on which you can act a new address; the old address no longer works", Action.PAGE),
     "key": Word("NAME", "give the student NAME a new key; the server restarts, and the class continues", Action.KEY),
     "help": Word("", "print this list of commands", Action.HELP),
-    "end": Word("", "end the run", Action.END, (Button("end", "End the run …", "end", "ends the run, after it has asked you again", kind="button"),)),
+    "end": Word("", "end the run", Action.END, (Button("end", "End the run …", "end", "asks you to confirm, and then ends the run", kind="button"),)),
 }
 EDITS = tuple(word for word, it in WORDS.items() if it.is_edit)
 BUTTONS = {button.name: button for it in WORDS.values() for button in it.buttons}

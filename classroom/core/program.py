@@ -117,7 +117,7 @@ def first_free(port: int, opened: Callable[[int], Opened | None], what: str = ""
         it = opened(number)
         if it is not None:
             return it
-    raise Fault(f"all ports {what}from {port} to {last} are in use. Name another port", 4)
+    raise Fault(f"all ports {what}from {port} to {last} are in use. Name another port in the command", 4)
 
 
 def call(*words: str | Path) -> Answer:

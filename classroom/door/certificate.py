@@ -80,7 +80,7 @@ def fingerprint(file: Path) -> str:
     try:
         return hashlib.sha256(ssl.PEM_cert_to_DER_cert(found[0])).hexdigest()
     except ValueError as error:
-        raise Fault(f"{file}: the certificate in this file can't be read: {error}", FAILED) from None
+        raise Fault(f"{file}: the certificate in this file can't be read: {error}. Name another file by --certificate FILE", FAILED) from None
 
 
 def context(file: Path) -> ssl.SSLContext:
@@ -93,5 +93,6 @@ def context(file: Path) -> ssl.SSLContext:
     try:
         it.load_cert_chain(file)
     except (OSError, ValueError) as error:
-        raise Fault(f"{file}: this file has no key, or one that doesn't fit its certificate: {error}", FAILED) from None
+        raise Fault(f"{file}: this file has no key, or one that doesn't fit its certificate: {error}. "
+                    "Name another file by --certificate FILE", FAILED) from None
     return it

@@ -195,7 +195,7 @@ class Hand {
   async ask(card, rule, partner) {
     const { at } = this.row, more = rule === "marriage" ? { with: partner } : {};
     const body = JSON.stringify({ token: this.token, node: card.node, at, rule, ...more });
-    const answer = await fetch("move", { method: "POST", body }).then((it) => it.json()).catch(() => ({ told: "not sent, since the page's server doesn't answer" }));
+    const answer = await fetch("move", { method: "POST", body }).then((it) => it.json()).catch(() => ({ told: "not sent, since the page's server doesn't answer: try again, or ask your teacher" }));
     card.say(".reply", `step ${at}, ${rule}: ${this.told(answer, rule)}`);
   }
 

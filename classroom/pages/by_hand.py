@@ -124,7 +124,7 @@ class PlayRequest(PageRequest):
 
     def enter(self, asked: dict[str, Any]) -> None:
         """Connects to the class's server with the name and key in `asked`, and sends updates while the page is open. If
-        the hello isn't granted, answers why."""
+        the hello isn't granted, or the student has no node, answers with the reason."""
         name, key = asked.get("name"), asked.get("key")
         if not isinstance(name, str) or not isinstance(key, str):
             return self.send_head(400)
@@ -186,6 +186,6 @@ def last_word(seat: Seat) -> str:
 
 
 def open_play_page(port: int, title: str, lab: Lab) -> PlayServer:
-    """Returns the server of the page, which listens at a port or the next free one, and doesn't answer yet. Raises
-    `Fault` if no port is free."""
+    """Returns the server of the page on which the students of a lab play. It listens at a port or the next free one,
+    and doesn't answer yet. Raises `Fault` if no port is free."""
     return opened(port, lambda number: PlayServer(number, title, lab))

@@ -88,7 +88,7 @@ class Drawing:
 
     @property
     def kind(self) -> str:
-        """Returns the CSS classes of the drawing: whether it has names, and whether it has room for rules."""
+        """Returns the CSS classes of the drawing. They say whether it has names, and whether it has room for rules."""
         return " ".join(["named" if self.view.labels else "bare", *["tiny"] * self.is_tiny])
 
     def link_opacity(self, links: int) -> float:
@@ -214,8 +214,8 @@ class Drawing:
 
 
 def drawing_of(lab: Lab, links: Iterable[tuple[int, int]] | None = None, field: Field = WIDE) -> Drawing:
-    """Returns the drawing of a lab's network for a field. The drawing has the links in `links`, or those of the lab if
-    that is None."""
+    """Returns the drawing of a lab's network for a field, the size of the area to draw into. The drawing has the links
+    in `links`, or those of the lab if that is None."""
     owners = {node.id: node.owners for node in lab.nodes}
     return Drawing(lab, view_of(owners, sorted(lab.links if links is None else links), field))
 

@@ -50,7 +50,7 @@ class Frame:
 
 
 class Looking(Replay):
-    """A replay that collects frames, by looks and reports after each event."""
+    """A replay that collects a frame after each event, from the replies to looks and reports."""
 
     def __init__(self, lab: labs.Lab, events: list[Event]) -> None:
         """Begins with the lab's network. Nothing is asked before `run`."""
@@ -119,8 +119,9 @@ class Looking(Replay):
 
 
 def frames_of(lab: Path, journal: Path) -> tuple[labs.Lab, Iterator[Frame]]:
-    """Returns the lab, and the frames of a journal, which are computed as they are taken. All frames share one state,
-    which changes when the next frame is taken. Raises `Fault` if the audit refuses the journal."""
+    """Returns the lab, and an iterator of the frames of a journal, which computes each frame when it is taken. All
+    frames share one state, which changes when the next frame is taken. Raises `Fault` if the audit refuses the
+    journal."""
     answer = call("audit", lab, journal)
     if answer.status != 0:
         raise Fault(f"{journal}: {answer.error}", answer.status)

@@ -44,7 +44,7 @@ function buttons(to, isDown) {
     const button = made("button", `${word} ${to === "all" ? "everywhere" : ""}`.trim());
     button.dataset.line = `${to}: ${word}`;
     button.addEventListener("click", () => {
-      if (word !== "end" || confirm(`End the run${to === "all" ? "s of all networks" : ` of network ${to}`}? Nobody can move any more then.`)) order(button.dataset.line);
+      if (word !== "end" || confirm(`End the run${to === "all" ? "s of all networks" : ` of network ${to}`}? After that, nobody can move any more.`)) order(button.dataset.line);
     });
     row.append(button);
   }

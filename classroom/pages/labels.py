@@ -77,7 +77,7 @@ class Form:
         return whole if len(whole) <= self.letters else whole[:self.letters - 1] + "…" if self.letters else ""
 
     def word(self, rule: str) -> str:
-        """Returns the text that stands for a rule: its word, or its first letter."""
+        """Returns the text that stands for a rule in a drawing: its name, or only the first letter."""
         return rule if self.words else rule[:1].upper()
 
     def pill_width(self, rule: str, is_chosen: bool) -> float:
@@ -256,8 +256,8 @@ def lies_upon(box: Box, layout: Layout, discs: list[Point], others: Iterable[Box
 
 
 def candidates(node: int, layout: Layout, form: Form, text: str, others: list[int]) -> Iterator[Label]:
-    """Yields possible labels of a node with this text, the best first: in the widest gap between its links to `others`,
-    and then all around."""
+    """Yields possible labels of a node with this text, the best first: in the widest gap between its links to the nodes
+    in `others`, and then all around."""
     first = math.pi / 4 if layout.kind == "grid" else widest_gap(layout, node, others)
     width = max(text_width(text, form.size), form.widest_pill)
     for angle in (first, *(eighths * math.pi / 4 for eighths in ANGLES)):

@@ -110,7 +110,7 @@ class Live {
 
   async act(line) {
     const answer = await fetch("act", { method: "POST", body: line }).catch(() => null);
-    if (answer === null || !answer.ok) this.aside.say("connection", "(the command wasn't sent)");
+    if (answer === null || !answer.ok) this.aside.say("connection", "(the command wasn't sent: try again)");
   }
 
   listen() {

@@ -1,6 +1,6 @@
 """Replaying a journal: its events are asked for again.
 
-The events become scripts, lists of request lines, over a lab in which one student owns all nodes. The teacher looks at
+The events become scripts, lists of request lines, for a lab in which one student owns all nodes. The teacher looks at
 nodes or asks for the report between them. Long journals are split into parts, each of which begins at the end of the
 part before. In the replies of a part, places (the numbers of events) and the numbers of configurations begin at 0
 again. This module knows nothing of the rules.
@@ -40,7 +40,7 @@ def request(at: int | str, words: Sequence[str]) -> str:
 
 
 def look(node: int) -> str:
-    """Returns the script's line by which the teacher looks at a node."""
+    """Returns the script's line by which the teacher looks at a node, that is, asks for its registers and its move."""
     return f'1 {{"do":"look","node":{node}}}'
 
 
@@ -75,12 +75,12 @@ class Replay:
         self.now = (0, 0)  # the same after the last event that was answered
 
     def ask(self, script: Script, event: Event | None, named: set[int]) -> None:
-        """Does nothing. A subclass can append further requests to the script here, after an event, or at the beginning
-        if `event` is None. `named` has the nodes of all events since the last configuration was made, including this
-        event."""
+        """Appends further requests to the script, after an event, or at the beginning if `event` is None. Here it does
+        nothing; subclasses redefine it. `named` has the nodes of all events since the last configuration was made,
+        including this event."""
 
     def note_reply(self, event: Event, reply: dict[str, Any]) -> None:
-        """Handles the reply to an event. Here it does nothing."""
+        """Handles the reply to an event. Here it does nothing; subclasses redefine it."""
 
     def replies(self) -> Iterator[None]:
         """Replays all events, and yields after each reply was handled. Raises `Fault` if an event isn't granted again
@@ -174,14 +174,16 @@ def values_of(reply: str) -> dict[str, Any]:
 
 
 def another(line: str, reply: str) -> Fault:
-    """Returns the fault to raise if a line gets another reply than in the run."""
-    return Fault(f"the journal can't be replayed: the program answered the line {line[2:]} by {reply[2:]}", 4)
+    """Returns the fault to raise if the program doesn't grant a line that was granted in the run."""
+    return Fault(f"the journal can't be replayed: the program answered the line {line[2:]} by {reply[2:]}. "
+                 "This is an error of the program: report it to its developers", 4)
 
 
 def wrong_place(expected: int, place: int) -> Fault:
     """Returns the fault to raise if the program gives the number `place` to the event of the journal with the number
     `expected`."""
-    return Fault(f"the journal can't be replayed: the program counted its event {expected} as event {place}", 4)
+    return Fault(f"the journal can't be replayed: the program counted its event {expected} as event {place}. "
+                 "This is an error of the program: report it to its developers", 4)
 
 
 def report(lab: labs.Lab, lines: list[list[str]]) -> dict[str, Any]:

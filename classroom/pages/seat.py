@@ -57,7 +57,8 @@ def shown_part(name: str, looks: Looks) -> Lab:
 
 
 def drawing_of_part(part: Lab, looks: Looks) -> Seen:
-    """Returns the drawing of a part. Each node beyond it is drawn near the node that points at it."""
+    """Returns the drawing of the part of the network that a student is shown. Each node beyond it is drawn near the
+    node that points at it."""
     beyond = frozenset(node.id for node in part.nodes if not node.owners)
     points_at = [(each.node, each.p) for look in looks.values() for each in look.near if each.p in beyond and each.p is not None]
     links = sorted({*part.links, *map(ordered, points_at)})

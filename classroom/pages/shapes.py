@@ -52,7 +52,8 @@ def kept_shape(nodes: tuple[int, ...], links: tuple[tuple[int, int], ...], aspec
 
 
 def plain_shape(near: Near, aspect: float) -> Shape | None:
-    """Returns the shape of a single node, a complete graph, path, cycle or star, or None for any other network."""
+    """Returns the shape of a single node, a complete graph, path, cycle or star, or None for any other network. `near`
+    has the neighbours of each node, and `aspect` is the field's ratio of width to height."""
     nodes, degrees = [*near], [len(others) for others in near.values()]
     count, links = len(nodes), sum(degrees) // 2
     if count == 1:
@@ -118,8 +119,8 @@ def ellipse(order: list[int], aspect: float, room: float = 0.0) -> Points:
 
 
 def layers(near: Near, aspect: float) -> Points:
-    """Returns points for the nodes of a tree, with the lowest identifier as the root at the top. Each node is centred
-    above its children."""
+    """Returns points for the nodes of a tree, whose neighbours are in `near`. The node with the lowest identifier is
+    the root, at the top. Each node is centred above its children. `aspect` is the field's ratio of width to height."""
     root = min(near)
     depths = steps_from(root, near)
     children = {node: [other for other in others if depths[other] > depths[node]] for node, others in near.items()}

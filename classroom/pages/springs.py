@@ -54,14 +54,14 @@ def searched(nodes: tuple[int, ...], links: tuple[tuple[int, int], ...]) -> dict
 
 
 def pulls_of(index: int, far: Rows) -> Iterable[Pull]:
-    """Returns the pull of each other node on the node at an index, by the distances of all nodes. Near nodes pull more
-    than distant ones."""
+    """Returns the pull of each other node on the node at `index`. `far` has the distances of all nodes. Near nodes pull
+    more than distant ones."""
     return ((other, apart, 1 / (apart * apart)) for other, apart in enumerate(far[index]) if apart)
 
 
 def sparse_pulls(far: Rows) -> list[list[Pull]]:
-    """Returns the pulls on each node, by the distances of all nodes: by its neighbours, and by pivots with the weight
-    of the nodes around them."""
+    """Returns the pulls on each node in a large network: by its neighbours, and by pivots with the weight of the nodes
+    around them. `far` has the distances of all nodes."""
     pivots = pivots_of(far)
     regions: dict[int, list[float]] = {pivot: [] for pivot in pivots}
     for row in far:
@@ -77,7 +77,7 @@ def sparse_pulls(far: Rows) -> list[list[Pull]]:
 
 def pivots_of(far: Rows) -> list[int]:
     """Returns the indices of PIVOTS nodes, or of all if they are fewer, that are as distant from each other as
-    possible. The first node is one of them."""
+    possible. The node with index 0 is one of them. `far` has the distances of all nodes."""
     pivots, nearest = [0], [*far[0]]
     while len(pivots) < min(PIVOTS, len(far)):
         pivots.append(max(range(len(far)), key=lambda index: nearest[index]))
@@ -140,9 +140,10 @@ def distances(nodes: Sequence[int], links: Iterable[tuple[int, int]]) -> Rows:
 
 
 def classical_scaling(far: Rows, axes: Rows) -> Rows:
-    """Returns two rows, the first and the second coordinate of all nodes: the classical scaling of the distances in two
-    dimensions. Each row is an eigenvector of the centred squares times the root of its eigenvalue. It is found by power
-    iteration, which begins at one of `axes` and in each turn removes the parts along the rows already found."""
+    """Returns two rows, the first and the second coordinate of all nodes: the classical scaling of the distances `far`
+    in two dimensions. Each row is an eigenvector of the centred squares times the root of its eigenvalue. It is found
+    by power iteration, which begins at one of `axes` and in each turn removes the parts along the rows already
+    found."""
     squares = [[each * each for each in row] for row in far]
     means = [sum(row) / len(row) for row in squares]
     mean = sum(means) / len(means)

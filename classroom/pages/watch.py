@@ -157,8 +157,8 @@ class Watch:
             pass
 
     def look(self) -> set[int]:
-        """Looks at the nodes that events have named, and updates the state. Returns the numbers of the configurations
-        in which the looks were answered."""
+        """Looks at the nodes that events have named, and updates the state. Returns the set of numbers of the
+        configurations in which the looks were answered, which is more than one if the run has gone on meanwhile."""
         state, numbers = self.state, set()
         for node in sorted(self.named):
             look = self.client.look(node)

@@ -72,8 +72,8 @@ class Web(ThreadingHTTPServer):
             self.free.release()
 
     def handle_error(self, request: Any, client_address: Any) -> None:
-        """Prints a line about an error in a request, but only one for each kind. That a page has gone away is no
-        error."""
+        """Prints a line about an error in a request, but only one for each kind. If the page has only gone away, prints
+        nothing."""
         error = sys.exc_info()[1]
         if error is None or isinstance(error, (ConnectionError, TimeoutError)):
             return
@@ -81,7 +81,7 @@ class Web(ThreadingHTTPServer):
         kind = type(error).__name__, f"{last.filename}:{last.lineno}"
         if kind not in self.faults:
             self.faults.add(kind)
-            self.tell(f"error in the server of a page: {type(error).__name__}: {error}"[:LONGEST])
+            self.tell(f"a page couldn't be shown, because of an error in its server: {type(error).__name__}: {error}"[:LONGEST])
 
 
 class DeadlineReader(io.RawIOBase):
@@ -120,8 +120,8 @@ class PageRequest(BaseHTTPRequestHandler):
         self.rfile = io.BufferedReader(DeadlineReader(self.connection, ASKING))
 
     def reject_foreign_host(self) -> bool:
-        """Answers 421 with the right address if the request names another host or another port, as through a tunnel.
-        Returns whether it was answered so."""
+        """Checks that the request names this machine and this port. If it names another host or another port, as
+        through a tunnel, answers with status 421 and the right address. Returns whether it did so."""
         port = self.connection.getsockname()[1]
         if self.headers.get("Host") in (f"127.0.0.1:{port}", f"localhost:{port}"):
             return False

@@ -43,7 +43,8 @@ def wait_for_desk(folder: Path, record: Record) -> None:
         end = time.monotonic() + PATIENCE
         while holder.lives():
             if time.monotonic() > end:
-                raise Fault(f"{folder}: process {holder.number} was asked to leave the desk of this run, but hasn't left it. End it by `kill {holder.number}`, and type this command again")
+                raise Fault(f"{folder}: process {holder.number} was asked to leave the desk of this run, but hasn't left it. "
+                            f"End it by `kill -9 {holder.number}`, and type this command again")
             time.sleep(0.05)
 
 

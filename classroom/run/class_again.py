@@ -32,7 +32,7 @@ def wait_for_desks(folder: Path, kept: Class) -> None:
     while kept.desk.lives():
         if time.monotonic() > end:
             raise Fault(f"{folder}: process {kept.desk.number} was asked to leave the desks of this class, but hasn't left them. "
-                        f"End it by `kill {kept.desk.number}`, and type this command again")
+                        f"End it by `kill -9 {kept.desk.number}`, and type this command again")
         time.sleep(0.05)
 
 

@@ -31,14 +31,16 @@ def renew(folder: Path, lab: labs.Lab, it: server.Server, desk: Desk, name: str)
         raise ValueError(f"there is no student {name}. The students are: {', '.join(lab.without_house().students)}")
     kept = Record.read(folder)
     if kept is None:
-        raise Fault(f"{folder}: the file run.json is missing or damaged, so the server can't be restarted, and the key isn't changed. End the run, and change the key by `class key`")
+        raise Fault(f"{folder}: the file run.json is missing or damaged, so the server can't be restarted, and the key isn't changed. "
+                    "End the run, and change the key by `class key`")
     changed = rekey.change(str(folder), name)
     lab.students[name] = changed.key
     desk.tell(f"{name} has a new key. The new slip is {changed.slip}; the server restarts")
     desk.read()
     os.kill(it.process.number, signal.SIGKILL)
     if not it.has_ended(PATIENCE):
-        raise Fault(f"the server (process {it.process.number}) was killed because of the new key, but hasn't ended. End it by `kill -9 {it.process.number}`, and resume the run")
+        raise Fault(f"the server (process {it.process.number}) was killed because of the new key, but hasn't ended yet. "
+                    "Wait until this process has ended, and then resume the run")
     desk.client.hang_up()
     desk.known.rewind()
     it.replace_by(server.start(folder, folder / "lab.toml", it.port, folder / "journal", None, kept))

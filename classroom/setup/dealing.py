@@ -70,7 +70,8 @@ def deal(identifiers: list[int], students: list[str], each: int) -> list[labs.No
     """Returns nodes with these identifiers, each with `each` owners, who are taken from the students in rotation. The
     numbers of nodes of two students differ by at most one. Raises `Fault` if there are fewer students than `each`."""
     if len(students) < each:
-        raise Fault(f"with --pairs each node has {each} owners, so each network needs at least {each} students, but one has only {len(students)}. Make fewer networks, or leave out --pairs")
+        raise Fault(f"with --pairs each node has {each} owners, so each network needs at least {each} students, but one has only {len(students)}. "
+                    "Make fewer networks, or leave out --pairs")
     turns = itertools.cycle(students)
     return [labs.Node(node, [next(turns) for _ in range(each)]) for node in identifiers]
 

@@ -265,7 +265,7 @@ class Playing(InRoom):
         other = self.enter_beside("hana")
         self.open()
         self.come()
-        self.is_told("busy: all seats are taken; come again later")
+        self.is_told("busy: all seats are taken; try again later")
         other.bye()
         self.seats("nobody (0 of 1 seats are taken)")
         self.come()

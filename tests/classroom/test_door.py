@@ -238,7 +238,7 @@ class Bots(AtDoor):
         for words in ([str(self.files(other))], ["--tunnel", str(self.files(other))]):
             done = subprocess.run([sys.executable, CLIENT, *words], capture_output=True, text=True, check=False, timeout=LIMIT, input="")
             self.assertEqual((done.returncode, done.stdout), (4, ""))
-            self.assertRegex(done.stderr, "^client.py: the door at .* has another certificate .*; ask your teacher for the certificate\n$")
+            self.assertRegex(done.stderr, "^client.py: the door at .* has another certificate .*; ask your teacher for a new slip\n$")
         self.assertEqual(seen, [])
 
     def test_last_words_reach_the_client(self) -> None:

@@ -110,7 +110,7 @@ class Asks(InRoom):
             (["new", self.room / "more.toml", "--students", table, "--nodes", "10"], 1, "class: this network would have 10 nodes, but a lab has 1 to 9\n"),
             (["new", self.room / "far.toml", "--students", table, "--links", links], 1,
              f"class: {links}: line 1 is wrong: 1 100 (the number of a node has to be from 1 to 99)\n"),
-            (["experiment", "--nodes", "4..10"], 1, "4..10 isn't a number of nodes, A..B or A..B/STEP, with numbers from 1 to 9;"),
+            (["experiment", "--nodes", "4..10"], 1, "4..10: write a number of nodes, A..B or A..B/STEP, with numbers from 1 to 9;"),
         )
         for given, status, what in cases:
             done = words(*given, MML_HOST=it, MML_PROGRAM=it)

@@ -118,7 +118,8 @@ class Grades(InRoom):
         self.assertEqual((self.room / "all.scope").read_bytes(), (self.room / "whole.scope").read_bytes())
         lacking = words(*asked, "--merge", files[0])
         self.assertEqual(lacking.returncode, 5)
-        self.assertIn("class: no file has a result of 1 case (bot, lab, daemon and seed): bot.py cycle central 1\n", lacking.stdout)
+        self.assertIn("class: no file has a result of 1 case (bot, lab, daemon and seed): bot.py cycle central 1. Name the files of "
+                      "all parts after --merge\n", lacking.stdout)
         other = words("grade", EXAMPLES / "bot.py", "--suite", "small", "--merge", *files)
         self.assertEqual(other.returncode, 4)
         self.assertIn("isn't a case of this command: name the same bots and options as for the parts", other.stderr)

@@ -57,7 +57,7 @@ class Served(unittest.TestCase):
         self.assertEqual(self.ask(pages), 200)
         with patch.object(projector, "live_page", side_effect=ValueError("no page")), contextlib.redirect_stderr(io.StringIO()) as printed:
             self.assertEqual(self.ask(pages), 0)
-        self.assertEqual((self.told, printed.getvalue()), (["error in the server of a page: ValueError: no page"], ""))
+        self.assertEqual((self.told, printed.getvalue()), (["a page couldn't be shown, because of an error in its server: ValueError: no page"], ""))
         with socket.create_connection(("127.0.0.1", pages.server_port)) as gone:
             gone.setsockopt(socket.SOL_SOCKET, socket.SO_LINGER, b"\x01\0\0\0\0\0\0\0")
             gone.sendall(b"GET /")
@@ -79,7 +79,7 @@ class Served(unittest.TestCase):
         second = projector.open_pages(first.server_port, "", self.lab, queue.SimpleQueue())
         self.addCleanup(second.server_close)
         self.assertGreater(second.server_port, first.server_port)
-        with self.assertRaisesRegex(Fault, "^all ports for the page from 65536 to 65535 are in use. Name another port$"):
+        with self.assertRaisesRegex(Fault, "^all ports for the page from 65536 to 65535 are in use. Name another port in the command$"):
             projector.open_pages(65536, "", self.lab, queue.SimpleQueue())
 
     def test_a_page_is_told_what_is_new_to_it(self) -> None:

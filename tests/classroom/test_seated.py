@@ -168,7 +168,7 @@ class Seated(Cycle):
         again.process.send_signal(signal.SIGTERM)
         self.assertEqual(again.ends(), 4, again.lines)
         self.assertEqual(again.lines[-2:], [
-            "the desk can't be used, because it has no connection to the server: busy: all seats are taken; come again later",
+            "the desk can't be used, because it has no connection to the server: busy: all seats are taken; try again later",
             f"the server (process {record.server.number}) keeps running, but nobody controls it. To control it again, type: {CLASS} attach {going.folder}",
         ])
         self.assertTrue(record.server.lives())

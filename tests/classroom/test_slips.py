@@ -239,7 +239,7 @@ class Fake(InRoom):
     def test_no_seat_is_free(self) -> None:
         said = call(*BOT, self.slip(self.answers(b'{"refuse":"busy"}\n', 9)), "0.5")
         self.assertEqual((said.returncode, said.stdout), (5, ""))
-        self.assertEqual(said.stderr, "bot.py: all seats were taken for a minute: come again later\n")
+        self.assertEqual(said.stderr, "bot.py: all seats were taken for a minute: try again later\n")
 
     def test_no_seat_is_free_for_a_minute(self) -> None:
         slip = self.slip(self.answers(b'{"refuse":"busy"}\n', 1000))
@@ -248,7 +248,7 @@ class Fake(InRoom):
         for bot in bots:
             out, error = bot.communicate(timeout=LIMIT)
             self.assertEqual((bot.returncode, out), (5, ""), error)
-            self.assertRegex(error, r"^\w+(\.py)?: all seats were taken for a minute: come again later\n$")
+            self.assertRegex(error, r"^\w+(\.py)?: all seats were taken for a minute: try again later\n$")
             self.assertGreater(time.monotonic() - begun, 59)
 
     def test_wrong_words(self) -> None:
