@@ -23,7 +23,7 @@ def pointer_text(value: int | None) -> str:
 
 
 def no_update(world: World, i: int) -> str:
-    """Returns why Update isn't enabled at node i: m agrees with whether the node is married."""
+    """Returns why Update isn't enabled at node i, namely that m says correctly whether the node is married."""
     return f"m of node {i} is {str(world.m[i]).lower()} and node {i} is {'' if world.m[i] else 'not '}married, so there is nothing to update"
 
 
@@ -77,18 +77,18 @@ def failing(world: World, i: int, move: Move) -> str:
 def right_line(world: World, i: int) -> str:
     """Returns a text with the line that a correct bot would send for node i now."""
     if i in world.chosen:
-        return f"a right bot would send nothing for node {i}, because its granted move waits for the end of the step"
+        return f"a correct bot would send nothing for node {i}, because its granted move waits for the end of the step"
     moves = world.moves(i)
     if not moves:
-        return f"a right bot would send nothing for node {i}, because no guard holds there"
+        return f"a correct bot would send nothing for node {i}, because no guard holds there"
     asked = {"do": "move", "node": i, "rule": moves[-1].rule, "at": world.number}
     more = {} if moves[-1].partner is None else {"with": moves[-1].partner}
     others = f", or with {' or '.join(str(move.partner) for move in moves[:-1])}" if len(moves) > 1 else ""
-    return f"a right bot would send {text_of(**asked, **more)}{others}"
+    return f"a correct bot would send {text_of(**asked, **more)}{others}"
 
 
 def explained(world: World, asked: Request) -> str:
-    """Returns the explanation of a requested move in the world before its answer. Returns an empty text if the request isn't a move of an existing node."""
+    """Returns the explanation of a requested move, before the world has answered it, or an empty text if the request isn't a move of an existing node."""
     if asked.do != "move" or asked.node not in world.links:
         return ""
     parts = [failing(world, asked.node, asked.move)] if asked.at == world.number and asked.node not in world.chosen else []
@@ -96,7 +96,7 @@ def explained(world: World, asked: Request) -> str:
 
 
 def explanations(lab: Lab, script: bytes) -> list[str]:
-    """Returns the lines to print: one for each denied move of a script over a lab, and one for each node that could move at its end."""
+    """Returns the lines to print: one for each denied move of a script for a lab, and one for each node that could move at the script's end."""
     run, found = Run(lab), []
     for number, line in enumerate(script.splitlines(), 1):
         read = script_line(lab, line)

@@ -35,7 +35,7 @@ def visible(lab: Lab, world: World, who: str, i: int) -> bool:
 
 
 def denial_of_hello(lab: Lab, known: str | None, asked: Request) -> str | None:
-    """Returns the first failing clause of a hello, or None if it may be granted. `known` is the name of the connection, if it has greeted."""
+    """Returns the name of the first clause of a hello that fails, or None if it may be granted. `known` is the connection's name, or None."""
     # Clause 1: the connection has no name yet.
     if known is not None:
         return "greeted"
@@ -44,7 +44,7 @@ def denial_of_hello(lab: Lab, known: str | None, asked: Request) -> str | None:
 
 
 def denial_of_view(lab: Lab, world: World, who: str, asked: Request) -> str | None:
-    """Returns the first failing clause of a see, a look or a report, or None if it may be granted."""
+    """Returns the name of the first clause that fails for a see, a look or a report by `who`, or None if it may be granted."""
     exists = asked.node in world.links
     # See, clause 1: the node exists and is visible to the one who asks.
     if asked.do == "see":
@@ -57,7 +57,7 @@ def denial_of_view(lab: Lab, world: World, who: str, asked: Request) -> str | No
 
 
 def denial_of_move(lab: Lab, world: World, who: str, asked: Request) -> str | None:
-    """Returns the first failing clause of a move, or None if it may be granted."""
+    """Returns the name of the first clause that fails for a move that `who` asks for, or None if it may be granted."""
     # Clause 1: the node exists and is the asker's own.
     if asked.node not in world.links or who not in lab.owners[asked.node]:
         return "not-owner"
@@ -72,7 +72,7 @@ def denial_of_move(lab: Lab, world: World, who: str, asked: Request) -> str | No
 
 
 def denial_of_act(lab: Lab, world: World, who: str, asked: Request) -> str | None:
-    """Returns the first failing clause of a close, a fault, a release, a link or a cut, or None if it may be granted."""
+    """Returns the name of the first clause that fails for a close, fault, release, link or cut by `who`, or None if it may be granted."""
     # Clause 1 of each: the teacher asks.
     if who != lab.teacher:
         return "not-teacher"
@@ -101,7 +101,7 @@ def denial_of_act(lab: Lab, world: World, who: str, asked: Request) -> str | Non
 
 
 def denial(lab: Lab, world: World, who: str, asked: Request) -> str | None:
-    """Returns the first failing clause of a request of the teacher or a student other than a hello, or None if it may be granted."""
+    """Returns the name of the first clause that fails for a request by `who`, other than a hello or bye, or None if it may be granted."""
     if asked.do in ("see", "look", "report"):
         return denial_of_view(lab, world, who, asked)
     return (denial_of_move if asked.do == "move" else denial_of_act)(lab, world, who, asked)

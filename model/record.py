@@ -82,7 +82,7 @@ class Seat:
         self.stage, self.is_halted = FRESH, False  # is_halted: a line was refused with `journal` since the last mark `!`
 
     def entry(self, text: bytes, at: int) -> Entry | str:
-        """Returns the entry that begins at the byte `at` of the text, or the reason why there is none."""
+        """Returns the entry that begins at the byte `at` of the text, or as a string the reason why there is none."""
         said, mark = SAID.match(text, at), MARK.match(text, at)
         if said and self.is_stamp(said) and said.group(1, 2) == said.group(5, 6):
             return Entry(said[3], int(said[2]), said.end(), said[4], said[7])
@@ -103,7 +103,7 @@ class Seat:
         apply(self.world, self.events[self.world.place].asked)
 
     def take(self, entry: Entry) -> str | None:
-        """Checks the next entry of the seat. Returns the reason why it is impossible, or None if it isn't."""
+        """Checks the next entry of the seat. Returns the reason why it can't be there, or None if it can."""
         if entry.seen < self.world.place:
             return "goes back"
         if entry.seen > len(self.events):
@@ -145,7 +145,7 @@ class Seat:
         return entry.mark == b">" and entry.reply != NO_MEMORY and self.known is not None and is_command(entry.line)
 
     def judge(self, entry: Entry) -> str | None:
-        """Checks an entry with an answered line. Returns the reason if no line may come now or its reply is wrong, or None."""
+        """Checks an entry with an answered line. Returns the reason why no line may come now or why its reply is wrong, or None if all is right."""
         if self.stage in (OVER, CUT, PAUSED):
             return "not the session's end"
         before = self.known
@@ -157,7 +157,7 @@ class Seat:
         return why
 
     def check(self, entry: Entry) -> str | None:
-        """Checks the reply in an entry with an answered line. Returns the reason if the reply isn't the one that the rules give, or None."""
+        """Checks the reply in an entry. Returns the reason why it isn't the reply that the rules give, or None if it is."""
         place = self.world.place
         found = answer(self.lab, self.world, self.known, entry.line)
         said = Said(self.known, entry.line, entry.reply)

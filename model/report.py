@@ -25,7 +25,7 @@ def witness(world: World, rules: dict[int, str | None], a: int, b: int) -> tuple
     enabled rule. `rules` has the enabled rule of each node.
 
     A walk follows the pointers from a, and then one from b, to the first node that is privileged or points at none. The
-    walk's end is the witness if a rule other than seduction is enabled there. If neither is, a may seduce."""
+    walk's end is the witness if a rule other than seduction is enabled there. If neither end is, a is it, by seduction."""
     for i in (a, b):
         j = world.p[i]
         while rules[i] is None and j is not None:

@@ -31,7 +31,7 @@ def text_of(**values: Any) -> str:
 
 
 def denied(world: World, name: str) -> str:
-    """Returns the text of the reply for a denial by the clause with this name. For `stale` it also has the number of the present configuration."""
+    """Returns the text of the reply if the clause with this name denies a request. For `stale` it has the number of the present configuration."""
     clause, text = DENIALS[name]
     number = {"at": world.number} if name == "stale" else {}
     return text_of(clause=clause, deny=name, text=text, **number)
@@ -65,7 +65,7 @@ def answer(lab: Lab, world: World, known: str | None, line: bytes) -> Answer:
 
 
 class Run:
-    """The state of a run over a lab: its world, the name of each connection, and its output."""
+    """The state of a run of a lab: its world, the name of each connection, and its output."""
 
     def __init__(self, lab: Lab) -> None:
         """Begins a run at the lab's first configuration."""
@@ -96,7 +96,7 @@ class Run:
 
 
 def script_line(lab: Lab, line: bytes) -> tuple[int, bytes] | None:
-    """Returns the connection's number and the request line in a line of a script, or None if it has another form or exceeds a limit."""
+    """Returns the connection's number and the request in a line of a script, or None if the line has another form or exceeds a limit."""
     found = SCRIPT_LINE.fullmatch(line)
     if found is None or int(found[1]) > lab.sessions or len(found[2]) > LONGEST_REQUEST:
         return None
@@ -104,7 +104,7 @@ def script_line(lab: Lab, line: bytes) -> tuple[int, bytes] | None:
 
 
 def play(lab: Lab, script: bytes) -> tuple[Run, int | None]:
-    """Plays a script over a lab to its end or its first wrong line. Returns the run, and the number of the wrong line or None."""
+    """Runs a script for a lab to its end or its first wrong line. Returns the run, and the number of the wrong line, or None if there is none."""
     run = Run(lab)
     *lines, last = script.split(b"\n")
     for k, line in enumerate(lines, 1):

@@ -32,7 +32,7 @@ class Student:
     shared: int = 0
 
     def words(self) -> list[object]:
-        """Returns the student's columns in the tally. The places of the first and the last grant are `-` if there is none."""
+        """Returns the student's columns in the tally. The places of the first and the last granted move are `-` if there is none."""
         ends: list[object] = [self.places[0], self.places[-1]] if self.places else ["-", "-"]
         return [*self.granted.values(), *self.applied.values(), self.closes, *ends, self.shared]
 
@@ -86,7 +86,7 @@ class Count:
 
 
 def at_shared(word: str, counts: dict[int, dict[str, dict[str, int]]]) -> list[list[object]]:
-    """Returns a line with this word for each node with two owners: for each owner the name, and a number for each rule."""
+    """Returns a line for each node with two owners: `word`, the node, and for each owner the name and the counts of the four rules."""
     return [[word, i, *(it for name, rules in owners.items() for it in (name, *rules.values()))] for i, owners in counts.items()]
 
 

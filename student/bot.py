@@ -34,7 +34,7 @@ def play(me: Client, nodes: tuple[int, ...]) -> None:
                     print(me.move(look, rule), flush=True)
             except (Denied, Refused) as no:
                 print(no, flush=True)
-                # These three also happen to a right bot, which then looks again. All others show a mistake.
+                # These three also happen to a correct bot, which then looks again. All others show a mistake.
                 if no.word not in ("stale", "chosen", "memory"):
                     raise
         time.sleep(0.1)
