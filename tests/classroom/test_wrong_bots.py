@@ -23,11 +23,11 @@ WRONG = TOP / "tests/classroom/wrong_bots/wrong.py"
 RIGHT = sorted((TOP / "tests/classroom/right_bots").glob("[a-z]*.py"))
 AT_ONCE = 8  # the number of bots at the same time; they mostly wait
 SECONDS = 12.0
-GUARD = r"denied as guard, clause 4: .*; the plain model, which doesn't decide the result, explains: {part}; a right bot would send "
+GUARD = r"denied as guard, clause 4: .*; the plain model, which doesn't decide the result, explains: {part}; a correct bot would send "
 HANGS = r"(didn't become stable within|didn't ask for \w+ at node \d+, which is privileged,).* {rule}"
 # For each bot: the case of `small` that finds its mistake, and the recorded reason.
 FOUND = {
-    "never-updates": ("complete-4", HANGS.format(rule="update") + '.*a right bot would send {"at":\\d+,"do":"move","node":\\d+,"rule":"update"}'),
+    "never-updates": ("complete-4", HANGS.format(rule="update") + '.*a correct bot would send {"at":\\d+,"do":"move","node":\\d+,"rule":"update"}'),
     "never-abandons": ("complete-4", HANGS.format(rule="")),
     "never-seduces": ("complete-4", HANGS.format(rule="seduction")),
     "updates-only-to-true": ("complete-4", GUARD.format(part=r"m of node \d+ is true and node \d+ is not married, so the update comes first")),
