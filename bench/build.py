@@ -30,7 +30,7 @@ def main() -> None:
     """Copies the sources, since cargo writes beside them, and builds the copy. Exits with an error line if Debian's
     wrapper of cargo isn't installed. Raises `CalledProcessError` if the build fails."""
     if not WRAPPER.exists():
-        refuse("no cargo of Debian's: bench/README.md says what has to be installed")
+        refuse("Debian's cargo isn't installed; bench/README.md says what to install")
     environment = variables()
     cargo = os.environ.get("CARGO") or "/usr/bin/cargo"
     if "CARGO" not in os.environ:

@@ -38,8 +38,8 @@ def ask(port: int, burst: int, bursts: int, begin: Barrier, results: "multiproce
 
 
 def time_clients(port: int, burst: int, bursts: int) -> tuple[float, Optional[bytes]]:
-    """Runs all clients over the server at a port, each of which sends `bursts` bursts of `burst` requests. Returns the
-    seconds from the first request to the last reply, and the reply that all requests got, or None if the replies
+    """Runs all clients against the server at a port, each of which sends `bursts` bursts of `burst` requests. Returns
+    the seconds from the first request to the last reply, and the reply that all requests got, or None if the replies
     differ."""
     begin = multiprocessing.Barrier(CONNECTIONS + 1)
     results: "multiprocessing.Queue[set[bytes]]" = multiprocessing.Queue()

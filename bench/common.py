@@ -31,23 +31,23 @@ def built_in(sessions: int = 4, events: int = 100) -> str:
     with an error line if the sources have no such lab."""
     found = re.search(r'r#"(.*?)"#', BUILT_IN.read_text(encoding="utf-8"), re.DOTALL)
     if found is None:
-        refuse(f"{BUILT_IN}: no lab")
+        refuse(f"{BUILT_IN}: the text of the lab isn't found in this file")
     text = re.sub(r"^sessions = \d+$", f"sessions = {sessions}", found[1], flags=re.MULTILINE)
     return re.sub(r"^events = \d+$", f"events = {events}", text, flags=re.MULTILINE)
 
 
 def stripped(program: Path, path: Path) -> Path:
-    """Writes a copy of a program without its debugging information, which valgrind may not read. Returns the path
-    of the copy."""
+    """Writes a copy of a program to `path`, without its debugging information, which valgrind may not be able to read.
+    Returns the path of the copy. Exits with an error line if the program isn't built."""
     subprocess.run(["strip", "--strip-debug", "-o", path, built(program)], check=True)
     return path
 
 
 def require_valgrind() -> None:
-    """Exits with an error line if valgrind or strip isn't installed."""
+    """Exits with an error line if valgrind or strip isn't on the path."""
     for tool in "valgrind", "strip":
         if shutil.which(tool) is None:
-            refuse(f"no {tool} on the path")
+            refuse(f"the command {tool} isn't on the path; bench/README.md says what to install")
 
 
 def replies(words: Words, stdin: Path) -> bytes:

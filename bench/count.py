@@ -19,8 +19,8 @@ from bench.common import PROGRAM, TYPED, Words, built_in, instructions, require_
 
 @dataclass(frozen=True)
 class Row:
-    """A measurement: its lab, a function that returns the lines of a number of turns, two such numbers, and the number
-    of lines that count as one."""
+    """A measurement: its lab, a function that returns the lines of a number of turns, and two such numbers, `few` and
+    `many`. `words` is the command line, and `lines` is the number of lines that count as one."""
 
     name: str
     lab: Callable[[], str]
@@ -50,7 +50,7 @@ ROWS = (
 
 
 class Counter:
-    """A counter of the instructions of runs, whose files are in one folder."""
+    """A counter of the instructions that runs of the two programs take. Their files are in one folder."""
 
     def __init__(self, folder: Path) -> None:
         """Copies the two programs into `folder`, which is empty, without their debugging information."""
@@ -81,7 +81,7 @@ class Counter:
         before = [instructions(self.call(row, index), self.text) for index in range(2)]
         more = self.write(row, row.many)
         if replies(self.call(row, 0), self.text) != replies(self.call(row, 1), self.text):
-            refuse(f"{row.name}: the programs write other bytes")
+            refuse(f"{row.name}: the outputs of the two programs differ")
         after = [instructions(self.call(row, index), self.text) for index in range(2)]
         return [row.lines * (b - a) / (more - less) for a, b in zip(before, after)]
 

@@ -2,7 +2,7 @@
 
     python3 -B -m bench.hidden
 
-The program answers scripts of a greeting and 2,000 equal lines over the built-in lab. A figure is the number of
+The program answers scripts of a greeting and 2,000 equal lines with its built-in lab. A figure is the number of
 instructions per line: the script's count minus that of the greeting alone, divided by 2,000. Of each pair of
 lines, one names something that isn't shown and the other something that doesn't exist. Both lines have the same
 length, and their replies have to be the same.
@@ -36,7 +36,7 @@ def count(program: Path, before: str, line: str, script: Path) -> tuple[float, b
     script.write_text(before + line * LINES, encoding="ascii")
     told = set(replies([program], script).splitlines()[-LINES:])
     if len(told) != 1:
-        refuse(f"other replies: {told}")
+        refuse(f"equal lines got different replies: {told}")
     return (instructions([program], script) - begun) / LINES, told.pop()
 
 

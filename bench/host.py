@@ -22,7 +22,8 @@ Timed = tuple[float, Optional[bytes]]
 
 
 def time_serve(lab: Path) -> Timed:
-    """Returns the seconds that the clients take with `serve` over a lab, and the reply that all of them got."""
+    """Returns the seconds that the clients take with `mml serve` and the lab in the file `lab`, and the reply that all
+    of them got, or None if the replies differ."""
     port = free_port()
     words: Words = [built(PROGRAM), "serve", lab, str(port), str(CONNECTIONS)]
     with subprocess.Popen(words, stdout=subprocess.PIPE) as server:
@@ -34,8 +35,8 @@ def time_serve(lab: Path) -> Timed:
 
 
 def time_host(lab: Path) -> Timed:
-    """Returns the seconds that the clients take with the host over a lab, and the reply that all of them got. The
-    teacher's bye at the desk ends the host."""
+    """Returns the seconds that the clients take with the host and the lab in the file `lab`, and the reply that all of
+    them got, or None if the replies differ. The teacher's bye at the desk ends the host."""
     with subprocess.Popen([built(HOST), "host", lab, "0", "0"], stdout=subprocess.PIPE) as server:
         assert server.stdout is not None
         port, desk = map(int, re.findall(rb"\d+", server.stdout.readline()))

@@ -19,8 +19,8 @@ ROUNDS = 41
 
 
 def time_file(lab: Path, script: Path, replies: Path) -> float:
-    """Returns how many seconds the program takes for a script that it reads from a file, over the lab in a file. Writes
-    the replies into the file `replies`."""
+    """Returns how many seconds the program takes for a script that it reads from a file, with the lab in the file
+    `lab`. Writes the replies into the file `replies`."""
     with replies.open("wb") as out:
         start = time.perf_counter()
         subprocess.run([PROGRAM, "script", lab, script], stdout=out, check=True)
@@ -28,7 +28,7 @@ def time_file(lab: Path, script: Path, replies: Path) -> float:
 
 
 def time_pipe(script: Path, replies: Path) -> float:
-    """Returns how many seconds the program takes for a script that it gets through a pipe, over its built-in lab.
+    """Returns how many seconds the program takes for a script that it gets through a pipe, with its built-in lab.
     Writes the replies into the file `replies`."""
     with replies.open("wb") as out:
         start = time.perf_counter()

@@ -42,13 +42,13 @@ def measure(words: Words, port: int, burst: int) -> Served:
         _, status, used = os.wait4(server.pid, 0)
         server.returncode = os.waitstatus_to_exitcode(status)
     if server.returncode != 0 or reply is None:
-        refuse(f"{words[0]}: other replies, or status {server.returncode}")
+        refuse(f"{words[0]}: the replies differ, or its status isn't 0 but {server.returncode}")
     count = CONNECTIONS * REQUESTS
     return Served(count / taken, 1e6 * (used.ru_utime + used.ru_stime) / count, reply)
 
 
 def servers(lab: Path) -> dict[str, tuple[Words, int]]:
-    """Returns the command line and the port of each server over a lab, by the server's name."""
+    """Returns the command line and the port of each server for the lab in the file `lab`, by the server's name."""
     ports, many = [free_port() for _ in range(3)], str(CONNECTIONS)
     return {
         "an echo": ([TYPED, "echo", str(ports[0]), many], ports[0]),

@@ -56,7 +56,7 @@ def grant_all(desk: int) -> list[float]:
 
 
 def median_and_99th(times: list[float]) -> str:
-    """Returns the median and the 99th percentile, in microseconds, as text."""
+    """Returns a text with the median and the 99th percentile of some seconds, in microseconds."""
     return f"median {statistics.median(times) * 1e6:,.0f} us, 99th of a hundred {statistics.quantiles(times, n=100)[98] * 1e6:,.0f} us"
 
 

@@ -47,7 +47,7 @@ def connection_to(slip: Slip, number: int) -> socket.socket:
 
 def greet(slip: Slip, number: int) -> Client:
     """Returns a connection by a slip after its hello. If the class has no room, tries again each second, like a bot.
-    `number` determines the address from which the student connects through a door."""
+    Through a door, the student connects from an address that `number` determines."""
     while True:
         try:
             return Client(slip.port, slip.name, slip.key, limit=LIMIT, connection=connection_to(slip, number))
@@ -139,7 +139,7 @@ def measure(desk: "subprocess.Popen[str]", folder: Path, seconds: float) -> None
 
 
 def main() -> None:
-    """Starts the class, measures it, and prints the results."""
+    """Starts a class with the networks and students that the arguments ask for, measures it, and prints the results."""
     parser = argparse.ArgumentParser(prog="bench.whole_class")
     parser.add_argument("--networks", type=int, default=20)
     parser.add_argument("--each", type=int, default=15)

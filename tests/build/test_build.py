@@ -141,8 +141,8 @@ class Builds(InClone):
         done = self.call("./mml", "build", RT_JOBS="3")
         self.assertEqual(done.returncode, 0, done.stderr)
         self.assertRegex(done.stderr, r"^mml: building mml_host, after proving 4 crates; .*\n"
-                                      r"mml: if nothing is proved yet, that takes (some \d+ minutes|about a minute) on 3 processors, .*\n")
-        self.assertRegex(done.stderr, r"\nmml: \d of 4 crates proved; (some \d+ minutes|about a minute) left\n")
+                                      r"mml: if nothing is proved yet, that takes (about \d+ minutes|about a minute) on 3 processors, .*\n")
+        self.assertRegex(done.stderr, r"\nmml: \d of 4 crates proved; (about \d+ minutes|about a minute) left\n")
         self.assertTrue(done.stderr.endswith("\nmml: 4 of 4 crates proved\n"), done.stderr)
 
     def test_one_line(self) -> None:

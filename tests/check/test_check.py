@@ -54,7 +54,7 @@ class Words(InTree):
             done = self.check(program=program)
             lines = done.stdout.splitlines()
             self.assertEqual((done.returncode, done.stderr, lines[-1]), (0, "", "14 passed, 0 failed"))
-            self.assertRegex(lines[0], r"^check: some \d+ minutes on \d+ processors \(proofs [\d.]+, scripts [\d.]+, wrong [\d.]+\)$")
+            self.assertRegex(lines[0], r"^check: about \d+ minutes on \d+ processors \(proofs [\d.]+, scripts [\d.]+, wrong [\d.]+\)$")
             told = [re.sub(r" +\d+ s ", "", line) for line in lines if line.startswith("ok ")]
             self.assertEqual(sorted(told), [
                 "ok one: 3 calls as wanted", "ok proofs: 5 passed, 0 failed", "ok two: 2 documents", "ok wrong: 7 passed, 0 failed",

@@ -42,12 +42,12 @@ class Results(unittest.TestCase):
         page = "# A\n\nIt is proved with `kit-2 logic a0`.\nMore.\n"
         self.assertEqual(fault(page, "kit-2 logic a0"), "")
         self.assertIn("README.md names kit-2 logic a0, and rt is kit-3 logic a0", fault(page, "kit-3 logic a0"))
-        self.assertIn("no toolchain", fault("# A\n", "kit-2 logic a0"))
-        self.assertIn("more than one", fault(page + page, "kit-2 logic a0"))
+        self.assertIn("exactly one line", fault("# A\n", "kit-2 logic a0"))
+        self.assertIn("exactly one line", fault(page + page, "kit-2 logic a0"))
         both = "It is proved with `kit-2 logic a0` and with `kit-3 logic a0`.\n"
         self.assertEqual([fault(both, it) for it in ("kit-2 logic a0", "kit-3 logic a0")], ["", ""])
         self.assertIn("kit-2 logic a0 and kit-3 logic a0, and rt is kit-4 logic a0", fault(both, "kit-4 logic a0"))
-        self.assertIn("two logics", fault("It is proved with `kit-2 logic a0` and with `kit-3 logic a1`.\n", "kit-3 logic a1"))
+        self.assertIn("different logics", fault("It is proved with `kit-2 logic a0` and with `kit-3 logic a1`.\n", "kit-3 logic a1"))
 
 
 class Figures(unittest.TestCase):

@@ -120,7 +120,7 @@ class Judging(unittest.TestCase):
         found = judged(kept("not_compiled.txt"), UNTYPED, THERE)
         self.assertEqual(
             found.of_round,
-            ["an error of no goal: src/retrying.rt:117:5: error[mismatched-types]: expected `bool`, found `ErrorKind`"],
+            ["an error that belongs to no goal: src/retrying.rt:117:5: error[mismatched-types]: expected `bool`, found `ErrorKind`"],
         )
         self.assertEqual(found.failed([UNTYPED, THERE]), [UNTYPED.name, THERE.name])
 
@@ -128,14 +128,14 @@ class Judging(unittest.TestCase):
         """If a proof uses a name that the edit removed, its error isn't counted as a refusal at a contract."""
         line = "./proofs/retrying/is_interrupted/Answers.antt:9:5: error: `returns`: `c.kind` has no field `new`\n"
         found = judged(line + kept("three_bodies.txt"), NEVER, THERE)
-        self.assertEqual(found.of_round, [f"an error of no goal: {line.strip()}"])
+        self.assertEqual(found.of_round, [f"an error that belongs to no goal: {line.strip()}"])
 
     def test_an_error_of_a_whole_file(self) -> None:
         """An error may have no line: if the borrow checker rejects a body, its answers aren't read."""
         for line in ("./proofs/a/f/Answers.antt: error: rattle does not read `Answers.antt` of `mml_ends::a::f`",
                      "rattle: error: `mml_ends` has no function `f`"):
             found = judged(f"{line}\n{kept('three_bodies.txt')}", NEVER, THERE)
-            self.assertEqual(found.of_round, [f"an error of no goal: {line}"])
+            self.assertEqual(found.of_round, [f"an error that belongs to no goal: {line}"])
 
     def test_an_answer_that_shows_its_goal_no_more(self) -> None:
         """An error in an answer counts as a refusal at its goal."""
@@ -181,9 +181,9 @@ class Judging(unittest.TestCase):
         self.assertIn("the counts don't fit: only=4 proved=1", judged(output.replace("only=3", "only=4"), NEVER, THERE).of_round[0])
         self.assertIn("the counts don't fit: only=3 proved=2", judged(output.replace("proved=1", "proved=2"), NEVER, THERE).of_round[0])
         cut = output.replace("only=3 proved=1", "antt: killed")
-        self.assertEqual(judged(cut, NEVER, THERE, status=-9).of_round, ["the check came to no end: antt: killed"])
+        self.assertEqual(judged(cut, NEVER, THERE, status=-9).of_round, ["the check didn't finish: antt: killed"])
         self.assertEqual(judged(output, NEVER, THERE, status=3).of_round, ["the check ended with status 3, and not 1"])
-        self.assertEqual(judged("", NEVER, status=-9).of_round, ["the check came to no end: "])
+        self.assertEqual(judged("", NEVER, status=-9).of_round, ["the check didn't finish: "])
 
 
 class Reading(unittest.TestCase):
@@ -213,11 +213,11 @@ class Reading(unittest.TestCase):
         """A missing line and an extra line are errors."""
         for text, said in (
             ("file: src/lib.rt\nold: one\nnew: 1\n", "no line '# refused: FUNCTION GOAL'"),
-            ("# refused: f\nfile: src/lib.rt\nold: one\nnew: 1\n", "not a line '# refused: FUNCTION GOAL'"),
-            ("# refused: f g\nfile: src/lib.rt\nold: one\n", "no whole pair"),
-            ("# refused: f g\nfile: proofs/f/Answers.antt\nold: one\nnew: 1\n", "no whole pair .* of src/"),
-            ("# refused: f g\nfile: src/lib.rt\nold: one\nmore\nnew: 1\n", "a line that isn't read: more"),
-            ("# refused: f g\n# round: 1\nfile: src/lib.rt\nold: one\nnew: 1\n", "not a line '# round: NUMBER'"),
+            ("# refused: f\nfile: src/lib.rt\nold: one\nnew: 1\n", "this line doesn't have the form '# refused: FUNCTION GOAL'"),
+            ("# refused: f g\nfile: src/lib.rt\nold: one\n", "no complete pair"),
+            ("# refused: f g\nfile: proofs/f/Answers.antt\nold: one\nnew: 1\n", "no complete pair .* of src/"),
+            ("# refused: f g\nfile: src/lib.rt\nold: one\nmore\nnew: 1\n", "a line of an unknown kind: more"),
+            ("# refused: f g\n# round: 1\nfile: src/lib.rt\nold: one\nnew: 1\n", "this line doesn't have the form '# round: NUMBER'"),
         ):
             with self.assertRaisesRegex(EditFault, said):
                 parse_edit("it.edit", text)
@@ -234,10 +234,10 @@ class Reading(unittest.TestCase):
         self.assertEqual(
             faults,
             [
-                "gone.edit: a text stands 0 times in src/lib.rt, and not once: four",
+                "gone.edit: a text occurs 0 times in src/lib.rt, but it has to occur once: four",
                 "notes.txt: an edit's name ends in .edit",
-                "outside.edit: no file of src/ or proofs/: specs/Lib.antt",
-                "twice.edit: a text stands 2 times in src/lib.rt, and not once: two",
+                "outside.edit: there is no such file in src/ or proofs/: specs/Lib.antt",
+                "twice.edit: a text occurs 2 times in src/lib.rt, but it has to occur once: two",
             ],
         )
 
@@ -299,7 +299,7 @@ class Trying(unittest.TestCase):
         """A text that doesn't compile."""
         tried = self.try_edits(UNTYPED_KIND)
         self.assertEqual((tried.checks, tried.passed, tried.failed), (1, 0, 1))
-        self.assertRegex(tried.faults[0], r"an error of no goal: src/retrying\.rt:\d+:\d+: error\[mismatched-types\]")
+        self.assertRegex(tried.faults[0], r"an error that belongs to no goal: src/retrying\.rt:\d+:\d+: error\[mismatched-types\]")
 
     def test_libraries_that_are_not_built(self) -> None:
         """Nothing is tried if a library below isn't built."""
@@ -312,7 +312,7 @@ class Trying(unittest.TestCase):
             (top / "crates.txt").write_text("below:\nabove: below\n", encoding="utf-8")
             tried = try_crate(tree_at(top), "above", Running())
         self.assertEqual((tried.checks, tried.passed, tried.failed), (0, 0, 1))
-        self.assertEqual(tried.faults, ["not built, which `rt ci` or `rt check` does: below"])
+        self.assertEqual(tried.faults, ["these libraries aren't built: below. `rt ci` or `rt check` builds them"])
 
     def test_lanes_and_stops(self) -> None:
         """There is at least one lane, and none begins after all are stopped."""

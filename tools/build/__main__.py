@@ -36,7 +36,8 @@ def say(line: str) -> None:
 
 
 def progress_of(crates: Uses, number: int) -> Progress:
-    """Returns the progress of a build of these crates on `number` processors, in which no proof has begun."""
+    """Returns the progress of a build of these crates on `number` processors, with no crate proved and no proof
+    begun."""
     share = ALONE + (1 - ALONE) / jobs_of(number)
     return Progress(crates, {crate: seconds * share for crate, seconds in expected(crates).items()}, at_once_of(number))
 
@@ -50,8 +51,8 @@ def tell_beginning(programs: list[str], progress: Progress) -> None:
 
 
 def tell_failure(log: Path, programs: list[str]) -> None:
-    """Prints why the build failed, by the `rt ci` output in the file `log`, and keeps a copy of it beside the last of
-    these programs."""
+    """Prints why the build failed, with lines from the file `log`, the output of `rt ci`. Keeps a copy of this file
+    beside the last of these programs, and prints its path."""
     lines = log.read_text(encoding="utf-8", errors="replace").splitlines()
     for line in [it for it in lines if WRONG.search(it)][:MOST_SHOWN] or lines[-MOST_SHOWN:]:
         print(line, file=sys.stderr)
@@ -78,7 +79,7 @@ def prove(programs: list[str]) -> int:
     for program in programs:
         (TOP / "crates" / program / "build.log").unlink(missing_ok=True)
         if not program_of(program).exists() or program_of(program).stat().st_mtime < began - 1:
-            say(f"the build failed: it made no {program}")
+            say(f"the build failed: it has ended without an error, but hasn't made {program}")
             return 1
     return 0
 

@@ -61,7 +61,7 @@ def homes() -> list[Path]:
 
 
 def sweep() -> None:
-    """Removes the folders of earlier builds that were killed."""
+    """Removes the folders that earlier builds left because they were killed."""
     for folder in [folder for home in homes() for folder in home.glob(f"{PREFIX}*")]:
         of = re.match(rf"{PREFIX}(\d+)-", folder.name)
         if of and not Path(f"/proc/{of[1]}").exists():
@@ -113,8 +113,8 @@ def take_library(top: Path, crate: str) -> None:
 
 
 def take(top: Path, program: str) -> bool:
-    """Copies a program from the repository at `top` to its place in this clone. Returns whether the repository had
-    it."""
+    """Copies a program from the repository at `top` to its place in this clone. Returns whether the repository has the
+    program."""
     made, to = top / "crates" / program / "out" / program, TOP / "crates" / program / "out" / program
     if not made.is_file():
         return False

@@ -26,13 +26,13 @@ class Progress:
     """The crates that are proved, and those whose proofs are running, at most `at_once` side by side."""
 
     def __init__(self, crates: Uses, seconds: dict[str, float], at_once: int) -> None:
-        """Begins without a proof. `seconds` has the expected time of each proof, and `at_once` is the most proofs that
-        run side by side."""
+        """Begins with no crate proved. `crates` are to be proved, `seconds` has the expected time of each proof, and
+        `at_once` is the most proofs that run side by side."""
         self.crates, self.seconds, self.at_once = crates, seconds, at_once
         self.longest = chains(crates, seconds)
-        self.proved, self.kept = set[str](), set[str]()
-        self.begun: dict[str, float] = {}
-        self.took, self.planned = TRUST, TRUST
+        self.proved, self.kept = set[str](), set[str]()  # the proved crates, and those of them that an earlier run proved
+        self.begun: dict[str, float] = {}  # when each running proof began
+        self.took, self.planned = TRUST, TRUST  # the seconds that the ended proofs took, and those that were expected of them
 
     def can_begin(self, proved: set[str], begun: set[str]) -> list[str]:
         """Returns the crates whose proofs can begin if the crates in `proved` are proved, and the proofs of those in
@@ -63,7 +63,8 @@ class Progress:
         self.proved.add(crate)
 
     def left(self, now: float) -> float:
-        """Returns the seconds from `now` on until all crates are proved, as expected at the pace of this machine."""
+        """Returns the seconds from `now` on until all crates are proved, as estimated from the pace of this machine so
+        far."""
         pace = self.took / self.planned
         ends = {crate: max(self.seconds[crate] * pace - (now - begun), OVERRUN * (now - begun)) for crate, begun in self.begun.items()}
         proved, at = {*self.proved}, 0.0
@@ -84,4 +85,4 @@ class Progress:
 
 def duration_text(seconds: float) -> str:
     """Returns a duration as a text, in minutes."""
-    return f"some {math.ceil(seconds / 60)} minutes" if seconds > 60 else "about a minute"
+    return f"about {math.ceil(seconds / 60)} minutes" if seconds > 60 else "about a minute"

@@ -57,10 +57,11 @@ def has_memory() -> bool:
 
 
 class Proving:
-    """The proofs of a build, with their progress. The room has a repository for each run."""
+    """The proofs of a build. Runs `rt ci` for them in the repositories of `room`, and notes their progress."""
 
     def __init__(self, room: Room, crates: Uses, progress: Progress, screen: Screen) -> None:
-        """Begins without a run. `screen` shows the progress."""
+        """Begins without a run. `crates` are to be proved, `progress` counts the proved ones, and `screen` shows the
+        progress."""
         self.room, self.crates, self.progress, self.screen = room, crates, progress, screen
         self.runs: dict[str, Run] = {}
 

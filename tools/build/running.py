@@ -92,7 +92,7 @@ class Screen:
 
 
 class Run:
-    """A run of `rt ci` over a repository."""
+    """A run of `rt ci` in a repository."""
 
     def __init__(self, place: Place, is_first: bool = True, is_whole: bool = False) -> None:
         """Starts `rt ci` in a repository. If `is_first` is set, the run has the usual priority, and otherwise a lower
@@ -107,8 +107,8 @@ class Run:
             )
 
     def follow(self, progress: Progress, screen: Screen) -> None:
-        """Reads the new lines of the output, and notes in the progress each crate that they report as proved. If there
-        is such a crate, makes the screen show the progress."""
+        """Reads the new lines of the output, and notes in `progress` each crate that they report as proved. If there is
+        such a crate, makes `screen` show the progress."""
         with self.place.log.open("rb") as it:
             it.seek(self.read)
             whole, newline, _ = it.read().rpartition(b"\n")

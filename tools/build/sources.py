@@ -1,7 +1,7 @@
 """Whether a program of this clone is built from its present sources.
 
-The *record* of a program, a file beside it, has two lines: a sum of the sources from which the program was built, and a
-sum of the program. Without a record of the program, as after `rt ci`, it has to be newer than all its sources.
+The *record* of a program, a file beside it, has two lines: a hash of the sources from which the program was built, and
+a hash of the program. Without a record of the program, as after `rt ci`, it has to be newer than all its sources.
 """
 from __future__ import annotations
 
@@ -46,7 +46,7 @@ def is_source(place: Path) -> bool:
 
 
 def sum_of_sources(name: str) -> str:
-    """Returns the sum of the names and contents of a program's sources."""
+    """Returns a hash of the names and contents of a program's sources."""
     whole = hashlib.sha256()
     sources = sorted(str(it.relative_to(TOP)) for it in places(name) if it.name == "crates.txt" or is_source(it))
     for source in sources:
@@ -55,12 +55,13 @@ def sum_of_sources(name: str) -> str:
 
 
 def sum_of_program(name: str) -> str:
-    """Returns the sum of a program that is built."""
+    """Returns a hash of a program that is built."""
     return hashlib.sha256(program_of(name).read_bytes()).hexdigest()
 
 
 def write_record(name: str, sources: str) -> None:
-    """Writes the record of a program that was built from sources with this sum, if its folder can be written to."""
+    """Writes the record of a program that was built from sources with the hash `sources`, if its folder can be written
+    to."""
     record = record_of(name)
     new = record.with_name(f"{record.name}.{os.getpid()}.new")
     with suppress(OSError):
@@ -75,8 +76,8 @@ def is_newest(name: str) -> bool:
 
 
 def is_built(name: str, sources: str) -> bool:
-    """Returns whether a program is built from its present sources, which have this sum. Writes the record if there is
-    none of this program, and the program is newer than its sources."""
+    """Returns whether a program is built from its present sources, whose hash is `sources`. Writes the record if there
+    is none of this program, and the program is newer than its sources."""
     if not os.access(program_of(name), os.X_OK):
         return False
     record = record_of(name)

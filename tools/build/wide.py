@@ -12,7 +12,7 @@ import sys
 
 
 def doubled(number: int) -> set[int]:
-    """Returns the numbers of twice as many processors as `number`, as the system gives them: a set from 0 on."""
+    """Returns a set with twice as many numbers of processors as `number`: those from 0 on."""
     return {*range(2 * number)}
 
 
@@ -21,7 +21,7 @@ def main() -> None:
     are. Exits with an error line if `rt` isn't on the path."""
     rt = shutil.which("rt")
     if rt is None:
-        sys.exit("rt is not on the path")
+        sys.exit("the toolchain's command rt is not on the path")
     found = doubled(len(os.sched_getaffinity(0)))
     os.sched_getaffinity = lambda _: found
     sys.argv[0] = rt

@@ -61,8 +61,8 @@ def saved_spans(file: Path = KEPT) -> Spans:
 
 
 def chain(spans: Spans, crate: str) -> list[str]:
-    """Returns the crates for which a crate waited, the first one first, and the crate itself. Of the crates that a
-    crate uses, the one whose proof ended last comes before it."""
+    """Returns the crates for which a crate waited, the first one first, and the crate itself. In the result, the crate
+    before another is the one of those it uses whose proof ended last. `spans` has the times of the proofs."""
     found, every = [crate], uses()
     while below := [it for it in every.get(found[0], []) if it in spans]:
         found.insert(0, max(below, key=lambda it: spans[it].end))
@@ -70,8 +70,8 @@ def chain(spans: Spans, crate: str) -> list[str]:
 
 
 def lines_of(spans: Spans, crate: str) -> list[str]:
-    """Returns the lines of the table of the chain to a crate. Each has how long a proof waited, how long it took, when
-    it ended, and its processor time."""
+    """Returns the lines of the table of the chain to a crate. Each has a crate of the chain, how long its proof waited,
+    how long it took, when it ended, and its processor time."""
     crates = chain(spans, crate)
     lines = [f"the chain to {crate}, in seconds{'':12}waits   takes    ends processor"]
     before = 0.0

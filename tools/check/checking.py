@@ -53,9 +53,9 @@ class Count:
         return not it.failed
 
     def with_needs(self, parts: list[Part]) -> list[Part]:
-        """Returns the parts whose needs are met. Prints a part with an unmet need as failed if no part may be left out
-        or `is_a_must` holds for the need. Otherwise notes the part as left out. A need of only some tests of a part
-        (`likes`) is handled in the same way, but such a part is returned."""
+        """Returns the parts that can run, because what they need is there. A part that can't run is printed as failed
+        if no part may be left out or the need has `is_a_must`, and otherwise noted as left out. What only some tests of
+        a part need (`likes`) is handled in the same way, but such a part is returned."""
         lacks = missing(parts)
         for name, need in lacks.items():
             names = [it.name for it in parts if name in it.needs + it.likes]
@@ -84,14 +84,14 @@ class Count:
 
 
 def begin(stages: Stages, processors: int) -> None:
-    """Installs missing packages if no part may be left out. Prints how long the check will take on `processors`
-    processors."""
+    """Installs missing packages if no part may be left out (`is_gate`). Prints how long the check will take on
+    `processors` processors."""
     if is_gate():
         install([part for stage in stages for part in stage])
     names = [stage[0].name if len(stage) == 1 else "scripts" for stage in stages]
     takes = minutes_of(stages, processors)
     each = ", ".join(f"{name} {it:.1f}" for name, it in zip(names, takes))
-    tell(f"check: some {max(1, round(sum(takes)))} minutes on {processors} processors ({each})")
+    tell(f"check: about {max(1, round(sum(takes)))} minutes on {processors} processors ({each})")
 
 
 def run(stages: Stages, crew: Crew, count: Count) -> None:

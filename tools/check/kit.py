@@ -23,9 +23,9 @@ def fault(readme: str, version: str) -> str:
     lines = NAMED.findall(readme)
     named = KIT.findall(lines[0]) if len(lines) == 1 else []
     if not named:
-        return "README.md names no toolchain, or more than one"
+        return "README.md needs exactly one line of the form: It is proved with `VERSION logic NUMBER`."
     if len({logic for _, logic in named}) > 1:
-        return f"README.md names kits of two logics: {lines[0]}"
+        return f"README.md names toolchains of different logics: {lines[0]}"
     return "" if version in [kit for kit, _ in named] else f"README.md names {' and '.join(kit for kit, _ in named)}, and rt is {version}"
 
 

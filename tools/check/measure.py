@@ -18,13 +18,14 @@ KINDS = ("proof", "tests", "wrong")
 PROVING = ("proofs", "wrong")  # The parts whose checks are listed by crate; all others are scripts.
 PAUSE = 0.5
 
-Check = tuple[int, str]
-Work = tuple[str, str]
+Check = tuple[int, str]  # what identifies a check: the number and the start of its process
+Work = tuple[str, str]  # a crate, and a kind of check
 
 
 def work_of(pid: int, part: str) -> Work | None:
-    """Returns the crate and the kind of the check that a process does in the part with this name. Returns None if its
-    command line names no crate yet. Raises `OSError` or `ValueError` if the process has ended."""
+    """Returns the crate and the kind of the check that the process `pid` does. `part` is the name of its part of the
+    check. Returns None if its command line names no crate yet. Raises `OSError` or `ValueError` if the process has
+    ended."""
     with open(f"/proc/{pid}/cmdline", encoding="utf-8", errors="replace") as it:
         words = it.read().split("\0")
     if "--crate-name" not in words:
@@ -39,11 +40,11 @@ class Checks:
     """The processes that check a crate in the running parts, with the processor time that each has used."""
 
     def __init__(self) -> None:
-        self.works: dict[Check, Work] = {}
-        self.used: dict[Check, float] = {}
-        self.seen: dict[Check, float] = {}
-        self.most_held, self.most_held_in_all = 0, 0
-        self.looked = 0.0
+        self.works: dict[Check, Work] = {}  # the crate and the kind of each check
+        self.used: dict[Check, float] = {}  # the processor seconds of each check so far
+        self.seen: dict[Check, float] = {}  # when each check was last seen, in seconds since the machine was started
+        self.most_held, self.most_held_in_all = 0, 0  # the most bytes of memory of one check, and of all together
+        self.looked = 0.0  # the time of the last look
 
     def look(self, parts: dict[int, str]) -> None:
         """Reads the processor times of all checks. Does nothing if less than PAUSE seconds have passed since the last

@@ -56,7 +56,8 @@ def is_built(program: str = "mml_host") -> bool:
 
 
 def is_built_or_named() -> bool:
-    """Returns whether the program is built from these sources, or the environment names others."""
+    """Returns whether the program is built from these sources, or the environment variables MML_PROGRAM and MML_HOST
+    name other programs."""
     return bool(os.environ.get("MML_PROGRAM") and os.environ.get("MML_HOST")) or is_built()
 
 
@@ -72,7 +73,7 @@ def has_tests() -> bool:
 
 
 def can_be_fetched() -> bool:
-    """Returns whether the package NEVER_INSTALLED is installed or can be downloaded."""
+    """Returns whether the package NEVER_INSTALLED is installed, or can probably be downloaded."""
     return is_installed(NEVER_INSTALLED) or apt("--print-uris", "install", NEVER_INSTALLED)
 
 
@@ -139,7 +140,7 @@ def fetch(folder: Path) -> None:
     (folder / "partial").mkdir(parents=True, exist_ok=True)
     words = ["-o", f"Dir::Cache::archives={folder}", "-o", "APT::Sandbox::User=root", "--download-only", "install", NEVER_INSTALLED]
     if not (apt(*words) or apt("update") and apt(*words)):
-        sys.exit(f"{NEVER_INSTALLED} can't be had here")
+        sys.exit(f"the package {NEVER_INSTALLED} can't be downloaded: apt-get fails here")
 
 
 if __name__ == "__main__":

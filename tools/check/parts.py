@@ -32,7 +32,7 @@ class Part:
         return max(self.least, self.work / min(self.width, processors))
 
     def over(self, crates: list[str], share: float) -> Part:
-        """Returns the same part for these crates only, which have this share of its work."""
+        """Returns this part limited to these crates, which have the share `share` of its work."""
         return replace(self, command=(*self.command, *crates), work=self.work * share, least=self.least * share)
 
 
@@ -126,8 +126,8 @@ def with_those_below(crates: list[str]) -> set[str]:
 
 
 def share(crates: set[str], pattern: str) -> float:
-    """Takes the files of all crates that match a pattern, and returns what share of their bytes is in these crates.
-    Returns 1 if no crates are given, or if no file matches."""
+    """Returns what share of all crates' files that match a pattern is in these crates, by bytes. Returns 1 if no crates
+    are given, or if no file matches."""
     sizes = {it: sum(file.stat().st_size for file in (TOP / "crates" / it).glob(pattern)) for it in uses()}
     whole = sum(sizes.values())
     return sum(sizes[it] for it in crates) / whole if crates and whole else 1.0

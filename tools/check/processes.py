@@ -17,8 +17,8 @@ PAUSE = 0.05
 
 @dataclass(frozen=True)
 class Process:
-    """A process: its name, its parent, its state and its start, the seconds that the process and its ended children
-    have used, and its memory."""
+    """The system's data about a process: its name, the number of its parent, its state and its start. `used` are the
+    seconds of processor time of the process and its ended children, and `held` is its memory in bytes."""
 
     name: str
     parent: int
@@ -62,7 +62,7 @@ def below(top: int) -> list[int]:
 
 
 def set_process(option: int, value: int) -> None:
-    """Calls the system's `prctl` with an option and a value."""
+    """Calls the system's `prctl` with an option and a value. Raises `OSError` if the call fails."""
     if ctypes.CDLL(None, use_errno=True).prctl(option, value, 0, 0, 0) != 0:
         raise OSError(ctypes.get_errno(), "prctl")
 

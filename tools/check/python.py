@@ -46,7 +46,7 @@ def main() -> None:
         print(f"FAILED: {fault}")
     if faults:
         sys.exit(1)
-    print(f"{len(files)} files of Python: types are strict, and the linter is content")
+    print(f"{len(files)} files of Python: no error of types or style")
 
 
 if __name__ == "__main__":

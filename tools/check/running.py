@@ -21,7 +21,7 @@ PATIENCE = 8.0  # seconds that parts have to clear up if they are ended
 
 @dataclass(frozen=True)
 class Done:
-    """A part that has ended: its status, its time, and its output."""
+    """A part that has ended: its exit status, the time that it took, and its output."""
 
     part: Part
     status: int
@@ -79,7 +79,8 @@ class Crew:
         self.checks = Checks()
 
     def fits(self, part: Part) -> bool:
-        """Returns whether enough processors are free for a part to begin. A part that runs beside needs none."""
+        """Returns whether enough processors are free for a part to begin. A part that runs beside the others needs
+        none."""
         taken = sum(min(it.part.width, self.processors) for it in self.running.values() if not it.part.is_beside)
         return part.is_beside or taken + min(part.width, self.processors) <= self.processors
 

@@ -53,17 +53,17 @@ def all_plants(tree: Tree) -> list[Plant]:
 
 
 def chosen(every: list[Plant], names: list[str]) -> list[Plant]:
-    """Returns the plants with these names, each the name of a plant or of a crate. Raises `PlantFault` if there is none
-    of a name."""
+    """Returns the plants (planted bugs) with these names. A name is that of a plant, or of a crate, which stands for
+    all its plants. Raises `PlantFault` if there is none of a name."""
     for name in names:
         if not any(name in (it.name, it.crate) for it in every):
-            raise PlantFault(f"{name}: there is no such plant, nor a crate that has one")
+            raise PlantFault(f"{name}: there is no plant of this name, and no crate of this name has a plant; --list prints all plants")
     return [it for it in every if it.name in names or it.crate in names]
 
 
 def sees(plant: Plant, program: Path) -> tuple[bool, str]:
-    """Runs the test of a plant over the program with the plant. Returns whether the test fails, and the last line that
-    it prints about a failure."""
+    """Runs the test of a plant (a planted bug) with the program that has the plant. Returns whether the test fails, as
+    it should, and the last line that it prints about a failure."""
     given = {**os.environ, "MML_HOST": str(program)}
     done = subprocess.run([sys.executable, "-B", "-m", plant.module, plant.test], cwd=TOP, env=given, stdin=subprocess.DEVNULL,
                           stdout=subprocess.PIPE, stderr=subprocess.STDOUT, text=True, errors="replace", timeout=LIMIT, check=False)

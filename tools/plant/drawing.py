@@ -60,8 +60,9 @@ def draw(tree: Tree, crates: list[str], number: int, seed: int) -> list[list[Pla
 
 
 def culprits(plants: list[Plant], bodies: list[Body], errors: list[str]) -> list[Plant]:
-    """Returns the plants in whose bodies the errors of a check are. Returns all plants if the errors don't show which.
-    Plants don't change the number of lines, so the lines in the errors are those of `bodies`."""
+    """Returns the plants (planted bugs) in whose functions the errors of a check are. Returns all plants if the errors
+    don't show which. Plants don't change the number of lines, so the lines in the errors are those of `bodies`, the
+    functions without plants."""
     places = [(found[1], int(found[2]) - 1) for error in errors if (found := AT.match(error))]
     guilty = {body.function for body in bodies for file, number in places if body.file == file and body.first - 1 <= number <= body.end}
     return [plant for plant in plants if plant.function in guilty] or plants
@@ -102,7 +103,7 @@ def programs(tree: Tree, crate: str, drawn: list[list[Plant]], running: Running)
 
 
 def look(tree: Tree, crate: str, texts: dict[str, str], running: Running) -> str:
-    """Returns the output of a check of names and types, over a copy of a crate. `texts` has the new texts of changed
+    """Returns the output of a check of the names and types in a copy of a crate. `texts` has the new texts of changed
     files, by their paths in the crate."""
     with tempfile.TemporaryDirectory(prefix="mml-plant-") as room:
         copy, kept = Path(room) / "copy", Path(room) / "kept"
@@ -174,11 +175,11 @@ def ask_all(tree: Tree, drawn: list[list[Plant]]) -> Iterator[tuple[Plant, str]]
     at the beginning if a library isn't built."""
     crates = list(dict.fromkeys(plants[0].crate for plants in drawn))
     if missing := list(dict.fromkeys(name for crate in crates for name in tree.missing(crate))):
-        raise PlantFault(f"not built, which `rt ci` or `rt check` does: {', '.join(missing)}")
+        raise PlantFault(f"these libraries aren't built: {', '.join(missing)}. `rt ci` or `rt check` builds them")
     running, kept = Running(), find_name(tree)
 
     def verdicts(crate: str) -> list[tuple[Plant, str]]:
-        """For each function of the crate for which plants were drawn, returns one of these plants and the prover's
+        """Returns, for each function of the crate for which plants were drawn, one of these plants and the prover's
         verdict on it."""
         return [*asked(tree, crate, [plants for plants in drawn if plants[0].crate == crate], kept, running)]
 

@@ -24,7 +24,7 @@ WORDS = {IN: ("FUNCTION",), SEEN: ("MODULE", "TEST")}
 
 
 class PlantFault(Exception):
-    """The reason why a plant can't be tried."""
+    """Raised if a plant can't be tried. The text is the reason."""
 
 
 @dataclass(frozen=True)
@@ -45,12 +45,12 @@ class Plant:
 
 
 def marked(name: str, text: str, mark: str) -> list[str]:
-    """Returns the words after a mark such as `# seen:` in the text of a plant's file, as many as WORDS has for it.
-    Returns no words if there is no such line. Raises `PlantFault` if the line has another form. `name` is that of the
-    plant, for the error."""
+    """Returns the words after a mark such as `# seen:` in the text of a plant's file. Returns empty texts in their
+    place if there is no such line. WORDS has what the words of each mark mean. Raises `PlantFault` if the line has
+    another form or occurs twice. `name` is that of the plant, for the error."""
     found = [line.removeprefix(mark).split() for line in text.splitlines() if line.startswith(mark)]
     if len(found) > 1 or any(len(words) != len(WORDS[mark]) for words in found):
-        raise PlantFault(f"{name}: not one line '{mark} {' '.join(WORDS[mark])}'")
+        raise PlantFault(f"{name}: there may be one line that begins with '{mark}', of the form '{mark} {' '.join(WORDS[mark])}'")
     return found[0] if found else [""] * len(WORDS[mark])
 
 
@@ -58,7 +58,7 @@ def parse_plant(crate: str, name: str, text: str) -> Plant:
     """Returns the plant of a crate in the text of the file `name`. Raises `PlantFault` if the text isn't a plant."""
     (function,), (module, test) = (marked(f"{crate}/{name}", text, mark) for mark in WORDS)
     if not function and not test:
-        raise PlantFault(f"{crate}/{name}: neither a line '{IN} FUNCTION' nor a line '{SEEN} MODULE TEST'")
+        raise PlantFault(f"{crate}/{name}: there is neither a line '{IN} FUNCTION' nor a line '{SEEN} MODULE TEST'")
     rest = "".join(line for line in text.splitlines(keepends=True) if not line.startswith(tuple(WORDS)))
     try:
         return Plant(crate, Edit(name, (), parse_pairs(name, rest)), function, module, test)

@@ -18,8 +18,8 @@ ANY = "any"
 
 
 def verdict(function: str, told: Told) -> str:
-    """Returns the verdict on the plant in a function, from the output of a check: REFUSED if a goal of the function is
-    open, LET_THROUGH if the function is proved, and otherwise UNDECIDED."""
+    """Returns the verdict on the plant (the planted bug) in a function, from the output of a check: REFUSED if a goal
+    of the function is open, LET_THROUGH if the function is proved, and otherwise UNDECIDED."""
     if function in told.open_goals:
         return REFUSED
     return LET_THROUGH if function in told.proved else UNDECIDED
@@ -30,7 +30,7 @@ def prove_crate(tree: Tree, crate: str, plants: list[Plant], kept: str, running:
     name of the folder in which the prover saves checked modules. Raises `PlantFault` if a library below the crate isn't
     built, or if a check doesn't finish or has an error that belongs to no goal."""
     if missing := tree.missing(crate):
-        raise PlantFault(f"{crate}: not built, which `rt ci` or `rt check` does: {', '.join(dict.fromkeys(missing))}")
+        raise PlantFault(f"{crate}: these libraries aren't built: {', '.join(dict.fromkeys(missing))}. `rt ci` or `rt check` builds them")
     named = {plant.edit.name: plant for plant in plants if plant.function}
     edits = [replace(plant.edit, wanted=(Refusal(plant.function, ANY),)) for plant in named.values()]
     with tempfile.TemporaryDirectory(prefix="mml-plant-") as room:

@@ -55,7 +55,7 @@ def crates_of(tree: Tree, names: list[str]) -> list[str]:
     expected to take longest is first. Exits with an error line if a name isn't that of a crate with wrong bodies."""
     for name in names:
         if name not in tree.uses or not tree.has_edits(name):
-            sys.exit(f"tools.wrong: {name} is no crate with wrong bodies")
+            sys.exit(f"tools.wrong: there is no crate {name} with wrong bodies")
     chosen = [it for it in tree.uses if tree.has_edits(it) and (not names or it in names)]
     rounds = {it: len(rounds_of(read_edits(tree.folder(it))[0], tree.folder(it))) for it in chosen}
     return sorted(chosen, key=lambda it: -rounds[it] * tree.size(it))

@@ -37,8 +37,8 @@ class Ended:
 
 @dataclass
 class Running:
-    """The running checks. While proofs run too, there are at most `beside` checks, and none begins if memory is
-    short."""
+    """The checks that are running. `beside` is the most checks that may run while proofs run too, or None once no
+    proofs are running. While proofs run, no check begins if memory is short."""
 
     beside: int | None = None
     lock: threading.Condition = field(default_factory=threading.Condition)

@@ -26,7 +26,7 @@ ROUND = "# round:"
 
 
 class EditFault(Exception):
-    """The reason why an edit can't be tried."""
+    """Raised if an edit can't be tried. The text is the reason."""
 
 
 @dataclass(frozen=True)
@@ -81,7 +81,7 @@ def refusal_of(name: str, text: str) -> Refusal:
     if the text has another form."""
     words = text.split()
     if len(words) != 2:
-        raise EditFault(f"{name}: not a line '{MARK} FUNCTION GOAL': {MARK}{text}")
+        raise EditFault(f"{name}: this line doesn't have the form '{MARK} FUNCTION GOAL': {MARK}{text}")
     return Refusal(*words)
 
 
@@ -89,7 +89,7 @@ def round_of(name: str, text: str) -> int:
     """Returns the number in the text after `# round:`. `name` is that of the edit, for an error. Raises `EditFault` if
     the text isn't a number above 1."""
     if not text.strip().isdecimal() or int(text) < 2:
-        raise EditFault(f"{name}: not a line '{ROUND} NUMBER' of a later round than the first: {ROUND}{text}")
+        raise EditFault(f"{name}: this line doesn't have the form '{ROUND} NUMBER', with a number above 1: {ROUND}{text}")
     return int(text)
 
 
@@ -108,9 +108,9 @@ def parse_pairs(name: str, text: str) -> tuple[Pair, ...]:
             pairs.append(Pair(file, old, rest.removeprefix(" ")))
             old = ""
         elif line.strip():
-            raise EditFault(f"{name}: a line that isn't read: {line[:80]}")
+            raise EditFault(f"{name}: a line of an unknown kind: {line[:80]}")
     if not any(it.file.startswith("src/") for it in pairs) or old:
-        raise EditFault(f"{name}: no whole pair of an 'old:' and a 'new:' line in a file of src/")
+        raise EditFault(f"{name}: there is no complete pair of an 'old:' and a 'new:' line for a file of src/")
     return tuple(pairs)
 
 
@@ -126,7 +126,7 @@ def parse_edit(name: str, text: str) -> Edit:
         else:
             rest.append(line)
     if not wanted:
-        raise EditFault(f"{name}: no line '{MARK} FUNCTION GOAL'; with any goal there, this test says the right one")
+        raise EditFault(f"{name}: there is no line '{MARK} FUNCTION GOAL'. Write one with any goal, and this tool prints the right one")
     return Edit(name, tuple(wanted), parse_pairs(name, "\n".join(rest)), first)
 
 
@@ -138,11 +138,11 @@ def apply_edit(edit: Edit, texts: Mapping[str, str], folder: Path) -> dict[str, 
         if pair.file not in after:
             path = folder / pair.file
             if not pair.file.startswith(("src/", "proofs/")) or ".." in path.parts or not path.is_file():
-                raise EditFault(f"{edit.name}: no file of src/ or proofs/: {pair.file}")
+                raise EditFault(f"{edit.name}: there is no such file in src/ or proofs/: {pair.file}")
             after[pair.file] = path.read_text(encoding="utf-8")
         found = after[pair.file].count(pair.old)
         if found != 1:
-            raise EditFault(f"{edit.name}: a text stands {found} times in {pair.file}, and not once: {pair.old.strip()[:80]}")
+            raise EditFault(f"{edit.name}: a text occurs {found} times in {pair.file}, but it has to occur once: {pair.old.strip()[:80]}")
         after[pair.file] = after[pair.file].replace(pair.old, pair.new)
     return after
 

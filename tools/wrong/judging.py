@@ -37,7 +37,7 @@ def fault_of(wanted: Refusal, told: Told) -> str | None:
     if wanted.function in told.proved:
         return f"{wanted.function} is still proved: this body means the same, or no clause tells the two apart"
     if wanted.function not in told.functions:
-        return f"the check says nothing of {wanted.function}"
+        return f"the output of the check has no line about {wanted.function}"
     lines = right_lines(wanted.function, told)
     if lines:
         return f"{wanted.function} is not refused at {wanted.goal}; the line that would be right: {lines}"
@@ -72,7 +72,7 @@ def judge_counts(named: set[str], told: Told) -> list[str]:
     """Returns error texts about the counts in a check's output. The check must have ended, and its counts must match
     its lines. Each function in `named` must have a line."""
     if told.ending is None:
-        return [f"the check came to no end: {told.last[:LONGEST]}"]
+        return [f"the check didn't finish: {told.last[:LONGEST]}"]
     asked, proved = told.ending
     functions = {it for it in told.functions if not is_closure(it)}
     refused = {it for it in functions - told.proved if it in told.open_goals or it in told.resting}
@@ -87,7 +87,7 @@ def judge_counts(named: set[str], told: Told) -> list[str]:
 def judge(edits: list[Edit], status: int, told: Told) -> Judged:
     """Returns the verdict on a round with these edits, from its check's status and output."""
     named = {function for edit in edits for function in edit.functions()}
-    faults = [f"an error of no goal: {line[:LONGEST]}" for line in told.errors]
+    faults = [f"an error that belongs to no goal: {line[:LONGEST]}" for line in told.errors]
     faults += judge_others(named, told)
     # If the prover couldn't read the crate, it is no further fault that lines are missing in its output.
     if not told.errors or told.functions:

@@ -61,6 +61,7 @@ def name_of(tree: Tree, crate: str, tried: Round) -> str:
     total = hashlib.sha256()
 
     def add(name: str, content: bytes) -> None:
+        """Adds a name and a content to the hash."""
         total.update(f"{name} {len(content)}\n".encode() + content)
 
     for file in prover_files(tree):
@@ -78,7 +79,7 @@ class Kept:
     """The results that are kept in a folder, or none if the folder is `None`."""
 
     def __init__(self, folder: Path | None) -> None:
-        """Keeps results in this folder, which is made when the first result is kept."""
+        """Keeps results in this folder, which is made when the first result is kept, or nowhere if it is None."""
         self.folder = folder
 
     def has(self, name: str) -> bool:

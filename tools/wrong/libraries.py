@@ -8,7 +8,7 @@ from pathlib import Path
 
 
 class LibraryFault(Exception):
-    """The reason why a crate can't be checked here."""
+    """Raised if a crate can't be checked here. The text is the reason."""
 
 
 @dataclass(frozen=True)

@@ -71,7 +71,7 @@ def try_crate(tree: Tree, crate: str, running: Running, results: Results = Resul
     missing = tree.missing(crate)
     if missing:
         tried.failed += len(edits)
-        tried.faults.append(f"not built, which `rt ci` or `rt check` does: {', '.join(dict.fromkeys(missing))}")
+        tried.faults.append(f"these libraries aren't built: {', '.join(dict.fromkeys(missing))}. `rt ci` or `rt check` builds them")
         return tried
     with tempfile.TemporaryDirectory(prefix="mml-wrong-") as room:
         name = saved.result() if saved else ""
