@@ -38,7 +38,7 @@ class Student:
 
 
 class Count:
-    """The counts over the events of a journal. A granted move is remembered until a close applies it, or another event drops it."""
+    """The counts of the events of a journal. A granted move is remembered until a close applies it, or another event drops it."""
 
     def __init__(self, lab: Lab) -> None:
         """Begins with the lab's students, before the first event."""

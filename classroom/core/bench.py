@@ -79,7 +79,7 @@ class Bench:
         return network([labs.Node(it["node"], [], it["p"], it["m"]) for it in seen], self.made.links)
 
     def script(self) -> bytes:
-        """Returns the script, a list of request lines, that repeats the current run over a new lab with this network.
+        """Returns the script, a list of request lines, that repeats the current run with a new lab of this network.
         The script begins with the hellos and with setting all registers."""
         hello = [(TEACHER, {"do": "hello", "name": "teacher", "key": "teacher"}), (STUDENT, {"do": "hello", "name": "student", "key": "student"})]
         own = [(who, request | {"at": request["at"] - self.before} if "at" in request else request) for who, request in self.requests]

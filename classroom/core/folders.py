@@ -1,6 +1,6 @@
 """The folders of runs: making a new one, the record of a run that continues, and the lab and journal of given runs.
 
-A *run* is a class over one network. The *lab* of a run defines the network and its students, and the *journal* has the
+A *run* is a class with one network. The *lab* of a run defines the network and its students, and the *journal* has the
 run's events.
 """
 from __future__ import annotations

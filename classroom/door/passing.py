@@ -33,7 +33,7 @@ class Door:
 
 
 async def secure(sock: socket.socket, door: Door) -> Secured:
-    """Returns the TLS connection over a socket after its handshake. Raises one of the errors in BROKEN if the handshake
+    """Returns the TLS connection on a socket after its handshake. Raises one of the errors in BROKEN if the handshake
     fails or takes too long."""
     it = await Secured.over(sock, door.context)
     try:
@@ -54,7 +54,7 @@ def shut_down(sock: socket.socket) -> None:
 
 
 async def secure_counted(sock: socket.socket, origin: str, door: Door) -> Secured | None:
-    """Returns the TLS connection over a socket after its handshake, which is counted for the origin. Returns None if
+    """Returns the TLS connection on a socket after its handshake, which is counted for the origin. Returns None if
     the handshake fails, takes too long, or is ended because there are too many."""
     task = asyncio.ensure_future(secure(sock, door))
     it = Handshake(origin, lambda: shut_down(sock))
@@ -191,7 +191,7 @@ class Passing:
 
 
 async def serve_connection(sock: socket.socket, origin: str, door: Door) -> None:
-    """Serves the connection over a socket to its end, with its handshake. `origin` is the address by which it is
+    """Serves the connection on a socket to its end, with its handshake. `origin` is the address by which it is
     counted."""
     secured = await secure_counted(sock, origin, door)
     if secured is None:

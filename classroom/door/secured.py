@@ -27,7 +27,7 @@ class Secured:
 
     @staticmethod
     async def over(sock: socket.socket, context: ssl.SSLContext) -> Secured:
-        """Returns the connection over an accepted socket, before its handshake."""
+        """Returns the connection on an accepted socket, before its handshake."""
         loop = asyncio.get_running_loop()
         reader = asyncio.StreamReader(CHUNK, loop)
         protocol = asyncio.StreamReaderProtocol(reader, loop=loop)

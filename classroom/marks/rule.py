@@ -1,4 +1,4 @@
-"""Rules that turn marks into grades: lines `name = expression` over the columns of the marks, written by a teacher.
+"""Rules that turn marks into grades: lines `name = expression` with the columns of the marks as names, written by a teacher.
 
 An expression consists of numbers, quoted texts, the names of columns and of earlier lines, `+ - * /`, `< <= > >= ==
 !=`, `and`, `or`, `not`, parentheses, `min(..)`, `max(..)`, `round(..)`, and `A if CONDITION else B`. Numbers are exact

@@ -111,7 +111,7 @@ class Box:
         return across * down if across > 0 and down > 0 else 0.0
 
     def outside(self, field: Field) -> float:
-        """Returns how far the box reaches beyond the edges of a field, added up over the four edges."""
+        """Returns how far the box reaches beyond the edges of a field, added up for the four edges."""
         return sum(max(0.0, far) for far in (GAP - self.left, self.right - field.width + GAP, GAP - self.top, self.bottom - field.height + GAP))
 
     def in_disc(self, middle: Point, radius: float) -> float:

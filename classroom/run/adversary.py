@@ -18,7 +18,7 @@ from classroom.run.daemons import Daemon, Search
 ORDER = {"abandonment": 0, "update": 1, "seduction": 2, "marriage": 3}
 HIGHEST = ("seduction", "marriage")  # for these rules the node with the highest number is next, else the lowest
 FIRST = 7  # how many of the nodes that may move are tried
-STEPS = 32_000  # the most steps that are tried for a choice, over all ways and nodes of the network
+STEPS = 32_000  # the most steps that are tried for a choice, for all ways and nodes of the network together
 Partner = Callable[[Sequence[int]], int]  # a function that chooses one of these nodes
 USED = 0.5  # the share of a program's events after which another program is started
 

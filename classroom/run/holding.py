@@ -298,7 +298,7 @@ def wait_for_server(it: server.Server, run: Running) -> bool:
 
 
 def to_the_end(run: Running, start: Callable[[], server.Server]) -> int:
-    """Opens the pages of a run, and runs its desk over the server that `start` returns. At the end, writes marks and
+    """Opens the pages of a run, and runs the desk of the server that `start` returns. At the end, writes marks and
     pages into the folder. Returns the exit status, which is FAILED, without marks and pages, if the run continues
     without this process."""
     try:

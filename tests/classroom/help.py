@@ -218,7 +218,7 @@ class Rows:
 
 
 class InTerminal:
-    """A run in its own terminal, read up to its commands. Without arguments, a run over the cycle whose steps are
+    """A run in its own terminal, read up to its commands. Without arguments, a run of the cycle whose steps are
     closed by hand."""
 
     def __init__(self, test: InRoom, *words: str | Path) -> None:
@@ -250,7 +250,7 @@ class InTerminal:
 
 
 class Cycle(InRoom):
-    """Runs over the cycle of `examples/`, or a lab with its students."""
+    """Runs of the cycle of `examples/`, or of a lab with its students."""
 
     def bot(self, going: Going, name: str, *command: str | Path) -> subprocess.Popen[bytes]:
         """Starts the bot of a student in a run, by default the example in Python. Returns its process."""

@@ -14,7 +14,7 @@ STUDENTS = (("ana", "a-key"), ("ben", "b-key"))
 
 
 def journal_of(lab: Path, script: Path, journal: Path) -> Path:
-    """Writes the journal of a script over a lab, and returns its path."""
+    """Writes the journal of a script for a lab, and returns its path."""
     subprocess.run([PROGRAM, "script", lab, script, journal], stdout=subprocess.DEVNULL, check=True)
     return journal
 
@@ -86,7 +86,7 @@ def largest_run(room: Path) -> tuple[Path, Path]:
 
 
 def long_run(room: Path, events: int) -> tuple[Path, Path]:
-    """Writes a run of `events` events over a path of 15 nodes. The run repeats a fault, the move that the fault
+    """Writes a run of `events` events on a path of 15 nodes. The run repeats a fault, the move that the fault
     enables, and a close. Returns the lab and the journal."""
     lab, journal = room / "long.toml", room / "long.journal"
     lab.write_text(lab_text(15, [(a, a + 1) for a in range(1, 15)], events))

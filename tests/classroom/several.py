@@ -66,7 +66,7 @@ class GoingClass(Going):
 
 
 class Classes(InRoom):
-    """Tests over a class of eight students in two networks."""
+    """Tests with a class of eight students in two networks."""
 
     def setUp(self) -> None:
         super().setUp()

@@ -27,7 +27,7 @@ class Search(unittest.TestCase):
     """The search by itself."""
 
     def over(self, made: labs.Lab) -> tuple[Adversary, list[int]]:
-        """Returns an adversary with a program over this network, and the privileged nodes."""
+        """Returns an adversary with a program for this network, and the privileged nodes."""
         it = Adversary("test")
         self.addCleanup(it.close)
         report = it.bench_over(made).begin(made)

@@ -16,7 +16,7 @@ from tests.classroom.help import CLASS, CYCLE, KEYS, LIMIT, Cycle, Going, InTerm
 
 @unittest.skipUnless(host(), "not tried: no host is built")
 class Attach(Cycle):
-    """Runs over the cycle of `examples/`."""
+    """Runs of the cycle of `examples/`."""
 
     def killed(self, *more: str) -> Going:
         """Starts a run with these options, and kills it after a move, a close and a fault. Returns the run, whose

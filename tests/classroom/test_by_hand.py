@@ -47,7 +47,7 @@ NOTHING = "nothing to do now: wait for the next step"
 
 
 class Playing(InRoom):
-    """Runs over the cycle of `examples/`. Gus plays on the page."""
+    """Runs of the cycle of `examples/`. Gus plays on the page."""
 
     def setUp(self) -> None:
         super().setUp()
@@ -55,7 +55,7 @@ class Playing(InRoom):
         self.addCleanup(self.driver.get, "about:blank")
 
     def begin(self, lab: Path = CYCLE, *more: str) -> None:
-        """Starts a run over a lab with these options, whose steps are closed by hand. Keeps the address of its page to
+        """Starts a run of a lab with these options, whose steps are closed by hand. Keeps the address of its page to
         play."""
         self.going = Going(self, lab, "--close", "by-hand", "--play", str(a_port()), *more)
         self.address = self.going.until("^page for playing by hand http").removeprefix("page for playing by hand ")
@@ -480,7 +480,7 @@ class Host:
 
 @contextmanager
 def served(test: unittest.TestCase) -> Iterator[PlayServer]:
-    """Yields the server of the page over the cycle, without a server of the class."""
+    """Yields the server of the page for the cycle, without a server of the class."""
     hands = open_play_page(a_port(), "cycle", read(CYCLE))
     hands.show(1, print)
     try:

@@ -1,4 +1,4 @@
-"""The contrast of each text of a page or a picture over its background, computed from the palette in both themes."""
+"""The contrast of each text of a page or a picture with its background, computed from the palette in both themes."""
 from __future__ import annotations
 
 import re

@@ -32,7 +32,7 @@ ASKED: dict[str, dict[str, object]] = {
     "cut 3 1": {"do": "cut", "a": 3, "b": 1},
     "release 7": {"do": "release", "node": 7},
 }
-# Typed lines, and the beginning of the answer to each, over a lab without a house and pages.
+# Typed lines, and the beginning of the answer to each, in a run of a lab without a house and pages.
 TOLD = {
     "report": "configuration 0 is not stable; privileged nodes: 4 (update); events: 0 of ",
     "wait": "waiting for node 4 (gus): update",

@@ -67,7 +67,7 @@ class Counts(unittest.TestCase):
 
 
 class Runs(InRoom):
-    """Runs over the program."""
+    """Runs of experiments with the program."""
 
     def test_the_same_seed_gives_the_same_row_in_any_company(self) -> None:
         setting = Setting("cycle", 7, Daemon("random", 0.5), "random")

@@ -18,10 +18,10 @@ TEACHER = read(CYCLE).teacher
 
 @unittest.skipUnless(host(), "not tried: no host is built")
 class Hosted(Cycle):
-    """Runs over the cycle of `examples/`, with three seats, one of which is the desk's, or with all seats."""
+    """Runs of the cycle of `examples/`, with three seats, one of which is the desk's, or with all seats."""
 
     def begin(self, sessions: int, *more: str) -> Going:
-        """Starts a run over a lab with this number of seats and these options."""
+        """Starts a run of a lab with this number of seats and these options."""
         text = re.sub(r"(?m)^sessions = \d+", f"sessions = {sessions}", CYCLE.read_text(encoding="utf-8"))
         going = Going(self, self.file("cycle.toml", text), *more)
         self.assertTrue(any(f"for at most {sessions - 1} students at once; folder" in line for line in going.lines), going.lines)

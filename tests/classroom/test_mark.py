@@ -42,7 +42,7 @@ class Mark(InRoom):
     """Journals that scripts make."""
 
     def journal(self, lab: Path, script: Path) -> Path:
-        """Writes the journal of a script over a lab, and returns its path."""
+        """Writes the journal of a script for a lab, and returns its path."""
         path = self.room / f"{script.stem}.journal"
         answer = program.call("script", lab, script, path)
         self.assertEqual(answer.status, 0, answer.error)

@@ -1,4 +1,4 @@
-"""The notebook of lesson 6. The notebook's cells run over a table of `experiment`, alone and in nbconvert."""
+"""The notebook of lesson 6. The notebook's cells run on a table of `experiment`, alone and in nbconvert."""
 from __future__ import annotations
 
 import contextlib
@@ -24,7 +24,7 @@ WANTED = ("4 runs of crowd, random", "crowd      central            4     2     
 
 
 class Notebook(InRoom):
-    """The notebook over a small table."""
+    """The notebook with a small table."""
 
     def setUp(self) -> None:
         super().setUp()
@@ -32,7 +32,7 @@ class Notebook(InRoom):
         self.cells: list[dict[str, Any]] = json.loads(NOTEBOOK.read_text(encoding="utf-8"))["cells"]
 
     def done(self, table: Path) -> str:
-        """Runs the notebook's cells over a table. Returns what they print."""
+        """Runs the notebook's cells on a table. Returns what they print."""
         printed, names = io.StringIO(), dict[str, Any]()
         with unittest.mock.patch.dict(os.environ, RUNS=str(table)), contextlib.redirect_stdout(printed):
             for cell in self.cells:

@@ -25,7 +25,7 @@ CYCLE = EXAMPLES / "cycle.toml"
 
 
 class Live(InRoom):
-    """Runs over the cycle of `examples/`, in which the test plays students."""
+    """Runs of the cycle of `examples/`, in which the test plays students."""
 
     def setUp(self) -> None:
         super().setUp()

@@ -71,7 +71,7 @@ class Players:
 
 @unittest.skipUnless(host(), "not tried: no host is built")
 class Resume(Cycle):
-    """Runs over the cycle of `examples/`."""
+    """Runs of the cycle of `examples/`."""
 
     def killed(self, going: Going, what: str, number: int = 0) -> None:
         """Kills the server of a run. Kills the process of `run` before that, unless `what` is `host`. `number` is that

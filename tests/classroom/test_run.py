@@ -14,7 +14,7 @@ from tests.classroom.help import CYCLE, EXAMPLES, KEYS, LIMIT, Cycle, Going, no_
 
 
 class Run(Cycle):
-    """Runs over the cycle of `examples/`."""
+    """Runs of the cycle of `examples/`."""
 
     def test_run_until_stable(self) -> None:
         going = Going(self, CYCLE, "--close", "when-idle:0.3", "--until", "stable")

@@ -72,7 +72,7 @@ def knocked(desk: int) -> str:
 
 @unittest.skipUnless(host(), "not tried: no host is built")
 class Seated(Cycle):
-    """Runs over the cycle of `examples/`."""
+    """Runs of the cycle of `examples/`."""
 
     def relayed(self, what: str) -> str:
         """Writes a program that runs the host, but delays its first line until `what` was done at its desk. Returns its

@@ -108,7 +108,7 @@ def can_be_read(test: unittest.TestCase, driver: Any, size: tuple[int, int], cou
 
 
 class Told(InRoom):
-    """A run over the cycle of `examples/` that is only watched."""
+    """A run of the cycle of `examples/` that is only watched."""
 
     def setUp(self) -> None:
         super().setUp()

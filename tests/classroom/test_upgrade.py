@@ -1,6 +1,6 @@
 """Folders of runs that earlier programs left, in `kept/`: each is marked, played and continued.
 
-Each is from `./class run` over `examples/cycle.toml`, with bots of three of its students, until both it and its server
+Each is from `./class run` of `examples/cycle.toml`, with bots of three of its students, until both it and its server
 were killed. `first` is from commit 151f29c, the first that called itself 0.9.0, whose program was built without a
 proof. `archive` is from the archive that `./release` made of commit ef46f47. `archive` has a record too, in which gus
 is denied another's node.

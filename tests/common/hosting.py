@@ -192,7 +192,7 @@ class Talk:
     the expected replies and the expected journal."""
 
     def __init__(self, lab: Path, sessions: int, room: Path) -> None:
-        """Begins without a line. The script of the lines will run over this lab with `sessions` sessions, in the folder
+        """Begins without a line. The script of the lines will run with this lab with `sessions` sessions, in the folder
         `room`."""
         self.lab, self.room = lab, room
         self.free = list(range(1, sessions + 1))

@@ -1,7 +1,7 @@
 """Runs the program with and without a preloaded library.
 
 The libraries are built from the tests' C sources by the toolchain's clang. The expected replies of a run come from
-a run without a library over the lines that were answered. MML_PROGRAM can name another program than the one that
+a run without a library of the lines that were answered. MML_PROGRAM can name another program than the one that
 is built here.
 """
 import os
@@ -82,10 +82,10 @@ def good(words: list[str], given: bytes = b"", program: Path = PROGRAM) -> bytes
 
 
 class Story:
-    """A script over a lab, with the expected replies and journal, also for the case that some lines are left out."""
+    """A script for a lab, with the expected replies and journal, also for the case that some lines are left out."""
 
     def __init__(self, lab: Path, script: bytes, room: Path) -> None:
-        """Takes the lines of the script. Runs of it over the lab are made in the folder `room` when they are needed."""
+        """Takes the lines of the script. Runs of it with the lab are made in the folder `room` when they are needed."""
         self.lab = lab
         self.lines = script.splitlines(keepends=True)
         self.room = room

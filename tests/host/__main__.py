@@ -1,4 +1,4 @@
-"""Plays classes over a host, as a user runs it. The classes' connections come and go.
+"""Plays classes on a host, as a user runs it. The classes' connections come and go.
 
     python3 -m tests.host [WORD..]
 

@@ -320,7 +320,7 @@ class Silent:
     """A client that sends nothing for a minute, and whose connection stays open."""
 
     def __init__(self, lab: Path) -> None:
-        """Starts another server over a lab, and connects to it."""
+        """Starts another server for a lab, and connects to it."""
         self.server = Server(lambda port: ["serve", str(lab), str(port), "1"], {})
         self.open = opened(self.server.port)
         self.until = time.monotonic() + SILENCE

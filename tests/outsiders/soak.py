@@ -78,7 +78,7 @@ class Class:
     """A class with a daemon, and its bots."""
 
     def __init__(self, lab: Path, daemon: str, waits: Waits) -> None:
-        """Starts the class over a lab under a daemon. Appends the waiting times of its clients to `waits`."""
+        """Starts the class of a lab under a daemon. Appends the waiting times of its clients to `waits`."""
         self.room, self.waits = lab.parent, waits
         words: list[str | Path] = ["run", lab, "--into", self.room / "runs", "--port", "20000", "--daemon", daemon, "--typed", "--beside"]
         self.process = subprocess.Popen(

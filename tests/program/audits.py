@@ -14,7 +14,7 @@ JOURNAL = (TOP / "examples/whole-run.journal").read_bytes()
 OTHERS = b" \n0123a-"
 ANA, BEN, CYD = "1 0 grant ana 1 seduction\n", "2 0 grant ben 2 seduction\n", "1 0 grant cyd 3 marriage 2\n"
 
-# Journals over the built-in lab, each with the audit's verdict: its first bad line, or that it passes.
+# Journals of the built-in lab, each with the audit's verdict: its first bad line, or that it passes.
 ROWS = [
     ("", "ok: 0 events, configuration 0, not stable"),
     (JOURNAL.decode(), "ok: 10 events, configuration 4, stable"),
@@ -66,7 +66,7 @@ GONE_ON = [(ANA + "2 0 close\n", "ok: 2 events, configuration 1, not stable")]
 
 
 class Auditor:
-    """The audits over a lab, with their number."""
+    """The audits of journals of a lab, with their number."""
 
     def __init__(self, room: Path, lab: Path) -> None:
         """`lab` is the file that journals are audited over, and `room` the folder for the journals."""

@@ -71,7 +71,7 @@ def output_of(words: list[str | Path], given: bytes = b"") -> str:
 
 
 def played(file: Path, steps: list[Step]) -> list[dict[str, Any]]:
-    """Plays these steps over the lab in a file. Returns the reports before the first step and after each. Checks that
+    """Plays these steps with the lab in a file. Returns the reports before the first step and after each. Checks that
     every move is granted, and is the only one of its close."""
     ask: dict[str, object] = {"do": "report"}
     lines: list[tuple[int, dict[str, object]]] = [
@@ -112,7 +112,7 @@ class Counted:
 
 
 def counted(file: Path, steps: list[Step]) -> Counted:
-    """Plays these steps over the lab in a file, and checks that the run is stable exactly after the last step. Returns
+    """Plays these steps with the lab in a file, and checks that the run is stable exactly after the last step. Returns
     its counts."""
     reports = played(file, steps)
     if [report["stable"] for report in reports] != [False] * len(steps) + [True]:
@@ -150,7 +150,7 @@ def moves(room: Path, size: int) -> int:
 
 
 def rounds(room: Path, size: int) -> int:
-    """Checks a run over two halves, which are linked if the sum is more than the size. In each step all privileged
+    """Checks a run on two halves, which are linked if the sum is more than the size. In each step all privileged
     nodes move. Returns the number of rounds."""
     low = range(1, (size + 1) // 2 + 1)
     links = [(node, high) for node in low for high in range(low.stop, size + 1) if node + high > size]

@@ -89,7 +89,7 @@ class Replay:
     """The plain model after a prefix of a journal."""
 
     def __init__(self, lab: Lab, journal: bytes) -> None:
-        """Begins before the first event of a journal over a lab."""
+        """Begins before the first event of a journal of a lab."""
         self.lab = lab
         _, self.events = audit(lab, journal)
         self.world = lab.opening()

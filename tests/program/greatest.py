@@ -122,11 +122,11 @@ def scripted(room: Path, lab: Path) -> None:
     script, journal = room / "greatest.script", room / "greatest.journal"
     script.write_text("".join(tale.script), encoding="ascii")
     if good(["script", str(lab), str(script), str(journal)]).decode() != "".join(tale.replies):
-        fail("another reply over the largest lab")
+        fail("the largest lab: a reply isn't the expected one")
     if journal.read_text(encoding="ascii") != "".join(tale.journal):
-        fail("another journal over the largest lab")
+        fail("the largest lab: the journal isn't the expected one")
     if good(["audit", str(lab), str(journal)]) != b"ok: 256 events, configuration 1, not stable\n":
-        fail("another audit over the largest lab")
+        fail("the largest lab: the audit isn't the expected one")
     script.write_text(f'{SESSIONS + 1} {{"do":"bye"}}\n', encoding="ascii")
     if run(["script", str(lab), str(script)], b"", {}) != Ended(2, b"", b"script: line 1: bad line\n"):
         fail("the largest lab has a connection too many")

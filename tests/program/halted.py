@@ -56,7 +56,7 @@ ANSWERED = b"""1 {"at":0,"node":1,"ok":"move","place":1,"rule":"seduction"}
 
 
 class Limited:
-    """Scripts over the built-in lab, with a limit on the journal's file."""
+    """Scripts for the built-in lab, with a limit on the journal's file."""
 
     def __init__(self, room: Path) -> None:
         """`room` is the folder for the files."""

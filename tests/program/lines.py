@@ -25,7 +25,7 @@ def long_bye(length: int, end: str) -> str:
     return "1 " + '{"do":"bye"}'.ljust(length) + end
 
 
-# A script over the built-in lab, its replies, and the number of its malformed line.
+# A script for the built-in lab, its replies, and the number of its malformed line.
 ROWS = [
     ("", "", None),
     ("1 \n", MALFORMED, None),
@@ -60,7 +60,7 @@ def on_each(connections: int, text: str) -> str:
 
 
 HELLO, WELCOME = '{"do":"hello","key":"chalk","name":"tess"}', '{"ok":"hello","who":"tess"}'
-# The same over the built-in lab with as many sessions as a lab may have.
+# The same for the built-in lab with as many sessions as a lab may have.
 MANY = MOST["sessions"]
 ON_MANY = [
     (on_each(MANY, HELLO), on_each(MANY, WELCOME), None),

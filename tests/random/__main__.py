@@ -1,9 +1,9 @@
-"""Runs random scripts over random labs by the program and by the plain model, and compares each byte.
+"""Runs random scripts for random labs by the program and by the plain model, and compares each byte.
 
     python3 -B -m tests.random [SEED|ends WORLDS]
 
 The replies, the journal, and the audits of that journal and of a journal with one byte changed are those of the model.
-So are the replies to a thousand events over large meshes, and the tables of `mml_tests_model`. Runs under four daemons
+So are the replies to a thousand events in large meshes, and the tables of `mml_tests_model`. Runs under four daemons
 end in a maximal matching, within the bounds on moves and rounds.
 
 With a number, only the run of that seed is played, and its files are left in the working folder. With `ends`, only the
@@ -95,11 +95,11 @@ def runs_to_an_end(room: Path, worlds: range) -> str:
     count = len(worlds) * len(ends.DAEMONS)
     if moving < 0.9 * count or dense < 0.05 * count:
         fail(f"only {moving} of {count} runs to an end had a move, and {dense} many links")
-    return f"{count} drawn runs to an end, {dense} of them over many links"
+    return f"{count} drawn runs to an end, {dense} of them on many links"
 
 
 def meshes(room: Path) -> None:
-    """Checks a thousand events of all kinds over a mesh: the reply to each, a report and looks after it, and the
+    """Checks a thousand events of all kinds in a mesh: the reply to each, a report and looks after it, and the
     audit."""
     for count in MESHES:
         document, rng = mesh(count), Random(count)

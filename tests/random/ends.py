@@ -144,7 +144,7 @@ def moves_of(world: World) -> dict[int, list[Move]]:
 
 
 def course(rng: Random, document: str, daemon: Daemon) -> Course:
-    """Returns a run over the lab with this text, under a daemon."""
+    """Returns a run of the lab with this text, under a daemon."""
     lab = read_lab(document.encode())
     runner = Runner(rng, lab, daemon)
     links = sum(len(near) for near in lab.world.links.values()) // 2

@@ -1,4 +1,4 @@
-"""Runs over large meshes. The events of these runs are random and always granted, and the teacher asks for a report and
+"""Runs of large meshes. The events of these runs are random and always granted, and the teacher asks for a report and
 looks after each."""
 import json
 from random import Random
@@ -96,7 +96,7 @@ class Meshing:
 
 
 def mesh_script(rng: Random, lab: Lab, events: int) -> bytes:
-    """Returns a script of `events` events over a lab."""
+    """Returns a script of `events` events for a lab."""
     meshing = Meshing(rng, lab)
     for connection, line in enumerate(HELLOS, 1):
         meshing.ask(connection, line)

@@ -1,4 +1,4 @@
-"""Random scripts over a lab. Most requests fit the present world, which the model computes."""
+"""Random scripts for a lab. Most requests fit the present world, which the model computes."""
 from random import Random
 from typing import Any
 
@@ -105,7 +105,7 @@ class Drawing:
 
 
 def drawn_script(rng: Random, lab: Lab, lines: int) -> bytes:
-    """Returns a random script of `lines` lines over a lab. Some end with a wrong line, or without the last newline."""
+    """Returns a random script of `lines` lines for a lab. Some end with a wrong line, or without the last newline."""
     drawing = Drawing(rng, lab)
     connections = [rng.randint(1, lab.sessions) for _ in range(4)]
     text = b""

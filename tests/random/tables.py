@@ -70,7 +70,7 @@ def drawn(numbers: Numbers, world: World, index: int) -> tuple[str, Request]:
 
 
 def refused_before(count: int) -> str:
-    """Returns a letter for each legal event over a cycle: how many illegal ones came before it, from `a` for none
+    """Returns a letter for each legal event on a cycle: how many illegal ones came before it, from `a` for none
     to `z`."""
     lab = read_lab(cycle(count).encode())
     world, numbers = lab.opening(), Numbers(count)
@@ -85,7 +85,7 @@ def refused_before(count: int) -> str:
         refused = 0
         apply(world, asked)
     if len(text) < EVENTS or len(words) != 9:
-        fail(f"over a cycle of {count} nodes {len(text)} events of these kinds are drawn: {words}")
+        fail(f"on a cycle of {count} nodes {len(text)} events of these kinds are drawn: {words}")
     return text
 
 
@@ -148,7 +148,7 @@ def compare() -> None:
     for count in CYCLES:
         pieces = re.findall(r'"(\w*)"', kept("drawn.rt", rf"const OF_{count}: &str = concat!\(([^)]*)\)"))
         if "".join(pieces) != refused_before(count):
-            fail(f"the table of drawn events over a cycle of {count} nodes isn't the model's")
+            fail(f"the table of drawn events on a cycle of {count} nodes isn't the model's")
     if kept("journal/replaced.rt", r'const REPLACED: &str = "(.*?)";') != replaced():
         fail("the table of lines with a byte replaced isn't the model's")
 

@@ -89,7 +89,7 @@ def whole_visit(host: Host, name: str) -> None:
 
 
 def unknown_flood(host: Host, lines: int, at_once: int) -> int:
-    """Sends `lines` lines without a hello, over as many connections as that takes, `at_once` at the same time. Returns
+    """Sends `lines` lines without a hello, on as many connections as that takes, `at_once` at the same time. Returns
     the number of answered lines."""
     done = 0
     while done < lines:

@@ -26,7 +26,7 @@ class Recording:
     """A run with many seats, each with its record."""
 
     def __init__(self, lab: Lab) -> None:
-        """Begins a run over a lab, without a session."""
+        """Begins a run of a lab, without a session."""
         self.lab, self.model = lab, Run(lab)
         self.texts: dict[int, bytes] = {seat: b"" for seat in range(1, lab.sessions + 1)}
         self.seen = dict.fromkeys(self.texts, 0)  # The number of events that each seat has seen, which are all up to its last command.

@@ -25,7 +25,7 @@ OTHER = Ended(2, b"", b"resume: another lab\n")
 FAULT = Ended(4, b"", b"journal fault\n")
 BREAK = fault_at(1)
 SEDUCES = seduction(0)
-# The first two lines of a journal over the built-in lab, and the longest line that may be the third.
+# The first two lines of a journal of the built-in lab, and the longest line that may be the third.
 FIRST = b"1 0 grant ana 1 seduction\n2 0 close\n"
 THIRD = b"3 1 grant ben 2 marriage 1"
 LONGEST = 101
@@ -52,7 +52,7 @@ def place_of(line: bytes) -> int:
 
 
 def refused(lab: Path, journal: Path, wanted: Ended, why: str, before: Sequence[str] = ()) -> None:
-    """Checks that `resume` of a journal over a lab has this end, and that no file is changed. `why` names the
+    """Checks that `resume` of a journal of a lab has this end, and that no file is changed. `why` names the
     situation, for the error, and `before` are words to put before the command."""
     was = kept(journal) if journal.is_file() else {}
     with Host(lab, 0, 0, journal, word="resume", before=before) as host:
@@ -278,7 +278,7 @@ def torn_tails(room: Path) -> None:
     journal.write_bytes(FIRST + b"3")
     goes_on(lab, journal, b"resumed at place 2, configuration 1, 0 chosen\n", NO_COPY + b"resume: a torn line of 1 bytes is taken off\n", "a tail")
     if kept(journal) != {"journal": FIRST, "journal.~1~": b"another's", "journal.~2~": FIRST + b"3"}:
-        fail("resume: a file was kept over another")
+        fail("resume: a file was kept under the name of another one")
     for content, line in [
         (FIRST + b"x" * (LONGEST + 1), b"audit: line 3: torn\n"), (b"x" * (LONGEST + 1), b"audit: line 1: torn\n"),
         (FIRST[:26] + b"2 0 clos\n", b"audit: line 2: not an event\n"), (b"1 0 close\n2", b"audit: line 1: illegal, empty\n"),

@@ -1,4 +1,4 @@
-"""Three students and a teacher who play over a host, and connect again after each of its ends."""
+"""Three students and a teacher who play on a host, and connect again after each of its ends."""
 import json
 import random
 from typing import Any, Optional

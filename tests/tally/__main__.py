@@ -2,7 +2,7 @@
 
     python3 -B -m tests.tally [JOURNALS]
 
-The random journals are those of the model over random labs and scripts. JOURNALS is their number, by default 300. For
+The random journals are those of the model for random labs and scripts. JOURNALS is their number, by default 300. For
 each of them the program prints the same as the model, and `./class mark` reads the same numbers. For as many random
 runs, the tally includes their records. For as many runs that continue step by step, the rounds are also those that
 `classroom` counts.

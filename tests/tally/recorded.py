@@ -105,7 +105,7 @@ def with_record(tally: str, told: str, refused: str) -> str:
 
 
 def recorded(document: str, talk: Iterable[tuple[int, bytes]]) -> Recording:
-    """Returns the run of these lines, each on its connection, over the lab with this text, with its record."""
+    """Returns the run of these lines, each on its connection, with the lab of this text, with its record."""
     run = Recording(read_lab(document.encode()))
     for seat, line in talk:
         run.answer(seat, line)

@@ -24,7 +24,7 @@ class Run:
     """A run in the making, and the count along its configurations."""
 
     def __init__(self, rng: Random, lab: Lab) -> None:
-        """Begins a run over a lab. `rng` makes all random choices."""
+        """Begins a run of a lab. `rng` makes all random choices."""
         self.rng, self.lab = rng, lab
         self.world = lab.opening()
         self.recovery = Recovery(privileged(self.world))

@@ -74,7 +74,7 @@ class HandingOn(unittest.TestCase):
 
 
 class TakingUp(unittest.TestCase):
-    """The real prover, over a copy of the smallest crate that has wrong bodies."""
+    """The real prover, with a copy of the smallest crate that has wrong bodies."""
 
     def test_what_is_handed_on_is_taken(self) -> None:
         """A check uses the modules that the one before saved, and still refuses a wrong body."""

@@ -270,7 +270,7 @@ class Reading(unittest.TestCase):
 
 
 class Trying(unittest.TestCase):
-    """The real prover, over a copy of the smallest crate that has wrong bodies."""
+    """The real prover, with a copy of the smallest crate that has wrong bodies."""
 
     def try_edits(self, *edits: Edit) -> Tried:
         """Tries these edits of the crate with the real prover. Returns the result."""

@@ -1,6 +1,6 @@
 """Proves crates by runs of `rt ci`, and puts what they make into the clone.
 
-A first run over all crates takes over the proofs that this machine has made before. This run is stopped when it begins
+A first run of all crates reuses the proofs that this machine has made before. This run is stopped when it begins
 to prove something. Each remaining crate is then proved by a run of its own, which uses the proofs of the runs before.
 The reason is that `rt ci` uses several processes for a crate that is alone in its repository. For other crates `rt ci`
 mostly uses one process, and the crates above have to wait. A crate on the longest chain of waiting crates, or on one
@@ -81,7 +81,7 @@ class Proving:
                 run.end()
 
     def is_over(self, run: Run, is_look: bool) -> bool:
-        """Waits for the end of a run over all crates, and notes the progress meanwhile. If `is_look` is set, stops
+        """Waits for the end of a run of all crates, and notes the progress meanwhile. If `is_look` is set, stops
         waiting when the run begins to prove something. Returns whether the run has ended."""
         while not run.has_ended():
             if is_look and run.is_proving():

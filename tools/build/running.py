@@ -96,7 +96,7 @@ class Run:
 
     def __init__(self, place: Place, is_first: bool = True, is_whole: bool = False) -> None:
         """Starts `rt ci` in a repository. If `is_first` is set, the run has the usual priority, and otherwise a lower
-        one. If only `is_first` is set, the run gets all processors. `is_whole` says that the run is over all crates."""
+        one. If only `is_first` is set, the run gets all processors. `is_whole` says that the run proves all crates."""
         self.place, self.read = place, 0
         words = ["rt"] if is_whole or not is_first else [sys.executable, "-B", str(WIDE)]
         with place.log.open("wb") as output:

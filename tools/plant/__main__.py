@@ -8,7 +8,7 @@
 
 A PLANT is CRATE or CRATE/NAME. A plant is seen if its test fails with the program that has the plant; `./check` shows that the
 test passes otherwise. A program with a plant isn't proved: its build takes two minutes, and needs no library of `rt`. The
-prover is asked by one check for each crate, over the libraries that `rt ci` or `rt check` left. The same seed and sources give
+prover is asked by one check for each crate, with the libraries that `rt ci` or `rt check` left. The same seed and sources give
 the same random bugs. If the prover accepts a bug, a person has to find out why: it may change nothing, a test may see it, or a
 clause of a contract may be missing.
 """

@@ -1,6 +1,6 @@
 """Tries the wrong bodies of the crates, many at once. The prover has to refuse each in its own function, at its own goal.
 
-    python3 -B -m tools.wrong [CRATE..]             tries them over the libraries that `rt ci` or `rt check` left
+    python3 -B -m tools.wrong [CRATE..]             tries them with the libraries that `rt ci` or `rt check` left
     python3 -B -m tools.wrong --rounds [CRATE..]    prints only which of them are tried together
     python3 -B -m tools.wrong --as-proved           reads the names of proved crates from standard input, and tries each
                                                     crate after it and those below it are named, on idle processors;

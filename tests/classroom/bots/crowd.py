@@ -1,4 +1,4 @@
-"""Plays the nodes of many slips, each over its own connection, which is made again when it is lost:
+"""Plays the nodes of many slips, each on its own connection, which is made again when it is lost:
 
     crowd.py FILE SLIP..
 

@@ -1,5 +1,5 @@
 #!/usr/bin/env python3
-"""A correct bot with two threads, one that looks and one that asks, over one connection with a lock."""
+"""A correct bot with two threads, one that looks and one that asks, on one connection with a lock."""
 from __future__ import annotations
 
 import os
