@@ -173,8 +173,8 @@ class Attempt:
         return f"{text}; the last line of its output is: {last}" if last else text
 
     def until_stable(self, after: str = "") -> None:
-        """Runs the class until no node is privileged. Raises `Fails` after the time limit. `after` names, for the error,
-        what was done to the class before, unless it is empty."""
+        """Runs the class until no node is privileged. Raises `Fails` after the time limit. `after` names, for the
+        error, what was done to the class before, unless it is empty."""
         end = time.monotonic() + self.limits.seconds
         while not self.playing.is_stable():
             if time.monotonic() > end:

@@ -41,8 +41,8 @@ class Action(Enum):
 
 @dataclass(frozen=True)
 class Button:
-    """A button of the page on which the teacher acts, and the line that it sends. `#seconds` stands for the value of that field, and
-    `#picked` for the node that was clicked."""
+    """A button of the page on which the teacher acts, and the line that it sends. `#seconds` stands for the value of
+    that field, and `#picked` for the node that was clicked."""
 
     name: str
     text: str

@@ -139,8 +139,8 @@ class Record:
 
     @staticmethod
     def lacking(folder: Path, port: int) -> Record:
-        """Returns a record for a run's folder without `run.json`; the first runs of version 0.9.0 left such folders. The
-        record's port for students is `port`, and its other values are those with which a run begins by default."""
+        """Returns a record for a run's folder without `run.json`; the first runs of version 0.9.0 left such folders.
+        The record's port for students is `port`, and its other values are those with which a run begins by default."""
         nobody = Process(number=0, start="")
         return Record(lab=str(folder / "lab.toml"), port=port, desk=0, page=None, close="when-idle:2", until=None, run=nobody, server=nobody)
 

@@ -148,7 +148,8 @@ class PageRequest(BaseHTTPRequestHandler):
 
     def send_head(self, status: int, kind: str = "", size: int | None = 0, policy: str = "") -> None:
         """Sends the status and the headers of an answer. `kind` is the type of its content, and `policy` is added to
-        its Content-Security-Policy. If `size`, the size of the content, is None, the answer ends with the connection."""
+        its Content-Security-Policy. If `size`, the size of the content, is None, the answer ends with the
+        connection."""
         self.connection.settimeout(TAKING)
         self.send_response_only(status)
         for name, value in (("Cache-Control", "no-store"), ("Referrer-Policy", "no-referrer"),

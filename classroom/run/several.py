@@ -383,8 +383,8 @@ def page_of(several: Several, port: int, token: str | None) -> hall.Hall:
 
 
 def write_class(several: Several, end: datetime | None, door: str | None) -> None:
-    """Writes the file of a class, with this process as the one that holds its desks. `end` is the end of the lesson, and
-    `door` the folder of the door, if there are any."""
+    """Writes the file of a class, with this process as the one that holds its desks. `end` is the end of the lesson,
+    and `door` the folder of the door, if there are any."""
     page = several.hall
     Class([member.network for member in several.members], Process.of(os.getpid()), page=page.server_port if page else None,
           looks=page.looks if page else None, ends=end.isoformat() if end else None, door=door).write(several.folder)

@@ -199,7 +199,8 @@ class Builds(InClone):
         self.assertTrue((second / "crates/mml_host/out/mml_host").exists())
 
     def test_interrupted(self) -> None:
-        """A signal ends `rt` and all that it started, and leaves no program, log or temporary file; the next call goes on."""
+        """A signal ends `rt` and all that it started, and leaves no program, log or temporary file; the next call goes
+        on."""
         for number, is_group in ((signal.SIGINT, True), (signal.SIGTERM, False), (signal.SIGTERM, True), (signal.SIGHUP, True)):
             with self.subTest(number=number, is_group=is_group):
                 self.set("waits", "right")

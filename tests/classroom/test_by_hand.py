@@ -211,8 +211,8 @@ class Playing(InRoom):
         return client
 
     def keeps_no_key(self) -> None:
-        """Checks that no file directly in the run's folder contains a key, except for the lab and its copy. The record, in
-        a folder of its own, has the keys of the hellos."""
+        """Checks that no file directly in the run's folder contains a key, except for the lab and its copy. The record,
+        in a folder of its own, has the keys of the hellos."""
         for file in self.going.folder.iterdir():
             if file.is_file() and file.name not in ("lab.toml", "journal.lab"):
                 for key in (*KEYS.values(), read(CYCLE).teacher[1]):

@@ -88,7 +88,8 @@ class Hosted(Cycle):
         self.assertEqual(sum("all seats are taken" in line for line in going.lines), 1)
 
     def test_the_desk_is_held_and_the_teacher_comes_to_the_port_too(self) -> None:
-        """Nobody else gets the seat of the desk while `run` has it. The teacher can also connect to the students' port."""
+        """Nobody else gets the seat of the desk while `run` has it. The teacher can also connect to the students'
+        port."""
         going = self.begin(4, "--close", "by-hand")
         with self.assertRaises(Refused) as refused:
             Client(self.desk(going), *TEACHER)

@@ -69,7 +69,8 @@ class Live(InRoom):
         until(self.driver, lambda driver: driver.find_element("id", "closes").get_attribute("data-closing") == wanted)
 
     def sees(self, event: str) -> Shown:
-        """Waits until `event`, a line of the journal, is the newest event on the page. Returns the contents of the page."""
+        """Waits until `event`, a line of the journal, is the newest event on the page. Returns the contents of the
+        page."""
         told = in_words(Event(0, 0, tuple(event.split(" "))))
         until(self.driver, lambda driver: shown(driver)[2].partition(": ")[2] == told)
         return shown(self.driver)

@@ -326,7 +326,8 @@ class Silent:
         self.until = time.monotonic() + SILENCE
 
     def end(self) -> None:
-        """Waits until the minute is over and sends a line. Checks that it is answered, and that the server then ends."""
+        """Waits until the minute is over and sends a line. Checks that it is answered, and that the server then
+        ends."""
         time.sleep(max(0.0, self.until - time.monotonic()))
         with self.open as it, it.makefile("rb") as replies:
             it.sendall(SEE)

@@ -70,8 +70,8 @@ class Tale:
         self.say(connection, hello, f'{{"ok":"hello","who":"{name(number)}"}}')
 
     def seduce(self, connection: int, number: int) -> None:
-        """Adds the Seduction of the student with a number, at the node with the same index in NODES. The students have to
-        move in the order of their numbers, from 0, since the move's place is `number + 1`."""
+        """Adds the Seduction of the student with a number, at the node with the same index in NODES. The students have
+        to move in the order of their numbers, from 0, since the move's place is `number + 1`."""
         node, place = NODES[number], number + 1
         line = f'{{"at":0,"do":"move","node":{node},"rule":"seduction"}}'
         self.say(connection, line, f'{{"at":0,"node":{node},"ok":"move","place":{place},"rule":"seduction"}}')

@@ -172,8 +172,8 @@ def by_hand(room: Path, document: str) -> int:
 
 
 def forgetful(rng: Random, text: bytes) -> bytes:
-    """Returns the record of a seat in which some denied lines are refused for memory instead. A refusal for memory shows no
-    new events, so these are lines before which no new event was seen."""
+    """Returns the record of a seat in which some denied lines are refused for memory instead. A refusal for memory
+    shows no new events, so these are lines before which no new event was seen."""
     seen = b""
 
     def refused(found: re.Match[bytes]) -> bytes:

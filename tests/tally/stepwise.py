@@ -58,7 +58,8 @@ class Run:
         self.recovery = Recovery(privileged(self.world))
 
     def step(self) -> None:
-        """Grants moves at some of the privileged nodes, drops one of them now and then, and closes or changes something."""
+        """Grants moves at some of the privileged nodes, drops one of them now and then, and closes or changes
+        something."""
         free = sorted(privileged(self.world))
         share = self.rng.choice((0.2, 0.6, 1.0))
         for node in [node for node in free if self.rng.random() < share] or free[:1]:

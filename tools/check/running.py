@@ -118,8 +118,8 @@ class Crew:
                 yield Done(it.part, it.process.returncode, time.monotonic() - it.begun, minutes, text)
 
     def show(self, of: Running, is_last: bool = False) -> None:
-        """Prints those new lines of the running part `of` that match its `shows`. Sends what matches its `hands_on` in the
-        new lines to the parts that run beside. If `is_last` is set, closes their inputs after that."""
+        """Prints those new lines of the running part `of` that match its `shows`. Sends what matches its `hands_on` in
+        the new lines to the parts that run beside. If `is_last` is set, closes their inputs after that."""
         words = of.show()
         for it in self.running.values():
             if words or is_last:

@@ -55,8 +55,8 @@ class Tried:
 
 @dataclass(frozen=True)
 class Results:
-    """The folder for the outputs of the checks, or None if they aren't kept, and the rounds that were refused in earlier
-    runs."""
+    """The folder for the outputs of the checks, or None if they aren't kept, and the rounds that were refused in
+    earlier runs."""
 
     logs: Path | None = None
     kept: Kept = Kept(None)

@@ -19,8 +19,8 @@ PAUSE = 0.3  # seconds between two looks
 
 
 def play(slip: Slip, log: Path) -> None:
-    """Plays the nodes of a slip until the class is over or the slip's key has changed. After each granted hello, appends
-    a line with the slip's name to the file `log`."""
+    """Plays the nodes of a slip until the class is over or the slip's key has changed. After each granted hello,
+    appends a line with the slip's name to the file `log`."""
     me = come(slip)
     while True:
         with log.open("a", encoding="utf-8") as it:
