@@ -55,15 +55,16 @@ def require_success(result: int, what: str) -> None:
 
 
 def mount(source: str, target: str, kind: str | None, flags: int, options: str = "") -> None:
-    """Mounts the file system `source` of the type `kind` at the path `target`. If `flags` has BIND, makes the file or
-    folder `source` visible there instead. Raises `OSError` if the system refuses the call."""
+    """Mounts the file system `source` of the type `kind` at the path `target`, with these flags and options of the
+    system call `mount`. If `flags` has BIND, makes the file or folder `source` visible there instead. Raises `OSError`
+    if the system refuses the call."""
     words = [None if word is None else os.fsencode(word) for word in (source, target, kind)]
     require_success(LIBC.mount(*words, ctypes.c_ulong(flags), options.encode() or None), target)
 
 
 def make_read_only(target: str) -> None:
-    """Makes the mount at a path, and all mounts below that path, read-only. Raises `OSError` if the system refuses the
-    call."""
+    """Makes the mount at the path `target`, and all mounts below that path, read-only. Raises `OSError` if the system
+    refuses the call."""
     wanted = struct.pack("4Q", READ_ONLY | NO_SETUID, 0, 0, 0)
     require_success(LIBC.syscall(MOUNT_SETATTR, HERE, os.fsencode(target), ALL_BELOW, wanted, ctypes.c_size_t(len(wanted))), target)
 

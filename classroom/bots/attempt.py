@@ -76,8 +76,8 @@ class Attempt:
 
     def __init__(self, bot: Bot, case: Case, limits: Limits, room: Surroundings, stop: threading.Event) -> None:
         """Opens the class of the case, and writes the bot's slip into the folder of `room`, unless the bot is kept
-        apart. Doesn't start the bot. `stop` is set by an interrupt. Raises `OSError` if the slip can't be written, and
-        `Fault` if the class can't be opened."""
+        apart. Doesn't start the bot. `limits` are those of the bot in the case, and `stop` is set by an interrupt.
+        Raises `OSError` if the slip can't be written, and `Fault` if the class can't be opened."""
         self.bot, self.case, self.limits, self.room, self.stop = bot, case, limits, room, stop
         self.playing = Playing(case.made, [case.who], case.daemon, case.name(), own_rule=limits.own_rule)
         self.playing.relay.piece = case.piece

@@ -79,7 +79,7 @@ def line(points: Sequence[tuple[float, float]], kind: str, colour: str = "", the
 
 
 def axes(scale: Scale) -> list[str]:
-    """Returns the SVG elements of a panel's two axes with their numbers."""
+    """Returns the SVG elements of a panel's two axes with their numbers. `scale` has the range of each axis."""
     parts = [line([(LEFT, ABOVE), (LEFT, HIGH - BELOW), (WIDE - RIGHT, HIGH - BELOW)], "axis")]
     for count in range(0, scale.high + 1, tick_distance(scale.high)):
         y = scale.y(count)
@@ -93,8 +93,8 @@ def axes(scale: Scale) -> list[str]:
 
 
 def panel(title: str, rows: list[Row], theme: str) -> str:
-    """Returns the SVG drawing of a panel: the bounds, and for each of moves, closes and rounds the counts of all runs,
-    their maximum and their median."""
+    """Returns the SVG drawing of one panel with this title, in a theme's colours. The panel has the bounds, and for
+    each of moves, closes and rounds the counts of the runs in `rows`, their maximum and their median."""
     sizes = sorted({row.nodes for row in rows})
     links = {size: max(row.links for row in rows if row.nodes == size) for size in sizes}
     most = {size: bounds.of(size, links[size]) for size in sizes}
@@ -120,22 +120,23 @@ def panel(title: str, rows: list[Row], theme: str) -> str:
 
 
 def closest_to_bounds(rows: list[Row]) -> list[tuple[str, Row, int, int]]:
-    """Returns the run that came closest to its bound of moves, and the one that came closest to its bound of
-    rounds. Each has the measure's name, its count and the bound."""
+    """Returns two of the runs in `rows`: the one that came closest to its bound of moves, and the one that came closest
+    to its bound of rounds. Each has `moves` or `rounds`, its row, its count of these and the bound."""
     every = [(name, row, count, bound) for row in rows for most in (bounds.of(row.nodes, row.links),)
              for name, count, bound in (("moves", row.moves, most.moves), ("rounds", row.rounds, most.rounds))]
     return [max((each for each in every if each[0] == name), key=lambda each: each[2] / each[3]) for name in ("moves", "rounds")]
 
 
 def closest_lines(rows: list[Row]) -> list[str]:
-    """Returns the text lines below a panel's title: which runs came closest to their bounds."""
+    """Returns the SVG text lines below a panel's title, which name the runs in `rows` that came closest to their
+    bounds."""
     texts = [f"{count} of at most {bound} {name} ({row.nodes} nodes, seed {row.seed})" for name, row, count, bound in closest_to_bounds(rows)]
     return [f'<text x="{WIDE / 2}" y="{18 + LINE * number}">{text}</text>' for number, text in enumerate(["the runs closest to their bounds:", *texts], 1)]
 
 
 def key(runs: int, theme: str) -> str:
-    """Returns the SVG legend that explains the lines and points of all panels. `runs` is the number of runs in the
-    chart."""
+    """Returns the SVG legend that explains the lines and points of all panels, in a theme's colours. `runs` is the
+    number of runs in the chart."""
     parts = []
     for column, (name, colour, _) in enumerate(MEASURES):
         x = 12 + 84 * column
@@ -151,7 +152,8 @@ def key(runs: int, theme: str) -> str:
 
 
 def chart(rows: list[Row], theme: str = colours.LIGHT) -> str:
-    """Returns the SVG document of these rows: families side by side, daemons below each other, and the legend."""
+    """Returns the SVG document of the runs in `rows`, in a theme's colours. It has a panel for each family and daemon,
+    families side by side and daemons below each other, and the legend."""
     families = list(dict.fromkeys(row.family.partition(":")[0] for row in rows))
     daemons = list(dict.fromkeys(row.daemon for row in rows))
     wide, high = max(WIDE * len(families), WIDE), HIGH * len(daemons) + KEY + 8

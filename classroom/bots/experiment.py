@@ -107,8 +107,8 @@ def links_of(nodes: int) -> int:
 
 
 def row_of(words: dict[str, str]) -> Row:
-    """Returns the row whose cells have these texts, by the names of their columns. Raises `KeyError` if a column is
-    missing, and `ValueError` or `TypeError` if a number isn't one."""
+    """Returns the row whose cells have the texts in `words`, by the names of their columns. Raises `KeyError` if a
+    column is missing, and `ValueError` or `TypeError` if a number isn't one."""
     numbers = {name: int(words[name]) for name in ("nodes", "links", "seed", "moves", "closes", "rounds")}
     return Row(family=words["family"], daemon=words["daemon"], start=words["start"], stable=words["stable"] == "true", **numbers)
 
@@ -197,9 +197,9 @@ class Progress:
 
 
 def table(rows: list[Row]) -> str:
-    """Returns the text of the result. For each family, daemon and number of nodes, a line has the number of runs, and
-    the median, maximum and bound of the moves and of the rounds. For each family and daemon, one more line names the
-    runs that came closest to their bounds."""
+    """Returns the result of the runs in `rows` as a text. For each family, daemon and number of nodes, a line has the
+    number of runs, and the median, maximum and bound of the moves and of the rounds. For each family and daemon, one
+    more line names the runs that came closest to their bounds."""
     lines = [f"{'family':10} {'daemon':14} {'nodes':>5} {'runs':>6}  moves: median, greatest, bound  rounds: median, greatest, bound"]
     groups: dict[tuple[str, str], list[Row]] = {}
     for row in rows:
@@ -234,7 +234,7 @@ def make_table(path: Path) -> None:
 
 
 def key_of(it: Setting, seed: int) -> Key:
-    """Returns the values that identify a run in a table, before it is measured."""
+    """Returns the values that identify a run in a table, from its setting and its seed, before it is measured."""
     return it.family, it.nodes, it.daemon.spelled(), it.start, seed
 
 

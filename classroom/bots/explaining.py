@@ -18,15 +18,15 @@ def lines_of(playing: Playing, more: bytes = b"") -> list[list[str]]:
 
 
 def of_denial(playing: Playing, line: bytes) -> str:
-    """Returns a semicolon and the explanation of why `line`, the last line of the class, is denied, or an empty text if
-    there is no explanation."""
+    """Returns a semicolon and the explanation of why `line`, the last line of the class `playing`, is denied, or an
+    empty text if there is no explanation."""
     found = [text for place, _, text in lines_of(playing, line) if place != "now"]
     return f"; {MARK}{found[-1]}" if found else ""
 
 
 def of_waiting(playing: Playing, who: str) -> str:
-    """Returns a semicolon and what a correct bot would send for those nodes of the student `who` that could move.
-    Returns an empty text if no such node could move, or if the model doesn't answer."""
+    """Returns a semicolon and what a correct bot would send for those nodes of the student `who` in the class `playing`
+    that could move. Returns an empty text if no such node could move, or if the model doesn't answer."""
     own = [str(node) for node in playing.lab.nodes_of(who)]
     found = [text for place, node, text in lines_of(playing) if place == "now" and node in own]
     return f"; {MARK}{'; '.join(found)}" if found else ""

@@ -148,7 +148,8 @@ class Written:
     """The results so far, in the order of bots and cases, and the files that they are written to."""
 
     def __init__(self, words: argparse.Namespace, bots: list[Bot], cases: list[Case], results: list[Result]) -> None:
-        """Begins with `results`, those of the bots that can't be run. Takes the names of the files from the options."""
+        """Begins with `results`, those of the bots that can't be run. Later results are sorted by the order of `bots`
+        and `cases`. Takes the names of the files from the options `words`."""
         self.files = {form: Path(getattr(words, form)) for form in graded.FORMS if getattr(words, form)}
         pairs = [(bot.name, case.name()) for bot in bots for case in cases]
         self.order = {pair: index for index, pair in enumerate(pairs)}
@@ -178,8 +179,8 @@ class Written:
 
 
 def print_and_write(found: Iterator[Result], written: Written) -> None:
-    """Prints each result as it comes, and writes the files with all results so far. The first time that the record of a
-    bot in a case couldn't be kept, also prints why."""
+    """Prints each result in `found` as it comes, adds it to `written`, and so writes the files with all results so far.
+    The first time that the record of a bot in a case couldn't be kept, also prints why."""
     full = False
     for result in found:
         written.add(result)

@@ -78,8 +78,8 @@ def result_line(result: Result) -> str:
 
 
 def table(results: list[Result]) -> str:
-    """Returns a line for each bot: the number of its cases and of those that it passed, or that it couldn't be
-    started."""
+    """Returns a line for each bot in `results`: how many of its cases it passed and how many it has, or that it
+    couldn't be started."""
     rows = []
     for bot in dict.fromkeys(result.bot for result in results):
         own = [result for result in results if result.bot == bot]

@@ -155,14 +155,15 @@ class Watch:
     """A measurement of a program's memory and files, against the limits of its plan."""
 
     def __init__(self, plan: Plan) -> None:
-        """Notes which file has the program's output, the keeper's standard error, since it doesn't count as memory."""
+        """Begins a measurement against the limits of `plan`. Notes which file has the program's output, the keeper's
+        standard error, since it doesn't count as memory."""
         self.plan = plan
         self.output = identity(os.fstat(2))  # the file of the output, which doesn't count as memory
         self.seldom = 0.0
 
     def memory(self, every: set[int]) -> int:
-        """Returns the memory in bytes that these processes use, with shared memory and files that exist only in
-        memory. If the plan has no seconds, counts only their resident memory."""
+        """Returns the memory in bytes that the processes with the numbers in `every` use, with shared memory and files
+        that exist only in memory. If the plan has no seconds, counts only their resident memory."""
         if not self.plan.seconds:
             return sum(map(resident, every))
         own = os.stat("/").st_dev if self.plan.world else -1  # the device of the own root, whose files count as files and not as memory

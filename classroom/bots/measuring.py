@@ -56,9 +56,9 @@ class Row:
 
 
 def drawn(setting: Setting, seed: int) -> labs.Lab:
-    """Returns a lab with the network and the registers at the beginning of a run. Network and registers depend on the
-    family, size, start and seed, but not on the daemon. Raises `Fault` if there is no such family, or if it has no
-    network of this size."""
+    """Returns a lab with the network and the registers with which a run of this setting begins. They depend on the
+    setting's family, size and start and on the seed, but not on its daemon. Raises `Fault` if there is no such family,
+    or if it has no network of this size."""
     chance = random.Random(f"{setting.family} {setting.nodes} {setting.start} {seed}")
     count = None if setting.family.startswith(SIZED) else setting.nodes
     nodes, links = networks.family(setting.family, count, 0, chance)
@@ -76,9 +76,9 @@ def partner_chooser(how: Daemon, chance: random.Random) -> Callable[[Sequence[in
 
 
 def run(bench: Bench, setting: Setting, made: labs.Lab, seed: int) -> Row:
-    """Runs the network of `made` on a bench until it is stable, or until there are more moves than the proved bound.
-    Returns the row with the run's counts. Raises `Fault` if the program of the bench denies or refuses a request, or
-    ends."""
+    """Runs the network of the lab `made` on a bench, under the daemon of `setting`, until it is stable, or until there
+    are more moves than the proved bound. `seed` determines all random choices. Returns the row with the run's counts.
+    Raises `Fault` if the program of the bench denies or refuses a request, or ends."""
     named = f"{setting.family} {setting.nodes} {setting.start} {seed} {setting.daemon.spelled()}"
     chance = random.Random(named)
     partner_of = partner_chooser(setting.daemon, chance)

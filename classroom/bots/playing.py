@@ -90,13 +90,15 @@ def request_of(line: bytes) -> dict[str, Any]:
 
 def kind_of(asked: dict[str, Any], told: dict[str, Any]) -> str:
     """Returns a text for the kind of a denial, without its numbers: the request, the clause that denied it, and for a
-    guard also the rule. Denials of one kind are explained once."""
+    guard also the rule. `asked` has the request's values, and `told` those of its reply. Denials of one kind are
+    explained once."""
     what = str(asked.get("do"))[:SHOWN] + (f" by {asked.get('rule')}" if told["deny"] == "guard" else "")
     return f"{what} is denied as {told['deny']}, clause {told['clause']}"
 
 
 def request_in_words(asked: dict[str, Any]) -> str:
-    """Returns a text for a request that the server has understood, such as `move at node 1 by marriage with 2`."""
+    """Returns a text for a request that the server has understood, such as `move at node 1 by marriage with 2`. `asked`
+    has the request's values."""
     text = str(asked.get("do")) + (f" at node {asked['node']}" if "node" in asked else "")
     if asked.get("do") == "move":
         text += f" by {asked.get('rule')}" + (f" with {asked.get('with')}" if asked.get("rule") == "marriage" else "")
@@ -108,8 +110,9 @@ class Playing:
 
     def __init__(self, lab: labs.Lab, programs: list[str], daemon: Daemon, seed: str, port: int = 0, own_rule: bool = False) -> None:
         """Begins the class of a lab, and opens its port, or any free one if `port` is 0. Students' programs play the
-        students in `programs`, and the house plays all other students. `seed` determines all random choices. With
-        `own_rule` no look shows a program the enabled rule. Raises `OSError` if the port is taken."""
+        students in `programs`, and the house plays all other students. `daemon` closes the steps, and `seed` determines
+        all random choices. With `own_rule` no look shows a program the enabled rule. Raises `OSError` if the port is
+        taken."""
         self.lab, self.programs, self.daemon = lab, programs, daemon
         self.chance, self.pace_chance = random.Random(f"{seed} daemon"), random.Random(f"{seed} house")
         self.adversary = Adversary(seed, max)
@@ -144,8 +147,9 @@ class Playing:
     # Lines of programs.
 
     def answer(self, connection: int, line: bytes, paused: bool) -> bytes:
-        """Answers a program's line, and records it. `paused` says whether the program waited before this line. Returns
-        the reply that the program gets, or no bytes if the reply is to be lost."""
+        """Answers a program's line on the connection with this number, and records it. `paused` says whether the
+        program waited before this line. Returns the reply that the program gets, or no bytes if the reply is to be
+        lost."""
         request = request_of(line)
         if request.get("do") == "move" and request.get("at") == self.report["at"]:
             self.interfere(number_of(request.get("node")), str(request.get("rule")))
@@ -208,7 +212,8 @@ class Playing:
         return RULE.sub(b',"rule":null}', reply)
 
     def log_conversation(self, connection: int, line: bytes, reply: bytes) -> None:
-        """Appends a line and its reply to the conversation, unless the conversation has KEPT_LINES lines already."""
+        """Appends a line of the connection with this number, and its reply, to the conversation, unless the
+        conversation has KEPT_LINES lines already."""
         if len(self.conversation) < KEPT_LINES:
             self.conversation += [f"{connection} > {line.decode(errors='backslashreplace')}", f"{connection} < {reply.decode() or '(lost)'}"]
 
@@ -256,7 +261,7 @@ class Playing:
     def explain_denial(self, asked: dict[str, Any], told: dict[str, Any]) -> str:
         """Returns a text about a denial: its clause, the node's registers, and the rule that would be granted there.
         After the denials `not-owner`, `hidden` and `stale`, and if there is no such node, it has only the clause and
-        the numbers of configurations."""
+        the numbers of configurations. `asked` has the request's values, and `told` those of its reply."""
         text = f"{request_in_words(asked)} is denied as {told['deny']}, clause {told['clause']}: {told['text']}"
         if "at" in told:
             text += f"; the request has `at` {asked.get('at')}, but the current configuration has the number {told['at']}"
@@ -306,7 +311,7 @@ class Playing:
     # Granted moves, and changes of the network.
 
     def note_grant(self, node: int, who: str, rule: str) -> None:
-        """Notes that a move of a node by the student `who` was granted, so that the node is chosen."""
+        """Notes that a move of a node by the student `who` was granted with this rule, so that the node is chosen."""
         self.chosen[node] = (who, rule)
         self.news = time.monotonic()
 
@@ -316,7 +321,7 @@ class Playing:
         self.report = self.program.ask(TEACHER, do="report")
 
     def fault(self, node: int, p: int | None, m: bool) -> None:
-        """Sets a node's registers, as the teacher does by a fault. This makes a new configuration."""
+        """Sets a node's registers to `p` and `m`, as the teacher does by a fault. This makes a new configuration."""
         self.program.ask(TEACHER, do="fault", node=node, p=p, m=m)
         self.since_moves = 0
         self.renew_report()

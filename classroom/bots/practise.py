@@ -159,7 +159,8 @@ class Practice:
         self.floods |= {name for name in self.playing.programs if self.playing.heard[name].conduct.is_flooding(len(self.playing.lab.nodes_of(name)))}
 
     def summary(self, name: str) -> str:
-        """Returns the line about all that a student's program did."""
+        """Returns the line about all that the program of the student `name` did: its moves, its denials, and its
+        mistakes."""
         heard = self.playing.heard[name]
         moves = ", ".join(rule for rule in RULES if heard.rules[rule])
         denied = {word: times for word, times in sorted(heard.denied.items()) if word != MALFORMED}
@@ -207,8 +208,8 @@ class Practice:
 
 
 def write_run(playing: Playing, folder: Path, tell: Callable[[str], None]) -> None:
-    """Writes the files of the run and a page for each program into the folder, and calls `tell` with a line about them.
-    Raises `Fault` if the page can't be made, and `OSError` if a file can't be written."""
+    """Writes the files of the run of the class `playing`, and a page for each program, into the folder. Calls `tell`
+    with a line about them. Raises `Fault` if the page can't be made, and `OSError` if a file can't be written."""
     playing.write(folder)
     answer = call("script", folder / "lab.toml", folder / "script", folder / "journal")
     if answer.status != 0:
@@ -282,8 +283,9 @@ def play(it: ClassWithPrograms, bots: list[Bot], words: argparse.Namespace, fold
 
 @contextlib.contextmanager
 def served(practice: Practice, lab: labs.Lab, name: str, is_asked: bool) -> Iterator[None]:
-    """Serves the page on which the student `name` plays by hand while the class runs. Does nothing if `is_asked` isn't
-    set. Prints the page's address. The student's key is after the `#` there, and browsers don't send that part."""
+    """Serves the page on which the student `name` of a lab plays by hand while the class of `practice` runs. Does
+    nothing if `is_asked` isn't set. Prints the page's address. The student's key is after the `#` there, and browsers
+    don't send that part."""
     if not is_asked:
         yield
         return

@@ -28,7 +28,8 @@ class Caller:
     """A connection, with its number, its incomplete line and the replies that aren't sent yet."""
 
     def __init__(self, its: socket.socket, number: int) -> None:
-        """Begins without lines and replies. `its` is the connection's socket."""
+        """Begins without lines and replies. `its` is the connection's socket, and `number` the connection's number in
+        the class."""
         self.socket, self.number = its, number
         self.rest, self.out = b"", b""
         self.is_leaving = False  # Whether the connection is closed as soon as its replies are sent.

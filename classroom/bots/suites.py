@@ -119,8 +119,8 @@ def dealt(count: int, links: networks.Links, own: list[int], shared: list[int]) 
 
 
 def choose_nodes(plan: Plan, count: int, links: networks.Links, chance: random.Random) -> list[int]:
-    """Returns the bot's nodes in the network of a plan: first those that the bot owns alone, and then those that it
-    shares with the house."""
+    """Returns the bot's nodes in the network of a plan, which has the nodes 1 to `count` and these links: first those
+    that the bot owns alone, and then those that it shares with the house. `chance` makes the random choices."""
     nodes = list(range(1, count + 1))
     first: list[int] = []
     if plan.takes == HUB:
@@ -166,8 +166,8 @@ def own_lab(path: Path, seed: int, how: Daemon) -> Case:
 
 
 def of_suite(name: str, how: list[Daemon] | None, seeds: int) -> list[Case]:
-    """Returns the cases of a suite of the release, with the seeds 1 to `seeds` and each daemon in `how`. If `how` is
-    None, each plan has its own daemon."""
+    """Returns the cases of the suite `name` of the release, with the seeds 1 to `seeds` and each daemon in `how`. If
+    `how` is None, each plan has its own daemon."""
     plans = SUITES[name]
     return [planned(plan, seed, each) for seed in range(1, seeds + 1) for plan in plans for each in how or [plan.daemon]]
 

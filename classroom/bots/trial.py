@@ -35,9 +35,9 @@ class Result:
 
 
 def try_bot(bot: Bot, case: Case, limits: Limits, own: Path, folder: Path, stop: threading.Event, seen: Seen | None = None) -> Result | None:
-    """Runs a bot in a case, and writes the record into `folder`. `own` is the bot's own folder, `seen` has the files
-    that it sees if it is kept apart, and `stop` is set by an interrupt. Returns the result, or None after an interrupt.
-    Raises `OSError` or `Fault` if the case can't be begun."""
+    """Runs a bot in a case, with these limits, and writes the record into `folder`. `own` is the bot's own folder,
+    `seen` has the files that it sees if it is kept apart, and `stop` is set by an interrupt. Returns the result, or
+    None after an interrupt. Raises `OSError` or `Fault` if the case can't be begun."""
     with tempfile.TemporaryFile() as output:
         return run_attempt(Attempt(bot, case, limits, Surroundings(own, output, seen), stop), folder)
 

@@ -1,10 +1,10 @@
 """The run of a case: a class that becomes stable, and the troubles during the run. A bot meets each trouble in real
 classes too.
 
-Each trouble is a function here. Most of them make a fault at a node of the bot afterwards: they set its registers so
-that it is privileged, and the bot has to move it. Then these functions run the class until it is stable again. All raise `Fails` if the bot
-does something wrong or is too late, and `Stopped` after an interrupt. The *number* is that of the present
-configuration, and a move is *stale* if it has an earlier one.
+Each trouble is a function here, whose `attempt` is the bot's attempt at the case. Most of them make a fault at a node of
+the bot afterwards: they set its registers so that it is privileged, and the bot has to move it. Then these functions
+run the class until it is stable again. All raise `Fails` if the bot does something wrong or is too late, and `Stopped`
+after an interrupt. The *number* is that of the present configuration, and a move is *stale* if it has an earlier one.
 """
 from __future__ import annotations
 
@@ -87,8 +87,8 @@ def privileged(attempt: Attempt) -> dict[int, str]:
 
 
 def until_granted(attempt: Attempt, node: int, what: str) -> None:
-    """Runs the class until the bot's move of a node is granted. Raises `Fails` after the time limit, with a text that
-    begins with `what`."""
+    """Runs the class until the bot's move of a node is granted. Raises `Fails` after the time limit. Its text begins
+    with `what`, which says what happened before, and what the bot didn't do."""
     end = time.monotonic() + attempt.limits.seconds
     while node not in attempt.playing.chosen:
         if time.monotonic() > end:
