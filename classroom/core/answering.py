@@ -105,9 +105,9 @@ class Answering:
         return reply
 
     def keep(self, connection: int, line: bytes, reply: dict[str, Any]) -> None:
-        """Adds a line to `script`, which repeats the run, if `reply` grants a hello or a bye, or has the place of a new
-        event. Leaves the line out if the script would become larger than MOST_SCRIPT. Also notes in `place` the place
-        of the last event."""
+        """Adds a line of the connection with this number to `script`, which repeats the run, if `reply` grants a hello
+        or a bye, or has the place of a new event. Leaves the line out if the script would become larger than
+        MOST_SCRIPT. Also notes in `place` the place of the last event."""
         self.place = reply.get("place", self.place)
         if (reply.get("ok") in ("hello", "bye") or "place" in reply) and self.size + len(line) < MOST_SCRIPT:
             self.granted.append(b"%d %s\n" % (connection, line))

@@ -22,5 +22,5 @@ def seconds(word: str) -> float:
 
 
 def plural(count: int, word: str) -> str:
-    """Returns the count and a noun, to which an s is added unless the count is 1."""
+    """Returns the count and the noun `word`, to which an s is added unless the count is 1."""
     return f"{count} {word}{'' if count == 1 else 's'}"

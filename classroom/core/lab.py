@@ -43,7 +43,7 @@ class Lab:
         return next((each.owners for each in self.nodes if each.id == node), [])
 
     def nodes_of(self, name: str) -> list[int]:
-        """Returns the identifiers of a student's nodes."""
+        """Returns the identifiers of the nodes of the student `name`."""
         return [node.id for node in self.nodes if name in node.owners]
 
     def held(self) -> list[int]:
@@ -130,8 +130,8 @@ def read(path: Path) -> Lab:
 
 
 def with_house_apart(told: str, lab: Lab) -> str:
-    """Returns a line about a lab's size, which the proved program has printed, changed so that the house is counted
-    separately. The program counts the house as a student."""
+    """Returns `told`, a line that the proved program has printed about the size of a lab, changed so that the house is
+    counted separately. The program counts the house as a student."""
     students = len(lab.without_house().students)
     return told.replace(f"{students + 1} students", f"{students} students and the house") if lab.held() else told
 

@@ -90,8 +90,9 @@ def within(nodes: int) -> int:
 
 
 def plain(word: str, nodes: int) -> Links:
-    """Returns the links of the network of a family without a size in its name, such as `path`, with this number of
-    nodes. Raises `UnknownFamily` for any other family, and `Fault` if a cycle would have fewer than three nodes."""
+    """Returns the links of the network of the family `word` with this number of nodes. Such a family has no size in its
+    name, as `path`. Raises `UnknownFamily` for any other word, and `Fault` if a cycle would have fewer than three
+    nodes."""
     row = [(node, node + 1) for node in range(1, nodes)]
     if word == "path":
         return row

@@ -11,7 +11,8 @@ from classroom.core.tally import Bounds
 
 
 def counts_told(moves: int, closes: int, rounds: int, most: Bounds | None) -> str:
-    """Returns the counts of a recovery as a text, with the proved bounds `most` unless that is None."""
+    """Returns the counts of a recovery, its moves, closes and rounds, as a text. The text also has the proved bounds
+    `most`, unless that is None."""
     proved = f" (at most {most.moves} moves and {most.rounds} rounds, as is proved)" if most else ""
     return f"{plural(moves, 'move')}, {plural(closes, 'step')} and {plural(rounds, 'round')}{proved}"
 
