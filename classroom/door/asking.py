@@ -100,10 +100,10 @@ class RequestHead:
 
 
 def page_of(asked: RequestHead, path: str, record: Record) -> tuple[int, str]:
-    """Returns the port of the page that is asked for, and the path there. `path` is the path below the network's name,
-    and `record` has the ports of the network's pages. A path with `look` and the right token leads to the page to look
-    at, and any other path to the page to play. No path leads to a page on which the teacher acts. Raises `BadRequest`
-    if there is no such page."""
+    """Returns the port of the page for which `asked`, the head of a request, asks, and the path there. `path` is the
+    path below the network's name, and `record` has the ports of the network's pages. A path with `look` and the right
+    token leads to the page to look at, and any other path to the page to play. No path leads to a page on which the
+    teacher acts. Raises `BadRequest` if there is no such page."""
     looks = re.fullmatch(r"/look(/[A-Za-z0-9_-]+/[a-z]*)", path)
     if looks is not None:
         is_known = record.page is not None and record.looks and looks[1].split("/")[1] == record.looks

@@ -33,8 +33,8 @@ class Door:
 
 
 async def secure(sock: socket.socket, door: Door) -> Secured:
-    """Returns the TLS connection on a socket after its handshake. Raises one of the errors in BROKEN if the handshake
-    fails or takes too long."""
+    """Returns the TLS connection on a socket of the door after its handshake. Raises one of the errors in BROKEN if the
+    handshake fails or takes too long."""
     it = await Secured.over(sock, door.context)
     try:
         async with asyncio.timeout(HANDSHAKE):
@@ -54,8 +54,8 @@ def shut_down(sock: socket.socket) -> None:
 
 
 async def secure_counted(sock: socket.socket, origin: str, door: Door) -> Secured | None:
-    """Returns the TLS connection on a socket after its handshake, which is counted for the origin. Returns None if
-    the handshake fails, takes too long, or is ended because there are too many."""
+    """Returns the TLS connection on a socket of the door after its handshake, which is counted for the address
+    `origin`. Returns None if the handshake fails, takes too long, or is ended because there are too many."""
     task = asyncio.ensure_future(secure(sock, door))
     it = Handshake(origin, lambda: shut_down(sock))
     door.bounds.begin(it)
@@ -166,20 +166,21 @@ class Passing:
             near.close()
 
     async def send_to_port(self, near: asyncio.StreamWriter, content: bytes) -> None:
-        """Sends bytes to a local port. Raises `TimeoutError` if the port doesn't take them in time."""
+        """Sends the bytes `content` to a local port by the stream `near`. Raises `TimeoutError` if the port doesn't
+        take them in time."""
         near.write(content)
         async with asyncio.timeout(TAKING):
             await near.drain()
 
     async def forward_requests(self, near: asyncio.StreamWriter) -> None:
-        """Forwards all that the other end sends to a local port, and then ends the direction to the port."""
+        """Forwards all that the other end sends to a local port by the stream `near`, and then ends this direction."""
         while more := await self.it.read():
             await self.wait_for_rate(len(more))
             await self.send_to_port(near, more)
         near.write_eof()
 
     async def forward_answers(self, far: asyncio.StreamReader) -> None:
-        """Forwards all that a local port sends to the other end."""
+        """Forwards all that a local port sends by the stream `far` to the other end."""
         while more := await far.read(CHUNK):
             await self.wait_for_rate(len(more))
             await self.it.send(more)
@@ -191,8 +192,8 @@ class Passing:
 
 
 async def serve_connection(sock: socket.socket, origin: str, door: Door) -> None:
-    """Serves the connection on a socket to its end, with its handshake. `origin` is the address by which it is
-    counted."""
+    """Serves the connection on a socket of the door to its end, with its handshake. `origin` is the address by which it
+    is counted."""
     secured = await secure_counted(sock, origin, door)
     if secured is None:
         return

@@ -27,7 +27,8 @@ class Secured:
 
     @staticmethod
     async def over(sock: socket.socket, context: ssl.SSLContext) -> Secured:
-        """Returns the connection on an accepted socket, before its handshake."""
+        """Returns the TLS connection on an accepted socket, before its handshake. `context` has the door's
+        certificate."""
         loop = asyncio.get_running_loop()
         reader = asyncio.StreamReader(CHUNK, loop)
         protocol = asyncio.StreamReaderProtocol(reader, loop=loop)

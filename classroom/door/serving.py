@@ -64,7 +64,8 @@ class Serving:
             task.add_done_callback(self.tasks.discard)
 
     async def serve_one(self, sock: socket.socket, of: str) -> None:
-        """Serves a connection that is counted for the address `of`, and stops counting it at the end."""
+        """Serves the connection on the socket `sock`, which is counted for the address `of`, and stops counting it at
+        the end."""
         try:
             await serve_connection(sock, of, self.door)
         finally:
