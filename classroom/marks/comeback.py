@@ -31,7 +31,7 @@ class Comeback:
         self.hurt = self.missed = False
 
     def edit(self, event: Event) -> None:
-        """Changes the network by an edit, and begins to count a new recovery."""
+        """Counts `event`, a fault, link or cut: changes the network as it does, and begins to count a new recovery."""
         if event.links:
             change = self.links.add if event.links > 0 else self.links.discard
             change(frozenset(event.nodes))

@@ -78,7 +78,8 @@ def add_words(words: argparse.ArgumentParser) -> None:
 
 
 def sessions(part: Vouched) -> Iterator[Session]:
-    """Yields the sessions of a record, seat by seat. The last one of a seat may be incomplete."""
+    """Yields the sessions in `part`, the record of one server, seat by seat. The last session of a seat may be
+    incomplete."""
     for file in seats(part.copy):
         said: Session = []
         for entry in Reader().take(file.read_bytes()):
@@ -99,8 +100,8 @@ def names_of(said: Session) -> set[str]:
 
 
 def sessions_of(parts: list[Vouched]) -> list[Said]:
-    """Returns the sessions of all records, each with its record and with the names of those who greeted or tried to
-    greet in the session."""
+    """Returns the sessions of all records in `parts`, each with its record and with the names of those who greeted or
+    tried to greet in the session."""
     return [(part, said, names_of(said)) for part in parts for said in sessions(part)]
 
 
@@ -126,9 +127,9 @@ def beginning(said: Session) -> tuple[int, int]:
 
 
 def left_open(part: Vouched, said: Session, session: int) -> list[Row]:
-    """Returns the last row of a session that hasn't ended, as a list. The row says that the session continues if the
-    server is running, and otherwise that its later lines aren't recorded. Returns an empty list if the session has
-    ended, or if its last entry says so already."""
+    """Returns the last row of `said` if this session hasn't ended, as a list. `part` is the session's record, and
+    `session` its number. The row says that the session continues if the server is running, and otherwise that its later
+    lines aren't recorded. Returns an empty list if the session has ended, or if its last entry says so already."""
     if said[-1].mark == ENDED or said[-1].mark == CUT and not part.goes_on:
         return []
     events = part.journal.read_bytes().count(b"\n")
@@ -146,9 +147,9 @@ def row_of(entry: Entry, session: int, hider: Hider) -> Row:
 
 
 def steps(lab: labs.Lab, journal: list[Event], name: str, own: set[int]) -> Iterator[Row]:
-    """Yields a row for each closed step, for each other event that made a configuration, and for each other event at
-    the nodes of the student `name`. Leaves out the events whose places are in `own`, because the student's lines show
-    them already."""
+    """Yields a row for each event in `journal` of three kinds: each closed step, each other event that made a
+    configuration, and each other event at the nodes of the student `name` in `lab`. Leaves out the events whose places
+    are in `own`, because the student's lines show them already."""
     book, nodes = Book(list(lab.students)), set(lab.nodes_of(name))
     for event in journal:
         moved = book.add(event)
@@ -173,7 +174,8 @@ def merged(lines: list[Row], between: list[Row]) -> list[Row]:
 
 
 def text(told: list[str], rows: list[Row]) -> str:
-    """Returns the history as text for people: first the lines about the records, which are given, and then the rows."""
+    """Returns the history as text for people: first the lines `told`, which are about the records, and then the
+    rows."""
     lines = [*told]
     for row, count in grouped(rows):
         head = f"  {row.after()}, seat {row.seat}{times(count)}"
@@ -187,7 +189,8 @@ def text(told: list[str], rows: list[Row]) -> str:
 
 
 def grouped(rows: list[Row]) -> list[tuple[Row, int]]:
-    """Returns the rows in groups: each row with the number of equal rows that follow each other."""
+    """Returns the rows without repetitions: of rows that follow each other and are equal, the first one and their
+    number."""
     return [(row, len(list(same))) for row, same in groupby(rows)]
 
 
@@ -204,8 +207,9 @@ def cells(row: Row) -> list[str]:
 
 
 def section(title: str, told: list[str], rows: list[Row], why: dict[tuple[int, str], str] | None = None) -> str:
-    """Returns the rows as a section of the player's page, as HTML, after the given lines about the records. Each row
-    links to its place. `why` has the reasons of denied moves, by the number of events before the move and its line."""
+    """Returns a section of the player's page as HTML: the heading `title`, the lines `told`, which are about the
+    records, and the rows. Each row links to its place. `why` has the reasons of denied moves, by the number of events
+    before the move and its line."""
     items = [f'<li><a href="#p={row.at}">{row.after()}</a> {item(row, count)}{reason((why or {}).get((row.place, row.asked), ""))}</li>'
              for row, count in grouped(rows)]
     heads = "".join(f"<p>{escape(line)}</p>" for line in told)
@@ -232,8 +236,9 @@ def guarded_rows(rows: list[Row]) -> list[tuple[int, str]]:
 
 
 def own_page(title: str, name: str, lab_file: Path, journal: Path, told: list[str], lines: list[Row]) -> str:
-    """Returns the page of a student's own run as HTML. Beside the player it has the lines `told` about the records, and
-    the rows `lines` with the student's lines. Each denial is at its moment, with the part of the guard that failed."""
+    """Returns the page of the run with this lab and journal for the student `name`, as HTML. Beside the player it has
+    the lines `told`, which are about the records, and the rows `lines`, which have what the student sent. Each denial
+    is at its moment, with the part of the guard that failed. `title` is the page's title."""
     kept_layout.load(lab_file.parent)
     lab, frames = frames_of(lab_file, journal)
     happened = events(journal.read_text(encoding="ascii"))
@@ -242,7 +247,8 @@ def own_page(title: str, name: str, lab_file: Path, journal: Path, told: list[st
 
 
 def with_steps(lab: labs.Lab, journal: list[Event], name: str, lines: list[Row]) -> list[Row]:
-    """Returns `lines`, the rows of the lines of the student `name`, together with rows for the steps between them."""
+    """Returns the rows `lines`, which have what the student `name` sent, in one order with rows for the steps between
+    them, which are in `journal`."""
     own = {row.place + 1 for row in lines if '"place":' in row.reply}
     return merged(lines, [*steps(lab, journal, name, own)])
 

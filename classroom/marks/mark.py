@@ -95,13 +95,13 @@ class Run:
         return columns.row(self.tally.students[name], self.lab, name, self.network, self.denied(name), self.is_whole(name))
 
     def denied(self, name: str) -> list[int | None]:
-        """Returns the number of a student's lines that each clause denied, and of malformed lines, in the order of
-        DENIED. Each is None if there is no record or one is refused."""
+        """Returns the number of lines of the student `name` that each clause denied, and of malformed lines, in the
+        order of DENIED. Each is None if there is no record or one is refused."""
         asked = self.asked
         return [None if asked is None else asked.denied.get(name, Counter())[clause] for clause in DENIED]
 
     def by_column(self, name: str) -> dict[str, int | None]:
-        """Returns the numbers that `denied` returns, by their columns."""
+        """Returns the numbers that `denied` returns for the student `name`, by their columns."""
         return dict(zip(DENIED, self.denied(name)))
 
     def table(self, rule: Rule | None = None) -> dict[str, Any]:
@@ -129,7 +129,8 @@ class Run:
 
 
 def by_node(shared: dict[int, dict[str, Counter[str]]]) -> dict[str, dict[str, dict[str, int]]]:
-    """Returns the counts of moves for each owner of each node, with the keys that JSON needs."""
+    """Returns `shared`, the counts of moves by node, owner and rule, in the form that JSON needs: its keys are
+    texts."""
     return {str(node): {name: dict(moves) for name, moves in owners.items()} for node, owners in shared.items()}
 
 
@@ -163,8 +164,8 @@ def recorded(journal: Path) -> list[Recorded]:
 
 
 def asked_in(part: Vouched) -> RecordCounts | None:
-    """Returns the counts of a record's lines, or None if the record is refused. If the record's server hasn't ended,
-    the counts are marked as incomplete for all students."""
+    """Returns the counts of the lines in the record `part`, or None if the record is refused. If the record's server
+    hasn't ended, the counts are marked as incomplete for all students."""
     asked = tally.of(part.lab, part.journal, record=part.copy).asked if part.status == 0 else None
     if asked is None or part.has_ended:
         return asked
@@ -205,15 +206,16 @@ def sentence(run: Run) -> str:
 
 
 def of_owner(name: str, granted: Counter[str], asked: Counter[str] | None) -> str:
-    """Returns the text about one owner of a shared node: `granted` has the owner's granted moves there, and `asked` the
-    requested ones, or None if they aren't known."""
+    """Returns the text about the owner `name` of a shared node: `granted` has the owner's granted moves there by rule,
+    and `asked` the requested ones, or None if they aren't known."""
     rules = ", ".join(f"{number} {rule}" for rule, number in granted.items() if number)
     asked_for = "" if asked is None else f" asked for {plural(asked.total(), 'move')}, and"
     return f"{name}{asked_for} got {plural(granted.total(), 'granted move')}" + (f" ({rules})" if rules else "")
 
 
 def shared(run: Run) -> list[str]:
-    """Returns a line for each shared node at which moves were granted or asked for, with the counts of its owners."""
+    """Returns a line for each shared node of a run at which moves were granted or asked for, with the counts of its
+    owners."""
     asked = run.asked
     lines = []
     for node, owners in sorted(run.tally.shared.items()):

@@ -14,8 +14,9 @@ MOST = 2000  # the most lines that are explained
 
 
 def reasons(lab: labs.Lab, events: Sequence[Event], asked: Sequence[tuple[int, str]]) -> dict[tuple[int, str], str]:
-    """Returns the model's explanations of denied moves, by the number of events before the move and its line, as
-    `asked` has them. Leaves out moves that the model doesn't explain."""
+    """Returns the model's explanations of the denied moves in `asked`, a run's moves, each as the number of events
+    before it and its line. The result has them by these two values. `events` are the run's events, and `lab` is its
+    lab. Leaves out moves that the model doesn't explain, and explains at most MOST."""
     wanted = sorted(set(asked), key=lambda each: each[0])[:MOST]
     lines = {place: [line for _, line in own] for place, own in groupby(wanted, key=lambda each: each[0])}
     script, found = [*replay.HELLOS], dict[int, tuple[int, str]]()

@@ -67,8 +67,8 @@ class Rule:
         return found
 
     def cells(self, row: Row) -> list[str]:
-        """Returns the values as cells of a table. A value that a spreadsheet would take for a formula is guarded by an
-        apostrophe. Raises `Fault` like `values`."""
+        """Returns the value of each line of the rule for a row of marks, as the cells of a table. A value that a
+        spreadsheet would take for a formula is guarded by an apostrophe. Raises `Fault` like `values`."""
         return [value if value == UNKNOWN else guarded(value) for value in self.values(row)]
 
 
@@ -113,8 +113,8 @@ def parsed(path: Path, lines: Sequence[str], columns: Sequence[str]) -> Rule:
 
 
 def line_of(tokens: list[tuple[str, str]], number: int, known: Sequence[str]) -> Line:
-    """Returns the line of a rule that consists of these tokens. The line's expression may use the names in `known`.
-    Raises `Wrong` if there is an error in it."""
+    """Returns the line of a rule that consists of these tokens, and has this number in the rule's file. The line's
+    expression may use the names in `known`. Raises `Wrong` if there is an error in it."""
     if len(tokens) < 3 or tokens[0][0] != "name" or tokens[1] != ("sign", "="):
         raise Wrong("each line has the form NAME = EXPRESSION")
     name = tokens[0][1]

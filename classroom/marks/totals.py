@@ -36,8 +36,8 @@ class Total:
     networks: dict[str, None] = field(default_factory=dict)  # the networks whose labs have the person, in order
 
     def add(self, marks: Marks, denied: Counter[str], is_whole: bool, nodes: int, network: str) -> None:
-        """Adds a person's marks in one run. `denied` has the counts of the run's record, `is_whole` says whether that
-        record is complete, and `nodes` is the number of the person's nodes."""
+        """Adds a person's marks in a run of this network. `denied` has the counts of the run's record, `is_whole` says
+        whether that record is complete, and `nodes` is the number of the person's nodes."""
         self.nodes += nodes
         self.networks[network] = None
         self.granted += marks.granted.total()
@@ -107,15 +107,17 @@ def ruled(rule: Rule | None, total: Total, name: str) -> list[str]:
 
 
 def by_labs(runs: Runs, rule: Rule | None = None) -> list[list[str]]:
-    """Returns the table of totals: a row of heads, and a row for each person in the labs."""
+    """Returns the table of totals over these runs: a row of heads, and a row for each person in the labs. The results
+    of a rule come after the totals."""
     return [["student", "id", *HEADS, *(rule.names if rule else [])],
             *([guarded(person.written), guarded(person.id), *total.row(), *ruled(rule, total, person.written)]
               for person, total in summed(runs).values())]
 
 
 def by_roster(runs: Runs, roster: People, rule: Rule | None = None) -> tuple[list[list[str]], list[str]]:
-    """Returns the table of a class list with the totals after each of its rows. Also returns the names, as in the class
-    list of the labs, of the persons in the labs whom the list `roster` lacks."""
+    """Returns the table of the class list `roster`, with the totals over these runs, and the results of a rule, after
+    each of its rows. Also returns the names, as in the class list of the labs, of the persons in the labs whom `roster`
+    lacks."""
     left = summed(runs)
     heads, names = roster.heads or ["name"], rule.names if rule else []
     rows = [[*heads, *HEADS, *names]]
@@ -136,5 +138,5 @@ def is_same_person(person: Person, other: Person) -> bool:
 
 
 def write(rows: list[list[str]], delimiter: str = ",") -> None:
-    """Prints a table as CSV with this delimiter."""
+    """Prints a table, a list of rows, as CSV with this delimiter."""
     csv.writer(sys.stdout, delimiter=delimiter, lineterminator="\n").writerows(rows)
