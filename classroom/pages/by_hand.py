@@ -35,7 +35,8 @@ class PlayServer(Web):
     """The server of the page for all students of one run."""
 
     def __init__(self, port: int, title: str, lab: Lab) -> None:
-        """Listens at the port, but doesn't answer before `show`. Raises `OSError` if the port is taken."""
+        """Listens at `port`, but doesn't answer before `show`. `title` is the page's title, and `lab` the lab whose
+        students play. Raises `OSError` if the port is taken."""
         super().__init__(port, PlayRequest, title)
         self.lab, self.students = lab, 0
         self.page = assembled("by_hand", {"TITLE": title}, "", ("drawing.css", "page.css", "by_hand.css"), ("by_hand.js",))
@@ -186,6 +187,6 @@ def last_word(seat: Seat) -> str:
 
 
 def open_play_page(port: int, title: str, lab: Lab) -> PlayServer:
-    """Returns the server of the page on which the students of a lab play. It listens at a port or the next free one,
-    and doesn't answer yet. Raises `Fault` if no port is free."""
+    """Returns the server of the page on which the students of `lab` play, with this title. It listens at `port` or the
+    next free one, and doesn't answer yet. Raises `Fault` if no port is free."""
     return opened(port, lambda number: PlayServer(number, title, lab))

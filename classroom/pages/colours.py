@@ -23,7 +23,7 @@ def parts() -> tuple[dict[str, dict[str, str]], str]:
 
 
 def value(name: str, theme: str = LIGHT) -> str:
-    """Returns the value of a variable, such as `--point`, in a theme."""
+    """Returns the value of the CSS variable `name`, such as `--point`, in a theme."""
     return parts()[0][theme][name]
 
 

@@ -98,8 +98,8 @@ class Drawing:
 
     def rows(self, name: str, thick: float, drawn: list[tuple[int, str]], opacity: float = 1.0) -> list[str]:
         """Returns a group with the CSS class `name` as SVG, with one path for each node. `drawn` has the lines, each
-        after the node to whose path it belongs, and `thick` is their width. Since each path has the lines of one node,
-        few paths change from one state to the next."""
+        after the node to whose path it belongs, `thick` is their width, and `opacity` their opacity from 0 to 1. Since
+        each path has the lines of one node, few paths change from one state to the next."""
         lines: dict[int, list[str]] = {node.id: [] for node in self.lab.nodes}
         for node, line in drawn:
             lines[node].append(line)
@@ -124,8 +124,8 @@ class Drawing:
         return f'<text x="{(x + u) / 2:g}" y="{(y + v) / 2:g}">{witness}: {self.view.form.word(rule)}</text>'
 
     def pointer(self, node: int, state: State) -> str:
-        """Returns the path element for a node's pointer. The element's path is empty if the node points at none or is
-        married."""
+        """Returns the path element for a node's pointer in a state. The element's path is empty if the node points at
+        none or is married."""
         target = state.pointers[node]
         drawn = "" if target is None or married(node, state) else self.arrow(node, target)
         return f'<path class="pointer" data-of="{node}" d="{drawn}" marker-end="url(#arrow)"/>'
@@ -139,8 +139,8 @@ class Drawing:
         return f"M{at(start, along, near)}L{at(start, along, far)}"
 
     def node(self, node: int, owners: list[str], state: State, event: Event | None) -> str:
-        """Returns the SVG element of a node: its values, its disc, its label and its rule. If `event` is a fault, link
-        or cut at the node, the element has the class `hit`."""
+        """Returns the SVG element of a node with these owners in a state: its values, its disc, its label and its rule.
+        If `event` is a fault, link or cut at the node, the element has the class `hit`."""
         (x, y), sizes = self.points[node], self.measures
         pointer, rule = state.pointers[node], state.privileged.get(node, "")
         chosen, m = state.chosen.get(node, ""), true_or_false(state.ms[node])
@@ -177,7 +177,7 @@ class Drawing:
                 f' height="{high:g}" rx="{high / 2:g}"/><text class="rule" y="{0.35 * form.pill:.3g}" font-size="{form.pill:g}">{text}</text></g>')
 
     def node_in_words(self, node: int, owners: list[str], state: State) -> str:
-        """Returns the description of a node for people who don't see the drawing."""
+        """Returns the description of a node with these owners in a state, for people who don't see the drawing."""
         pointer, partner = state.pointers[node], next((sum(pair) - node for pair in state.pairs if node in pair), None)
         return describe_node(node, owners, pointer, state.ms[node], partner, state.privileged.get(node, ""), state.chosen.get(node, ""))
 
@@ -226,8 +226,9 @@ def married(node: int, state: State) -> bool:
 
 
 def describe_node(node: int, owners: list[str], pointer: int | None, m: bool, partner: int | None, rule: str, chosen: str) -> str:
-    """Returns the description of a node with these values, in words. `rule` is its enabled rule and `chosen` the rule
-    of its chosen move, or empty if there is none. The page's script produces the same text."""
+    """Returns the description of a node with these values, in words. `pointer` and `m` are its registers, `rule` is its
+    enabled rule, and `chosen` the rule of its chosen move, or empty if there is none. `partner` is the node to which it
+    is married, or None. The page's script produces the same text."""
     return ", ".join([
         f"node {node} of {owners_in_words(owners)}", f"p {'null' if pointer is None else pointer}", f"m {true_or_false(m)}",
         *([f"married to {partner}"] if partner is not None else []), *([f"privileged: {rule}"] if rule else []),

@@ -53,7 +53,7 @@ class Looking(Replay):
     """A replay that collects a frame after each event, from the replies to looks and reports."""
 
     def __init__(self, lab: labs.Lab, events: list[Event]) -> None:
-        """Begins with the lab's network. Nothing is asked before `run`."""
+        """Begins with the lab's network, before the first of these events. Nothing is asked before `run`."""
         super().__init__(lab, events)
         self.state = State(0, 0, frozenset(self.links))
         self.frames: list[Frame] = []
@@ -65,9 +65,9 @@ class Looking(Replay):
             self.frames.clear()
 
     def ask(self, script: Script, event: Event | None, named: set[int]) -> None:
-        """Asks for a look at each node that an event may have changed, and for the report if the event made a
-        configuration. The last reply completes the frame. Without an event, asks for all nodes and the report. `named`
-        has the nodes of the events since the last configuration."""
+        """Appends to `script` a look at each node that an event may have changed, and the request for the report if the
+        event made a configuration. The last reply completes the frame. Without an event, asks for all nodes and the
+        report. `named` has the nodes of the events since the last configuration."""
         if event is None or event.makes_configuration:
             for node in sorted(named if event else self.registers):
                 script.ask(look(node), self.take_look)
@@ -96,8 +96,8 @@ class Looking(Replay):
             state.chosen[node] = reply["chosen"]
 
     def take_report(self, reply: dict[str, Any]) -> None:
-        """Copies the values of a report into the state. A report's number counts from the beginning of the replay's
-        present part, so the number at that beginning is added."""
+        """Copies the values in the reply to a report into the state. The number in it counts from the beginning of the
+        replay's present part, so the number at that beginning is added."""
         state = self.state
         state.number = reply["at"] + self.number
         state.privileged = {node: rule for node, rule in reply["privileged"]}

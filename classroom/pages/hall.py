@@ -133,8 +133,9 @@ def view(folder: Path, lab: Lab) -> dict[str, Any]:
 
 
 def hall_page(title: str, state: str, views: Views, acts: bool) -> tuple[str, str]:
-    """Returns the text of the page, and the content policy that allows only the page's own style and script. `state`
-    is the state of the class as `text` returns it, and `acts` says whether the teacher can act on the page."""
+    """Returns the text of the page with this title, and the content policy that allows only the page's own style and
+    script. `state` is the state of the class as `text` returns it, `views` has the positions of each network's nodes,
+    and `acts` says whether the teacher can act on the page."""
     drawn = data_element(json.dumps(views, separators=(",", ":"))).replace('id="data"', 'id="views"', 1)
     parts = {"TITLE": title, "DATA": data_element(state) + drawn, "ACTS": "acts" if acts else "looks"}
     return assembled("hall", parts, "", ("drawing.css", "hall.css"), ("hall.js",))
@@ -142,10 +143,10 @@ def hall_page(title: str, state: str, views: Views, acts: bool) -> tuple[str, st
 
 def opened(port: int, title: str, act: Callable[[str], None], state: ClassState, looks: str | None = None,
            views: Callable[[], Views] = list) -> Hall:
-    """Returns the server of the page, which listens at a port or the next free one and answers from now on. `act`
-    handles a line of the teacher, and `views` returns the positions of each network's nodes. `state` is the first state
-    that is shown. `looks` is the token of the address to look at if the class continues. Raises `Fault` if no port is
-    free."""
+    """Returns the server of the page with this title, which listens at a port or the next free one and answers from now
+    on. `act` handles a line of the teacher, and `views` returns the positions of each network's nodes. `state` is the
+    first state that is shown. `looks` is the token of the address to look at if the class continues, and otherwise
+    None. Raises `Fault` if no port is free."""
     it = web_opened(port, lambda number: Hall(number, title, act, state, looks, views))
     it.open()
     return it

@@ -35,7 +35,7 @@ FULL = "✓ "  # the sign before the rule of a chosen move
 
 
 def text_width(text: str, size: float, bold: bool = False) -> float:
-    """Returns an upper estimate of the width of a text in letters of this size."""
+    """Returns an upper estimate of the width of a text in letters of this size, which are bold if `bold` is set."""
     return size * sum(map(letter_width, text)) * (BOLD if bold else 1.0)
 
 
@@ -115,7 +115,7 @@ class Box:
         return sum(max(0.0, far) for far in (GAP - self.left, self.right - field.width + GAP, GAP - self.top, self.bottom - field.height + GAP))
 
     def in_disc(self, middle: Point, radius: float) -> float:
-        """Returns how far the box reaches into the disc around a point, or 0 if it doesn't."""
+        """Returns how far the box reaches into the disc with this middle and radius, or 0 if it doesn't."""
         x, y = min(max(middle[0], self.left), self.right), min(max(middle[1], self.top), self.bottom)
         return max(0.0, radius + GAP - math.dist((x, y), middle))
 
@@ -169,14 +169,15 @@ class View:
         return round(max(plain, 0.92 * radius), 1)
 
     def pill_at(self, node: int, width: float) -> Point:
-        """Returns the middle of the frame of a node's rule, relative to the node's middle."""
+        """Returns the middle of the frame of a node's rule, relative to the node's middle. `width` is that of the
+        frame."""
         label = self.labels.get(node)
         return self.corners[node] if label is None else (label.pill_x(width), label.pill_y)
 
 
 def view_of(owners: dict[int, list[str]], links: list[tuple[int, int]], field: Field) -> View:
-    """Returns the layout of a network in a field, with the largest labels for which there is room. A narrow field has
-    none. `owners` has the owners of each node."""
+    """Returns the layout of the network with these links in a field, with the largest labels for which there is room. A
+    narrow field has none. `owners` has the owners of each node."""
     shape = shape_for(owners, links, field)
     near = neighbours(owners, links)
     if field.width >= 500 and len(owners) <= MOST_NAMED and len(links) <= MOST_LINKS:
@@ -204,8 +205,8 @@ def corners_of(layout: Layout) -> dict[int, Point]:
 
 
 def framed(middle: Point, corner: Point, radius: float) -> Box:
-    """Returns the box of the widest rule's frame at a corner of the node at `middle`. The corner is relative to the
-    node, in radii."""
+    """Returns the box of the widest rule's frame at a corner of the node at `middle`, whose disc has this radius. The
+    corner is relative to the node, in radii."""
     x, y = middle[0] + corner[0] * radius, middle[1] + corner[1] * radius
     width, high = BARE.widest_pill, PILL_HIGH * BARE.pill
     return Box(x - width / 2, y - high / 2, x + width / 2, y + high / 2)
@@ -226,9 +227,9 @@ def pads(kind: str, field: Field, form: Form, owners: dict[int, list[str]]) -> P
 
 
 def placed(layout: Layout, form: Form, owners: dict[int, list[str]], near: Near) -> tuple[dict[int, Label], float, float]:
-    """Returns a label for each node. Labels of nodes with the most links are placed first. `owners` has the names of
-    each node's owners, and `near` its neighbours. Also returns by how much all labels together overlap discs, other
-    labels and the edges, and by how much they overlap links."""
+    """Returns a label for each node of a layout, in this form. Labels of nodes with the most links are placed first.
+    `owners` has the names of each node's owners, and `near` its neighbours. Also returns by how much all labels
+    together overlap discs, other labels and the edges, and by how much they overlap links."""
     labels: dict[int, Label] = {}
     lines = [(layout.points[a], layout.points[b]) for a, others in near.items() for b in others if a < b]
     hard = soft = 0.0
@@ -249,15 +250,15 @@ def placed(layout: Layout, form: Form, owners: dict[int, list[str]], near: Near)
 
 
 def lies_upon(box: Box, layout: Layout, discs: list[Point], others: Iterable[Box]) -> float:
-    """Returns by how much a label's box would overlap the discs at these points, other labels, and the edges of the
-    field."""
+    """Returns a measure of how much a label's box overlaps the discs around the points in `discs`, the boxes in
+    `others`, and the edges of the layout's field. The measure is 0 if it overlaps none of them."""
     upon = 20 * box.outside(layout.field) + sum(map(box.shared, others))
     return upon + 20 * sum(box.in_disc(point, RING * layout.radius) for point in discs)
 
 
 def candidates(node: int, layout: Layout, form: Form, text: str, others: list[int]) -> Iterator[Label]:
-    """Yields possible labels of a node with this text, the best first: in the widest gap between its links to the nodes
-    in `others`, and then all around."""
+    """Yields possible labels with this text and form for a node of a layout, the best first: in the widest gap between
+    its links to the nodes in `others`, and then all around."""
     first = math.pi / 4 if layout.kind == "grid" else widest_gap(layout, node, others)
     width = max(text_width(text, form.size), form.widest_pill)
     for angle in (first, *(eighths * math.pi / 4 for eighths in ANGLES)):
@@ -265,9 +266,9 @@ def candidates(node: int, layout: Layout, form: Form, text: str, others: list[in
 
 
 def widest_gap(layout: Layout, node: int, others: list[int]) -> float:
-    """Returns the angle of the middle of the widest gap between a node's links to `others`. Gaps to the left and right
-    count a little more, since texts are wide. Of two gaps that are otherwise equal the lower one is taken, and at the
-    same height the one with the larger angle. Without links, returns the angle straight down."""
+    """Returns the angle of the middle of the widest gap between a node's links to `others` in a layout. Gaps to the
+    left and right count a little more, since texts are wide. Of two gaps that are otherwise equal the lower one is
+    taken, and at the same height the one with the larger angle. Without links, returns the angle straight down."""
     x, y = layout.points[node]
     angles = sorted(math.atan2(layout.points[other][1] - y, layout.points[other][0] - x) for other in others)
     gaps = []
@@ -279,8 +280,8 @@ def widest_gap(layout: Layout, node: int, others: list[int]) -> float:
 
 
 def label_at(middle: Point, radius: float, angle: float, form: Form, text: str, width: float) -> Label:
-    """Returns the label with this text beside the node at `middle`, in the direction of an angle. `width` is that of
-    the text or of the widest frame of a rule."""
+    """Returns the label with this text and form beside the node at `middle`, whose disc has this radius. The label is
+    in the direction of an angle, and `width` is that of the text or of the widest frame of a rule."""
     level, upright = math.cos(angle), math.sin(angle)
     x, y = level * REACH * radius, upright * REACH * radius
     anchor = "start" if level > SIDEWAYS else "end" if level < -SIDEWAYS else "middle"

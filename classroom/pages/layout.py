@@ -63,18 +63,21 @@ class Layout:
 
 
 def lay_out(nodes: Iterable[int], links: Iterable[tuple[int, int]], field: Field = WIDE) -> Layout:
-    """Returns a layout of a network in a field, with margins for the nodes' discs but not for labels."""
+    """Returns a layout of the network with these nodes and links in a field, with margins for the nodes' discs but not
+    for labels."""
     reach = 1.5 * field.most_radius
     return fitted(shape_for(nodes, links, field), field, Pads(reach, reach, reach, reach))
 
 
 def shape_for(nodes: Iterable[int], links: Iterable[tuple[int, int]], field: Field) -> Shape:
-    """Returns the shape of a network for the proportions of a field, in units of its own."""
+    """Returns the shape of the network with these nodes and links for the proportions of a field. The points of a shape
+    are in units of its own."""
     return shape_of(sorted(nodes), sorted(links), field.width / field.height)
 
 
 def fitted(shape: Shape, field: Field, pads: Pads) -> Layout:
-    """Returns the layout for which a shape is moved and stretched into the part of a field between these margins."""
+    """Returns the layout that results if a shape is moved and stretched into the part of a field between the margins
+    `pads`."""
     xs, ys = zip(*shape.points.values())
     wide, high = max(xs) - min(xs), max(ys) - min(ys)
     across = (field.width - pads.left - pads.right) / wide if wide > 1e-9 else 0.0

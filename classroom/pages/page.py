@@ -67,8 +67,8 @@ class Frames:
         self.before = state.copy()
 
     def registers(self, before: State, state: State) -> list[list[int]]:
-        """Returns three numbers for each node whose registers have changed: its index, the index of the node that it
-        points at or -1, and m as 0 or 1."""
+        """Returns three numbers for each node whose registers differ between two states: its index, the index of the
+        node that it points at or -1, and m as 0 or 1. The numbers are those in `state`, the later one."""
         if (before.pointers, before.ms) == (state.pointers, state.ms):
             return []
         return [
@@ -78,14 +78,14 @@ class Frames:
         ]
 
     def rules(self, before: dict[int, str], now: dict[int, str]) -> list[list[int]]:
-        """Returns the nodes whose rule has changed: for each its index, and the rule's index in RULES, which is 0 for
-        none."""
+        """Returns the nodes whose rule in `now` isn't the one in `before`. For each, returns its index, and the index
+        in RULES of its rule in `now`, which is 0 for none."""
         changed = {node for node, _ in before.items() ^ now.items()}
         return [[self.order[node], RULES.index(now.get(node, ""))] for node in sorted(changed)]
 
     def partners(self, before: list[Link], now: list[Link]) -> list[list[int]]:
-        """Returns the nodes that lost their partner, each with -1, and then those that got one, each with the partner.
-        All are indices."""
+        """Returns the nodes that are in a pair in `before` and no longer in `now`, each with -1, and then those that
+        are in a new pair, each with its partner. All are indices."""
         gone, come = set(before) - set(now), set(now) - set(before)
         rows = [[self.order[node], -1] for pair in sorted(gone) for node in pair]
         return rows + [
@@ -93,7 +93,8 @@ class Frames:
         ]
 
     def changed_links(self, before: frozenset[Link], now: frozenset[Link]) -> list[list[int]]:
-        """Returns the index of each link that was added, with 1, or removed, with 0."""
+        """Returns the index of each link that is in `now` and not in `before`, with 1, and of each that is in `before`
+        and not in `now`, with 0."""
         return [[self.index_of(link), int(link in now)] for link in sorted(before ^ now)]
 
     def index_of(self, link: Link) -> int:
@@ -138,18 +139,19 @@ class Played:
         self.data = as_element(constant_data(self.drawing, first.state) | {"links": rows.drawn_links(), "frames": rows.rows})
 
     def page(self, title: str, history: str = "") -> str:
-        """Returns the text of the HTML page. `history` is a section of HTML beside the player."""
+        """Returns the text of the HTML page with this title. `history` is a section of HTML beside the player."""
         return drawing_page("player", title, self.drawing, self.picture, self.data, {"MORE": history})[0]
 
 
 def page_of(title: str, lab: Lab, frames: Iterable[Frame]) -> str:
-    """Returns the text of the HTML page of a run with these frames."""
+    """Returns the text of the HTML page, with this title, of a run of `lab` with these frames."""
     return Played(lab, frames).page(title)
 
 
 def live_page(title: str, drawing: Drawing, state: State, acts: bool) -> tuple[str, str]:
-    """Returns the HTML page of a run that goes on, whose script asks for changes, and the content policy to send with
-    it. `acts` says whether the teacher can act on it."""
+    """Returns the HTML page of a run that goes on, and the content policy to send with it. The page has this title and
+    shows the drawing in this state, and its script asks for changes. `acts` says whether the teacher can act on the
+    page."""
     own = {"links": [], "acts": acts, "buttons": {name: it.line for name, it in BUTTONS.items()}, "byLinks": BY_LINKS}
     parts = {name: button(it) for name, it in BUTTONS.items()}
     return drawing_page("live", title, drawing, drawing.svg(state, None), as_element(constant_data(drawing, state) | own), parts)
@@ -163,7 +165,7 @@ def button(it: Button) -> str:
 
 def constant_data(drawing: Drawing, state: State) -> dict[str, Any]:
     """Returns the part of a page's data that doesn't change during the run, with the drawing for a screen and the one
-    for a phone."""
+    for a phone. `state` has the links that are drawn."""
     phone = drawing_of(drawing.lab, state.links, TALL)
     return {
         "nodes": [{"id": node.id, "owners": node.owners} for node in drawing.lab.nodes],
@@ -172,16 +174,16 @@ def constant_data(drawing: Drawing, state: State) -> dict[str, Any]:
 
 
 def network_in_words(drawing: Drawing) -> str:
-    """Returns the kind and the size of the network in words."""
+    """Returns the kind and the size of a drawing's network in words."""
     kind = drawing.view.layout.kind
     kind = {"general": "network", "ellipse": "network", "complete": "complete network"}.get(kind, kind)
     return f"{kind} of {plural(len(drawing.lab.nodes), 'node')}, {plural(len(drawing.lab.students), 'student')}"
 
 
 def drawing_page(name: str, title: str, drawing: Drawing, picture: str, data: str, more: dict[str, str]) -> tuple[str, str]:
-    """Returns the HTML page of a drawing, and the content policy to send with it. `name` is that of the template and
-    its script, `picture` the SVG element, `data` the element with the data, and `more` has further parts of the
-    template."""
+    """Returns the HTML page of a drawing, with this title, and the content policy to send with it. `name` is that of
+    the template and its script, `picture` the SVG element, `data` the element with the data, and `more` has further
+    parts of the template."""
     header = fill_template("header", {"TITLE": escape(title), "SIZE": escape(network_in_words(drawing))})
     parts = more | {"TITLE": title, "DRAWING": picture, "HEADER": header, "DATA": data}
     return assembled(name, parts, "", ("drawing.css", "page.css"), ("picture.js", "chart.js", f"{name}.js"))
@@ -205,7 +207,7 @@ def fill_template(name: str, parts: dict[str, str]) -> str:
 
 
 def hashed(text: str) -> str:
-    """Returns the hash of a style or script as a content policy names it."""
+    """Returns the hash of a style or script in the form in which a content policy has it."""
     return f"'sha256-{base64.b64encode(hashlib.sha256(text.encode()).digest()).decode()}'"
 
 

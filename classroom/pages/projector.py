@@ -29,8 +29,9 @@ class Pages(TwoAddresses):
     """The server of the page of one run. The token of the address to act at can be replaced."""
 
     def __init__(self, port: int, title: str, lab: Lab, typed: queue.SimpleQueue[str], looks: str | None = None) -> None:
-        """Listens at the port, but doesn't answer before `show`. Lines of the teacher are put into `typed`, and `looks`
-        is the token of the address to look at, if it has one already. Raises `OSError` if the port is taken."""
+        """Listens at the port, but doesn't answer before `show`. `title` is the page's title, and `lab` that of the
+        run. Lines of the teacher are put into `typed`, and `looks` is the token of the address to look at, if it has
+        one already. Raises `OSError` if the port is taken."""
         super().__init__(port, Page, title, looks)
         self.lab, self.typed = lab, typed
         self.drawing = drawing_of(lab.without_house(), lab.links)
@@ -96,7 +97,8 @@ class Page(AtAddress):
 
 def message(rows: Frames, present: Present, before: Now | None, now: Now) -> dict[str, Any]:
     """Returns the values of the message that brings a page from the snapshot `before`, or from nothing, to `now`.
-    `rows` has the links and the state that were sent to that page before, and is brought to `now` too."""
+    `present` has all events and lines so far. `rows` has the links and the state that were sent to that page before,
+    and is brought to `now` too."""
     links = len(rows.links)
     rows.add(Frame(present.events[now.events - 1] if now.events else None, now.state), len(now.state.links))
     events = present.events[max(before.events if before else 0, now.events - LISTED):now.events]
@@ -109,7 +111,7 @@ def message(rows: Frames, present: Present, before: Now | None, now: Now) -> dic
 
 
 def open_pages(port: int, title: str, lab: Lab, typed: queue.SimpleQueue[str], looks: str | None = None) -> Pages:
-    """Returns the server of the page, which listens at a port or the next free one, and doesn't answer yet. Lines of
-    the teacher are put into `typed`, and `looks` is the token of the address to look at, if the run had one before.
-    Raises `Fault` if no port is free."""
+    """Returns the server of the page of a lab's run, with this title. It listens at a port or the next free one, and
+    doesn't answer yet. Lines of the teacher are put into `typed`, and `looks` is the token of the address to look at,
+    if the run had one before. Raises `Fault` if no port is free."""
     return opened(port, lambda number: Pages(number, title, lab, typed, looks))

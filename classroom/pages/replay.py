@@ -53,7 +53,7 @@ class Script:
     size: int = 0
 
     def ask(self, line: str, take: Take | None = None) -> None:
-        """Appends a line, and the function that handles its reply, if there is one."""
+        """Appends a line, and the function `take` that handles its reply. If `take` is None, the reply isn't used."""
         self.lines.append(line)
         self.takes.append(take)
         self.size += len(line) + 1
@@ -93,9 +93,9 @@ class Replay:
             is_first = False
 
     def part(self, events: list[Event], is_first: bool) -> tuple[Script, list[Event]]:
-        """Returns a script with as many of these events as fit into it, and the remaining events. The script has all
-        events, or those up to an event that made a configuration. Raises `Fault` if too many events come without a new
-        configuration."""
+        """Returns a script with as many of these events as fit into it, and the remaining events. If `is_first` is set,
+        the script begins with the requests before the first event. The script has all events, or those up to an event
+        that made a configuration. Raises `Fault` if too many events come without a new configuration."""
         script, fits, kept, named = Script(), 0, 0, set[int]()
         for line in HELLOS:
             script.ask(line)
@@ -163,7 +163,7 @@ class Replay:
 
 
 def alone(nodes: list[labs.Node], links: list[tuple[int, int]], events: int) -> labs.Lab:
-    """Returns a lab that allows `events` events, and in which one student owns all nodes."""
+    """Returns a lab with these nodes and links that allows `events` events, and in which one student owns all nodes."""
     return labs.Lab(events, 2, (TEACHER, KEY), {STUDENT: KEY}, nodes, links)
 
 
@@ -174,7 +174,8 @@ def values_of(reply: str) -> dict[str, Any]:
 
 
 def another(line: str, reply: str) -> Fault:
-    """Returns the fault to raise if the program doesn't grant a line that was granted in the run."""
+    """Returns the fault to raise if the program answers a line that was granted in the run by `reply`, which doesn't
+    grant it."""
     return Fault(f"the journal can't be replayed: the program answered the line {line[2:]} by {reply[2:]}. "
                  "This is an error of the program: report it to its developers", 4)
 

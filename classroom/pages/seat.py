@@ -28,16 +28,17 @@ class Seen(Drawing):
     beyond: frozenset[int] = frozenset()
 
     def pointer(self, node: int, state: State) -> str:
-        """Returns the path element for a node's pointer, or an empty text for a node beyond the part."""
+        """Returns the path element for a node's pointer in a state, or an empty text for a node beyond the part."""
         return "" if node in self.beyond else super().pointer(node, state)
 
     def node_in_words(self, node: int, owners: list[str], state: State) -> str:
-        """Returns the description of a node for people who don't see the drawing. A neighbour's owners aren't known."""
+        """Returns the description of a node with these owners in a state, for people who don't see the drawing. A
+        neighbour's owners aren't known."""
         return super().node_in_words(node, owners, state).replace(f" of {NEIGHBOUR},", f", {NEIGHBOUR},", 1)
 
     def node(self, node: int, owners: list[str], state: State, event: Event | None) -> str:
-        """Returns the SVG element of a node. A node beyond the part is only a number, and a neighbour has a thin
-        rim."""
+        """Returns the SVG element of a node with these owners in a state, after an event. A node beyond the part is
+        only a number, and a neighbour has a thin rim."""
         if node not in self.beyond:
             kind = "node near" if owners == [NEIGHBOUR] else "node"
             return super().node(node, owners, state, event).replace('class="node"', f'class="{kind}"', 1)
@@ -57,8 +58,8 @@ def shown_part(name: str, looks: Looks) -> Lab:
 
 
 def drawing_of_part(part: Lab, looks: Looks) -> Seen:
-    """Returns the drawing of the part of the network that a student is shown. Each node beyond it is drawn near the
-    node that points at it."""
+    """Returns the drawing of `part`, the part of the network that a student is shown. `looks` are the looks from which
+    it was made. Each node beyond the part is drawn near the node that points at it."""
     beyond = frozenset(node.id for node in part.nodes if not node.owners)
     points_at = [(each.node, each.p) for look in looks.values() for each in look.near if each.p in beyond and each.p is not None]
     links = sorted({*part.links, *map(ordered, points_at)})

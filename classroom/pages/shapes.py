@@ -35,13 +35,14 @@ class Shape:
 
 
 def shape_of(nodes: list[int], links: Links, aspect: float) -> Shape:
-    """Returns the shape of a network for a field with this ratio of width to height."""
+    """Returns the shape of the network with these nodes and links, for a field with the ratio `aspect` of width to
+    height."""
     return kept_shape(tuple(sorted(nodes)), tuple(sorted(links)), round(aspect, 2))
 
 
 @lru_cache(maxsize=64)
 def kept_shape(nodes: tuple[int, ...], links: tuple[tuple[int, int], ...], aspect: float) -> Shape:
-    """Returns the shape of a network. Computes it unless it is among the last results, which are cached."""
+    """Returns the same shape as `shape_of`. Computes it unless it is among the last results, which are cached."""
     near = {node: sorted(set(others)) for node, others in neighbours(nodes, links).items()}
     found = plain_shape(near, aspect) or grid_shape(near)
     if found is None and is_tree(near):
@@ -73,18 +74,18 @@ def plain_shape(near: Near, aspect: float) -> Shape | None:
 
 
 def is_joined(near: Near) -> bool:
-    """Returns whether all nodes are connected with each other."""
+    """Returns whether all nodes are connected with each other. `near` has the neighbours of each node."""
     return len(steps_from(next(iter(near)), near)) == len(near)
 
 
 def is_tree(near: Near) -> bool:
-    """Returns whether the network is connected and has no cycle."""
+    """Returns whether a network is connected and has no cycle. `near` has the neighbours of each node."""
     return sum(map(len, near.values())) == 2 * (len(near) - 1) and is_joined(near)
 
 
 def walk(near: Near, start: int) -> list[int]:
-    """Returns the nodes of a path or cycle in their order. The first node is `start`, and the next one its lowest
-    neighbour."""
+    """Returns the nodes of a path or cycle, whose neighbours are in `near`, in their order. The first node is `start`,
+    and the next one its lowest neighbour."""
     order, seen = [start], {start}
     while True:
         others = [node for node in near[order[-1]] if node not in seen]
@@ -95,8 +96,8 @@ def walk(near: Near, start: int) -> list[int]:
 
 
 def snake(order: list[int], aspect: float) -> Points:
-    """Returns points for the nodes of a path, row by row, in this order. A long path turns back at the end of each
-    row."""
+    """Returns points for the nodes of a path, row by row, in this order. A long path turns back at the end of each row.
+    `aspect` is the field's ratio of width to height."""
     rows = max(1, round(math.sqrt(len(order) / aspect / 3)))
     across = -(-len(order) // rows)
     points = {}
@@ -107,8 +108,9 @@ def snake(order: list[int], aspect: float) -> Points:
 
 
 def ellipse(order: list[int], aspect: float, room: float = 0.0) -> Points:
-    """Returns points for the nodes on an ellipse in this order, at equal distances along it, beginning at the top. If
-    `room` isn't 0, this share of the ellipse stays free at its right, and the nodes begin after that."""
+    """Returns points for the nodes on an ellipse in this order, at equal distances along it, beginning at the top.
+    `aspect` is the field's ratio of width to height. If `room` isn't 0, this share of the ellipse stays free at its
+    right, and the nodes begin after that."""
     wide = min(MOST_WIDE, max(1.0, aspect))
     angles = [math.tau * turn / TURNS - (0 if room else math.pi / 2) for turn in range(TURNS + 1)]
     fine = [(wide * math.cos(angle), math.sin(angle)) for angle in angles]
@@ -145,8 +147,8 @@ def down(root: int, children: Near) -> Iterator[int]:
 
 
 def grid_shape(near: Near) -> Shape | None:
-    """Returns the shape of a grid, or None for another network. The lowest corner is at the upper left, and the lower
-    one of its neighbours is to its right."""
+    """Returns the shape of a grid, or None for another network. `near` has the neighbours of each node. The lowest
+    corner is at the upper left, and the lower one of its neighbours is to its right."""
     corners = [node for node, others in near.items() if len(others) == 2]
     if len(near) < 4 or len(corners) != 4 or any(not 2 <= len(others) <= 4 for others in near.values()):
         return None
@@ -157,8 +159,9 @@ def grid_shape(near: Near) -> Shape | None:
 
 
 def lattice(near: Near, first: dict[int, int], second: dict[int, int]) -> Points | None:
-    """Returns points with whole coordinates for the nodes of a grid, or None if the network isn't a grid. `first` and
-    `second` have the distances of each node to the two ends of the first row."""
+    """Returns points with whole coordinates for the nodes of a grid, or None if the network isn't a grid. `near` has
+    the neighbours of each node. `first` and `second` have the distances of each node to the two ends of the first
+    row."""
     if len(first) != len(near):
         return None
     last = min(first[node] for node in second if not second[node])

@@ -35,8 +35,8 @@ def sheet(drawing: Drawing, frames: list[Frame], theme: str = colours.LIGHT) -> 
 
 
 def cell(drawing: Drawing, frame: Frame, index: int) -> str:
-    """Returns the SVG elements of a frame's title and, below it, of its configuration. `index` is the frame's position
-    in the list, from which its row and column follow."""
+    """Returns the SVG elements of the title of a frame and, below it, of its configuration as this drawing shows it.
+    `index` is the frame's position in the list, from which its row and column follow."""
     x, y = index % ACROSS * CELL.width, index // ACROSS * (CELL.height + TITLE)
     state = frame.state
     left = f"{plural(len(state.privileged), 'node')} can move" if not state.stable else "at rest"

@@ -31,14 +31,15 @@ KNOWN: dict[tuple[tuple[int, ...], tuple[tuple[int, int], ...]], dict[int, Point
 
 
 def by_springs(nodes: tuple[int, ...], links: tuple[tuple[int, int], ...]) -> dict[int, Point]:
-    """Returns a point for each node of a network with at least two nodes: the layout in KNOWN, or a computed one."""
+    """Returns a point for each node of the network with these nodes, at least two, and these links: the layout in
+    KNOWN, or a computed one."""
     return KNOWN.get((nodes, links)) or searched(nodes, links)
 
 
 @lru_cache(maxsize=16)
 def searched(nodes: tuple[int, ...], links: tuple[tuple[int, int], ...]) -> dict[int, Point]:
-    """Returns a point for each node of a network with at least two nodes. Computes them unless they are among the last
-    results, which are cached."""
+    """Returns a point for each node of the network with these nodes, at least two, and these links. Computes them
+    unless they are among the last results, which are cached."""
     far = distances(nodes, links)
     ring = [math.tau * index / len(nodes) for index in range(len(nodes))]
     first, second = classical_scaling(far, [list(map(math.cos, ring)), list(map(math.sin, ring))])

@@ -26,8 +26,8 @@ class TwoAddresses(Web):
     """A server of a page with two addresses. If a run continues, the token to look at stays the same."""
 
     def __init__(self, port: int, asked: type[AtAddress], title: str, looks: str | None = None) -> None:
-        """Listens at the port. `asked` is the class that handles a request, and `looks` the token to look at, if there
-        is one already. Raises `OSError` if the port is taken."""
+        """Listens at the port. `asked` is the class that handles a request, `title` is the page's title, and `looks`
+        the token to look at, if there is one already. Raises `OSError` if the port is taken."""
         super().__init__(port, asked, title)
         self.looks, self.acts = looks or new_token(), new_token()
         self.leaving = threading.Condition()
@@ -53,7 +53,7 @@ class TwoAddresses(Web):
             self.count(-1)
 
     def count(self, more: int) -> None:
-        """Changes the number of pages that receive events, by 1 or -1."""
+        """Adds `more`, which is 1 or -1, to the number of pages that receive events."""
         with self.leaving:
             self.receiving += more
             self.leaving.notify_all()
@@ -78,7 +78,8 @@ class AtAddress(PageRequest):
         return (known[0], rest) if known and slash else ("", "")
 
     def do_POST(self) -> None:
-        """Handles a line of the teacher. Answers 404 at any other address than that to act at."""
+        """Handles a line of the teacher. Answers 204, or 400 if the page may not send this line. Answers 404 at any
+        other address than that to act at."""
         if self.reject_foreign_host():
             return
         body = self.body(MOST_BYTES) if self.asked() == (self.server.acts, "act") else None

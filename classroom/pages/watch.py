@@ -78,7 +78,7 @@ class Present:
     def put(self, state: State | None = None, events: Iterable[Event] = (), line: str | None = None,
             closing: str | None = None, ended: bool = False) -> None:
         """Publishes a new snapshot with these changes: another state, more events, a further line, another way of
-        closing steps, or the end of the run. What isn't given stays as it is."""
+        closing steps, or the end of the run if `ended` is set. What isn't given stays as it is."""
         with self.turn:
             now = self.now
             for event in events:
@@ -104,8 +104,8 @@ class Watch:
     """A reader of a run's state at the desk: it looks at each node once, and then only at nodes that events name."""
 
     def __init__(self, lab: labs.Lab, client: Client, report: Report, closing: str) -> None:
-        """Looks at each node, and begins with this report. `client` is the desk's connection, and `closing` says how
-        steps are closed."""
+        """Looks at each node of `lab`, that of the run, and begins with this report. `client` is the desk's connection,
+        and `closing` says how steps are closed."""
         self.client = client
         self.state = State(0, 0, frozenset(map(labs.ordered, lab.links)))
         self.named = {node.id for node in lab.nodes}

@@ -32,8 +32,8 @@ class Web(ThreadingHTTPServer):
     request_queue_size = BACKLOG
 
     def __init__(self, port: int, asked: type[PageRequest], title: str) -> None:
-        """Listens at the port, but doesn't answer before `open`. `asked` is the class that handles a request. Raises
-        `OSError` if the port is taken."""
+        """Listens at the port, but doesn't answer before `open`. `asked` is the class that handles a request, and
+        `title` the pages' title. Raises `OSError` if the port is taken."""
         super().__init__(("127.0.0.1", port), asked)
         self.title = title
         self.tell: Callable[[str], None] = print
@@ -55,7 +55,8 @@ class Web(ThreadingHTTPServer):
         self.server_close()
 
     def process_request(self, request: Any, client_address: Any) -> None:
-        """Serves a connection in its own thread. Closes it if there are too many, or no thread can be made."""
+        """Serves the connection `request` in its own thread. Closes it if there are too many, or no thread can be
+        made."""
         if not self.free.acquire(blocking=False):
             return self.shutdown_request(request)
         try:
@@ -65,14 +66,14 @@ class Web(ThreadingHTTPServer):
             self.shutdown_request(request)
 
     def process_request_thread(self, request: Any, client_address: Any) -> None:
-        """Serves one connection to its end."""
+        """Serves the connection `request` to its end."""
         try:
             super().process_request_thread(request, client_address)
         finally:
             self.free.release()
 
     def handle_error(self, request: Any, client_address: Any) -> None:
-        """Prints a line about an error in a request, but only one for each kind. If the page has only gone away, prints
+        """Prints a line about an error in `request`, but only one for each kind. If the page has only gone away, prints
         nothing."""
         error = sys.exc_info()[1]
         if error is None or isinstance(error, (ConnectionError, TimeoutError)):
