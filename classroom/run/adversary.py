@@ -74,7 +74,7 @@ class Adversary:
 
     def some(self, rules: Mapping[int, str], nodes: Sequence[int]) -> list[int]:
         """Returns at most FIRST of these nodes: the one that is next by the schedule, and others, which are drawn at
-        random if they are many."""
+        random if they are many. `rules` has the enabled rule of each node."""
         first = scheduled(rules, nodes)
         others = [node for node in nodes if node != first]
         return [first, *(others if len(others) < FIRST else self.chance.sample(others, FIRST - 1))]

@@ -42,8 +42,8 @@ class Announcer:
     """A printer of a run's events and state, as lines."""
 
     def __init__(self, lab: labs.Lab, folder: Path, known: Follower, tell: Callable[[str], None]) -> None:
-        """`folder` is that of the run, and `known` follows its journal and has its report. The callback prints a
-        line."""
+        """`lab` is the lab of the run, `folder` is the run's folder, and `known` follows its journal and has its
+        report. `tell` prints a line."""
         self.lab, self.known, self.tell = lab, known, tell
         self.shown = lab.without_house()
         self.folder = folder
@@ -127,9 +127,9 @@ class Announcer:
         self.tell(f"configuration {at}: {what}; {now}moves: {known.book.since}{limit}; {self.events_used()}")
 
     def count_close(self, event: Event, moved: list[int], before: Report) -> None:
-        """Counts a close in the recovery. `moved` are the nodes that moved, and `before` is the report before the
-        close. If the close ended the recovery, prints the counts. If there is no report of the configuration before or
-        after the close, the recovery has no counts."""
+        """Counts `event`, a close, in the recovery. `moved` are the nodes that moved, and `before` is the report before
+        the close. If the close ended the recovery, prints the counts. If there is no report of the configuration before
+        or after the close, the recovery has no counts."""
         report = self.known.report
         if (before.at, report.at) != (event.at, event.at + 1):
             self.comeback.miss()

@@ -211,7 +211,8 @@ def run_typed(desk: Desk, line: str | None, hung: Callable[[], None]) -> str:
 def attend(desk: Desk, it: Server, until_stable: bool, typed: Typed, room: DiskRoom, hung: Callable[[], None]) -> str:
     """Closes steps and runs typed commands until the run ends. Returns the reason: `stable`, `full`, `journal`, `end`,
     `clock`, `left` (another process takes the desk) or `died` (the server `it` has ended). Calls `hung` if the terminal
-    is closed. `until_stable` says whether the run ends as soon as its configuration is stable."""
+    is closed. `until_stable` says whether the run ends as soon as its configuration is stable. `room` checks the room
+    on the disk, and `typed` has the typed lines."""
     with contextlib.closing(Striker()) as striker:
         while not it.has_ended():
             try:

@@ -37,9 +37,10 @@ def wait_for_desks(folder: Path, kept: Class) -> None:
 
 
 def begin(member: Member, several: Several, again: bool, starts: bool) -> None:
-    """Takes the desk of a network in a class. If the network's server has ended, starts the server first if `starts` is
-    set, and otherwise marks the network as down and prints its alarm. If the network's run was ended on purpose, only
-    marks the network as ended, unless both `starts` and `again` are set. `several` is the desk of the class."""
+    """Takes the desk of the network `member` of a class. If the network's server has ended, starts the server first if
+    `starts` is set, and otherwise marks the network as down and prints its alarm. If the network's run was ended on
+    purpose, only marks the network as ended, unless both `starts` and `again` are set. `several` is the desk of the
+    class."""
     record = Record.read(member.folder)
     if record is not None and record.ended and not record.goes_on() and not (starts and again):
         member.status = ENDED

@@ -62,13 +62,14 @@ class Clock:
         self.left = [minutes for minutes in WARNINGS if end - timedelta(minutes=minutes) >= begun]
 
     def warning(self, now: datetime) -> str:
-        """Returns the line of the latest warning that is due, if it wasn't returned before, or an empty text."""
+        """Returns the line of the latest warning that is due at the time `now`, or an empty text if there is none, or
+        if it was returned before."""
         due = [minutes for minutes in self.left if now >= self.end - timedelta(minutes=minutes)]
         self.left = [minutes for minutes in self.left if minutes not in due]
         return f"the lesson ends at {self.end:%H:%M}, in {plural(due[-1], 'minute')}" if due and not self.is_over(now) else ""
 
     def is_over(self, now: datetime) -> bool:
-        """Returns whether the end of the lesson has come."""
+        """Returns whether the end of the lesson has come at the time `now`."""
         return now >= self.end
 
     def told(self) -> str:

@@ -30,5 +30,5 @@ def kept(folder: Path, record: Record) -> Closing:
 
 
 def spelled(how: Closing) -> str:
-    """Returns the word that names the daemon, as it is typed."""
+    """Returns the word that names the daemon `how`, as it is typed."""
     return how.spelled()

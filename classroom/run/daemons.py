@@ -25,7 +25,7 @@ class Daemon:
     @staticmethod
     def of(word: str, seconds: float = 2.0) -> Daemon:
         """Returns the daemon that a word names, such as `random:0.5`. `seconds` is the default for `every` and
-        `when-idle`. Raises `ValueError` for any other word."""
+        `when-idle`, and 0.5 the one for `random`. Raises `ValueError` if the word names no daemon."""
         found = re.fullmatch(r"(random|every|when-idle)(?::(\d+(?:\.\d+)?))?", word)
         if word in PLAIN:
             return Daemon(word)
@@ -75,9 +75,10 @@ def heads(nodes: Sequence[int], probability: float, chance: random.Random) -> li
 
 
 def applied(how: Daemon, sight: Sight, chance: random.Random, patience: float, search: Search = list) -> list[int]:
-    """Returns the nodes whose moves a close applies now, or none if no step is closed yet. The other chosen moves are
-    released before the close. The random daemon tosses coins, and the schedule and the adversary call `search`. These
-    three wait until each privileged node has a chosen move, or none was granted for `patience` seconds."""
+    """Returns the nodes whose moves a close under the daemon `how` applies now, or none if no step is closed yet.
+    `sight` has what the daemon decides by. The other chosen moves are released before the close. The random daemon
+    tosses coins with `chance`, and the schedule and the adversary call `search`. These three wait until each privileged
+    node has a chosen move, or none was granted for `patience` seconds."""
     if not sight.chosen:
         return []
     if how.kind == "central":
@@ -95,8 +96,9 @@ def applied(how: Daemon, sight: Sight, chance: random.Random, patience: float, s
 
 
 def movers(how: Daemon, privileged: Sequence[int], chance: random.Random, search: Search = list) -> list[int]:
-    """Returns the privileged nodes that move in the next step under a daemon, if each of them asks at once, as in an
-    experiment. The schedule and the adversary choose by calling `search`."""
+    """Returns those of the nodes in `privileged` that move in the next step under the daemon `how`, if each of them
+    asks at once, as in an experiment. `chance` makes the random choices. The schedule and the adversary choose by
+    calling `search`."""
     if how.kind == "central":
         return [chance.choice(list(privileged))]
     if how.kind == "random":

@@ -34,8 +34,8 @@ class Desk:
     """The desk of a run: reads its events, prints them, and runs the teacher's commands."""
 
     def __init__(self, lab: labs.Lab, journal: Path, client: Client, how: Closing, tell: Callable[[str], None]) -> None:
-        """`journal` is the journal's file in the run's folder, `client` the desk's connection, `how` the daemon that
-        closes steps, and the callback prints a line."""
+        """`lab` is the lab of the run, `journal` the journal's file in the run's folder, `client` the desk's
+        connection, `how` the daemon that closes steps, and `tell` prints a line."""
         self.lab, self.tell, self.closing = lab, tell, how
         self.known = Follower(lab, journal, client)
         self.announcer = Announcer(lab, journal.parent, self.known, tell)
@@ -84,7 +84,7 @@ class Desk:
         return True
 
     def use_connection(self, client: Client) -> None:
-        """Makes the desk, its page and its list of connections use another connection to the desk."""
+        """Makes the desk, its page and its list of connections use `client`, another connection to the desk's port."""
         self.known.client = client
         if self.watch:
             self.watch.client = client
@@ -193,8 +193,8 @@ class Desk:
         return False
 
     def ask(self, word: str, rest: list[str]) -> None:
-        """Sends the request of a command to the server, with the values that were typed after its word. Raises `Denied`
-        or `Refused` if the server doesn't grant it."""
+        """Sends the request of the command `word` to the server, with the values `rest` that were typed after this
+        word. Raises `Denied` or `Refused` if the server doesn't grant it."""
         self.client.ask(**request(word, rest))
 
     def tell_report(self) -> None:

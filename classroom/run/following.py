@@ -19,8 +19,8 @@ ASKED, PAUSE = 50, 0.1  # how often the first report is asked for at most, and s
 
 
 def first_report(client: Client) -> Report:
-    """Returns the report at the beginning. Asks for it again while the server is out of memory. Raises `Refused` if
-    that lasts for more than ASKED attempts, or if the server refuses for another reason."""
+    """Returns the first report on the desk's connection `client`. Asks for it again while the server is out of memory.
+    Raises `Refused` if that lasts for more than ASKED attempts, or if the server refuses for another reason."""
     for _ in range(ASKED):
         try:
             return client.report()
@@ -32,7 +32,7 @@ def first_report(client: Client) -> Report:
 
 
 def raise_unless_memory(refused: Refused) -> None:
-    """Raises a refusal unless it is `memory`: the server is out of memory, which is temporary."""
+    """Raises the error `refused`, unless it is `memory`: then the server is out of memory, which is temporary."""
     if refused.word != "memory":
         raise refused
 
@@ -51,8 +51,8 @@ class Follower:
     it."""
 
     def __init__(self, lab: Lab, journal: Path, client: Client) -> None:
-        """Opens the file `journal`, and asks for the first report on the desk's connection `client`. Raises `OSError`
-        if the file can't be opened, and `Closed` or `Refused` if there is no report."""
+        """Opens the file `journal` of a run of `lab`, and asks for the first report on the desk's connection `client`.
+        Raises `OSError` if the file can't be opened, and `Closed` or `Refused` if there is no report."""
         self.client = client
         self.journal = journal.open("rb")
         self.book = Book([*lab.without_house().students])

@@ -140,9 +140,9 @@ def open_desk(it: server.Server, run: Running) -> Desk:
 
 
 def renew(run: Running, it: server.Server, desk: Desk, name: str) -> None:
-    """Gives the student `name` another key. For that, replaces the server `it` by a new one, whose values `it` has
-    afterwards, and connects the desk to it. Prints the key if only the teacher can read what is printed. Raises
-    `ValueError` if there is no such student, and `Fault` if the class can't continue."""
+    """Gives the student `name` another key in the run. For that, replaces the server `it` by a new one, whose values
+    `it` has afterwards, and connects the desk to it. Prints the key if only the teacher can read what is printed.
+    Raises `ValueError` if there is no such student, and `Fault` if the class can't continue."""
     renewing.renew(run.folder, run.lab, it, desk, name)
     if run.hands is not None:
         run.hands.students = it.port
@@ -154,9 +154,9 @@ def renew(run: Running, it: server.Server, desk: Desk, name: str) -> None:
 
 
 def show(pages: projector.Pages, desk: Desk, tell: Teller, typed: bool) -> None:
-    """Starts to serve the pages for the projector and for the teacher, and shows on them what is printed from now on.
-    Prints their addresses. The address of the teacher's page is printed only if nobody else can read it. `typed` says
-    whether a program types the commands, so that this program reads what is printed."""
+    """Starts to serve the pages for the projector and for the teacher, and shows on them what is printed by `tell` from
+    now on. Prints their addresses. The address of the teacher's page is printed only if nobody else can read it.
+    `typed` says whether a program types the commands, so that this program reads what is printed."""
     watch = desk.start_watch()
 
     def act() -> None:
@@ -233,8 +233,8 @@ def hold(run: Running, it: server.Server) -> int | None:
 
 
 def give_up(it: server.Server, run: Running, seconds: float) -> int | None:
-    """Ends the server `it`, because its desk can't be used, and returns the exit status. If another process started the
-    server, only waits for its end, at most `seconds` seconds, and returns None if it continues."""
+    """Ends the server `it` of a run, because its desk can't be used, and returns the exit status. If another process
+    started the server, only waits for its end, at most `seconds` seconds, and returns None if it continues."""
     ended = it.has_ended(seconds)
     if it.child is None and not ended:
         leave(it, run)
@@ -245,15 +245,14 @@ def give_up(it: server.Server, run: Running, seconds: float) -> int | None:
 
 
 def leave(it: server.Server, run: Running) -> None:
-    """Prints that the server `it` continues without a desk."""
+    """Prints that the server `it` of a run continues without a desk, and how to control it again."""
     run.tell(f"the server (process {it.process.number}) keeps running, but nobody controls it. To control it again, type: {CLASS} attach {run.folder}")
 
 
 def take_leave(it: server.Server, desk: Desk, why: str, run: Running) -> int | None:
-    """Ends the server `it` after the run, and prints how the run ended. `why` is the reason, a word that `attend`
-    returns. Says bye at the desk, which ends a hosted server. After `died` says no bye, and after `left` only closes
-    the connection, since another process takes over the desk. Returns the exit status, or None if the server
-    continues."""
+    """Ends the server `it` of a run, and prints how the run ended. `why` is the reason, a word that `attend` returns.
+    Says bye at the desk, which ends a hosted server. After `died` says no bye, and after `left` only closes the
+    connection, since another process takes over the desk. Returns the exit status, or None if the server continues."""
     tell = run.tell
     if why == "left":
         desk.client.hang_up()

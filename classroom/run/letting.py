@@ -67,8 +67,9 @@ def route_to(folder: str | None, lab: Path, run: Path) -> None:
 
 
 def page_lines(folder: str | None, lab: Path, looks: str | None) -> Iterator[str]:
-    """Yields lines with the addresses of a run's pages through the door. `looks` is the token of the page to look at,
-    or None if there is no such page. Yields nothing without a door."""
+    """Yields lines with the addresses of a run's pages through the door whose folder is `folder`. `lab` is the file of
+    the run's lab. `looks` is the token of the page to look at, or None if there is no such page. Yields nothing if
+    `folder` is None, which means that there is no door."""
     place = place_of(folder, lab)
     if place is None:
         return
@@ -78,8 +79,9 @@ def page_lines(folder: str | None, lab: Path, looks: str | None) -> Iterator[str
 
 
 def place_of(folder: str | None, lab: Path) -> Place | None:
-    """Returns the address and port of the door, or None if there is no door or its folder lacks its data. The address
-    is the one in the slips of the lab, or if they name none, that of the door or the name of this machine."""
+    """Returns the address and port of the door whose folder is `folder`. Returns None if `folder` is None, or if it
+    lacks the door's data. The address is the one in the slips of the lab in a file, or if they name none, that of the
+    door or the name of this machine."""
     kept = DoorData.read(Path(folder)) if folder is not None else None
     if kept is None:
         return None
@@ -88,9 +90,10 @@ def place_of(folder: str | None, lab: Path) -> Place | None:
 
 
 def page_for_all(folder: str | None, lab: Path, port: int, looks: str) -> str:
-    """Makes the door forward requests for the page for all networks of a class, which this process serves at `port`.
-    Returns the address of the page through the door, or an empty text without a door. `looks` is the token of the page.
-    The door's address is that in the slips of the lab in the file `lab`."""
+    """Makes the door whose folder is `folder` forward requests for the page for all networks of a class, which this
+    process serves at `port`. Returns the address of the page through the door, or an empty text if `folder` is None or
+    lacks the door's data. `looks` is the token of the page. The door's address is that in the slips of the lab in the
+    file `lab`."""
     place = place_of(folder, lab)
     if folder is None or place is None:
         return ""

@@ -97,7 +97,7 @@ class Member:
         return [word for word in words if word not in ("--serve", "--beside")]
 
     def follow(self, child: Child, hear: Callable[[Member, str], None], ended: Callable[[Member], None]) -> None:
-        """Queues a call of `hear` for each line that a process prints, and then a call of `ended`."""
+        """Queues a call of `hear` for each line that the process `child` prints, and then a call of `ended`."""
         assert child.stdout is not None
         for line in child.stdout:
             self.news.put(partial(hear, self, line.rstrip("\n")))
@@ -206,8 +206,8 @@ def fact_in(line: str) -> tuple[str, str]:
 
 
 def wanted(words: list[str], record: Record | None) -> set[str]:
-    """Returns the names of the facts that a run with these arguments prints while it starts. `record` is that of the
-    run if it continues."""
+    """Returns the names of the facts that a run with the arguments `words` prints while it starts. `record` is that of
+    the run if it continues, and otherwise None."""
     found = {"port"} | ({"play_from"} if "--door-at" in words else set())
     if "--page" in words or record is not None and record.page is not None:
         found |= {"page", "act"} | ({"look_from"} if "--door-at" in words else set())

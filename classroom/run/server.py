@@ -134,9 +134,10 @@ class Call:
             return self.start([hosting, "resume" if self.is_resumed else "host"], port, knock.port, knock)
 
     def start(self, words: list[str | Path], port: int, number: int, knock: Knock | None) -> Server | None:
-        """Starts a server by the command `words`, waits until it listens, and returns it, or None if a port is taken.
-        `number` is the desk's port for a host, and otherwise the number of connections to serve. Raises `Fault` if the
-        server doesn't start for another reason."""
+        """Starts a server by the command `words`, waits until it listens at `port`, and returns it, or None if a port
+        is taken. `number` is the desk's port for a host, and otherwise the number of connections to serve. `knock`
+        tries to connect to a host's desk meanwhile, and is None for `mml serve`. Raises `Fault` if the server doesn't
+        start for another reason."""
         output = self.folder / "server.txt"
         with output.open("ab" if self.is_resumed else "wb") as prints:
             before = prints.tell()

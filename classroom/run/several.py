@@ -46,8 +46,9 @@ class Several:
     """The desk of a class, at which lines are typed for one network or several."""
 
     def __init__(self, folder: Path, members: list[Member], news: News, is_typed: bool, clock: Clock | None = None) -> None:
-        """`folder` is that of the class, and `news` is the queue of functions for the desk to call. `is_typed` says
-        whether lines are typed, on a terminal or by a program. `clock` has the end of the lesson, if there is one."""
+        """`folder` is that of the class, `members` are its networks, and `news` is the queue of functions for the desk
+        to call. `is_typed` says whether lines are typed, on a terminal or by a program. `clock` has the end of the
+        lesson, if there is one."""
         self.folder, self.members, self.news, self.is_typed, self.clock = folder, members, news, is_typed, clock
         self.names = [member.name for member in members]
         self.terminal: Terminal | None = None
@@ -69,22 +70,22 @@ class Several:
             pass  # The terminal went away; each run keeps its lines.
 
     def hear(self, member: Member, line: str) -> None:
-        """Notes the facts in a line that a network's process has printed, and prints the line after the network's name
-        unless the table of networks has it. The address to act at is printed only if nobody but the teacher reads
-        it."""
+        """Notes the facts in a line that the process of the network `member` has printed, and prints the line after the
+        network's name unless the table of networks has it. The address to act at is printed only if nobody but the
+        teacher reads it."""
         is_private_line = line.startswith(f"{TO_ACT} http")
         if member.note_line(line) and (not is_private_line or is_private(self.is_typed)):
             self.say(f"{member.name}: {line}", is_private_line)
 
     def note_end(self, member: Member) -> None:
-        """Handles the end of a network's process. Prints the alarm if the network is down now."""
+        """Handles the end of the process of the network `member`. Prints the alarm if the network is down now."""
         member.note_end()
         if member.status == DOWN and not self.is_left:
             self.say(self.alarm(member))
         self.prompt()
 
     def alarm(self, member: Member) -> str:
-        """Returns the line of the alarm for a network that is down."""
+        """Returns the line of the alarm for `member`, a network that is down."""
         return f"ALARM {member.name} is down: {member.alarm}"
 
     def down(self) -> list[Member]:
@@ -116,8 +117,8 @@ class Several:
             self.ask(self.members[index], word, rest, len(indices) == 1)
 
     def with_student(self, name: str, indices: list[int]) -> list[int]:
-        """Returns the index of the one network among these that has a student of that name, as a list. If none or
-        several have, prints that and returns an empty list."""
+        """Returns the index of the network that has a student of this name, as a list. Only looks at the networks with
+        the indices in `indices`. If none or several have such a student, prints that and returns an empty list."""
         found = [index for index in indices if name in self.members[index].lab.students]
         if len(found) != 1:
             there = ", ".join(self.names[index] for index in found)
@@ -126,8 +127,8 @@ class Several:
         return found if len(found) == 1 else []
 
     def ask(self, member: Member, word: str, line: str, is_alone: bool) -> None:
-        """Runs the command `line`, which begins with `word`, for one network. If `is_alone` is set, the line is for no
-        other network, and a failure is printed."""
+        """Runs the command `line`, which begins with `word`, for the network `member`. If `is_alone` is set, the line
+        is for no other network, and a failure is printed."""
         if word == addressed.RESUME:
             if member.status == DOWN:
                 member.start(self.hear, self.note_end)
@@ -311,8 +312,9 @@ def words_of(words: argparse.Namespace, index: int) -> list[str]:
 
 
 def members_of(folder: Path, networks: Sequence[Network], words: argparse.Namespace, news: News) -> list[Member]:
-    """Returns the members of the class in a folder, for which no process is started yet. `words` are the arguments of
-    the class, from which those of each network's run are made. Raises `Fault` if a lab can't be read."""
+    """Returns the members of the class in a folder, one for each of these networks, for which no process is started
+    yet. `words` are the arguments of the class, from which those of each network's run are made. `news` is the queue of
+    the class's desk. Raises `Fault` if a lab can't be read."""
     found = []
     for index, network in enumerate(networks):
         own = folder / network.name
@@ -350,10 +352,11 @@ def require_ports(words: argparse.Namespace, count: int) -> None:
 
 
 def run_desk(folder: Path, members: list[Member], news: News, words: argparse.Namespace, start_networks: Callable[[Several], None]) -> int:
-    """Opens the page and the door of a class if the arguments ask for them, writes the class's file, and calls
-    `start_networks`. Then runs the desk of the class to its end. If the class continues, uses the earlier end of the
-    lesson, address of the page and door again, which the file has. Returns the exit status. Raises `Fault` if the page
-    or the door can't be opened, or if the end of the lesson has passed."""
+    """Opens the page and the door of the class in a folder if the arguments `words` ask for them, writes the class's
+    file, and calls `start_networks`. Then runs the desk of the class to its end, for the networks `members`. `news` is
+    the queue of functions that the desk calls. If the class continues, uses the earlier end of the lesson, address of
+    the page and door again, which the file has. Returns the exit status. Raises `Fault` if the page or the door can't
+    be opened, or if the end of the lesson has passed."""
     typed = words.typed or sys.stdin is not None and sys.stdin.isatty()
     kept = Class.read(folder)
     end = end_of(words.ends, kept.ends if kept else None)

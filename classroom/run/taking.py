@@ -51,7 +51,7 @@ def greet(it: Server, teacher: tuple[str, str]) -> Client:
 
 
 def reason_line(error: Closed | Refused) -> str:
-    """Returns the line that says why the desk can't be taken."""
+    """Returns the line that says why the desk can't be taken, from the error with which its connection ended."""
     is_taken = isinstance(error, Refused) and error.word == "busy"
     return "another program is connected to the desk" if is_taken else f"the desk can't connect to the server: {error}"
 

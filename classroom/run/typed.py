@@ -64,7 +64,8 @@ class Terminal:
         return found[state] if state < len(found) else None
 
     def around(self, line: str) -> str:
-        """Returns the characters that print a line on the terminal above the line that is being typed."""
+        """Returns the characters that print `line` on the terminal above the line that is being typed, or `line` itself
+        if the terminal isn't read at the moment."""
         return f"\r\x1b[K{line}{self.prompt}{self.readline.get_line_buffer()}" if self.reads else line
 
     def read(self, put: Callable[[str], None]) -> None:
