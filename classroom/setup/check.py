@@ -154,7 +154,7 @@ def effort(key: str) -> str:
 
 
 def example_keys() -> set[str]:
-    """Returns the keys of all persons in the example labs, which are public."""
+    """Returns the keys of all persons in the example labs and in the program's own lab, which are public."""
     found = {"chalk", "a-key", "b-key", "c-key"}
     for path in (TOP / "examples").glob("*.toml"):
         it = labs.document(path)
@@ -163,7 +163,7 @@ def example_keys() -> set[str]:
 
 
 def key_warnings(lab: labs.Lab) -> Iterator[str]:
-    """Yields a warning for each person's key that is public or can be guessed."""
+    """Yields a warning for each person of the lab whose key is public or can be guessed."""
     examples = example_keys()
     for name, key in [lab.teacher, *lab.students.items()]:
         if key in examples:
@@ -174,8 +174,8 @@ def key_warnings(lab: labs.Lab) -> Iterator[str]:
 
 
 def network_warnings(lab: labs.Lab) -> Iterator[str]:
-    """Yields a warning for each student without a node, for each node without a neighbour, and for a network that isn't
-    connected."""
+    """Yields a warning for each student of the lab without a node, for each node without a neighbour, and one if the
+    network isn't connected."""
     owners = {owner for node in lab.nodes for owner in node.owners}
     yield from (f"the student {name} has no node" for name in lab.students if name not in owners)
     near = networks.neighbours((node.id for node in lab.nodes), lab.links)
@@ -199,7 +199,7 @@ def parts_of(near: dict[int, list[int]]) -> int:
 
 
 def limit_warnings(lab: labs.Lab) -> Iterator[str]:
-    """Yields warnings if there are fewer sessions or events than the class may need."""
+    """Yields warnings if the lab has fewer sessions or events than the class may need."""
     people, most = len(lab.without_house().students) + 1, limits.allowed().sessions
     if lab.sessions < people:
         yield (f"`sessions` is {lab.sessions}, so the {people - 1} students and the teacher can't all be connected at once. "
@@ -210,8 +210,8 @@ def limit_warnings(lab: labs.Lab) -> Iterator[str]:
 
 
 def pair_warnings(lab: labs.Lab) -> Iterator[str]:
-    """Yields a warning about nodes that two students own: there, marks by granted moves favour the student whose
-    program asks first."""
+    """Yields a warning if the lab has nodes that two students own: there, marks by granted moves favour the student
+    whose program asks first."""
     shared = [str(node.id) for node in lab.without_house().nodes if len(node.owners) == 2]
     if shared:
         nodes = ("nodes " if len(shared) > 1 else "node ") + ", ".join(shared[:MOST_LISTED]) + ", ..." * (len(shared) > MOST_LISTED)

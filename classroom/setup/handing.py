@@ -101,7 +101,7 @@ def ways(words: argparse.Namespace, files: list[Path], rooms: list[str], before:
 
 def rewrite_slips(made: labs.Lab, way: Way, lab: Path) -> None:
     """Writes the page with the slips of the lab `made`, and the slips of its students and its teacher, beside the lab's
-    file `lab`. Replaces older files."""
+    file `lab`. `way` is the way into its network. Replaces older files."""
     folder = slips.folder_of(lab)
     folder.mkdir(mode=0o700, exist_ok=True)
     for name in made.without_house().students:
@@ -112,7 +112,8 @@ def rewrite_slips(made: labs.Lab, way: Way, lab: Path) -> None:
 
 def remake_slips(words: argparse.Namespace) -> int:
     """Makes the slips of the labs in the arguments again, with the way in that the arguments name, or else with that of
-    the earlier slips. Prints the files. Returns the exit status."""
+    the earlier slips. Prints the files. Returns the exit status. Raises `Fault` if a lab can't be read, or like
+    `ways`."""
     files = [Path(lab) for lab in words.labs]
     every = [labs.read(file) for file in files]
     before = [Way.read(file) for file in files]

@@ -40,9 +40,9 @@ def start(made: labs.Lab, word: str, chance: random.Random) -> None:
 
 
 def make(words: argparse.Namespace, people: dict[str, Person], chance: random.Random) -> labs.Lab:
-    """Returns the lab that the arguments describe, for these students by their names in the lab. `chance` makes the
-    random choices. Raises `Fault` if the arguments name no network, or there are fewer students than owners of a
-    node."""
+    """Returns the lab that the arguments `words` describe, for the students in `people`, which has them by their names
+    in the lab. `chance` makes the random choices. Raises `Fault` if the arguments name no network, or there are fewer
+    students than owners of a node."""
     students = list(people)
     if words.links:
         identifiers, links = networks.from_file(Path(words.links), words.nodes)
@@ -103,8 +103,9 @@ def checked_size(made: labs.Lab, wanted: Path) -> str:
 
 
 def write(made: Made, way: Way, page: str, done: list[Path]) -> None:
-    """Writes the files of a lab: the lab, its slips, and `page`, the HTML page with its slips. Appends each written
-    file or folder to `done`. Raises `Fault` if one of them can't be written."""
+    """Writes the files of the lab `made`: the lab, its slips, and `page`, the HTML page with its slips. `way` is the
+    way into its network. Appends each written file or folder to `done`. Raises `Fault` if one of them can't be
+    written."""
     for file, content in ((made.file, labs.text(made.lab)), (slips.page_of(made.file), page),
                           (slips.teacher_of(made.file), slips.text(made.lab, made.lab.teacher[0], way))):
         labs.write_new(file, content)
@@ -155,8 +156,9 @@ def new(words: argparse.Namespace) -> int:
 
 
 def write_all(words: argparse.Namespace, made: list[Made], rooms: list[str], merge: Path) -> list[Way]:
-    """Writes all labs and slips, and the table for a mail merge into the file `merge`. Writes nothing, and raises
-    `Fault`, if one of them can't be written. `rooms` has the room of each lab. Returns the way into each network."""
+    """Writes the labs in `made` and all their slips, and the table for a mail merge into the file `merge`. `words` are
+    the arguments, and `rooms` has the room of each lab. Writes nothing, and raises `Fault`, if one of the files can't
+    be written. Returns the way into each network."""
     with all_or_none() as done:
         file = words.certificate or certificate.beside(made[0].file)
         is_new = bool(words.door) and not os.path.lexists(file)
@@ -170,8 +172,8 @@ def write_all(words: argparse.Namespace, made: list[Made], rooms: list[str], mer
 
 
 def print_summary(words: argparse.Namespace, made: list[Made], ways: list[Way], everybody: int) -> None:
-    """Prints the labs with their slips, notes about them, and the table of students. `everybody` is the number of all
-    students."""
+    """Prints the labs in `made` with their slips, notes about them, and the table of students. `words` are the
+    arguments, `ways` has the way into each network, and `everybody` is the number of all students."""
     for it in made:
         print(f"{it.file}: {it.size}; slips for printing: {slips.page_of(it.file)}; for programs: {slips.folder_of(it.file)}")
         print(f"  {dealing.counts(it.lab)}")
@@ -187,7 +189,8 @@ def print_summary(words: argparse.Namespace, made: list[Made], ways: list[Way], 
 
 def next_steps(words: argparse.Namespace, made: list[Made], merge: Path) -> str:
     """Returns the text that says what to do next, with the commands. `words` are the arguments of `./class new`, and
-    `merge` is the path of the table for a mail merge, which names the file of each student's slip."""
+    `made` are the new labs. `merge` is the path of the table for a mail merge, which names the file of each student's
+    slip."""
     every = " ".join(shlex.quote(str(it.file)) for it in made)
     pages = " ".join(str(slips.page_of(it.file)) for it in made)
     door = f" --door {words.door.rpartition(':')[2]}" if words.door else ""
@@ -197,8 +200,8 @@ def next_steps(words: argparse.Namespace, made: list[Made], merge: Path) -> str:
 
 
 def tell_seats(made: labs.Lab, everybody: int, words: argparse.Namespace) -> None:
-    """Prints a note if the students of a lab can't all have a seat at once. The note has the number of labs that would
-    be enough for `everybody`, the number of all students."""
+    """Prints a note if the students of a lab can't all have a seat at once. `words` are the arguments, and `everybody`
+    is the number of all students. The note says how many labs would be enough for everybody."""
     students = len(made.without_house().students)
     if made.sessions < students + 1 and words.groups_by:
         print(f"note: this lab has {made.sessions} seats for {students} students and a teacher. With a higher number of --groups, everybody gets a seat")
@@ -219,7 +222,8 @@ def tell_few(made: labs.Lab) -> None:
 
 def without_node(made: labs.Lab, words: argparse.Namespace) -> str:
     """Returns a text that names the students of a lab who have no node, and the option for a network that has enough
-    nodes. Returns an empty text if each student has a node."""
+    nodes. `words` are the arguments, from which the network was made. Returns an empty text if each student has a
+    node."""
     shown = made.without_house()
     idle = [name for name in shown.students if not shown.nodes_of(name)]
     if not idle:
@@ -230,14 +234,14 @@ def without_node(made: labs.Lab, words: argparse.Namespace) -> str:
 
 
 def tell_idle(made: labs.Lab, words: argparse.Namespace) -> None:
-    """Prints a warning if a lab has more students than nodes."""
+    """Prints a warning if a lab, which was made from the arguments `words`, has students without a node."""
     idle = without_node(made, words)
     if idle:
         print(f"WARNING: there are more students than nodes; {idle}")
 
 
 def refuse_idle(made: list[labs.Lab], words: argparse.Namespace) -> None:
-    """Raises `Fault` if one of the labs has more students than nodes."""
+    """Raises `Fault` if one of the labs, which were made from the arguments `words`, has students without a node."""
     for lab in made:
         idle = without_node(lab, words)
         if idle:

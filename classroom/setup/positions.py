@@ -30,8 +30,8 @@ class Value:
     brackets: str = ""  # the opening brackets that aren't closed, the outermost first
 
     def take(self, number: int, text: str) -> None:
-        """Reads a line with this number, or the part of it after the key. Ignores tables within other tables in
-        braces."""
+        """Reads `text`, the line with this number or the part of it after the key. Ignores tables within other tables
+        in braces."""
         for found in BRACKET_OR_KEY.finditer(text):
             if found[0] in ("[", "{"):
                 self.brackets += found[0]
@@ -78,7 +78,8 @@ def table(text: str, name: str, index: int) -> Table | None:
 
 
 def link(text: str, index: int) -> int | None:
-    """Returns the number of the line with the link that has this index, counted from 0, or None if there is none."""
+    """Returns the number of the line of `text`, a lab's file, with the link that has this index, counted from 0.
+    Returns None if there is none."""
     inside, seen = False, 0
     for number, whole in enumerate(text.splitlines(), 1):
         line = without_texts(whole)

@@ -37,15 +37,15 @@ NO_SQUARE = "The slips have no QR codes, because qrencode isn't installed (Debia
 
 
 def address(way: Way, name: str, key: str) -> str:
-    """Returns the address of the page on which the student `name` plays. Name and key are after `#`, so that browsers
-    don't send them."""
+    """Returns the address of the page on which the student `name` plays, by the way into the network. Name and key are
+    after `#`, so that browsers don't send them."""
     given = f"#name={quote(name)}&key={quote(key, safe='')}"
     return f"https://{way.door}/{way.network}/{given}" if way.door else f"http://127.0.0.1:{way.page}/{given}"
 
 
 def has_squares(way: Way) -> bool:
-    """Returns whether slips can have QR codes: there is a door, since no other address works on another machine, and
-    the program qrencode is installed."""
+    """Returns whether slips for this way into a network can have QR codes: the way has a door, since no other address
+    works on another machine, and the program qrencode is installed."""
     return bool(way.door) and shutil.which("qrencode") is not None
 
 
@@ -63,7 +63,8 @@ def square(content: str) -> str:
 
 
 def forwards(way: Way) -> str:
-    """Returns the ssh command by which a student forwards the ports of the server and of the page to play."""
+    """Returns the ssh command by which a student forwards two ports of the way into a network: the server's, and that
+    of the page to play."""
     return f"ssh -N -L {way.port}:127.0.0.1:{way.port} -L {way.page}:127.0.0.1:{way.page} {way.ssh}"
 
 
@@ -74,7 +75,7 @@ def in_parts(digits: str) -> str:
 
 def rows(made: Lab, name: str, way: Way) -> Iterator[tuple[str, str]]:
     """Yields the rows of the slip of the student `name` of the lab `made`: for each value its label, and the value as
-    HTML."""
+    HTML. The way into the network isn't used."""
     yield "name", f"<code>{escape(name)}</code>"
     yield "key", f'<code class="key">{escape(made.students[name])}</code>'
     nodes = made.nodes_of(name)
@@ -86,7 +87,7 @@ def rows(made: Lab, name: str, way: Way) -> Iterator[tuple[str, str]]:
 
 def slip(made: Lab, shown: Lab, name: str, way: Way) -> str:
     """Returns the slip of the student `name` of the lab `made` as HTML. `shown` is the same lab without the house, a
-    program that may play for absent students."""
+    program that may play for absent students. `way` is the way into the lab's network."""
     person, link = made.people.get(name, Person(name)), address(way, name, made.students[name])
     room = f" · {escape(way.room)}" if way.room else ""
     listed = "".join(f"<dt>{head}</dt><dd>{value}</dd>" for head, value in rows(shown, name, way))
@@ -108,7 +109,8 @@ def slip(made: Lab, shown: Lab, name: str, way: Way) -> str:
 
 
 def page(made: Lab, way: Way) -> str:
-    """Returns the page with the slips of all students of a lab."""
+    """Returns the page with the slips of all students of the lab `made` as HTML. `way` is the way into the lab's
+    network."""
     shown = made.without_house()
     slips = [slip(made, shown, name, way) for name in shown.students]
     sheets = ["".join(slips[at:at + EACH]) for at in range(0, len(slips), EACH)]

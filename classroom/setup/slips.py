@@ -79,8 +79,8 @@ def text(made: Lab, name: str, way: Way) -> str:
 
 
 def write_all(made: Lab, way: Way, folder: Path) -> None:
-    """Writes a slip for each student of a lab into a new folder that no other user can read. Raises `Fault` if one of
-    them can't be written, and leaves no folder then."""
+    """Writes a slip for each student of the lab `made` into a new folder that no other user can read. `way` is the way
+    into the lab's network. Raises `Fault` if one of them can't be written, and leaves no folder then."""
     try:
         folder.mkdir(mode=0o700)
     except OSError as error:
