@@ -221,7 +221,7 @@ def text_of(path: str | Path, variable: str = "") -> str:
 
 
 def key_of(word: str) -> str:
-    """Returns the key in a file, which contains only the key or is a slip. For `-` returns the key in the environment. Raises NoSlip if there is none."""
+    """Returns the key in the file `word`, which has only the key or is a slip, or for `-` the key in the environment. Raises NoSlip if there is none."""
     text = text_of(word, KEY)
     found = word != "-" and re.search(r"^key\s+(.+)$", text, re.MULTILINE)
     return found[1] if found else text if word == "-" else text.strip()
@@ -235,7 +235,7 @@ def port_of(word: str) -> int:
 
 
 def door_of(word: str) -> tuple[str, int]:
-    """Returns the host and the port of a door, `class.example:4700`. Raises NoSlip for anything else."""
+    """Returns the host and the port in `word`, the address of a door such as `class.example:4700`. Raises NoSlip if it isn't one."""
     host, _, port = word.rpartition(":")
     if not re.fullmatch(r"[A-Za-z0-9.-]+|\[[0-9A-Fa-f:.]+\]", host):
         raise NoSlip(f"{word} isn't the address of a door: write HOST:PORT")
@@ -265,7 +265,7 @@ def tls() -> Any:
 
 
 def connected(port: int, limit: float, slip: Slip | None = None, host: str = "127.0.0.1") -> socket.socket:
-    """Returns a connection to a port, or through a slip's door if it has one, within `limit` seconds. Raises NoServer, NoDoor, or Refused (a full door)."""
+    """Returns a connection to a port of `host`, or through a slip's door if any, within `limit` seconds. Raises NoServer, NoDoor, or Refused (a full door)."""
     it: Any = None
     try:
         if slip is None or not slip.door:
@@ -287,7 +287,7 @@ class Client:
     """A connection after its hello. Not for several threads at once."""
 
     def __init__(self, port: int, name: str, key: str, host: str = "127.0.0.1", limit: float = 30.0, connection: socket.socket | None = None) -> None:
-        """Connects and says hello. A reply may take `limit` seconds. If `connection` is given, uses this open one. Raises Closed, Denied or Refused."""
+        """Says hello by name and key on `connection`, or a new one. A reply may take `limit` seconds. Raises Closed, Denied or Refused."""
         self.name, self.port, self.limit, self._rest, self._ended = name, port, limit, b"", False
         self._socket = connection or connected(port, limit, host=host)
         try:
@@ -494,8 +494,8 @@ def enter(slip: Slip, patience: float = 60.0) -> Client:
 
 
 def again(slip: Slip, lost: Closed | Refused, patience: float = 60.0) -> Client:
-    """Returns a new connection after the error `lost` ended one. Tries each second while no server, seat or memory is available, and raises `lost` after
-    `patience` seconds. Raises any other refusal, and the end of the class, at once."""
+    """Returns a new connection by a slip after the error `lost` ended one. Tries each second while no server, seat or memory is available, and raises `lost`
+    after `patience` seconds. Raises any other refusal, and the end of the class, at once."""
     end = time.monotonic() + patience
     while not isinstance(lost, Over) and time.monotonic() < end:
         time.sleep(1)
@@ -551,7 +551,7 @@ def wrong(line: str) -> str | None:
     doubled, strange = list[str](), list[str]()
 
     def noting_doubled(pairs: list[tuple[str, Any]]) -> dict[str, Any]:
-        """Returns a JSON object as a dict. If a key occurs twice, keeps the last value, and adds the key to `doubled`."""
+        """Returns a dict of the keys and values in `pairs`. If a key occurs twice, keeps the last value, and adds the key to `doubled`."""
         names = [name for name, _ in pairs]
         doubled.extend(name for name in names if names.count(name) > 1)
         return dict(pairs)
@@ -744,7 +744,7 @@ async def tunnel(slip: Slip, port: int) -> None:
     import asyncio
 
     async def lead(reader: Any, writer: Any) -> None:
-        """Forwards one connection of a program. After the program ends its side, waits up to five seconds for the last replies."""
+        """Forwards a program's connection, `reader` and `writer`. After the program ends its side, waits up to five seconds for the last replies."""
         try:
             far, near = await asyncio.open_connection(*door_of(slip.door), ssl=tls(), server_hostname=slip.network)
             require_certificate(near.get_extra_info("ssl_object").getpeercert(True), slip)

@@ -6,7 +6,7 @@ class Fault(Exception):
     """An error that ends a call: the line to print, the exit status, and the output before the line."""
 
     def __init__(self, line: str, status: int, out: bytes = b"") -> None:
-        """`out` has the bytes that are written to standard output before the line."""
+        """`line` is the error line, `status` the exit status, and `out` has the bytes that are written to standard output before the line."""
         super().__init__(line)
         self.line, self.status, self.out = line, status, out
 

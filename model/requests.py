@@ -39,7 +39,7 @@ def no_constant(word: str) -> NoReturn:
 
 
 def finite(text: str) -> float:
-    """Returns the value of a number with a point or an exponent. Raises `Malformed` if it is beyond the greatest double."""
+    """Returns the value of `text`, a number with a point or an exponent. Raises `Malformed` if it is beyond the greatest double."""
     value = float(text)
     if not math.isfinite(value):
         raise Malformed("a number out of range")
@@ -47,7 +47,7 @@ def finite(text: str) -> float:
 
 
 def integer(text: str) -> float | int:
-    """Returns an integer from 0 to 2^64 - 1 as an `int`, and any other number as a `float`. Raises `Malformed` beyond the greatest double."""
+    """Returns the value of an integer, as an `int` from 0 to 2^64 - 1, and otherwise as a `float`. Raises `Malformed` beyond the greatest double."""
     value = finite(text)
     return int(text) if not text.startswith("-") and int(text) <= GREATEST else value
 
@@ -101,7 +101,7 @@ def named(value: dict[str, Any], key: str, *kinds: type) -> Any:
 
 
 def move_of(value: dict[str, Any]) -> Move:
-    """Returns the rule of a requested move, with the partner if the rule is a marriage. Raises `Malformed` if they have another form."""
+    """Returns the rule of the move that `value` requests, with the partner if the rule is a marriage. Raises `Malformed` if they have another form."""
     rule = named(value, "rule", str)
     if rule not in RULES:
         raise Malformed("rule")

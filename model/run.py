@@ -31,7 +31,7 @@ def text_of(**values: Any) -> str:
 
 
 def denied(world: World, name: str) -> str:
-    """Returns the text of the reply if the clause with this name denies a request. For `stale` it has the number of the present configuration."""
+    """Returns the text of the reply if the clause `name` denies a request. For `stale` it has the number of the present configuration."""
     clause, text = DENIALS[name]
     number = {"at": world.number} if name == "stale" else {}
     return text_of(clause=clause, deny=name, text=text, **number)

@@ -104,7 +104,7 @@ class World:
         self.renew()
 
     def fault(self, i: int, p: int | None, m: bool) -> None:
-        """Sets the registers of node i. Begins a new configuration."""
+        """Sets the registers of node i to p and m. Begins a new configuration."""
         self.p[i], self.m[i] = p, m
         self.renew()
 
