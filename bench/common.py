@@ -27,8 +27,8 @@ def built(program: Path) -> Path:
 
 
 def built_in(sessions: int = 4, events: int = 100) -> str:
-    """Returns the text of the lab that the program uses without arguments, with these limits in place of its own. Exits
-    with an error line if the sources have no such lab."""
+    """Returns the text of the lab that the program uses without arguments, with these limits of sessions and events in
+    place of its own. Exits with an error line if the sources have no such lab."""
     found = re.search(r'r#"(.*?)"#', BUILT_IN.read_text(encoding="utf-8"), re.DOTALL)
     if found is None:
         refuse(f"{BUILT_IN}: the text of the lab isn't found in this file")

@@ -49,15 +49,15 @@ def sees(turns: int) -> Iterable[str]:
 
 
 def sees_and_more(turns: int) -> Iterable[str]:
-    """Yields the lines of `sees`. Each request to see has a further key, which no request needs."""
+    """Yields the lines of `sees(turns)`. Each request to see has a further key, which no request needs."""
     yield TESS
     for turn in range(turns):
         yield f'1 {{"do":"see","node":{turn % 3 + 1},"x":[]}}'
 
 
 def mixed(turns: int) -> Iterable[str]:
-    """Yields the lines of a script: requests to see and to look, a move, a close, and a fault that undoes the close,
-    over and over. Three in six lines are granted as events."""
+    """Yields the lines of a script that repeats six requests `turns` times: three to see or to look, a move, a close,
+    and a fault that undoes the close. Three in six lines are granted as events."""
     yield from (TESS, ANA)
     for turn in range(turns):
         yield '1 {"do":"see","node":1}'
@@ -69,7 +69,7 @@ def mixed(turns: int) -> Iterable[str]:
 
 
 def granted(turns: int) -> Iterable[str]:
-    """Yields the lines of a script: a move and its release, both of which are granted, over and over."""
+    """Yields the lines of a script that repeats a move and its release `turns` times. Both are granted."""
     yield from (TESS, ANA)
     for _ in range(turns):
         yield '2 {"at":0,"do":"move","node":1,"rule":"seduction"}'
@@ -77,7 +77,7 @@ def granted(turns: int) -> Iterable[str]:
 
 
 def greetings(turns: int) -> Iterable[str]:
-    """Yields the lines of a script: a student's hello and bye, over and over."""
+    """Yields the lines of a script that repeats a student's hello and bye `turns` times."""
     for _ in range(turns):
         yield BEN
         yield '1 {"do":"bye"}'
@@ -92,7 +92,7 @@ def looks(turns: int) -> Iterable[str]:
 
 
 def reports(turns: int) -> Iterable[str]:
-    """Yields the lines of a script: the teacher's request for the report, over and over."""
+    """Yields the lines of a script: the teacher's hello, and `turns` requests for the report."""
     yield TESS
     for _ in range(turns):
         yield '1 {"do":"report"}'
@@ -107,14 +107,16 @@ def sees_of_all(turns: int) -> Iterable[str]:
 
 
 def looks_at_last(turns: int) -> Iterable[str]:
-    """Yields the lines of a script: looks at the node of the student ben in the greatest lab, over and over."""
+    """Yields the lines of a script: the hello of the student ben, and `turns` looks at ben's node in the greatest
+    lab."""
     yield BEN
     for _ in range(turns):
         yield f'1 {{"do":"look","node":{LAST}}}'
 
 
 def journal(turns: int) -> Iterable[str]:
-    """Yields the lines of a journal: a move, a close and a fault that undoes it, over and over."""
+    """Yields the lines of a journal that repeats three events `turns` times: a move, a close and a fault that undoes
+    it."""
     for turn in range(turns):
         place, number = 3 * turn, 2 * turn
         yield f"{place + 1} {number} grant ana 1 seduction"

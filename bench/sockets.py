@@ -32,8 +32,8 @@ class Served:
 
 
 def measure(words: Words, port: int, burst: int) -> Served:
-    """Starts a server by a command line, and sends it the requests of all clients at its port, in bursts of `burst`.
-    Returns the measurement. Exits if the server fails or the replies differ."""
+    """Starts a server by the command line `words`, and sends it the requests of all clients at its port, in bursts of
+    `burst`. Returns the measurement. Exits if the server fails or the replies differ."""
     with subprocess.Popen(words, stdout=subprocess.PIPE) as server:
         assert server.stdout is not None
         server.stdout.readline()

@@ -71,8 +71,8 @@ def add_words(words: argparse.ArgumentParser) -> None:
 
 def ways(words: argparse.Namespace, files: list[Path], rooms: list[str], before: list[Way | None] | None = None) -> list[Way]:
     """Returns the way into the network of each lab, for the labs in these files. `rooms` has the room of each network,
-    and `before` the way on each lab's earlier slips, or None. A port that the arguments don't name is as in `before`. By
-    default the labs have the ports from FIRST_PORT and FIRST_PAGE on. If the arguments name a door, the way has this
+    and `before` the way on each lab's earlier slips, or None. A port that the arguments don't name is as in `before`.
+    By default the labs have the ports from FIRST_PORT and FIRST_PAGE on. If the arguments name a door, the way has this
     door and no account for ssh. If they name only an account, it has this account and no door. If they name neither,
     both are as in `before`. By default there is no door, and the account is `NAME` at this machine. Makes the
     certificate of a door in the arguments if it is missing. Raises `Fault` if that fails, if two networks have the same

@@ -43,7 +43,8 @@ def progress_of(crates: Uses, number: int) -> Progress:
 
 
 def tell_beginning(programs: list[str], progress: Progress) -> None:
-    """Prints what the build of these programs does, how long it takes, and what the user can do instead."""
+    """Prints what the build of these programs does, how long it takes by this progress, and what the user can do
+    instead."""
     side = processors()
     say(f"building {' and '.join(programs)}, after proving {len(progress.crates)} crates; proofs that this machine has already are reused")
     say(f"if nothing is proved yet, that takes {duration_text(progress.left(0.0))} on {side} processor{'s' if side > 1 else ''}, as measured on "

@@ -60,8 +60,8 @@ class Proving:
     """The proofs of a build. Runs `rt ci` for them in the repositories of `room`, and notes their progress."""
 
     def __init__(self, room: Room, crates: Uses, progress: Progress, screen: Screen) -> None:
-        """Begins without a run. `crates` are to be proved, `progress` counts the proved ones, and `screen` shows the
-        progress."""
+        """Begins without a run. `room` makes the repositories, `crates` are to be proved, `progress` counts the proved
+        ones, and `screen` shows the progress."""
         self.room, self.crates, self.progress, self.screen = room, crates, progress, screen
         self.runs: dict[str, Run] = {}
 
@@ -141,7 +141,7 @@ class Proving:
         return None
 
     def take(self, place: Place, crates: set[str]) -> None:
-        """Copies the libraries and programs of these crates from a repository into the clone."""
+        """Copies the libraries and programs of these crates from the repository of `place` into the clone."""
         for crate in crates:
             take_library(place.repository, crate)
             take(place.repository, crate)

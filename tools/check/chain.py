@@ -46,7 +46,7 @@ def spans_of(checks: Checks) -> Spans:
 
 
 def save_spans(spans: Spans, file: Path = KEPT) -> None:
-    """Saves the times of a run's proofs in a file, from which `./check chain` reads them."""
+    """Saves `spans`, the times of a run's proofs, in a file, from which `./check chain` reads them."""
     file.parent.mkdir(exist_ok=True)
     lines = [f"{crate} {it.begin:.0f} {it.end:.0f} {it.used:.0f}\n" for crate, it in spans.items()]
     file.write_text(HEAD.format(time.strftime("%Y-%m-%d")) + "".join(lines), encoding="utf-8")
@@ -70,8 +70,8 @@ def chain(spans: Spans, crate: str) -> list[str]:
 
 
 def lines_of(spans: Spans, crate: str) -> list[str]:
-    """Returns the lines of the table of the chain to a crate. Each has a crate of the chain, how long its proof waited,
-    how long it took, when it ended, and its processor time."""
+    """Returns the lines of the table of the chain to a crate. `spans` has the times of the proofs. Each line has a
+    crate of the chain, how long its proof waited, how long it took, when it ended, and its processor time."""
     crates = chain(spans, crate)
     lines = [f"the chain to {crate}, in seconds{'':12}waits   takes    ends processor"]
     before = 0.0
@@ -85,19 +85,20 @@ def lines_of(spans: Spans, crate: str) -> list[str]:
 
 
 def chain_tables(spans: Spans, crates: list[str]) -> str:
-    """Returns the tables of the chains to these crates as a text. Leaves out crates that weren't proved in the run. If
-    none of them was, returns the table of the chain to the crate that was proved last."""
+    """Returns the tables of the chains to these crates as a text. `spans` has the times of a run's proofs. Leaves out
+    crates that weren't proved in the run. If none of them was, returns the table of the chain to the crate that was
+    proved last."""
     wanted = [it for it in crates if it in spans] or [*spans][-1:]
     return "\n\n".join("\n".join(lines_of(spans, it)) for it in wanted)
 
 
 def short(spans: Spans) -> str:
-    """Returns the chain to the crate that was proved last as one line."""
+    """Returns the chain to the crate that was proved last as one line. `spans` has the times of the proofs."""
     crates = chain(spans, [*spans][-1])
     each = ", ".join(f"{it} {spans[it].end - spans[it].begin:.0f}" for it in crates)
     return f"the longest chain, in seconds: {each}; it ended after {spans[crates[-1]].end:.0f}: ./check chain says more"
 
 
 def table(spans: Spans) -> str:
-    """Returns the text of `tools/build/seconds.txt`, which has the processor seconds of each proof."""
+    """Returns the text of `tools/build/seconds.txt`, which has the processor seconds of each proof in `spans`."""
     return TABLE + "\n".join(f"{crate} {max(1, round(spans[crate].used))}" for crate in uses() if crate in spans)

@@ -84,8 +84,8 @@ class Count:
 
 
 def begin(stages: Stages, processors: int) -> None:
-    """Installs missing packages if no part may be left out (`is_gate`). Prints how long the check will take on
-    `processors` processors."""
+    """Installs the packages that the parts of these stages need and that are missing, if no part may be left out
+    (`is_gate`). Prints how long the check will take on `processors` processors."""
     if is_gate():
         install([part for stage in stages for part in stage])
     names = [stage[0].name if len(stage) == 1 else "scripts" for stage in stages]
@@ -95,8 +95,8 @@ def begin(stages: Stages, processors: int) -> None:
 
 
 def run(stages: Stages, crew: Crew, count: Count) -> None:
-    """Runs the stages one after another, and counts each part. Parts that run beside start with the first stage. Stops
-    if the proofs fail, because there is no program then."""
+    """Runs the stages one after another by `crew`, and counts each part in `count`. Parts that run beside start with
+    the first stage. Stops if the proofs fail, because there is no program then."""
     beside = [it for stage in stages for it in stage if it.is_beside]
     for number, stage in enumerate(stages):
         here = [it for it in stage if not it.is_beside]

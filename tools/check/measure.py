@@ -68,7 +68,7 @@ class Checks:
             self.note(check, used, part_of[check])
 
     def note(self, check: Check, used: float, part: str) -> None:
-        """Notes the processor time that a check has used, if its crate is known."""
+        """Notes the processor time that a check in the part with this name has used, if the check's crate is known."""
         try:
             work = self.works.get(check) or work_of(check[0], part)
         except (OSError, ValueError):
@@ -93,8 +93,8 @@ class Checks:
 
 
 def check_above(pid: int, found: dict[int, Process], parts: dict[int, str]) -> tuple[Check | None, str]:
-    """Returns the check to which a process belongs, and the name of its part. The check is None if the process is in a
-    part but in no check. Returns None and an empty text if it belongs to no part. `found` has the data of all
+    """Returns the check to which the process `pid` belongs, and the name of its part. The check is None if the process
+    is in a part but in no check. Returns None and an empty text if it belongs to no part. `found` has the data of all
     processes, and `parts` the name of each part, by its process."""
     check = None
     while pid in found and pid not in parts:
@@ -105,8 +105,8 @@ def check_above(pid: int, found: dict[int, Process], parts: dict[int, str]) -> t
 
 
 def figures(checks: Checks, parts: dict[str, float]) -> str:
-    """Returns the text of two tables, of crates and of parts, with their processor minutes. `parts` has the minutes of
-    each part."""
+    """Returns the text of two tables, of crates and of parts, with their processor minutes. `checks` has those of the
+    crates, and `parts` those of each part."""
     sums = checks.minutes()
     crates = sorted({crate for crate, _ in sums})
     of_kind = {kind: sum(it for (_, its), it in sums.items() if its == kind) for kind in KINDS}

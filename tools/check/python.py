@@ -29,7 +29,7 @@ def python_files() -> list[str]:
 
 
 def faults_of(command: list[str]) -> list[str]:
-    """Returns the lines that a tool has printed if it failed, and none if it succeeded."""
+    """Runs the command line of a tool. Returns the lines that it has printed if it failed, and none if it succeeded."""
     environment = {**os.environ, "MYPYPATH": "classroom"} if command[-1].startswith(("examples", "student")) else None
     done = subprocess.run(command, cwd=TOP, capture_output=True, text=True, check=False, env=environment)
     return [line for line in (done.stdout + done.stderr).splitlines() if line] if done.returncode else []

@@ -44,7 +44,8 @@ class SignalHandler:
 
     @contextmanager
     def held(self) -> Iterator[None]:
-        """Delays the exception for a signal until the end of a block."""
+        """Delays the exception for a signal until the end of the `with` block. Raises `Killed` there if a signal has
+        come."""
         self.is_held = True
         try:
             yield

@@ -28,8 +28,9 @@ AT = re.compile(r"(?:\./)?(src/\S+?):(\d+):\d+: error")
 
 
 def candidates(body: Body, lines: list[str], variants: dict[str, list[str]]) -> list[tuple[str, str]]:
-    """Returns the possible changes of a body in a file with these lines. Each is a line that occurs once in the file,
-    and its replacement, which is empty or doesn't occur there. So several bodies of a file can be changed at once."""
+    """Returns the possible changes of a body in a file with these lines. `variants` has the variants without values of
+    each enum, by the enum's name. Each change is a line that occurs once in the file, and its replacement, which is
+    empty or doesn't occur there. So several bodies of a file can be changed at once."""
     text = "\n".join(lines)
     once = [line for line in lines[body.first : body.end] if line.strip() and text.count(line) == 1]
     return [(line, changed) for line in once for changed in changes_of(line, variants) if not changed or changed not in text]
@@ -159,7 +160,7 @@ def asked_once(tree: Tree, crate: str, drawn: list[list[Plant]], kept: str, runn
 
 def proved(tree: Tree, crate: str, plants: list[Plant], kept: str, running: Running) -> Told:
     """Returns the prover's output about the functions with these plants, which are all in one copy of the crate. `kept`
-    is the name of the folder in which the prover saves checked modules."""
+    is the name of the folder in which the prover saves checked modules, and `running` runs the check."""
     edits = [replace(plant.edit, wanted=(Refusal(plant.function, ANY),)) for plant in plants]
     texts: dict[str, str] = {}
     for edit in edits:

@@ -57,7 +57,8 @@ def hash_of(file: Path) -> bytes:
 
 
 def name_of(tree: Tree, crate: str, tried: Round) -> str:
-    """Returns the name under which the result of a round is kept. Raises `OSError` if a file can't be read."""
+    """Returns the name under which the result of the round `tried` of a crate is kept. It is a hash of all that the
+    result depends on. Raises `OSError` if a file can't be read."""
     total = hashlib.sha256()
 
     def add(name: str, content: bytes) -> None:
