@@ -293,7 +293,8 @@ def print_results(own: list[Row], asked: int, words: argparse.Namespace, broken:
 @contextlib.contextmanager
 def naming_file(file: str, effect: str, remedy: str) -> Iterator[None]:
     """Turns an `OSError` in the `with` block into a `Fault` that names the file and the remedy. If the disk is full,
-    another remedy is to make room and run the same command again. `effect` is a text that says what this does then."""
+    the fault also names another remedy: to make room and run the same command again. `effect` is added to that remedy:
+    it says what the command then does, or is empty."""
     try:
         yield
     except OSError as error:

@@ -38,7 +38,7 @@ def contains_any(folder: Path, paths: Iterable[Path]) -> bool:
 
 
 def is_private(folder: Path) -> bool:
-    """Returns whether a folder may have more than programs: the home, the folder of temporary files, and those
+    """Returns whether a folder may have other files than programs: the home, the folder of temporary files, and those
     above them."""
     home = Path.home()
     return contains_any(folder, (home, home / ".local", Path(tempfile.gettempdir()), home.resolve()))

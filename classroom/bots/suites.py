@@ -152,9 +152,10 @@ def planned(plan: Plan, seed: int, how: Daemon) -> Case:
 
 
 def own_lab(path: Path, seed: int, how: Daemon) -> Case:
-    """Returns the case of a teacher's lab in a file, with this seed and this daemon. The bot plays a student who owns
-    a node alone, if there is one. Only then the case has troubles. All keys are replaced by new ones, and the limits of
-    events and seats by the greatest that a lab may have. Raises `Fault` if the file isn't a lab."""
+    """Returns the case of a teacher's lab in a file, with this seed and this daemon. The bot plays a student who owns a
+    node alone. If there is no such student, it plays another one, and the case has no troubles. All keys are replaced
+    by new ones, and the limits of events and seats by the greatest that a lab may have. Raises `Fault` if the file
+    isn't a lab."""
     made = labs.read(path)
     chance = random.Random(f"{path.stem} {seed}")
     alone = {name: [node.id for node in made.nodes if node.owners == [name]] for name in made.students}
@@ -174,8 +175,8 @@ def of_suite(name: str, how: list[Daemon] | None, seeds: int) -> list[Case]:
 
 def of_folder(folder: Path, how: list[Daemon] | None, seeds: int) -> tuple[list[Case], list[str]]:
     """Returns the cases of the labs in a folder, with the seeds 1 to `seeds` and each daemon in `how`. Also returns an
-    error line for each file that isn't a lab. If `how` is None, the daemons are those in USUAL. Raises `Fault` if no
-    file is a lab."""
+    error line for each file that isn't a lab. If `how` is None, the daemons are those in USUAL. Raises `Fault` if the
+    folder can't be read, or if no file in it is a lab."""
     try:
         files = sorted(each for each in folder.iterdir() if each.suffix == ".toml")
     except OSError as error:

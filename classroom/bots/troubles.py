@@ -106,9 +106,9 @@ def fault(attempt: Attempt) -> None:
 
 
 def cut(attempt: Attempt) -> None:
-    """Closes the bot's connections, if the case sends replies in pieces in the middle of a reply, and waits until it
-    says hello again. Then makes a fault at a node of the bot. Raises `Fails` if the bot does something wrong or is too
-    late."""
+    """Closes the bot's connections, and waits until it says hello again. If the case sends replies in pieces, closes
+    them in the middle of a reply. Then makes a fault at a node of the bot. Raises `Fails` if the bot does something
+    wrong or is too late."""
     before, port, end = attempt.heard.greeted, attempt.playing.relay, time.monotonic() + attempt.limits.seconds
     while attempt.case.piece and not any(caller.held for caller in port.callers) and time.monotonic() < end:
         attempt.turn()
@@ -183,8 +183,9 @@ def overtake(attempt: Attempt) -> None:
 
 
 def turn(attempt: Attempt) -> None:
-    """Makes a fault at a node of the bot, TURNS times. Each time changes its registers again between the bot's look and
-    its move, so that another rule is enabled there. Raises `Fails` if the bot does something wrong or is too late."""
+    """Makes a fault at a node of the bot, TURNS times. Each time sets the node's registers again between the bot's look
+    and its move, so that another rule is enabled there. Raises `Fails` if the bot does something wrong or is too
+    late."""
     attempt.doing = f", after a step was closed between its look and its move (`stale` is no error: look again){ON}"
     for _ in range(TURNS):
         attempt.playing.turns = 1

@@ -82,7 +82,7 @@ def family(word: str, count: int | None, students: int, chance: random.Random) -
 
 
 def within(nodes: int) -> int:
-    """Returns the same number of nodes. Raises `Fault` if a lab can't have this number of nodes."""
+    """Returns `nodes`, a number of nodes. Raises `Fault` if a lab can't have this number of nodes."""
     most = limits.allowed().nodes
     if not 1 <= nodes <= most:
         raise Fault(f"this network would have {nodes} nodes, but a lab can have 1 to {most}. Choose a network of another size")
@@ -90,9 +90,9 @@ def within(nodes: int) -> int:
 
 
 def plain(word: str, nodes: int) -> Links:
-    """Returns the links of the network of the family `word` with this number of nodes. Such a family has no size in its
-    name, as `path`. Raises `UnknownFamily` for any other word, and `Fault` if a cycle would have fewer than three
-    nodes."""
+    """Returns the links of the network of the family `word` with this number of nodes. `word` is a family without a
+    size in its name, such as `path`. Raises `UnknownFamily` for any other word, and `Fault` if a cycle would have fewer
+    than three nodes."""
     row = [(node, node + 1) for node in range(1, nodes)]
     if word == "path":
         return row

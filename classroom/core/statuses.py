@@ -11,5 +11,6 @@ TABLE = (
 
 
 def how_ended(code: int) -> str:
-    """Returns how a process ended, as a text: with a status, or by a signal, whose number `code` then has below 0."""
+    """Returns how a process ended, as a text: with the status `code`, or if `code` is below 0, by the signal with the
+    number `-code`."""
     return f"with status {code}" if code >= 0 else f"by the signal {signal.Signals(-code).name}"

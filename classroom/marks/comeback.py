@@ -104,8 +104,9 @@ class Recount(Replay):
 
 
 def told(lab: labs.Lab, events: list[Event]) -> str:
-    """Returns the line with the counts of the recovery that ends with the last of these events, the first ones of a run
-    of the lab. The counts are those of the proved program. Raises `Fault` if the program is too old to count rounds."""
+    """Returns the line with the counts of the recovery that ends with the last of these events, which are the first
+    events of a run of the lab. The counts are those of the proved program. Raises `Fault` if the program is too old to
+    count rounds."""
     journal = "".join(f"{event.place} {event.at} {' '.join(event.words)}\n" for event in events)
     found = tallies.of_texts(labs.text(lab), journal)
     if found.rounds is None:

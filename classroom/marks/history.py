@@ -119,9 +119,9 @@ def rows_of(every: list[Said], name: str, hider: Hider) -> list[Row]:
 
 def beginning(said: Session) -> tuple[int, int]:
     """Returns how many entries a session has up to its granted hello, and the most events that can have come before
-    these entries. The second number is that of the entry after the hello, or 0 if there is none. The second number is
-    needed because the session didn't see the journal before the hello, so its first entries have the place of the
-    seat's last session."""
+    these entries. The second number is needed because the session didn't see the journal before the hello, so its first
+    entries have the place of the seat's last session. It is the place of the entry after the hello, or 0 if there is no
+    such entry."""
     count = next((index for index, entry in enumerate(said, 1) if not entry.mark and entry.told().get("ok") == "hello"), len(said))
     return count, said[count].place if count < len(said) else 0
 
@@ -168,8 +168,8 @@ def steps(lab: labs.Lab, journal: list[Event], name: str, own: set[int]) -> Iter
 
 
 def merged(lines: list[Row], between: list[Row]) -> list[Row]:
-    """Returns the rows of lines and of events in one order. An event comes before the lines that were answered after
-    it."""
+    """Returns the rows in `lines`, which are about lines, and those in `between`, which are about events, in one order.
+    An event comes before the lines that were answered after it."""
     return sorted([*between, *lines], key=lambda row: (row.at, row.seat > 0))
 
 

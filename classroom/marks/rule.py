@@ -286,7 +286,7 @@ def truth(value: Value) -> bool | None:
 def conditional(condition: Expression, first: Expression, other: Expression) -> Expression:
     """Returns the expression `first if condition else other`."""
     def value(row: Row) -> Value:
-        """Returns the value of the conditional expression for a row of marks."""
+        """Returns the value of the conditional expression for a row of marks, or None if its condition is unknown."""
         holds = truth(condition(row))
         return None if holds is None else first(row) if holds else other(row)
 
@@ -297,7 +297,7 @@ def logical(left: Expression, right: Expression, is_or: bool) -> Expression:
     """Returns the expression `left or right` if `is_or` is set, and otherwise `left and right`. The value of this
     expression is known if one side decides it."""
     def value(row: Row) -> Value:
-        """Returns the value of the expression with `or` or `and` for a row of marks."""
+        """Returns the value of the expression with `or` or `and` for a row of marks, or None if it is unknown."""
         sides = truth(left(row)), truth(right(row))
         return is_or if is_or in sides else None if None in sides else not is_or
 
@@ -308,7 +308,7 @@ def negation(inner: Expression, is_negated: bool) -> Expression:
     """Returns the expression `not inner`, or if `is_negated` isn't set, an expression with the value of `inner`. Its
     evaluation raises `Wrong` if the value of `inner` is a number or a text."""
     def value(row: Row) -> Value:
-        """Returns the value of the expression or of its negation for a row of marks."""
+        """Returns the value of the expression or of its negation for a row of marks, or None if it is unknown."""
         holds = truth(inner(row))
         return None if holds is None else holds != is_negated
 

@@ -51,8 +51,7 @@ class PlayServer(Web):
         return f"http://127.0.0.1:{self.server_port}/"
 
     def show(self, students: int, tell: Callable[[str], None]) -> None:
-        """Starts to answer. `students` is the port of the class's server, and the callback prints a line about an
-        error."""
+        """Starts to answer. `students` is the port of the class's server, and `tell` prints a line about an error."""
         self.students, self.tell = students, tell
         self.open()
 
@@ -90,7 +89,7 @@ class PlayRequest(PageRequest):
     server: PlayServer
 
     def do_GET(self) -> None:
-        """Answers with the page, which is the same for every student."""
+        """Answers with the page, which is the same for every student, or with 404 for any other path than `/`."""
         if self.reject_foreign_host():
             return
         if self.path != "/":

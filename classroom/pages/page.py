@@ -98,7 +98,7 @@ class Frames:
         return [[self.index_of(link), int(link in now)] for link in sorted(before ^ now)]
 
     def index_of(self, link: Link) -> int:
-        """Returns the index of a link in the list. Appends the link if it is new."""
+        """Returns the index of a link in the list `links`. Appends the link if it is new."""
         if link not in self.index:
             self.index[link] = len(self.links)
             self.links.append(link)

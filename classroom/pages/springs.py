@@ -125,7 +125,8 @@ def near_pairs(points: list[Point]) -> Iterator[tuple[int, int]]:
 
 
 def stretched(points: dict[int, Point], aspect: float) -> dict[int, Point]:
-    """Returns the points, made a little wider if the field is. `aspect` is the field's ratio of width to height."""
+    """Returns the points, with greater horizontal distances if the field is wider than they are. `aspect` is the
+    field's ratio of width to height."""
     wide, high = (max(values) - min(values) for values in zip(*points.values()))
     times = min(MOST_STRETCHED, max(1.0, aspect * high / wide)) if wide > 1e-9 else 1.0
     return {node: (x * times, y) for node, (x, y) in points.items()}

@@ -122,7 +122,7 @@ class PageRequest(BaseHTTPRequestHandler):
 
     def reject_foreign_host(self) -> bool:
         """Checks that the request names this machine and this port. If it names another host or another port, as
-        through a tunnel, answers with status 421 and the right address. Returns whether it did so."""
+        through a tunnel, answers with status 421 and the correct address. Returns whether it did so."""
         port = self.connection.getsockname()[1]
         if self.headers.get("Host") in (f"127.0.0.1:{port}", f"localhost:{port}"):
             return False

@@ -35,7 +35,7 @@ class Adversary:
 
     def __init__(self, seed: str, partner_of: Partner = min) -> None:
         """`seed` determines the random choices. `partner_of` chooses a node's partner among the nodes that point at it.
-        Runs are longest with the lowest one. A student's client takes the highest."""
+        If it chooses the lowest, runs are longest. A student's client chooses the highest."""
         self.chance, self.partner_of = random.Random(f"{seed} adversary"), partner_of
         self.bench: Bench | None = None
         self.registers: dict[int, tuple[int | None, bool]] = {}

@@ -148,8 +148,8 @@ class DiskRoom:
 
 
 def turn(desk: Desk, room: DiskRoom, until_stable: bool) -> str:
-    """Does what is due at the desk: reads new events, lets the house play, and prints what is new. New are events,
-    connections, the room for the journal, and the end of the lesson. If the desk's connection was lost, first connects
+    """Does what is due at the desk: reads new events, lets the house play, and prints what is new about connections,
+    the room for the journal (`room`), and the end of the lesson. If the desk's connection was lost, first connects
     again, and does nothing else if that fails. Returns the reason if the run ends, and an empty text otherwise.
     `until_stable` says whether the run ends as soon as its configuration is stable."""
     if not desk.reconnect():

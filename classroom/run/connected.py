@@ -64,8 +64,9 @@ class Connected:
         self.due = 0.0
 
     def news(self) -> list[str]:
-        """Returns lines about the connections that began or ended since the last check, and once a line if all seats
-        are taken. Returns none if the last check is less than a second ago, or if the system reports no sockets."""
+        """Returns lines about the connections that began or ended since the last check, and a line when all seats are
+        taken for the first time. Returns none if the last check is less than a second ago, or if the system reports no
+        sockets."""
         now = time.monotonic()
         if now < self.due:
             return []
@@ -77,8 +78,8 @@ class Connected:
 
     def look(self) -> list[Row]:
         """Returns the system's sockets. Reads them a few times if the list has a server's end without its client's end,
-        because the system's list isn't of one moment. The list never has the ends of clients on other machines. Raises
-        `OSError` if the system doesn't report its sockets."""
+        because the system doesn't list all sockets at the same moment. The list never has the ends of clients on other
+        machines. Raises `OSError` if the system doesn't report its sockets."""
         for _ in range(READINGS):
             found = list(rows())
             if not self.tells or self.client_ports(found) <= self.client_sockets(found).keys() | self.known.keys():

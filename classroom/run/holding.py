@@ -201,7 +201,7 @@ def read_typed(run: Running) -> None:
 
 
 def queue_signals(typed: Typed) -> None:
-    """Makes each signal that comes from now on queue a word among the typed lines."""
+    """Makes each signal in SIGNALS that comes from now on put its word there into `typed`, the queue of typed lines."""
     for number in SIGNALS:
         signal.signal(number, lambda number, _: typed.put(SIGNALS[signal.Signals(number)]))
 

@@ -105,8 +105,8 @@ class Member:
         self.news.put(partial(ended, self))
 
     def note_line(self, line: str) -> bool:
-        """Takes from a line that the process has printed a fact, that the process accepts commands, or why it ends.
-        Returns whether the class's desk prints the line."""
+        """Notes what a line that the process has printed says: a fact, that the process accepts commands, or why it
+        ends. Returns whether the class's desk prints the line."""
         fact, value = fact_in(line)
         is_new = fact != "" and fact not in self.facts
         if fact:
@@ -120,7 +120,8 @@ class Member:
         return not LEFT_OUT.fullmatch(line)
 
     def send(self, line: str) -> bool:
-        """Sends a typed line to the process. Returns whether the process could be sent it."""
+        """Sends a typed line to the process. Returns false if the line couldn't be sent, for example because the
+        process has ended."""
         try:
             assert self.child is not None and self.child.stdin is not None
             self.child.stdin.write(line + "\n")

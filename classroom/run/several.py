@@ -276,7 +276,7 @@ class Several:
             replace(found, left=True).write(self.folder)
 
     def queue_signals(self) -> None:
-        """Makes each signal that comes from now on queue its handling as news."""
+        """Makes each signal that comes from now on put the function that handles it into the queue of news."""
         for number in SIGNALS:
             signal.signal(number, lambda *_: self.news.put(self.end))
         signal.signal(signal.SIGUSR1, lambda *_: self.news.put(self.leave))
@@ -324,8 +324,8 @@ def members_of(folder: Path, networks: Sequence[Network], words: argparse.Namesp
 
 
 def networks_of(words: argparse.Namespace) -> list[Network]:
-    """Returns the networks of the labs that the arguments name. Raises `Fault` if two labs have the same name, or a
-    name or the number of rooms doesn't fit."""
+    """Returns the networks of the labs that the arguments name. Raises `Fault` if two labs have the same name, if a
+    lab's name has another meaning in commands, or if there aren't as many rooms as labs."""
     rooms = [room.strip() for room in words.rooms.split(",")] if words.rooms else [*map(room_of, words.labs)]
     if words.rooms and len(rooms) != len(words.labs):
         raise Fault(f"--rooms names {plural(len(rooms), 'room')}, but there are {len(words.labs)} networks. Name one room for each network")

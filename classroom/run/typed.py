@@ -20,8 +20,8 @@ HELP = ", ".join(FORMS.values())
 
 
 def parse_command(line: str) -> list[str]:
-    """Returns the words of a typed line. An empty line is the command `wait`. Raises `ValueError`, whose text has the
-    right form, if the line isn't a command of the desk."""
+    """Returns the words of a typed line. An empty line is the command `wait`. Raises `ValueError` if the line isn't a
+    command of the desk. Its text says how to write the command."""
     word, *rest = line.split() or ["wait"]
     if word not in FORMS:
         near = difflib.get_close_matches(word, WORDS, 1)

@@ -54,7 +54,7 @@ def all_plants(tree: Tree) -> list[Plant]:
 
 def chosen(every: list[Plant], names: list[str]) -> list[Plant]:
     """Returns the plants (planted bugs) with these names. A name is that of a plant, or of a crate, which stands for
-    all its plants. Raises `PlantFault` if there is none of a name."""
+    all its plants. Raises `PlantFault` if a name is neither."""
     for name in names:
         if not any(name in (it.name, it.crate) for it in every):
             raise PlantFault(f"{name}: there is no plant of this name, and no crate of this name has a plant; --list prints all plants")
@@ -98,9 +98,9 @@ def try_proofs(tree: Tree, plants: list[Plant]) -> int:
 
 
 def try_drawn(tree: Tree, crates: list[str], number: int, seed: int) -> int:
-    """Draws plants in `number` functions of these crates, or of all that are no tests if none is named, by the seed.
-    Prints the prover's verdict on each. Returns the exit status: 1 if the prover accepts one or doesn't decide. Raises
-    `PlantFault` if there is no such crate."""
+    """Draws plants in `number` functions of these crates, by the seed. If `crates` is empty, takes all crates that
+    aren't tests. Prints the prover's verdict on each function. Returns the exit status: 1 if the prover accepts a plant
+    or doesn't decide. Raises `PlantFault` if there is no such crate."""
     if unknown := [crate for crate in crates if crate not in tree.uses]:
         raise PlantFault(f"{unknown[0]}: there is no such crate")
     counts = Counter[str]()

@@ -45,8 +45,8 @@ class Plant:
 
 
 def marked(name: str, text: str, mark: str) -> list[str]:
-    """Returns the words after a mark such as `# seen:` in the text of a plant's file. Returns empty texts in their
-    place if there is no such line. WORDS has what the words of each mark mean. Raises `PlantFault` if the line has
+    """Returns the words after the mark `mark`, such as `# seen:`, in the text of a plant's file. WORDS has what the
+    words of each mark mean. If there is no such line, returns as many empty texts. Raises `PlantFault` if the line has
     another form or occurs twice. `name` is that of the plant, for the error."""
     found = [line.removeprefix(mark).split() for line in text.splitlines() if line.startswith(mark)]
     if len(found) > 1 or any(len(words) != len(WORDS[mark]) for words in found):

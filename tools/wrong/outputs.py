@@ -50,8 +50,9 @@ class Told:
             self.resting.add(name)
 
     def add_error(self, line: str) -> None:
-        """Adds the line of an error. If the line says that a proof's answer doesn't show a goal any more, adds an open
-        goal instead. If the line only says that something depends on such an answer, does nothing."""
+        """Adds the line of an error. If the line is about a goal of which the proof fails, adds an open goal instead. A
+        proof that names something that doesn't exist stays an error. Does nothing for a line about proofs that weren't
+        checked because they depend on a rejected one."""
         found = GOAL.fullmatch(line)
         if RESTS_ON_ANSWER.search(line):
             return
