@@ -96,7 +96,7 @@ class InClone(unittest.TestCase):
                 "PYTHONDONTWRITEBYTECODE": "1", "RT_JOBS": "1", **more}
 
     def set(self, name: str, text: str) -> None:
-        """Writes the setting `name` for the stand-in."""
+        """Writes the setting `name` of the stand-in, which becomes `text`."""
         (self.room / name).write_text(text, encoding="utf-8")
 
     def call(self, *words: str | Path, **more: str) -> subprocess.CompletedProcess[str]:
@@ -122,13 +122,13 @@ class InClone(unittest.TestCase):
         return [int(it) for it in text.split()]
 
     def ended(self, going: subprocess.Popen[str]) -> str:
-        """Waits until a command and the stand-in have ended. Returns the command's standard error."""
+        """Waits until the command `going` and the stand-in have ended. Returns the command's standard error."""
         _, error = going.communicate(timeout=LIMIT)
         self.waits(lambda: not is_there(self.pids()[0]))
         return str(error)
 
     def waits(self, holds: object) -> None:
-        """Waits until a function returns a true value. Fails after a time limit."""
+        """Waits until the function `holds` returns a true value. Fails after a time limit."""
         assert callable(holds)
         until = time.monotonic() + LIMIT
         while not holds():

@@ -36,8 +36,8 @@ def height(module: str) -> int:
 
 
 def origin(module: str, node: ast.ImportFrom, is_package: bool) -> str:
-    """Returns the dotted name of the module from which a statement of a module imports, also if the statement has a
-    relative name."""
+    """Returns the dotted name of the module from which the statement `node` of a module imports, also if the statement
+    has a relative name. `is_package` says whether the module is that of a package."""
     parts = module.split(".")
     near = parts[:len(parts) + is_package - node.level] if node.level else []
     return ".".join([*near, *([node.module] if node.module else [])])
@@ -46,7 +46,8 @@ def origin(module: str, node: ast.ImportFrom, is_package: bool) -> str:
 @cache
 def imports_in(module: str, text: str, is_package: bool) -> tuple[tuple[str, str], ...]:
     """Returns a pair for each import in the text of a module: the module from which a name is imported, and this name.
-    If a whole module is imported, the second is empty. If the module is only known at run time, the first is `?`."""
+    If a whole module is imported, the second is empty. If the module is only known at run time, the first is `?`.
+    `is_package` says whether the module is that of a package."""
     found: list[tuple[str, str]] = []
     for node in ast.walk(ast.parse(text)):
         if isinstance(node, ast.Import):
@@ -59,7 +60,8 @@ def imports_in(module: str, text: str, is_package: bool) -> tuple[tuple[str, str
 
 
 def imported(module: str, known: Sources) -> list[str]:
-    """Returns the modules of `classroom` that a module imports."""
+    """Returns the modules that a module imports, those of `classroom` by their full names. `known` has the sources of
+    `classroom`, by module."""
     is_package = any(it.startswith(f"{module}.") for it in known)
     found = imports_in(module, known[module], is_package)
     return [f"{whole}.{name}" if f"{whole}.{name}" in known else whole for whole, name in found]
@@ -76,7 +78,8 @@ def circle(uses: dict[str, list[str]]) -> list[str]:
 
 
 def faults(known: Sources) -> list[str]:
-    """Returns error texts about the imports of these modules that go up or in a circle."""
+    """Returns error texts about imports in the sources `known` that go up, go in a circle, or aren't allowed. `known`
+    has the text of each module."""
     found, uses = [], dict[str, list[str]]()
     for module in known:
         every = imported(module, known)

@@ -28,7 +28,8 @@ Quick = tuple[str, str, int, tuple[str, ...], tuple[str, ...]]
 
 
 def part(name: str, line: str, width: int = 1, needs: tuple[str, ...] = (), likes: tuple[str, ...] = ()) -> Quick:
-    """Returns a part for the stand-in's table of quick parts, which runs a shell line."""
+    """Returns a part for the stand-in's table of quick parts, which runs the shell line `line`. The other values are
+    those of a `Part` with this name."""
     return name, line, width, needs, likes
 
 
@@ -70,14 +71,15 @@ class InTree(unittest.TestCase):
         return {**kept, "TMPDIR": str(self.temporary), "ROOM": str(self.room), **more}
 
     def check(self, *words: str, program: str = "check", **more: str) -> subprocess.CompletedProcess[str]:
-        """Runs `./check` with these arguments to its end, and checks that it leaves nothing. Returns its result."""
+        """Runs the program of the tree, with these arguments and `more` in its environment, to its end. Checks that it
+        leaves nothing. Returns its result."""
         done = self.check_beside(*words, program=program, **more)
         self.nothing_left()
         return done
 
     def check_beside(self, *words: str, program: str = "check", **more: str) -> subprocess.CompletedProcess[str]:
-        """Runs `./check` with these arguments to its end, while another check runs, or after one that was killed and
-        left files. Returns its result."""
+        """Runs the program of the tree, with these arguments and `more` in its environment, to its end. Another check
+        may be running, or may have been killed and have left files. Returns its result."""
         return subprocess.run(
             [self.tree / program, *words], cwd="/", stdin=subprocess.DEVNULL, capture_output=True, text=True,
             env=self.environment(**more), timeout=LIMIT, check=False,
@@ -102,7 +104,7 @@ class InTree(unittest.TestCase):
         return going
 
     def waits(self, holds: object) -> None:
-        """Waits until a function returns a true value. Fails after a time limit."""
+        """Waits until the function `holds` returns a true value. Fails after a time limit."""
         assert callable(holds)
         until = time.monotonic() + LIMIT
         while not holds():

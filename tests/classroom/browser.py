@@ -41,7 +41,8 @@ look();
 
 
 def started() -> Any:
-    """Starts a browser without a window."""
+    """Starts a browser without a window, and returns its driver. Raises `SessionNotCreatedException` if it fails to
+    start STARTS times."""
     made: Any = Options
     options = made()
     options.binary_location = "/usr/bin/chromium"
@@ -72,8 +73,8 @@ def is_ready(driver: Any) -> bool:
 
 
 def until(driver: Any, holds: Any) -> None:
-    """Waits until a function of the driver returns a true value. Fails after a time limit. If the page replaces an
-    element that the function has found and not used yet, the function is called again."""
+    """Waits until `holds`, a function of the driver, returns a true value. Fails after a time limit. If the page
+    replaces an element that the function has found and not used yet, the function is called again."""
     wait: Any = WebDriverWait
     wait(driver, LIMIT, poll_frequency=0.05, ignored_exceptions=[StaleElementReferenceException]).until(holds)
 
@@ -144,7 +145,7 @@ return found;
 
 
 def show_as(driver: Any, theme: str = "light", media: str = "") -> None:
-    """Emulates a theme, and a screen or paper."""
+    """Emulates a theme, and the medium `media`, `screen` or `print`. An empty text stands for the usual medium."""
     setting = {"media": media, "features": [{"name": "prefers-color-scheme", "value": theme}]}
     driver.execute_cdp_cmd("Emulation.setEmulatedMedia", setting)
 
@@ -155,7 +156,8 @@ def settle(driver: Any) -> None:
 
 
 def pale(driver: Any, on_paper: bool = False) -> tuple[int, list[tuple[str, float]]]:
-    """Returns the number of texts on a page, and the texts with a contrast below 4.5 to 1, each with its contrast."""
+    """Returns the number of texts on a page, and the texts with a contrast below 4.5 to 1, each with its contrast.
+    `on_paper` says whether the page is shown as on paper."""
     texts = driver.execute_script(TEXTS, on_paper)
     told = [(text, contrast(front, back)) for text, front, back in texts]
     return len(told), [(text, ratio) for text, ratio in told if ratio < LEAST]

@@ -27,8 +27,8 @@ def examples(room: Path) -> list[tuple[Path, Path]]:
 
 
 def lab_text(nodes: int, links: list[tuple[int, int]], events: int) -> str:
-    """Returns the text of a lab with these links, in which ana and ben share the nodes with an even identifier, and ana
-    owns the others."""
+    """Returns the text of a lab with the nodes 1 to `nodes`, these links, and the limit `events`. The students ana and
+    ben share the nodes with an even identifier, and ana owns the others."""
     rows = [f"events = {events}", "sessions = 2", f"links = {[list(link) for link in links]}"]
     rows += ["[teacher]", 'name = "tess"', 'key = "chalk"']
     for name, key in STUDENTS:

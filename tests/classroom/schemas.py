@@ -17,13 +17,14 @@ KEYWORDS = {
 
 
 def read(name: str) -> Schema:
-    """Returns the schema in a file of `docs/`."""
+    """Returns the schema in the file of `docs/` with this name."""
     found: Schema = json.loads((TOP / "docs" / f"{name}.schema.json").read_text(encoding="utf-8"))
     return found
 
 
 def fits(value: Any, schema: Schema, top: Schema) -> bool:
-    """Returns whether a value is valid for a schema, which is a part of `top`."""
+    """Returns whether a value is valid for a schema, which is a part of `top`. Raises `ValueError` if the schema has a
+    keyword that isn't checked."""
     if unknown := schema.keys() - KEYWORDS:
         raise ValueError(f"keywords that aren't checked: {unknown}")
     if "$ref" in schema:
@@ -42,7 +43,8 @@ def fits(value: Any, schema: Schema, top: Schema) -> bool:
 
 
 def object_fits(value: dict[str, Any], schema: Schema, top: Schema) -> bool:
-    """Returns whether an object has the required keys, valid values, and no other keys if the schema forbids them."""
+    """Returns whether an object has the required keys, valid values, and no other keys if the schema forbids them. The
+    schema is a part of `top`."""
     known: Schema = schema.get("properties", {})
     if not value.keys() >= set(schema.get("required", [])) or schema.get("additionalProperties") is False and value.keys() - known.keys():
         return False
@@ -50,7 +52,8 @@ def object_fits(value: dict[str, Any], schema: Schema, top: Schema) -> bool:
 
 
 def array_fits(value: list[Any], schema: Schema, top: Schema) -> bool:
-    """Returns whether all items of a list are valid."""
+    """Returns whether a list has an allowed number of items, and all of them are valid. The schema is a part of
+    `top`."""
     if not schema.get("minItems", 0) <= len(value) <= schema.get("maxItems", len(value)):
         return False
     first: list[Schema] = schema.get("prefixItems", [])

@@ -206,7 +206,7 @@ class Late(Cycle):
         self.assertTrue(it.has_ended(LIMIT))
 
     def until(self, holds: object) -> None:
-        """Waits until a function returns a true value. Fails after a time limit."""
+        """Waits until the function `holds` returns a true value. Fails after a time limit."""
         end = time.monotonic() + LIMIT
         assert callable(holds)
         while not holds():

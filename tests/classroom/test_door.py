@@ -171,7 +171,8 @@ class AtDoor(InRoom):
         it = context.wrap_bio(come, goes, server_hostname=name)
         with socket.create_connection(("127.0.0.1", self.door.port), LIMIT) as plain:
             def done(step: Callable[[], bytes | None]) -> bytes | None:
-                """Does a step of TLS, and receives all that it needs."""
+                """Does a step of TLS, and returns its result. Sends the bytes that the step makes, and receives those
+                that it needs."""
                 while True:
                     try:
                         return step()

@@ -75,7 +75,7 @@ class Doors(unittest.TestCase):
         numbers = iter(range(1000))
 
         def fails(_: object) -> bool:
-            """Raises an error with another text each time."""
+            """Raises a `ValueError` with another text at each call."""
             raise ValueError(f"the {next(numbers)}th")
 
         with mock.patch("classroom.pages.web.PageRequest.reject_foreign_host", fails):

@@ -34,7 +34,7 @@ with socket.create_connection(("127.0.0.1", int(sys.argv[1]))) as it, it.makefil
 
 
 def lab_of(room: Path, sessions: int, events: int = 1000) -> Path:
-    """Writes the built-in lab with other limits, and returns its path."""
+    """Writes the built-in lab with these limits of sessions and events, and returns its path."""
     lab = room / f"{sessions}-{events}.toml"
     text = built_in(room).read_text(encoding="utf-8")
     text = text.replace("sessions = 4\n", f"sessions = {sessions}\n").replace("events = 100\n", f"events = {events}\n")
@@ -160,8 +160,8 @@ class Caller:
 
 
 def called(port: int, source: str = "127.0.0.1") -> Caller:
-    """Connects to a port from an address of this machine, and returns the connection. Tries again while the host
-    doesn't accept any."""
+    """Connects to a port from the address `source` of this machine, and returns the connection. Tries again while the
+    host doesn't accept any, and fails after a time limit."""
     end = time.monotonic() + LIMIT
     while True:
         try:
@@ -175,7 +175,8 @@ def called(port: int, source: str = "127.0.0.1") -> Caller:
 
 
 def let_in(port: int, line: bytes) -> tuple[Caller, bytes]:
-    """Returns a connection with a seat, and the reply to its first line. Connects again after `busy`."""
+    """Returns a connection to a port that has a seat, and the reply to its first line `line`. Connects again after
+    `busy`. Fails after a time limit."""
     end = time.monotonic() + LIMIT
     while time.monotonic() < end:
         caller = called(port)

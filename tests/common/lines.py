@@ -46,12 +46,14 @@ def greeted(name: str) -> bytes:
 
 
 def seduced(at: int, place: int, node: int = 1) -> bytes:
-    """Returns the reply to a granted seduction at a node."""
+    """Returns the reply to a granted seduction at a node. `at` is the number of the configuration, and `place` that of
+    the event."""
     return line_of(at=at, node=node, ok="move", place=place, rule="seduction")
 
 
 def closed(at: int, place: int, *moved: int) -> bytes:
-    """Returns the reply to a close by which these nodes moved."""
+    """Returns the reply to a close by which these nodes moved. `at` is the number of the configuration, and `place`
+    that of the event."""
     return line_of(at=at, moved=moved, ok="close", place=place)
 
 

@@ -68,13 +68,15 @@ class Preloaded:
 
 
 def run(words: list[str], given: bytes, variables: Mapping[str, str], program: Path = PROGRAM) -> Ended:
-    """Runs the program with these arguments, this standard input and these variables. Returns its status and output."""
+    """Runs the program with the arguments `words`, `given` on standard input, and these environment variables. Returns
+    its status and output."""
     done = subprocess.run([program, *words], input=given, capture_output=True, env=variables, timeout=LIMIT, check=False)
     return Ended(done.returncode, done.stdout, done.stderr)
 
 
 def good(words: list[str], given: bytes = b"", program: Path = PROGRAM) -> bytes:
-    """Runs the program without a library, and returns its output. Fails if it doesn't end well."""
+    """Runs the program with the arguments `words` and `given` on standard input, without a library, and returns its
+    output. Fails if it doesn't end well."""
     ended = run(words, given, {}, program)
     if ended.status != 0 or ended.error:
         fail(f"a plain run ended with {ended.status}: {words}")
@@ -125,7 +127,8 @@ class Story:
         return ""
 
     def journal_of(self, replies: list[bytes], unasked: frozenset[int]) -> bytes:
-        """Returns the expected journal of a run with these replies."""
+        """Returns the expected journal of a run with these replies, in which the lines with the numbers in `unasked`
+        had none."""
         return self.plain(self.refused(replies) | unasked)[1]
 
     def audit(self, journal: bytes) -> bytes:
@@ -229,9 +232,9 @@ class Client:
 
 
 def play(story: Story, port: int, in_turn: bool = False) -> tuple[list[bytes], frozenset[int]]:
-    """Plays a script over connections to a port. Sends each line after the reply to the one before, or after that
-    connection's end. With `in_turn`, closes each connection before the next one sends. Returns the replies in the form
-    of a script's output, and the numbers of the lines without a reply."""
+    """Plays the script of a story on connections to a port. Sends each line after the reply to the one before, or after
+    that connection's end. With `in_turn`, closes each connection before the next one sends. Returns the replies in the
+    form of a script's output, and the numbers of the lines without a reply."""
     asked = [line.split(b" ", 1) for line in story.lines]
     numbers = sorted({number for number, _ in asked})
     clients = {number: Client(port) for number in numbers}

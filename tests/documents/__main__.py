@@ -101,8 +101,8 @@ def contracts_of(page: str) -> Iterator[str]:
 
 
 def missing_contracts(page: str, texts: dict[str, str], declared: set[str], laws: set[str]) -> Iterator[str]:
-    """Yields the contracts on a page that aren't declared, or that the page of a crate names but the crate doesn't
-    cite. `texts` has the sources of each crate."""
+    """Yields the contracts on a page that aren't in `declared` or, if they are laws, in `laws`. Also yields those that
+    the page of a crate names but the crate doesn't cite. `texts` has the sources of each crate."""
     crate = re.fullmatch(r"crates/(\w+)/README\.md", page)
     for name in contracts_of(page):
         parts = [name] if name.startswith("From<") else name.split("::")
@@ -131,7 +131,8 @@ def missing_path(page: str, text: str, files: list[str], folders: set[str]) -> b
 
 
 def missing_name(text: str, words: set[str], laws: set[str]) -> bool:
-    """Returns whether a name on a page has a word that is in no source, or is that of a law that doesn't exist."""
+    """Returns whether the name `text` on a page has a word that isn't in `words`, those of all sources, or is that of a
+    law that isn't in `laws`."""
     if text in ELSEWHERE:
         return False
     parts = re.findall(r"\w+", text)
@@ -141,7 +142,8 @@ def missing_name(text: str, words: set[str], laws: set[str]) -> bool:
 
 
 def missing_on(page: str, files: list[str], folders: set[str], words: set[str], laws: set[str]) -> Iterator[str]:
-    """Yields all that a page names and that doesn't exist."""
+    """Yields all links, paths and names on a page that stand for nothing. `files` and `folders` are those of the
+    repository, `words` the words of all sources, and `laws` the names of all laws."""
     text = FENCE.sub("", (TOP / page).read_text(encoding="utf-8"))
     for target in re.findall(r"\]\(([^)\s]+)\)", text):
         if not re.match(r"[a-z]+:|#", target) and not (TOP / Path(page).parent / target.split("#")[0]).exists():
@@ -178,8 +180,9 @@ def blocks_of(page: str) -> Iterator[tuple[str | None, list[str]]]:
 
 
 def is_run(page: str, mark: str | None, lines: list[str], texts: dict[str, str], data: set[str]) -> bool:
-    """Returns whether a test runs a code block, or the block is marked, or its text is in `data`, the contents of
-    `examples/`."""
+    """Returns whether a test runs a code block of a page, or the block is marked, or its text is in `data`, the
+    contents of `examples/`. `mark` and `lines` are those of the block, and `texts` has the sources of tests that run
+    blocks."""
     if mark is not None:
         return mark in MARKS or (page, mark) in RUN_BY and page in texts[RUN_BY[page, mark]]
     commands = [line.removeprefix("$ ") for line in lines if is_command(line)]
@@ -193,7 +196,8 @@ def is_run(page: str, mark: str | None, lines: list[str], texts: dict[str, str],
 
 
 def unrun_blocks(page: str, files: list[str]) -> list[str]:
-    """Returns the first line of each code block of a page that no test runs and that isn't marked."""
+    """Returns the first line of each code block of a page that no test runs and that isn't marked. `files` are those of
+    the repository."""
     run = {*RUN_BY.values(), *(path for path, _ in RUN_BEFORE.values()), "tests/pages/pages"}
     texts = {path: (TOP / path).read_text(encoding="utf-8") for path in run}
     examples = [path for path in files if path.startswith("examples/")]

@@ -71,7 +71,8 @@ def groups(text: str) -> list[Group]:
 
 
 def tested_in(crate: str, all_groups: list[Group]) -> str:
-    """Returns a text with the crates and the folders of tests that test a crate."""
+    """Returns a text with the crates and the folders of tests that test a crate, or that it consists of laws if none
+    does. Returns an empty text for a crate of tests. `all_groups` has the crates with those that they use."""
     if crate.startswith(TESTS):
         return ""
     uses = {name: used for group in all_groups for name, used in group.crates.items()}
@@ -86,7 +87,8 @@ def text_at(x: int, y: int, text: str, kind: str = "") -> str:
 
 
 def band(group: Group, top: int, all_groups: list[Group]) -> tuple[list[str], int]:
-    """Returns the drawing of a group that begins at a height, and the height of its end."""
+    """Returns the drawing of a group that begins at the height `top`, and the height of its end. `all_groups` has the
+    crates with those that they use."""
     rows = -(-len(group.crates) // COLUMNS)
     height = 30 + rows * (HEIGHT + GAP) + GAP
     width = COLUMNS * (WIDTH + GAP) + GAP
@@ -102,8 +104,8 @@ def band(group: Group, top: int, all_groups: list[Group]) -> tuple[list[str], in
 
 
 def way(above: int, below: int, is_next: bool) -> str:
-    """Returns an SVG path with an arrow from the foot of a band to the head of another one: straight down if that is
-    the next one, and otherwise along the margin."""
+    """Returns an SVG path with an arrow from the foot of a band at the height `above` to the head of another one at the
+    height `below`. The arrow goes straight down if that is the next one, and otherwise along the margin."""
     middle, head = MARGIN + GAP + WIDTH // 2, below + 20
     if is_next:
         return f'<path class="way" d="M{middle} {above} V{below - 2} m-5 -6 l5 6 l5 -6"/>'

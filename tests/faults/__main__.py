@@ -66,12 +66,13 @@ def end_with(line: str, status: int = 4, out: bytes = b"") -> Ended:
 
 
 def wrong(ended: Ended, wanted: Ended) -> str:
-    """Returns what is wrong with the end of a run, or an empty text if it is the wanted one."""
+    """Returns how the end of a run differs from the wanted one, or an empty text if it doesn't."""
     return "" if ended == wanted else f"{ended}, not {wanted}"
 
 
 def unwritten(kind: Kind, ended: Ended, out: bytes) -> str:
-    """Returns what is wrong with the end of a run after a write of this output had the effect, or an empty text."""
+    """Returns what is wrong with the end of a run in which a write of the output `out` had the effect `kind`, or an
+    empty text."""
     if ended.out == out or not out.startswith(ended.out):
         return f"no front of what is written plainly: {ended.out!r}"
     return wrong(ended, kind.fault("write fault", ended.out))
@@ -95,7 +96,8 @@ def shown(words: list[str], then: str, reads: Reads) -> Use:
     out = good(words)
 
     def use(kind: Kind, nth: int, variables: dict[str, str]) -> str:
-        """Runs the command with this effect on the nth call. Returns what is wrong, or an empty text."""
+        """Runs the command with this effect on the nth call, which `variables` ask the library for. Returns what is
+        wrong, or an empty text."""
         ended = run(words, b"", variables)
         if kind.is_harmless:
             return wrong(ended, Ended(0, out, b""))
@@ -109,7 +111,8 @@ def shown(words: list[str], then: str, reads: Reads) -> Use:
 
 
 def journal_fault(story: Story, ended: Ended, journal: bytes, nth: int) -> str:
-    """Returns what is wrong with the run of a script whose nth write to the journal failed, or an empty text."""
+    """Returns what is wrong with the run of a story's script whose nth write to the journal failed, or an empty text.
+    `ended` is its end, and `journal` the journal that it left."""
     replies = ended.out.splitlines(keepends=True)
     granted = [b'"place":' in reply for reply in replies]
     return (
@@ -122,16 +125,16 @@ def journal_fault(story: Story, ended: Ended, journal: bytes, nth: int) -> str:
 
 
 def answered(story: Story, ended: Ended) -> tuple[list[bytes], frozenset[int]]:
-    """Returns the replies to a script of which only the first lines were answered, with an empty reply for each
-    other line, and the numbers of these lines."""
+    """Returns the replies to a story's script of which only the first lines were answered, with an empty reply for each
+    other line, and the numbers of these lines. `ended` is the end of the run."""
     replies = ended.out.splitlines(keepends=True)
     unread = frozenset(range(len(replies), len(story.lines)))
     return replies + [b""] * len(unread), unread
 
 
 def cut_off(story: Story, ended: Ended, journal: bytes, wanted: Ended) -> str:
-    """Returns what is wrong with the run of a script of which only the first lines were read, or an empty text.
-    `wanted` is the expected end of the run."""
+    """Returns what is wrong with the run of a story's script of which only the first lines were read, or an empty text.
+    `ended` is the end of the run, `wanted` is the expected one, and `journal` is the journal that it left."""
     replies, unread = answered(story, ended)
     return (
         wrong(Ended(ended.status, b"", ended.error), wanted)
@@ -150,7 +153,8 @@ def scripted(story: Story, room: Path, reads: Reads) -> Use:
     puts = kept.count(b"\n")
 
     def use(kind: Kind, nth: int, variables: dict[str, str]) -> str:
-        """Runs the script with this effect on the nth call. Returns what is wrong, or an empty text."""
+        """Runs the script with this effect on the nth call, which `variables` ask the library for. Returns what is
+        wrong, or an empty text."""
         journal.unlink(missing_ok=True)
         ended = run(words, b"", variables)
         found = journal.read_bytes() if journal.exists() else b""
@@ -176,7 +180,8 @@ def given(story: Story) -> Use:
     out = b"".join(replies)
 
     def use(kind: Kind, nth: int, variables: dict[str, str]) -> str:
-        """Runs the script with this effect on the nth call. Returns what is wrong, or an empty text."""
+        """Runs the script with this effect on the nth call, which `variables` ask the library for. Returns what is
+        wrong, or an empty text."""
         ended = run([], story.script(), variables)
         if kind.is_harmless:
             return wrong(ended, Ended(0, out, b""))
@@ -201,7 +206,8 @@ class Served:
     """Two clients of a server with a journal."""
 
     def __init__(self, story: Story, room: Path, library: Preloaded) -> None:
-        """`room` is the folder for the journal."""
+        """Runs the server once without an effect, to learn its writes. The clients send the lines of `story`, `room` is
+        the folder for the journal, and `library` counts calls."""
         self.story = story
         self.journal = room / "faulty-served.journal"
         replies, self.kept = story.plain(frozenset())
@@ -216,13 +222,14 @@ class Served:
         self.writes += ["last line"] * (library.counts()[0] - len(self.writes))
 
     def server(self, variables: dict[str, str]) -> Server:
-        """Starts a server with a new journal."""
+        """Starts a server with a new journal and these environment variables, and returns it."""
         self.journal.unlink(missing_ok=True)
         words = ["serve", str(self.story.lab)]
         return Server(lambda port: [*words, str(port), "2", str(self.journal)], variables)
 
     def __call__(self, kind: Kind, nth: int, variables: dict[str, str]) -> str:
-        """Runs the server with this effect on the nth call. Returns what is wrong, or an empty text."""
+        """Runs the server with this effect on the nth call, which `variables` ask the library for. Returns what is
+        wrong, or an empty text."""
         server = self.server(variables)
         if not server.listens:
             return self.unserved(kind, nth, server.end())
@@ -241,7 +248,8 @@ class Served:
         return self.untaken(talk, nth, wanted)
 
     def unserved(self, kind: Kind, nth: int, ended: Ended) -> str:
-        """Returns what is wrong with a server that ended before it listened."""
+        """Returns what is wrong with a server that ended before it listened, because of this effect on the nth call, or
+        an empty text."""
         if kind.of in ("open", "read"):
             return wrong(ended, kind.fault("read fault: lab"))
         if kind.of == "write" and self.writes[nth - 1] == "first line":
@@ -253,7 +261,7 @@ class Served:
         return b"done:" + self.story.audit(journal).split(b":", 1)[1].rsplit(b",", 1)[0] + b"\n"
 
     def plain(self, talk: Talk) -> str:
-        """Returns what is wrong with a run in which nothing is lost."""
+        """Returns what is wrong with a run in which nothing is lost, or an empty text."""
         return (
             ("a connection was closed" if talk.unasked else "")
             or self.story.expects(talk.replies, frozenset())
@@ -262,8 +270,8 @@ class Served:
         )
 
     def hung_up(self, kind: Kind, talk: Talk, lost: frozenset[int]) -> str:
-        """Returns what is wrong with a run in which a connection ended with an error. The replies of some granted
-        lines are lost."""
+        """Returns what is wrong with a run in which a connection ended with an error because of this effect, or an
+        empty text. The replies to the granted lines with the numbers in `lost` are lost."""
         closed = {self.story.lines[at].split(b" ", 1)[0] for at in talk.unasked}
         unasked = talk.unasked - lost
         done = self.done(talk.journal)
@@ -277,7 +285,8 @@ class Served:
         )
 
     def unwritten(self, kind: Kind, talk: Talk, write: str) -> str:
-        """Returns what is wrong with a run in which the named write failed."""
+        """Returns what is wrong with a run in which the write with the name `write` had this effect, or an empty
+        text."""
         if write == "last line":
             return unwritten(kind, talk.ended, self.done(self.kept))
         what, at = write.split()
@@ -293,8 +302,8 @@ class Served:
         )
 
     def untaken(self, talk: Talk, nth: int, wanted: Ended) -> str:
-        """Returns what is wrong with a run in which the nth connection couldn't be accepted. Those before it must
-        be served to their ends."""
+        """Returns what is wrong with a run in which the nth connection couldn't be accepted, or an empty text. Those
+        before it must be served to their ends, and `wanted` is the expected end of the server."""
         first = {line.split(b" ", 1)[0] for at, line in enumerate(self.story.lines) if at not in talk.unasked}
         return (
             wrong(talk.ended, wanted)
@@ -305,8 +314,8 @@ class Served:
 
 
 def fail_all(name: str, use: Use, kinds: list[Kind], library: Preloaded) -> str:
-    """Runs a use with each of these effects on each call in turn, until a run has no such call. Returns a line with the
-    number of errors."""
+    """Runs the use `name` with each of these effects on each call in turn, until a run has no such call. Fails if a run
+    isn't as expected. Returns a line with the number of errors."""
     met = 0
     for kind in kinds:
         for nth in range(1, MOST):

@@ -90,8 +90,8 @@ def long_line(port: int, until: float, draw: random.Random) -> str:
 
 
 def half_line(port: int, until: float, draw: random.Random) -> str:
-    """Sends a line in two halves, the second one at the end. A host needs it within minutes, because its limit is
-    ten."""
+    """Sends a line in two halves, the second one at the end. If the server is a host, the second half comes within
+    QUIET seconds, because a host waits for ten minutes only."""
     middle = draw.randrange(1, len(SEE) - 1)
     with opened(port) as it, it.makefile("rb") as replies:
         it.sendall(SEE)
@@ -128,8 +128,8 @@ def reset(port: int, until: float, draw: random.Random) -> str:
 
 
 def pour(port: int, until: float, draw: random.Random) -> int:
-    """Sends requests on a new connection without reading their replies, until that time or until the connection ends.
-    Returns the number of bytes that were taken."""
+    """Sends requests on a new connection to a port without reading their replies, until the time `until` or until the
+    connection ends. `draw` makes the random choices. Returns the number of bytes that were taken."""
     caller, _ = let_in(port, hello("cyd") if OVER_HOST else SEE)
     caller.socket.setblocking(False)
     sent = 0

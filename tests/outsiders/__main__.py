@@ -386,8 +386,8 @@ def one_of_many(room: Path) -> None:
 
 
 def queues(host: Host, caller: Caller) -> str:
-    """Returns a text with the numbers of bytes that wait at the host's end of a connection, to be sent and to be
-    read."""
+    """Returns a text with the numbers of bytes that wait at the host's end of a connection, to be sent and to be read.
+    Returns an empty text if the host has no such end."""
     ends = f":{host.port:04X}", f":{caller.socket.getsockname()[1]:04X}"
     for line in Path("/proc/net/tcp").read_text(encoding="ascii").splitlines()[1:]:
         words = line.split()

@@ -134,7 +134,8 @@ class Class:
                 me.hang_up()
 
     def greeted(self, node: int) -> Client:
-        """Connects as the student of a node, again and again until a seat is free. Returns the connection."""
+        """Connects as the student of a node, again and again until a seat is free. Returns the connection. Raises
+        `Over` if the class has ended."""
         begun = time.monotonic()
         while True:
             try:

@@ -134,19 +134,20 @@ def with_array(line: bytes) -> bytes:
 
 
 def number(text: str) -> float:
-    """Returns a number with a point or an exponent as a float. Raises an error if it is too large for one."""
+    """Returns a number with a point or an exponent as a float. Raises `ValueError` if it is too large for one."""
     if math.isinf(float(text)):
         raise ValueError(text)
     return float(text)
 
 
 def integer(text: str) -> float:
-    """Returns an integer of 64 bits without a sign, or else the number as a float."""
+    """Returns an integer of 64 bits without a sign as it is, and any other one as a float. Raises `ValueError` if it is
+    too large for one."""
     return int(text) if text.isdigit() and int(text) < 2**64 else number(text)
 
 
 def refused(text: str) -> float:
-    """Raises an error for constants that Python reads and JSON doesn't have."""
+    """Raises `ValueError` for the constant `text`, such as NaN, which Python reads and JSON doesn't have."""
     raise ValueError(text)
 
 

@@ -32,7 +32,8 @@ class Players:
         return found
 
     def come(self, host: Host) -> None:
-        """Connects to a host and greets for all persons."""
+        """Connects to a host and greets for all persons. Raises `Gone` if the host doesn't accept a connection or hangs
+        up."""
         self.callers = {}
         for name in [*NODES, TEACHER]:
             try:

@@ -21,7 +21,8 @@ class Connection:
     """A connection that has said hello."""
 
     def __init__(self, slip: dict[str, str]) -> None:
-        """Connects to the port of a slip, whose values are given, and says hello."""
+        """Connects to the port in `slip`, which has the values of a slip, and says hello. Raises `Lost` if no server
+        accepts the connection, and like `ask`."""
         try:
             self.socket = socket.create_connection(("127.0.0.1", int(slip["port"])), timeout=30)
         except OSError:
@@ -30,7 +31,8 @@ class Connection:
         self.ask(do="hello", name=slip["name"], key=slip["key"])
 
     def ask(self, **request: object) -> dict[str, Any]:
-        """Sends a line, and returns the reply."""
+        """Sends a request with these values, and returns the values of the reply. Raises `Over` if the class is over,
+        and `Lost` if the connection has ended."""
         try:
             self.socket.sendall(json.dumps(request).encode() + b"\n")
         except OSError:

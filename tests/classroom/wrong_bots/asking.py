@@ -38,13 +38,13 @@ class StopsAtChosen(Bot):
     """Takes `chosen` for an error."""
 
     def at(self, look: Look) -> None:
-        """Ends if the node has a chosen move for which this bot didn't ask."""
+        """Exits if the node has a chosen move for which this bot didn't ask. Otherwise asks for its enabled rule."""
         if look.chosen is not None and (look.node, look.at) not in self.__dict__.setdefault("mine", set()):
             raise SystemExit("somebody else moves this node")
         super().at(look)
 
     def ask(self, look: Look, rule: Rule) -> bool:
-        """Asks for the move, and notes that this bot did."""
+        """Asks for the move, and notes that this bot did. Returns whether it was granted."""
         self.__dict__.setdefault("mine", set()).add((look.node, look.at))
         return super().ask(look, rule)
 

@@ -58,7 +58,8 @@ class Bot:
             self.ask(look, rule)
 
     def ask(self, look: Look, rule: Rule) -> bool:
-        """Asks for a move. Returns whether it was granted. If a step was closed meanwhile, returns false."""
+        """Asks for a move by the rule at the node of `look`. Returns whether it was granted. If a step was closed
+        meanwhile, returns false."""
         try:
             self.me.move(look, rule, self.partner(look))
         except Denied as denied:
@@ -66,7 +67,8 @@ class Bot:
         return True
 
     def denied(self, denied: Denied, look: Look, rule: Rule) -> bool:
-        """Handles a denial. Returns whether the bot goes on, by looking again."""
+        """Handles the denial of the move by `rule` at the node of `look`. Returns false, so that the bot looks again.
+        Raises a denial that a correct bot doesn't get."""
         if denied.name not in ("stale", "chosen"):
             raise denied
         return False
@@ -74,7 +76,7 @@ class Bot:
     # The rules.
 
     def rule(self, look: Look) -> Rule | None:
-        """Returns the enabled rule of a node, or None."""
+        """Returns the rule that is enabled at the node of `look`, or None if none is."""
         if look.m != self.is_married(look):
             return "update"
         if look.p is None:
@@ -92,7 +94,7 @@ class Bot:
         return [near.node for near in look.near if near.p == look.node]
 
     def partner(self, look: Look) -> int | None:
-        """Returns the neighbour to marry."""
+        """Returns the neighbour to marry, the highest that points at the node, or None if none does."""
         return max(self.suitors(look), default=None)
 
     def candidates(self, look: Look) -> list[int]:

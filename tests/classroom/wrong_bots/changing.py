@@ -83,7 +83,7 @@ class KeepsItsOwnRegisters(Bot):
 
     def ask(self, look: Look, rule: Rule) -> bool:
         """Asks for the move. If the move is granted, notes the registers that the move would lead to, before a step
-        applies it."""
+        applies it. Returns whether it was granted."""
         if not super().ask(look, rule):
             return False
         p, m = look.p, look.m
@@ -111,7 +111,7 @@ class WaitsForItsMove(Bot):
         super().at(look)
 
     def ask(self, look: Look, rule: Rule) -> bool:
-        """Asks for the move. Notes the node's registers if it is granted."""
+        """Asks for the move. Notes the node's registers if it is granted. Returns whether it was granted."""
         granted = super().ask(look, rule)
         if granted:
             self.__dict__["waits"][look.node] = (look.p, look.m)

@@ -151,7 +151,8 @@ class ReadsOnce(Reads):
 
     def reading(self, it: Client) -> Client:
         def line() -> bytes:
-            """Returns the bytes of one read."""
+            """Returns the bytes of one read, without a newline at their end. Raises `Closed` if the connection has
+            ended."""
             more = it._socket.recv(65536)
             if not more:
                 raise Closed("the connection has ended")
