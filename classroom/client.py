@@ -436,7 +436,7 @@ class Client:
 def no_server(port: int, error: BaseException) -> NoServer | None:
     """Returns the error to raise if a hello failed by `error` because no server of a class is at the port, or None if it failed for another reason."""
     if isinstance(error, NotReply):
-        return NoServer(f"at port {port} is another program: it answers {error}")
+        return NoServer(f"another program uses port {port}: it answers {error}")
     return NoServer(f"no server at port {port} answers a hello: {error}") if isinstance(error, Silent) else None
 
 

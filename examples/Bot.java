@@ -53,7 +53,7 @@ public class Bot {
                 requests = new PrintStream(server.getOutputStream(), true, "UTF-8");
                 replies = new Scanner(server.getInputStream(), "UTF-8").useDelimiter("\n");
                 String reply = ask("{\"do\":\"hello\",\"name\":\"" + name + "\",\"key\":\"" + key + "\"}");
-                if (!reply.startsWith("{")) stop(4, "at port " + port + " is another program; ask your teacher for the port");
+                if (!reply.startsWith("{")) stop(4, "another program uses port " + port + "; ask your teacher for the port");
                 wasGreeted = wasGreeted || reply.startsWith("{\"ok\"");
                 for (; reply.startsWith("{\"ok\""); second = 0, Thread.sleep(100)) for (String node : nodes) move(node);
             } catch (IOException | NoSuchElementException error) {

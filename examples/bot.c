@@ -53,7 +53,7 @@ static void play(const char *port, const char *name, const char *key, const char
         for (const char *byte = key; *byte; byte++) fprintf(server, strchr("\\\"", *byte) ? "\\%c" : "%c", *byte);
         is_in = is_in && ASK("\"}\n");
         if (!is_in && !was_greeted) STOP(4, "no server at port %s answers a hello; ask your teacher for the port", port);
-        if (is_in && *reply != '{') STOP(4, "at port %s is another program; ask your teacher for the port", port);
+        if (is_in && *reply != '{') STOP(4, "another program uses port %s; ask your teacher for the port", port);
         for (is_in &= !strncmp(reply, "{\"ok\"", 5), was_greeted |= is_in; is_in; second = 0, usleep(100000))
             for EACH(node, nodes, ',') is_in = is_in && move(strtol(node, NULL, 10));
     }

@@ -32,7 +32,7 @@ async function connect(port) {
     socket.write(JSON.stringify(request) + "\n");
     const line = await lines.next().catch(() => ({ done: true })); // The connection may have been reset.
     if (line.done) throw LOST;
-    if (!line.value.startsWith("{")) stop(4, `at port ${port} is another program; ask your teacher for the port`);
+    if (!line.value.startsWith("{")) stop(4, `another program uses port ${port}; ask your teacher for the port`);
     const reply = await Promise.resolve(line.value).then(JSON.parse).catch(() => { throw LOST; }); // If the connection was lost, the last line may be incomplete.
     const why = STOPS[reply.deny ?? reply.refuse];
     return why ? stop(...why) : reply;

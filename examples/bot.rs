@@ -40,7 +40,7 @@ fn enter(port: u16, name: &str, key: &str, is_lost: bool) -> BufReader<TcpStream
         let reply = server.as_mut().ok().and_then(|it| ask(it, &format!(r#"{{"do":"hello","name":"{name}","key":"{key}"}}"#)));
         match (reply, server) {
             (Some(reply), Ok(server)) if reply.starts_with(r#"{"ok""#) => return server,
-            (Some(reply), _) if !reply.starts_with('{') => stop(4, &format!("at port {port} is another program; ask your teacher for the port")),
+            (Some(reply), _) if !reply.starts_with('{') => stop(4, &format!("another program uses port {port}; ask your teacher for the port")),
             (None, _) if !is_lost => stop(4, &format!("no server at port {port} answers a hello; ask your teacher for the port")),
             _ => {}
         }

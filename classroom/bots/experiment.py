@@ -122,7 +122,7 @@ def read_rows(path: Path) -> list[Row]:
     whole = text[:text.rfind("\n") + 1]
     reader = csv.DictReader(io.StringIO(whole))
     if whole and reader.fieldnames != COLUMNS:
-        raise Fault(f"{path}: this file isn't a table of class experiment, and stays as it is: name another file")
+        raise Fault(f"{path}: this file isn't a table of class experiment, so it isn't changed: name another file")
     try:
         rows = [row_of(each) for each in reader]
     except (ValueError, TypeError, KeyError):

@@ -213,7 +213,8 @@ def write_run(playing: Playing, folder: Path, tell: Callable[[str], None]) -> No
     playing.write(folder)
     answer = call("script", folder / "lab.toml", folder / "script", folder / "journal")
     if answer.status != 0:
-        raise Fault(f"{folder}: the page of this run can't be made, since the program answers its script with an error: {answer.error}", 4)
+        raise Fault(f"{folder}: the page of this run can't be made, since the program answers its script with an error: {answer.error}; report this to "
+                    "the developers", 4)
     names = playing.programs
     for name, file in zip(names, [folder / "run.html", *(folder / f"{name}.html" for name in names[1:])]):
         file.write_text(playing.own_page(folder, name), encoding="utf-8")

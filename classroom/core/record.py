@@ -99,7 +99,7 @@ def begun(folder: Path) -> int:
     number = plain.number(plain.read(folder / "begun", plain.MOST_KEPT).rstrip(b"\n"))
     if number is None:
         raise Fault(f"{folder / 'begun'}: this file is damaged. It should contain the number of events that came before the record. "
-                    "To go without this record, move the file away", 4)
+                    "To do without this record, move the file away", 4)
     return number
 
 

@@ -39,7 +39,7 @@ class Chains(unittest.TestCase):
         self.assertEqual(rows, [["low", "0", "100", "100", "99"], ["slow", "0", "300", "400", "280"], ["top", "10", "40", "450", "39"],
                                 ["sum", "10", "440", "450", "418"]])
         self.assertIn("the chain to tests, ", chain.chain_tables(SPANS, []))
-        self.assertEqual(chain.short(SPANS), "the longest chain, in seconds: low 100, quick 30, tests 80; it ended after 480: ./check chain says more")
+        self.assertEqual(chain.short(SPANS), "the longest chain, in seconds: low 100, quick 30, tests 80; it ended after 480: ./check chain prints each proof")
         self.assertEqual(chain.table(SPANS).splitlines()[1:], ["low 99", "quick 29", "slow 280", "other 90", "top 39", "tests 80"])
 
     def test_what_is_kept(self) -> None:
@@ -77,7 +77,7 @@ class Words(InTree):
         self.stand_in(part("one", "echo 1 call"), proofs=line)
         done = self.check_beside("proofs")
         self.assertEqual(done.returncode, 0, done.stdout + done.stderr)
-        self.assertRegex(done.stdout, r"(?m)^the longest chain, in seconds: one \d+, two \d+; it ended after \d+: \./check chain says more$")
+        self.assertRegex(done.stdout, r"(?m)^the longest chain, in seconds: one \d+, two \d+; it ended after \d+: \./check chain prints each proof$")
         self.assertEqual(self.check_beside("chain").stdout.splitlines()[0].split(",")[0], "the chain to two")
         self.assertEqual([line.split()[0] for line in self.check_beside("chain", "two", "one").stdout.splitlines() if line],
                          ["the", "one", "two", "sum", "the", "one", "sum"])

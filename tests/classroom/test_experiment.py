@@ -170,7 +170,7 @@ class Words(InRoom):
     def test_what_is_no_experiment(self) -> None:
         other = self.file("other.csv", "name,mark\nana,1\n")
         rows: tuple[tuple[tuple[str | Path, ...], str], ...] = (
-            (("--csv", other), "this file isn't a table of class experiment, and stays as it is"),
+            (("--csv", other), "this file isn't a table of class experiment, so it isn't changed"),
             (("--daemon", "by-hand"), "--daemon by-hand: in an experiment nobody closes steps by hand; name another daemon"),
             (("--nodes", "9..3"), "9..3: write a number of nodes, A..B or A..B/STEP, with numbers from 1 to 256"),
             (("--family", "ring"), "--family ring: there is no such family of networks"),

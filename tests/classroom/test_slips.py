@@ -194,7 +194,7 @@ class Fake(InRoom):
             port = self.answers(b"HTTP/1.1 400 Bad Request\r\n")
             said = call(*command, self.slip(port))
             self.assertEqual((said.returncode, said.stdout), (4, ""), said.stderr)
-            self.assertRegex(said.stderr, rf"^\w+(\.py)?: at port {port} is another program.*\n$")
+            self.assertRegex(said.stderr, rf"^\w+(\.py)?: another program uses port {port}.*\n$")
             said = call(*command, self.slip(self.talks()))
             self.assertEqual((said.returncode, said.stdout), (4, ""), said.stderr)
             self.assertRegex(said.stderr, r"^\w+(\.py)?: no server .*answers a hello.*\n$")

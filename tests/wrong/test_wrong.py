@@ -97,7 +97,7 @@ class Judging(unittest.TestCase):
             found.of_edit,
             {
                 ELSEWHERE.name: [
-                    "retrying::Retrying::new is not refused at returns-clause-inner; the line that would be right: "
+                    "retrying::Retrying::new is not refused at returns-clause-inner; the correct line would be: "
                     "'# refused: retrying::Retrying::new returns-clause-lacked_memory'"
                 ]
             },
@@ -109,7 +109,7 @@ class Judging(unittest.TestCase):
         self.assertEqual(
             found.of_round,
             [
-                "retrying::Retrying::new is refused, and no edit names it; the line that would be right: "
+                "retrying::Retrying::new is refused, and no edit names it; the correct line would be: "
                 "'# refused: retrying::Retrying::new returns-clause-lacked_memory'"
             ],
         )

@@ -96,7 +96,7 @@ def short(spans: Spans) -> str:
     """Returns the chain to the crate that was proved last as one line. `spans` has the times of the proofs."""
     crates = chain(spans, [*spans][-1])
     each = ", ".join(f"{it} {spans[it].end - spans[it].begin:.0f}" for it in crates)
-    return f"the longest chain, in seconds: {each}; it ended after {spans[crates[-1]].end:.0f}: ./check chain says more"
+    return f"the longest chain, in seconds: {each}; it ended after {spans[crates[-1]].end:.0f}: ./check chain prints each proof"
 
 
 def table(spans: Spans) -> str:

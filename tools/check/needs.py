@@ -90,7 +90,7 @@ NEEDS = {
     "git": Need("the command git", on_path("git"), ("git",)),
     "python3": Need("Debian's own Python", on_path("/usr/bin/python3"), ("python3",)),
     "types": Need("the checkers of Python's types and style", installed(*TYPES), TYPES),
-    "man": Need("the command man, which warns of pages", on_path("man"), ("man-db",)),
+    "man": Need("the command man, which finds errors in man pages", on_path("man"), ("man-db",)),
     "browser": Need("a browser with its driver", installed(*BROWSER), BROWSER),
     "pictures": Need("the command rsvg-convert", on_path("rsvg-convert"), ("librsvg2-bin",)),
     "jupyter-nbconvert": Need("the command jupyter-nbconvert, with a kernel", on_path("jupyter-nbconvert"), NOTEBOOK),
@@ -99,7 +99,7 @@ NEEDS = {
     "cc": Need("a compiler of C, as cc", on_path("cc"), ("gcc", "libc6-dev")),
     "rustc": Need("the command rustc", on_path("rustc"), ("rustc",)),
     "release": Need("what a release is tried with", installed(*RELEASE), RELEASE),
-    "root": Need("the right to make a root of its own: call it as root", lambda: os.geteuid() == 0),
+    "root": Need("the right to use another root folder: call this command as root", lambda: os.geteuid() == 0),
     NEVER_INSTALLED: Need("a server of SSH", can_be_fetched, (NEVER_INSTALLED,)),
 }
 

@@ -40,7 +40,7 @@ def fault_of(wanted: Refusal, told: Told) -> str | None:
         return f"the output of the check has no line about {wanted.function}"
     lines = right_lines(wanted.function, told)
     if lines:
-        return f"{wanted.function} is not refused at {wanted.goal}; the line that would be right: {lines}"
+        return f"{wanted.function} is not refused at {wanted.goal}; the correct line would be: {lines}"
     return f"{wanted.function} is not refused at {wanted.goal}, and at no other goal of its own"
 
 
@@ -57,7 +57,7 @@ def judge_others(named: set[str], told: Told) -> list[str]:
     faults = []
     for function in sorted(told.functions - told.proved - named):
         if function in told.open_goals:
-            faults.append(f"{function} is refused, and no edit names it; the line that would be right: {right_lines(function, told)}")
+            faults.append(f"{function} is refused, and no edit names it; the correct line would be: {right_lines(function, told)}")
         elif function not in told.resting:
             faults.append(f"{function} is not proved, and no edit names it")
     return faults
