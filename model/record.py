@@ -145,7 +145,7 @@ class Seat:
         return entry.mark == b">" and entry.reply != NO_MEMORY and self.known is not None and is_command(entry.line)
 
     def judge(self, entry: Entry) -> str | None:
-        """Checks an entry with an answered line. Returns the reason why no line may come now or why its reply is wrong, or None if all is right."""
+        """Checks an entry with an answered line. Returns the reason why no line may come now or why its reply is wrong, or None if neither is so."""
         if self.stage in (OVER, CUT, PAUSED):
             return "not the session's end"
         before = self.known

@@ -45,7 +45,7 @@ def run(words: Sequence[str | Path], given: bytes = b"", seconds: float | None =
 
 
 def parents() -> dict[int, int]:
-    """Returns the number of each process on this machine with that of its parent."""
+    """Returns the number of the parent of each process on this machine, by the number of the process."""
     found = {}
     for name in os.listdir("/proc"):
         if name.isdecimal():

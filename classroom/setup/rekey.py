@@ -25,8 +25,8 @@ def add_words(words: argparse.ArgumentParser) -> None:
 
 
 def changed(path: Path, name: str, key: str) -> str:
-    """Returns the text of the lab in a file, with another key for the student `name` and no other change. Raises
-    `Fault` if there is no such student, or the key isn't written on a line of its own."""
+    """Returns the text of the lab in a file, with `key` as the key of the student `name` and no other change. Raises
+    `Fault` if there is no such student, or if the old key isn't written on a line of its own."""
     before = labs.document(path)
     text = path.read_text(encoding="utf-8-sig")
     index = next((index for index, each in enumerate(before["student"]) if each["name"] == name), None)

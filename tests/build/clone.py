@@ -67,7 +67,8 @@ PROVER = '#!/bin/sh\nsleep "$1" & wait\n'
 
 
 class InClone(unittest.TestCase):
-    """A test with a clone, a stand-in `rt` on the path, and a folder for temporary files that has to be empty at the end."""
+    """A test with a clone, a stand-in `rt` on the path, and a folder for temporary files that has to be empty at the
+    end."""
 
     def setUp(self) -> None:
         """Makes the clone and the stand-in."""
@@ -90,7 +91,8 @@ class InClone(unittest.TestCase):
             file.chmod(0o755)
 
     def environment(self, **more: str) -> dict[str, str]:
-        """Returns an environment in which `rt` is the stand-in, proofs come one after another, and no program is named."""
+        """Returns an environment in which `rt` is the stand-in, proofs come one after another, and no program is
+        named."""
         kept = {name: it for name, it in os.environ.items() if name not in ("MML_PROGRAM", "MML_HOST", "RT_JOBS")}
         return {**kept, "PATH": f"{self.bin}:{os.environ['PATH']}", "TMPDIR": str(self.temporary),
                 "PYTHONDONTWRITEBYTECODE": "1", "RT_JOBS": "1", **more}

@@ -151,7 +151,8 @@ def show_as(driver: Any, theme: str = "light", media: str = "") -> None:
 
 
 def settle(driver: Any) -> None:
-    """Waits until a page has drawn two frames in which no animation runs, so that all that observes its size has been called."""
+    """Waits until a page has drawn two frames in which no animation runs, so that all that observes its size has been
+    called."""
     driver.execute_async_script(SETTLED)
 
 

@@ -38,14 +38,15 @@ class Broken(Cycle):
 
     def test_kills_of_the_server_at_ten_moments(self) -> None:
         def typed(line: str, told: str) -> Callable[[Going], None]:
-            """Returns an act: types a line, and waits for the printed configuration that matches `told`."""
+            """Returns a function that types a line at a run's desk, and waits for the printed configuration that
+            matches `told`."""
             def act(going: Going) -> None:
                 going.type(line)
                 going.until(f"^configuration \\d+: {told}")
             return act
 
         def move(name: str, node: int) -> Callable[[Going], None]:
-            """Returns an act: asks for the enabled move of a node, as one of its owners."""
+            """Returns a function that asks for the enabled move of a node, as its owner `name`."""
             def act(going: Going) -> None:
                 with Client(going.port, name, KEYS[name]) as student:
                     student.move(student.look(node))

@@ -65,7 +65,8 @@ class Far(InRoom):
         return subprocess.run([*machine.on, sys.executable, "-c", REACHES, TEACHERS, str(port)], check=False, capture_output=True).returncode == 0
 
     def gets(self, path: str) -> tuple[int, int]:
-        """Requests a page from the students' machine. Returns the status and the size of the answer."""
+        """Requests the page at `path` of the door from the students' machine. Returns the status and the size of the
+        answer."""
         done = subprocess.run([*self.students.on, sys.executable, "-c", GETS, TEACHERS, str(self.port), path], check=False, capture_output=True, text=True)
         status, size = map(int, done.stdout.split())
         return status, size

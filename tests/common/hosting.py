@@ -89,8 +89,8 @@ class Host:
         return Ended(self.process.returncode, out, error)
 
     def dismissed(self, teacher: "Caller", seconds: float = LIMIT) -> Ended:
-        """Says bye on the teacher's connection at the desk. Returns the status of the host, and its output after
-        the first line."""
+        """Says bye on the teacher's connection at the desk, and waits at most `seconds` seconds for the end of the
+        host. Returns its status, and its output after the first line."""
         if (teacher.ask(BYE), teacher.line()) != (BID, b""):
             fail("host: another reply to the teacher's bye at the desk, or none")
         return self.end(seconds)

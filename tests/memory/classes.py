@@ -175,7 +175,9 @@ class Class:
         return Outcome(ended, counts, fault, play.lacks, play.is_desk_alone)
 
     def fault_of(self, play: Play, ended: Ended, is_refused: bool, room: Path) -> str:
-        """Returns what is wrong with a class that has begun, or an empty text."""
+        """Returns what is wrong with a class that has begun, or an empty text. `play` has its lines and replies,
+        `ended` is the end of the host, `is_refused` says whether memory was refused, and the class's files are in
+        `room`."""
         script, plain, journal = room / "script", room / "plain", room / "journal"
         script.write_bytes(b"".join(play.script))
         wanted = good(["script", str(self.lab), str(script), str(plain)]).splitlines(keepends=True)[play.known:]
