@@ -77,8 +77,9 @@ class Conduct:
     wrong: str = ""
 
     def take(self, asked: dict[str, Any], told: dict[str, Any], paused: bool) -> None:
-        """Checks one line of the program and the reply that it got. `asked` has the values of the line, and `told`
-        those of the reply, or none if the reply was lost. `paused` says whether the program waited before this line."""
+        """Checks one line of the program and the reply that it got. `asked` has the values of the line, and the second
+        parameter those of the reply, or none if the reply was lost. `paused` says whether the program waited before
+        this line."""
         self.pauses.append(paused)
         node, at = number_of(asked.get("node")), number_of(asked.get("at"))
         if told.get("ok") in ("look", "see"):
@@ -87,7 +88,7 @@ class Conduct:
             self.check_move(node, at, told)
 
     def take_look(self, told: dict[str, Any]) -> None:
-        """Notes the node, the number and the chosen move in `told`, the values of a reply to `look` or `see`."""
+        """Notes the node, the number and the chosen move of a reply to `look` or `see` with these values."""
         node, at = told["node"], told["at"]
         self.looked.add((node, at))
         self.seen.add(node)
@@ -100,7 +101,7 @@ class Conduct:
 
     def check_move(self, node: int, at: int, told: dict[str, Any]) -> None:
         """Checks a request for a move of a node with the number `at` against what the program knew, and notes its
-        reply, whose values are `told`. Records a fault in `wrong`."""
+        reply, of which the last parameter has the values. Records a fault in `wrong`."""
         if not told:
             self.unanswered.add((node, at))
         if (node, at) not in self.looked and (node, at) in self.before:

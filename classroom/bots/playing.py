@@ -90,8 +90,8 @@ def request_of(line: bytes) -> dict[str, Any]:
 
 def kind_of(asked: dict[str, Any], told: dict[str, Any]) -> str:
     """Returns a text for the kind of a denial, without its numbers: the request, the clause that denied it, and for a
-    guard also the rule. `asked` has the request's values, and `told` those of its reply. Denials of one kind are
-    explained once."""
+    guard also the rule. `asked` has the request's values, and the second parameter those of its reply. Denials of one
+    kind are explained once."""
     what = str(asked.get("do"))[:SHOWN] + (f" by {asked.get('rule')}" if told["deny"] == "guard" else "")
     return f"{what} is denied as {told['deny']}, clause {told['clause']}"
 
@@ -205,7 +205,7 @@ class Playing:
 
     def hide_rule(self, who: str, reply: bytes, told: dict[str, Any]) -> bytes:
         """Returns the bytes of a reply as the program of the student `who` gets them. With `own_rule`, the enabled rule
-        in a look is replaced by null, and this is counted. `told` has the values of the reply."""
+        in a look is replaced by null, and this is counted. The last parameter has the values of the reply."""
         if not self.own_rule or told.get("ok") != "look" or told["rule"] is None:
             return reply
         self.heard[who].conduct.rules_hidden += 1
@@ -219,8 +219,8 @@ class Playing:
 
     def record_line(self, who: str, asked: dict[str, Any], sent: bytes, told: dict[str, Any]) -> None:
         """Counts a line of the program of the student `who` by its reply. Calls `on_no` if the line was denied or
-        refused. `asked` has the line's values, `sent` is the line after its connection's number, and `told` has the
-        reply's values."""
+        refused. `asked` has the line's values, `sent` is the line after its connection's number, and the last parameter
+        has the reply's values."""
         heard, line = self.heard[who], sent.partition(b" ")[2]
         self.note_row(who, sent, told)
         heard.lines += 1
@@ -245,7 +245,7 @@ class Playing:
     def note_row(self, who: str, sent: bytes, told: dict[str, Any]) -> None:
         """Appends a row about a line to `rows`, which the programs' own pages show, if a move was granted to it, or if
         it was denied or refused. Appends nothing once there are KEPT_ROWS rows. `who` is the student, `sent` the line
-        after its connection's number, and `told` has the reply's values."""
+        after its connection's number, and the last parameter has the reply's values."""
         if told.get("ok") not in ("move", None) or len(self.rows) >= KEPT_ROWS:
             return
         connection, _, line = sent.partition(b" ")
@@ -261,7 +261,7 @@ class Playing:
     def explain_denial(self, asked: dict[str, Any], told: dict[str, Any]) -> str:
         """Returns a text about a denial: its clause, the node's registers, and the rule that would be granted there.
         After the denials `not-owner`, `hidden` and `stale`, and if there is no such node, it has only the clause and
-        the numbers of configurations. `asked` has the request's values, and `told` those of its reply."""
+        the numbers of configurations. `asked` has the request's values, and the second parameter those of its reply."""
         text = f"{request_in_words(asked)} is denied as {told['deny']}, clause {told['clause']}: {told['text']}"
         if "at" in told:
             text += f"; the request has `at` {asked.get('at')}, but the current configuration has the number {told['at']}"

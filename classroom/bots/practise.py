@@ -208,8 +208,9 @@ class Practice:
 
 
 def write_run(playing: Playing, folder: Path, tell: Callable[[str], None]) -> None:
-    """Writes the files of the run of the class `playing`, and a page for each program, into the folder. Calls `tell`
-    with a line about them. Raises `Fault` if the page can't be made, and `OSError` if a file can't be written."""
+    """Writes the files of the run of the class `playing`, and a page for each program, into the folder. Calls the
+    callback with a line about them. Raises `Fault` if the page can't be made, and `OSError` if a file can't be
+    written."""
     playing.write(folder)
     answer = call("script", folder / "lab.toml", folder / "script", folder / "journal")
     if answer.status != 0:

@@ -130,8 +130,8 @@ def read(path: Path) -> Lab:
 
 
 def with_house_apart(told: str, lab: Lab) -> str:
-    """Returns `told`, a line that the proved program has printed about the size of a lab, changed so that the house is
-    counted separately. The program counts the house as a student."""
+    """Returns the given line, which the proved program has printed about the size of `lab`, changed so that the house
+    is counted separately. The program counts the house as a student."""
     students = len(lab.without_house().students)
     return told.replace(f"{students + 1} students", f"{students} students and the house") if lab.held() else told
 

@@ -71,7 +71,7 @@ class OpenDoor:
     """A door that this process has opened."""
 
     def __init__(self, folder: Path, listener: socket.socket, tell: Callable[[str], None]) -> None:
-        """Starts the process that serves the door in `folder`. `listener` is its listening socket, and `tell`
+        """Starts the process that serves the door in `folder`. `listener` is its listening socket, and the callback
         prints a line."""
         self.folder, self.listener, self.tell = folder, listener, tell
         self.port: int = listener.getsockname()[1]
@@ -109,8 +109,8 @@ class OpenDoor:
 
 def open_door(place: Place, into: Path, file: Path, tell: Callable[[str], None]) -> OpenDoor:
     """Opens a door at `place` with the certificate in `file`, and returns it. The door's folder is made in `into`, the
-    folder of the runs. `tell` prints a line. Raises `Fault` if the certificate, the address or the folder can't be
-    used."""
+    folder of the runs. The callback prints a line. Raises `Fault` if the certificate, the address or the folder can't
+    be used."""
     certificate.context(file)
     listener = listen(place)
     folder = (into / FOLDER.format(listener.getsockname()[1])).resolve()
@@ -125,8 +125,9 @@ def open_door(place: Place, into: Path, file: Path, tell: Callable[[str], None])
 
 
 def reopen(folder: Path, tell: Callable[[str], None]) -> OpenDoor | None:
-    """Opens the door of a folder again, at its earlier address, and returns it. `tell` prints a line. Returns None if
-    the door is still open. Raises `Fault` if the folder has no door, or its certificate or address can't be used."""
+    """Opens the door of a folder again, at its earlier address, and returns it. The callback prints a line. Returns
+    None if the door is still open. Raises `Fault` if the folder has no door, or its certificate or address can't be
+    used."""
     kept = DoorData.read(folder)
     if kept is None:
         raise Fault(f"{folder}: the data of the door in this folder are missing or damaged. Open a door by --door [ADDRESS:]PORT", FAILED)

@@ -174,8 +174,7 @@ def merged(lines: list[Row], between: list[Row]) -> list[Row]:
 
 
 def text(told: list[str], rows: list[Row]) -> str:
-    """Returns the history as text for people: first the lines `told`, which are about the records, and then the
-    rows."""
+    """Returns the history as text for people: first the given lines, which are about the records, and then the rows."""
     lines = [*told]
     for row, count in grouped(rows):
         head = f"  {row.after()}, seat {row.seat}{times(count)}"
@@ -207,7 +206,7 @@ def cells(row: Row) -> list[str]:
 
 
 def section(title: str, told: list[str], rows: list[Row], why: dict[tuple[int, str], str] | None = None) -> str:
-    """Returns a section of the player's page as HTML: the heading `title`, the lines `told`, which are about the
+    """Returns a section of the player's page as HTML: the heading `title`, the given lines, which are about the
     records, and the rows. Each row links to its place. `why` has the reasons of denied moves, by the number of events
     before the move and its line."""
     items = [f'<li><a href="#p={row.at}">{row.after()}</a> {item(row, count)}{reason((why or {}).get((row.place, row.asked), ""))}</li>'
@@ -237,7 +236,7 @@ def guarded_rows(rows: list[Row]) -> list[tuple[int, str]]:
 
 def own_page(title: str, name: str, lab_file: Path, journal: Path, told: list[str], lines: list[Row]) -> str:
     """Returns the page of the run with this lab and journal for the student `name`, as HTML. Beside the player it has
-    the lines `told`, which are about the records, and the rows `lines`, which have what the student sent. Each denial
+    the given lines, which are about the records, and the rows in `lines`, which have what the student sent. Each denial
     is at its moment, with the part of the guard that failed. `title` is the page's title."""
     kept_layout.load(lab_file.parent)
     lab, frames = frames_of(lab_file, journal)

@@ -51,7 +51,8 @@ class PlayServer(Web):
         return f"http://127.0.0.1:{self.server_port}/"
 
     def show(self, students: int, tell: Callable[[str], None]) -> None:
-        """Starts to answer. `students` is the port of the class's server, and `tell` prints a line about an error."""
+        """Starts to answer. `students` is the port of the class's server, and the callback prints a line about an
+        error."""
         self.students, self.tell = students, tell
         self.open()
 

@@ -45,7 +45,7 @@ class Pages(TwoAddresses):
             self.present.put()
 
     def show(self, present: Present, tell: Callable[[str], None]) -> None:
-        """Starts to answer. `present` has what the page shows, and `tell` prints a line about an error."""
+        """Starts to answer. `present` has what the page shows, and the callback prints a line about an error."""
         self.present, self.tell = present, tell
         self.open()
 

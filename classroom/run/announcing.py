@@ -43,7 +43,7 @@ class Announcer:
 
     def __init__(self, lab: labs.Lab, folder: Path, known: Follower, tell: Callable[[str], None]) -> None:
         """`lab` is the lab of the run, `folder` is the run's folder, and `known` follows its journal and has its
-        report. `tell` prints a line."""
+        report. The callback prints a line."""
         self.lab, self.known, self.tell = lab, known, tell
         self.shown = lab.without_house()
         self.folder = folder

@@ -35,7 +35,7 @@ class Desk:
 
     def __init__(self, lab: labs.Lab, journal: Path, client: Client, how: Closing, tell: Callable[[str], None]) -> None:
         """`lab` is the lab of the run, `journal` the journal's file in the run's folder, `client` the desk's
-        connection, `how` the daemon that closes steps, and `tell` prints a line."""
+        connection, and `how` the daemon that closes steps. The callback prints a line."""
         self.lab, self.tell, self.closing = lab, tell, how
         self.known = Follower(lab, journal, client)
         self.announcer = Announcer(lab, journal.parent, self.known, tell)

@@ -1,5 +1,5 @@
 """The files that a run leaves in its folder: a journal of complete lines, its audit, its marks and its pages. The
-parameter `tell` of a function prints a line."""
+callback of a function prints a line."""
 from __future__ import annotations
 
 import os

@@ -154,9 +154,9 @@ def renew(run: Running, it: server.Server, desk: Desk, name: str) -> None:
 
 
 def show(pages: projector.Pages, desk: Desk, tell: Teller, typed: bool) -> None:
-    """Starts to serve the pages for the projector and for the teacher, and shows on them what is printed by `tell` from
-    now on. Prints their addresses. The address of the teacher's page is printed only if nobody else can read it.
-    `typed` says whether a program types the commands, so that this program reads what is printed."""
+    """Starts to serve the pages for the projector and for the teacher, and shows on them all lines of the run from now
+    on. Prints their addresses. The address of the teacher's page is printed only if nobody else can read it. `typed`
+    says whether a program types the commands, so that this program reads what is printed."""
     watch = desk.start_watch()
 
     def act() -> None:

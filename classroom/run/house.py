@@ -31,7 +31,8 @@ class House:
                  keep: Callable[[list[str]], None] = lambda names: None) -> None:
         """Prepares to play in `lab`, which has a house. If `seconds` isn't None, the house plays each node for which
         the class has waited for `seconds` seconds. The house plays at once for the students named in `played`, and
-        `keep` stores their names when they change. `port` is the students' port, and `tell` prints a line."""
+        `keep` stores their names when they change. `port` is the students' port, and the first callback prints a
+        line."""
         self.port, self.seconds, self.tell = port, seconds, tell
         self.key = lab.students[HOUSE]
         self.held = set(lab.held())

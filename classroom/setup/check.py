@@ -248,7 +248,7 @@ def warnings(path: Path) -> Iterator[str]:
 
 
 def size_line(path: Path, told: str) -> str:
-    """Returns `told`, the line that the program has printed about the size of the lab in a file. If the lab can be
+    """Returns the given line, which the program has printed about the size of the lab in a file. If the lab can be
     read, the line is changed so that the house, a student without a person, is counted separately."""
     try:
         return labs.with_house_apart(told, labs.read(path))

@@ -18,8 +18,8 @@ ANY = "any"
 
 
 def verdict(function: str, told: Told) -> str:
-    """Returns the verdict on the plant (the planted bug) in a function, from `told`, the output of a check: REFUSED if
-    a goal of the function is open, LET_THROUGH if the function is proved, and otherwise UNDECIDED."""
+    """Returns the verdict on the plant (the planted bug) in a function, from the output of a check: REFUSED if a goal
+    of the function is open, LET_THROUGH if the function is proved, and otherwise UNDECIDED."""
     if function in told.open_goals:
         return REFUSED
     return LET_THROUGH if function in told.proved else UNDECIDED

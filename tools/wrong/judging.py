@@ -31,7 +31,7 @@ def right_lines(function: str, told: Told) -> str:
 
 
 def fault_of(wanted: Refusal, told: Told) -> str | None:
-    """Returns why the wanted refusal isn't in `told`, the output of a check, or None if it is."""
+    """Returns why the wanted refusal isn't in the output of a check, or None if it is."""
     if wanted.goal in told.open_goals.get(wanted.function, ()):
         return None
     if wanted.function in told.proved:
@@ -45,8 +45,7 @@ def fault_of(wanted: Refusal, told: Told) -> str | None:
 
 
 def judge_edits(edits: Iterable[Edit], told: Told) -> dict[str, list[str]]:
-    """Returns the faults of each edit that has some, by its name. `told` is the output of the check with these
-    edits."""
+    """Returns the faults of each edit that has some, by its name, from the output of the check with these edits."""
     faults = {it.name: [fault for wanted in it.wanted if (fault := fault_of(wanted, told))] for it in edits}
     return {name: found for name, found in faults.items() if found}
 
