@@ -189,7 +189,7 @@ def halted(lab: Lab, run: Recording) -> list[tuple[str, dict[int, bytes], str]]:
     and the verdict."""
     lines = run.texts[1].splitlines(keepends=True)
     hello, first, rest, end = (b"".join(it) for it in (lines[:2], lines[:4], lines[4:-1], lines[-1:]))
-    halt = b'1 1 > {"do":"close"}\n1 1 < {"refuse":"journal"}\n'
+    halt = b'1 1 > {"do":"fault","node":1,"p":2,"m":false}\n1 1 < {"refuse":"journal"}\n'
     again = halt.replace(b"1 1 ", b"1 2 ")
     greeted = hello.replace(b"1 0 ", b"1 1 ")
     refused = "seat 1, line %d: granted after the refusal journal"
