@@ -45,9 +45,7 @@ impl RecordRefusal {
                 "journal's event",
                 place.saturating_add(1),
             ),
-            Why::Halted => {
-                RecordRefusal::Entry(seat, line, "granted after the refusal journal")
-            }
+            Why::Halted => { RecordRefusal::Entry(seat, line, "granted after the refusal journal") }
             Why::OtherReply => RecordRefusal::Place(seat, line, "reply of the rules", place),
         }
     }
