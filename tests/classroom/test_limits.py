@@ -107,7 +107,8 @@ class Asks(InRoom):
         links = self.file("links", "1 100\n")
         cases: tuple[tuple[list[str | Path], int, str], ...] = (
             (["new", self.room / "it.toml", "--students", table, "--groups-by", "Room"], 0, "it-3.toml: 9 nodes"),
-            (["new", self.room / "more.toml", "--students", table, "--nodes", "10"], 1, "class: this network would have 10 nodes, but a lab has 1 to 9\n"),
+            (["new", self.room / "more.toml", "--students", table, "--nodes", "10"], 1,
+             "class: this network would have 10 nodes, but a lab can have 1 to 9. Choose a network of another size\n"),
             (["new", self.room / "far.toml", "--students", table, "--links", links], 1,
              f"class: {links}: line 1 is wrong: 1 100 (the number of a node has to be from 1 to 99)\n"),
             (["experiment", "--nodes", "4..10"], 1, "4..10: write a number of nodes, A..B or A..B/STEP, with numbers from 1 to 9;"),
