@@ -192,7 +192,8 @@ class Mark(InRoom):
             ("s/^student ana 0 0 1/student ana 0 0 2/", "journal", "the two programs disagree about `tally`: mml prints 'student ana 0 0 2 "),
             ("s/^denied ana 1/denied ana 2/", "record", "the two programs disagree about `tally`: mml prints 'denied ana 2 "),
             ("s/, 7 lines/, 8 lines/", "record", "the two programs disagree about `verify`: mml prints 'ok: 2 sessions, 8 lines, 2 events', "
-                                                 "and the plain model prints 'ok: 2 sessions, 7 lines, 2 events'\n"),
+                                                 "and the plain model prints 'ok: 2 sessions, 7 lines, 2 events'. One of them has an error: "
+                                                 "report this to the developers\n"),
         ):
             lying = self.file("lying", f"#!/bin/sh\n{program.host()} \"$@\" | sed '{other}'\n")
             lying.chmod(0o755)
