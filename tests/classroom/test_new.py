@@ -239,7 +239,7 @@ class New(InRoom):
         refused = self.rooms({"A": 4, "B": 4}, "--groups", "1", status=1)
         self.assertRegex(refused, r"^class: --groups 1: the column room has 2 rooms, and each needs at least one group. The rooms are: (A, B|B, A)\n$")
         refused = self.rooms({"A": 4, "": 1}, status=1)
-        self.assertEqual(refused, "class: --groups-by room: this column is empty for these students: Student  0\n")
+        self.assertEqual(refused, "class: --groups-by room: this column is empty for these students: Student  0. Write a room for each of them\n")
         self.assertEqual([*self.room.glob("lab*")], [])
 
     def test_several_labs_are_made_or_none(self) -> None:
