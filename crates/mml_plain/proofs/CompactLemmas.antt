@@ -74,9 +74,7 @@ spaced_close c (t ∷ ts) = ap (λ l. separator c t ++ (token_text t ++ l)) (spa
 
 -- a list of length 1 consists of its first element
 pub alone : (xs : List ℕ) (d b : ℕ) → length xs ≡ 1 → get_or xs 0 d ≡ b → xs ≡ b ∷ []
-alone [] d b h e = grind arith
-alone (x ∷ []) d b h e = ap (λ y. y ∷ []) e
-alone (x ∷ y ∷ ys) d b h e = grind arith
+alone xs d b h e = grind (arith, common_steps)
 
 -- ---- member by member
 
@@ -116,7 +114,7 @@ all_read us found b =
     let all = told us ++ end in
     let n = length all - b.turns in
     let counted : length all ≡ length (told us) + 1 = length-append (told us) end in
-    let enough : 1 ≤ n = omega (arith, b.fits, counted) in
+    let enough : 1 ≤ n = omega (arith, b.fits) in
     let parted : length all ≡ b.turns + n = omega (arith, b.fits, counted) in
     ap if_over (ap (λ k. members_at 126 no_members k all) parted ∙ b.members n end ∙ members_next 126 found n end enough)
 
@@ -179,12 +177,6 @@ module _ (line rest more k : List ℕ) (v : MemberValue) (found : Members) (m : 
   unfolding print_spaced
   one_text = ap (λ l. separator (is_value_ended (told b.us)) (Token.key k) ++ (gap ++ (token_text (Token.key k) ++ (between ++ (token_text first ++ l))))) (spaced_close (ends first) others)
 
-  rest_is : rest ≡ gap ++ (token_text (Token.key k) ++ (between ++ (token_text first ++ (print_from (ends first) others ++ more))))
-  rest_is = grind arith
-
-  text_is : print_spaced false b.us ++ (separator (is_value_ended (told b.us)) (Token.key k) ++ rest) ≡ print_spaced false us ++ more
-  text_is = grind (arith, comma, rest_is, member_text, one_text, append_assoc, spaced_append)
-
   one_utf8 : IsUtf8 (print_spaced (is_value_ended (told b.us)) one)
   one_utf8 =
       let value : IsUtf8 (token_text first ++ print_from (ends first) others) = m.value.utf8 in
@@ -204,13 +196,13 @@ module _ (line rest more k : List ℕ) (v : MemberValue) (found : Members) (m : 
         printable = subst ArePrintable (sym said) (printable_append (told b.us) (Token.key k ∷ first ∷ others) b.begun.printable (tt, m.value.printable));
         utf8 = subst IsUtf8 (sym (spaced_append false b.us one)) (IsUtf8-append (print_spaced false b.us) _ b.begun.utf8 one_utf8);
         turns = b.begun.turns + 1;
-        fits = omega (arith, b.begun.fits, length_is);
+        fits = omega (arith, b.begun.fits);
         members = goes_on;
       }
 
   -- if a member comes next, it is added to the members `found`, and `more` comes after it
   pub member : After line more (put k m.value.datum found)
-  member = grind (arith, begun, more_begun, said, ended_append, text_is)
+  member = grind (arith, begun, more_begun, said, ended_append, comma, member_text, one_text, append_assoc, spaced_append)
 
 -- ---- spaces
 
@@ -236,11 +228,11 @@ bare_more xs i d h was one = ap is_bare (take_more xs i d h) ∙ bare-append (ta
 
 -- the first i + 1 bytes are bare if the first i are, and the next one is from 93 to 127
 pub bare_above : (xs : List ℕ) (i d : ℕ) → i < length xs → is_bare (take i xs) ≡ true → 92 < get_or xs i d → get_or xs i d < 128 → is_bare (take (i + 1) xs) ≡ true
-bare_above xs i d h was above below = let one : is_bare_byte (get_or xs i d) ≡ true = grind (arith, nat_tests, and_from) in bare_more xs i d h was one
+bare_above xs i d h was above below = let one : is_bare_byte (get_or xs i d) ≡ true = grind (arith, nat_tests) in bare_more xs i d h was one
 
 -- the first i + 1 bytes are bare if the first i are, and the next one is from 32 to 91 and not a quotation mark
 pub bare_below : (xs : List ℕ) (i d : ℕ) → i < length xs → is_bare (take i xs) ≡ true → 31 < get_or xs i d → get_or xs i d < 92 → get_or xs i d ≢ 34 → is_bare (take (i + 1) xs) ≡ true
-bare_below xs i d h was above below other = let one : is_bare_byte (get_or xs i d) ≡ true = grind (arith, nat_tests, and_from) in bare_more xs i d h was one
+bare_below xs i d h was above below other = let one : is_bare_byte (get_or xs i d) ≡ true = grind (arith, nat_tests) in bare_more xs i d h was one
 
 other_than : (b k : ℕ) → not (b == k) ≡ true → b ≢ k
 other_than b k h e = both_ways _ (not-true _ h) (eq-eqb b k e)
@@ -275,8 +267,7 @@ digit_first xs d digit h here one = take_more xs 0 d h ∙ ap (λ b. b ∷ []) h
 
 -- if the first byte of a text is a digit, the text is this digit in decimal, followed by the other bytes
 pub digit_off : (xs : List ℕ) (d digit : ℕ) → 0 < length xs → get_or xs 0 d ≡ 48 + digit → digit < 10 → xs ≡ decimal digit ++ take (length xs - 1) (drop 1 xs)
-digit_off [] d digit h here small = elim h [ ]
-digit_off (x ∷ xs) d digit h here small = grind (arith, decimal_digit, take_all)
+digit_off xs d digit h here small = grind (arith, nat_tests, decimal_digit, take_all)
 
 -- ---- values
 
@@ -284,17 +275,7 @@ digit_off (x ∷ xs) d digit h here small = grind (arith, decimal_digit, take_al
 of_tokens : (text rest : List ℕ) (v : MemberValue) (d : Data) (t : Token) (ts : List Token) → ArePrintable (t ∷ ts)
     → IsUtf8 (token_text t ++ print_from (ends t) ts) → is_value_ended (t ∷ ts) ≡ true → ((us : List Token) → value_at 126 (t ∷ (ts ++ us)) ≡ Some (d, us)) → Shows v d
     → text ≡ token_text t ++ (print_from (ends t) ts ++ rest) → BeginsValue text v rest
-of_tokens text rest v d t ts printable utf8 ends_value value shows spelled = record {
-  first = t;
-  others = ts;
-  printable = printable;
-  utf8 = utf8;
-  ends_value = ends_value;
-  datum = d;
-  value = value;
-  shows = shows;
-  spelled = spelled;
-}
+of_tokens text rest v d t ts printable utf8 ends_value value shows spelled = grind (arith, nat_tests)
 
 pub text_value : (text a rest : List ℕ) (v : MemberValue) (k : List ℕ) → Shows v (string k) → text ≡ 34 ∷ a → a ≡ k ++ 34 ∷ rest → is_bare k ≡ true
     → BeginsValue text v rest
@@ -344,15 +325,7 @@ no_members_value text rest e =
 -- four bytes and the text after them begin with a member if they are a bare key, a quotation mark, a colon and a value
 pub puts_known : {front n : ℕ} {after rest : List ℕ} {old new : Fields} (key text : List ℕ) (v : MemberValue) → is_bare key ≡ true → front ≡ n
     → to_be_bytes w32 n ++ text ≡ key ++ 34 ∷ 58 ∷ after → BeginsAfter after v rest → new ≡ with key v old → PutsKnown (to_be_bytes w32 front ++ text) rest old new
-puts_known {front} {n} {after} {rest} {old} {new} key text v bare same first named put = record {
-  key = key;
-  is_bare_key = bare;
-  value = v;
-  after_key = after;
-  key_first = ap (λ n. to_be_bytes w32 n ++ text) same ∙ first;
-  named = named;
-  put = put;
-}
+puts_known {front} {n} {after} {rest} {old} {new} key text v bare same first named put = grind (arith, nat_tests)
 
 -- if a text begins with a quotation mark, and a member with a frequent key comes after it, the text begins with this
 -- member
@@ -361,10 +334,7 @@ known_key text in_key rest old new quoted known = search (arith, bare_utf8, key_
 
 -- ---- four bytes at once
 
-below_256 : (a b c d : ℕ) → a < 256 → b < 256 → c < 256 → d < 256 → (i : ℕ) → get_or (a ∷ b ∷ c ∷ d ∷ []) i 0 < 256
-below_256 a b c d h j k l i = grind arith
-
 -- a text is its first four bytes, read as the number n, followed by its other bytes
 pub four_first : (xs : List ℕ) (n : ℕ) → 4 ≤ length xs → ((i : ℕ) → get_or xs i 0 < 256)
     → n ≡ from_be_bytes w32 (get_or xs 0 0 ∷ get_or xs 1 0 ∷ get_or xs 2 0 ∷ get_or xs 3 0 ∷ []) → xs ≡ to_be_bytes w32 n ++ take (length xs - 4) (drop 4 xs)
-four_first xs n h small is = grind (arith, be_bytes_4, below_256, take_all)
+four_first xs n h small is = grind (arith, be_bytes_4, take_all)

@@ -1,5 +1,5 @@
 -- Adding a member has the same effect on the fields as on the object.
-use Rattle.std.proofs.Common.{◌≡◌, ℕ, List, Bool, false, codes, bytes_eq, cond, Bor, Option, Some, option_map, option_and_then, true≢false, refl, sym, ◌∙◌, arith}
+use Rattle.std.proofs.Common.{◌≡◌, ℕ, List, Bool, false, codes, bytes_eq, Bor, Option, Some, option_map, option_and_then, true≢false, sym, ◌∙◌, arith}
 use Rattle.std.proofs.lemmas.Slice.Eq.{bytes_eq-Decides}
 use Rattle.serde_json.specs.{Data.Data, Data.object, Data.Members, Data.put, Find.get_member, Find.as_str, Find.as_bool, Find.as_number, Find.as_u64}
 use Rattle.serde_json.proofs.Views.{get_member-put, get_member-put_other}
@@ -11,11 +11,8 @@ differ k q e same = true≢false (sym ((bytes_eq-Decides k q).1 (sym same)) ∙ 
 
 -- if a field has the value of its key q before a member is added, it has this key's value afterwards, too
 module _ {A B : Type 0} (see : A → B) (find : Option Data → B) (k : List ℕ) (d : Data) (ms : Members) (new : A) (shown : see new ≡ find (Some d)) where
-  seen_at : (q : List ℕ) (old : A) → see old ≡ find (get_member q ms) → (b : Bool) → bytes_eq k q ≡ b → see (cond b new old) ≡ find (get_member q (put k d ms))
-  seen_at q old h b e = grind (arith, bytes_eq-Decides, get_member-put, get_member-put_other, differ)
-
   pub seen : (q : List ℕ) (old : A) → see old ≡ find (get_member q ms) → see (after k new q old) ≡ find (get_member q (put k d ms))
-  seen q old h = seen_at q old h (bytes_eq k q) refl
+  seen q old h = grind (arith, bytes_eq-Decides, get_member-put, get_member-put_other, differ)
 
 module _ (k : List ℕ) (v : MemberValue) (d : Data) (ms : Members) (shows : Shows v d) where
   text : (q : List ℕ) (old : Option (Bor (List ℕ))) → option_map (λ s. s.now) old ≡ option_and_then as_str (get_member q ms)

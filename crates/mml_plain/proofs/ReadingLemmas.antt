@@ -1,12 +1,12 @@
 -- How values are read from tokens, one turn of a loop at a time, and that `serde_json` reads the same values.
 use Rattle.std.proofs.Common.{◌≡◌, ℕ, suc, ◌-◌, ◌<◌, ◌≤◌, List, [], ◌∷◌, length, Bool, false, Option, Some, None, Bor, option_map, option_and_then, refl, sym, ap, ◌∙◌, arith}
 use Rattle.std.{specs.Str.is_utf8, specs.Str.IsUtf8, proofs.lemmas.Str.is_utf8-from_IsUtf8, proofs.lemmas.Str.IsUtf8-from_is_utf8}
-use Rattle.json.specs.{Token.Token, Lex.tokens, Json.parse_map, Json.after_end_array, Json.read_key, Json.items_step, Json.members_step, Json.items, Json.members, Json.value, Json.if_last}
+use Rattle.json.specs.{Token.Token, Lex.tokens, Json.parse_map, Json.after_end_array, Json.read_key, Json.items, Json.members, Json.value, Json.if_last}
 use Rattle.json.proofs.Grammar.{value_is, value-begin_array, value-begin_object}
 use Rattle.serde_json.specs.Data.{Data, Num, null, boolean, number, string, array, object, Items, no_items, item, Members, no_members, put}
 use Rattle.serde_json.specs.{Find.as_object, Find.as_u64, Read.of_json, Read.of_items, Read.of_members, Read.converted, Read.number_of}
 use Rattle.mml_plain.specs.declared.member_value.MemberValue.{MemberValue, TheVariants.Null, TheVariants.Truth, TheVariants.Number, TheVariants.Text, TheVariants.Other}
-use Rattle.mml_plain.specs.{Shown.Shows, Reading.value_at, Reading.items_at, Reading.members_at, Reading.if_over, Reading.object_at, Reading.object_in}
+use Rattle.mml_plain.specs.{Shown.Shows, Reading.value_at, Reading.items_at, Reading.members_at, Reading.object_at, Reading.object_in}
 use Rattle.json.specs.Json as json
 
 beside : {A B : Type 0} (f : A → B) (rest : List Token) (x : Option A) → option_map (λ b. (b, rest)) (option_map f x) ≡ parse_map f (option_map (λ a. (a, rest)) x)
@@ -19,37 +19,24 @@ abbrev pub items_turn : ℕ → ℕ → List Token → Option (List Token) → O
 items_turn depth n ts (Some rest) = Some (no_items, rest)
 items_turn depth n ts None = option_and_then (λ p. parse_map (item p.0) (items_at depth n p.1)) (value_at depth ts)
 
-no_such_item : (j : json.Json) → of_json j ≡ None → (o : Option (json.Items × List Token)) → converted of_items (parse_map (json.item j) o) ≡ None
-no_such_item j e o = grind arith
-
-one_item : (j : json.Json) (d : Data) → of_json j ≡ Some d → (o : Option (json.Items × List Token)) → converted of_items (parse_map (json.item j) o) ≡ parse_map (item d) (converted of_items o)
-one_item j d e o = grind (arith, beside)
-
 module _ (more : List Token → Option (json.Items × List Token)) where
   first_item : (j : json.Json) (rest : List Token) (x : Option Data) → of_json j ≡ x
       → converted of_items (parse_map (json.item j) (more rest)) ≡ option_and_then (λ (p : Data × List Token). parse_map (item p.0) (converted of_items (more p.1))) (option_map (λ d. (d, rest)) x)
-  first_item j rest x e = grind (arith, no_such_item, one_item)
-
-  item_then : (o : Option (json.Json × List Token))
-      → converted of_items (option_and_then (λ q. parse_map (json.item q.0) (more q.1)) o) ≡ option_and_then (λ (p : Data × List Token). parse_map (item p.0) (converted of_items (more p.1))) (converted of_json o)
-  item_then o = grind (arith, first_item)
-
-items_step_is : (depth n : ℕ) (ts : List Token) (o : Option (List Token)) → converted of_items (items_step (value depth) (items (value depth) n) ts o) ≡ items_turn depth n ts o
-items_step_is depth n ts o = grind (arith, item_then)
+  first_item j rest x e = grind (arith, beside)
 
 pub items_next : (depth n : ℕ) (ts : List Token) → length ts ≤ n → items_at depth n ts ≡ items_turn depth (n - 1) ts (after_end_array ts)
 unfolding items
-items_next depth n ts h = grind (arith, value_is, items_step_is)
+items_next depth n ts h = grind (arith, value_is)
 
 pub items_over : (depth n : ℕ) (ts rest : List Token) → length ts ≤ n → after_end_array ts ≡ Some rest → items_at depth n ts ≡ Some (no_items, rest)
 items_over depth n ts rest h end = items_next depth n ts h ∙ ap (items_turn depth (n - 1) ts) end
 
 pub items_stuck : (depth n : ℕ) (ts : List Token) → length ts ≤ n → after_end_array ts ≡ None → value_at depth ts ≡ None → items_at depth n ts ≡ None
-items_stuck depth n ts h going none = grind (arith, items_next, option_and_then)
+items_stuck depth n ts h going none = grind (arith, items_next)
 
 pub items_more : (depth n : ℕ) (ts rest : List Token) (d : Data) → length ts ≤ n → after_end_array ts ≡ None → value_at depth ts ≡ Some (d, rest)
     → items_at depth n ts ≡ parse_map (item d) (items_at depth (n - 1) rest)
-items_more depth n ts rest d h going some = grind (arith, items_next, option_and_then)
+items_more depth n ts rest d h going some = grind (arith, items_next)
 
 pub unmapped : (o : Option (Items × List Token)) → o ≡ parse_map (λ ds. ds) o
 unmapped o = grind arith
@@ -65,10 +52,6 @@ members_turn depth found n None = None
 members_turn depth found n (Some (None, rest)) = Some (found, rest)
 members_turn depth found n (Some (Some k, rest)) = option_and_then (λ p. members_at depth (put k p.0 found) n p.1) (value_at depth rest)
 
-no_such_member : (found : Members) (k : List ℕ) (j : json.Json) → of_json j ≡ None → (o : Option (json.Members × List Token))
-    → converted (λ ms. of_members ms found) (parse_map (json.member k j) o) ≡ None
-no_such_member found k j e o = grind arith
-
 one_member : (found : Members) (k : List ℕ) (j : json.Json) (d : Data) → of_json j ≡ Some d → (o : Option (json.Members × List Token))
     → converted (λ ms. of_members ms found) (parse_map (json.member k j) o) ≡ converted (λ ms. of_members ms (put k d found)) o
 one_member found k j d e o = grind arith
@@ -77,20 +60,11 @@ module _ (found : Members) (k : List ℕ) (more : List Token → Option (json.Me
   first_member : (j : json.Json) (rest : List Token) (x : Option Data) → of_json j ≡ x
       → converted (λ ms. of_members ms found) (parse_map (json.member k j) (more rest))
       ≡ option_and_then (λ (p : Data × List Token). converted (λ ms. of_members ms (put k p.0 found)) (more p.1)) (option_map (λ d. (d, rest)) x)
-  first_member j rest x e = grind (arith, no_such_member, one_member)
-
-  member_then : (o : Option (json.Json × List Token))
-      → converted (λ ms. of_members ms found) (option_and_then (λ q. parse_map (json.member k q.0) (more q.1)) o)
-      ≡ option_and_then (λ (p : Data × List Token). converted (λ ms. of_members ms (put k p.0 found)) (more p.1)) (converted of_json o)
-  member_then o = grind (arith, first_member)
-
-members_step_is : (depth : ℕ) (found : Members) (n : ℕ) (o : Option (Option (List ℕ) × List Token))
-    → converted (λ ms. of_members ms found) (option_and_then (λ q. members_step (value depth) (members (value depth) n) q.0 q.1) o) ≡ members_turn depth found n o
-members_step_is depth found n o = grind (arith, member_then)
+  first_member j rest x e = grind (arith, one_member)
 
 pub members_suc : (depth : ℕ) (found : Members) (n : ℕ) (ts : List Token) → members_at depth found (suc n) ts ≡ members_turn depth found n (read_key ts)
 unfolding members
-members_suc depth found n ts = members_step_is depth found n (read_key ts)
+members_suc depth found n ts = grind (arith, first_member)
 
 pub members_next : (depth : ℕ) (found : Members) (n : ℕ) (ts : List Token) → length ts ≤ n → members_at depth found n ts ≡ members_turn depth found (n - 1) (read_key ts)
 unfolding members
@@ -104,10 +78,10 @@ members_no_key depth found n ts h none = members_next depth found n ts h ∙ ap 
 
 module _ (depth : ℕ) (found : Members) (n : ℕ) (ts s : List Token) (k : List ℕ) (h : length ts ≤ n) (named : read_key ts ≡ Some (Some k, s)) where
   pub members_stuck : value_at depth s ≡ None → members_at depth found n ts ≡ None
-  members_stuck none = grind (arith, members_next, option_and_then)
+  members_stuck none = grind (arith, members_next)
 
   pub members_more : (rest : List Token) (d : Data) → value_at depth s ≡ Some (d, rest) → members_at depth found n ts ≡ members_at depth (put k d found) (n - 1) rest
-  members_more rest d some = grind (arith, members_next, option_and_then)
+  members_more rest d some = grind (arith, members_next)
 
 -- ---- one value
 
@@ -126,18 +100,12 @@ pub read_text : (depth : ℕ) (ts : List Token) (s : Bor (List ℕ)) → ReadAs 
 read_text depth ts s =
     (string s.now, ap (converted of_json) (value_is depth (Token.string s.now ∷ ts)), record { text = refl; number = refl; truth = refl; register = refl })
 
-scanned : (o : Option Num) (found : Option ℕ) → Some found ≡ option_map as_u64 o → (n : Num) × (o ≡ Some n) × (as_u64 n ≡ found)
-scanned o found e = grind arith
-
-not_scanned : (o : Option Num) → None ≡ option_map as_u64 o → o ≡ None
-not_scanned o e = grind arith
-
 pub read_number : (depth : ℕ) (ts : List Token) (s : List ℕ) (v : MemberValue) (found : Option ℕ) → Some found ≡ option_map as_u64 (number_of s)
     → ((n : Num) → as_u64 n ≡ found → Shows v (number n)) → ReadAs depth (Token.number s ∷ ts) v ts
-read_number depth ts s v found e shows = grind (arith, scanned, value_is, option_map)
+read_number depth ts s v found e shows = grind (arith, value_is)
 
 pub no_number_read : (depth : ℕ) (ts : List Token) (s : List ℕ) → None ≡ option_map as_u64 (number_of s) → value_at depth (Token.number s ∷ ts) ≡ None
-no_number_read depth ts s e = grind (arith, value_is, option_map, not_scanned)
+no_number_read depth ts s e = grind (arith, value_is)
 
 pub shows_number : (n : Num) (m : ℕ) → as_u64 n ≡ Some m → Shows (Number m) (number n)
 shows_number n m e = record { text = refl; number = sym e; truth = refl; register = ap (option_map Some) (sym e) }
@@ -177,29 +145,8 @@ read_nested depth ts rest ms h e = (object ms, value_object depth ts h ∙ ap (p
 abbrev whole : Option (json.Json × List Token) → Option Members
 whole o = option_and_then as_object (option_and_then of_json (option_and_then (λ p. if_last p.0 p.1) o))
 
-last_is : (x : Option Members) → if_over (option_map (λ b. (b, [])) x) ≡ option_and_then as_object (option_map object x)
-last_is x = grind arith
-
-not_last : (t : Token) (ts : List Token) (x : Option Members) → if_over (option_map (λ b. (b, t ∷ ts)) x) ≡ None
-not_last t ts x = grind arith
-
-object_whole : (o : Option (json.Members × List Token)) → if_over (converted (λ ms. of_members ms no_members) o) ≡ whole (parse_map json.object o)
-object_whole o = grind (arith, last_is, not_last)
-
-no_array : (x : Option Items) → None ≡ option_and_then as_object (option_map array x)
-no_array x = grind arith
-
-array_whole : (o : Option (json.Items × List Token)) → None ≡ whole (parse_map json.array o)
-array_whole o = grind (arith, no_array)
-
-no_number : (x : Option Num) → None ≡ option_and_then as_object (option_map number x)
-no_number x = grind arith
-
-leaf_whole : (j : json.Json) → None ≡ option_and_then as_object (of_json j) → (ts : List Token) → None ≡ whole (Some (j, ts))
-leaf_whole j e ts = grind arith
-
 object_at_is : (ts : List Token) → object_at ts ≡ whole (value 127 ts)
-object_at_is ts = grind (arith, value_is, object_whole, value-begin_object, array_whole, value-begin_array, leaf_whole, no_number)
+object_at_is ts = grind (arith, value_is, value-begin_object)
 
 utf8_is : (line : List ℕ) (b : Bool) → is_utf8 line ≡ b → (IsUtf8 line → ⊥) → b ≡ false
 utf8_is line b e h = grind (arith, IsUtf8-from_is_utf8)

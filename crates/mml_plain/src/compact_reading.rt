@@ -137,6 +137,7 @@ fn any_member<'a>(text: &'a [u8], fields: &mut Fields<'a>) -> Option<&'a [u8]>
 
 /// Skips the spaces at the front, if any, and the quotation mark after them. Returns the text after the mark, or `None`
 /// if there is no quotation mark. A mark without spaces before it is tried first, to save time.
+#[tactic(auto, using(crate::proofs::CompactLemmas::no_space, std::proofs::lemmas::Option::IfSome_then))]
 #[inline(always)]
 fn in_quotes<'a>(text: &'a [u8]) -> Option<&'a [u8]>
     ensures { IfSome result (λ rest. BeginsQuoted text.now rest.now) }
@@ -188,6 +189,7 @@ fn after_byte<'a>(text: &'a [u8], byte: u8) -> Option<&'a [u8]>
 
 /// Returns the text without the spaces at its front, if it has any. Handles at most one space itself, which is the
 /// frequent case, and leaves more spaces to `past_spaces`.
+#[tactic(auto, using(crate::proofs::CompactLemmas::no_space, crate::proofs::CompactLemmas::one_space))]
 #[inline(always)]
 fn unspaced<'a>(text: &'a [u8]) -> &'a [u8]
     ensures { Spaced text.now result.now }
@@ -203,6 +205,7 @@ fn unspaced<'a>(text: &'a [u8]) -> &'a [u8]
 
 /// Returns the text without the spaces at its front. `unspaced` calls it if there is more than one space, which is
 /// rare.
+#[tactic(auto, using(crate::proofs::CompactLemmas::no_space, crate::proofs::CompactLemmas::one_space))]
 #[inline(never)]
 fn past_spaces<'a>(text: &'a [u8]) -> &'a [u8]
     ensures { Spaced text.now result.now }
@@ -247,6 +250,7 @@ fn member_value<'a>(text: &'a [u8]) -> Option<(MemberValue<'a>, &'a [u8])>
 
 /// Reads the empty array or the empty object at the front of the text. Returns `MemberValue::Other`, and the text after
 /// it. Returns `None` if there is neither.
+#[tactic(auto, using(crate::proofs::CompactLemmas::no_items_value, crate::proofs::CompactLemmas::no_members_value))]
 #[inline(always)]
 fn empty_value<'a>(text: &'a [u8]) -> Option<(MemberValue<'a>, &'a [u8])>
     ensures { IfSome result (λ r. BeginsValue text.now r.0 r.1.now) }
@@ -263,6 +267,7 @@ fn empty_value<'a>(text: &'a [u8]) -> Option<(MemberValue<'a>, &'a [u8])>
 /// Reads a string from the text after the quotation mark that opens it. Returns the string, and the text after its
 /// closing quotation mark. Returns `None` if there is no closing mark, or a byte before it is a backslash or isn't from
 /// 32 to 127.
+#[tactic(auto, using(crate::proofs::CompactLemmas::bare_above, crate::proofs::CompactLemmas::bare_below, crate::proofs::CompactLemmas::bare_utf8))]
 #[inline(always)]
 fn bare_word<'a>(text: &'a [u8]) -> Option<(&'a str, &'a [u8])>
     ensures { IfSome result (λ r. (text.now ≡ r.0.now ++ 34 ∷ r.1.now)
@@ -288,6 +293,7 @@ fn bare_word<'a>(text: &'a [u8]) -> Option<(&'a str, &'a [u8])>
 /// Reads the number at the front of the text, in decimal digits without leading zeros. Returns the number, and the text
 /// after it. A zero at the front is a number by itself. Returns `None` if no digit comes first, or the number has more
 /// than 19 digits, which may need more than 64 bits.
+#[tactic(auto, using(crate::proofs::CompactLemmas::digit_off, crate::proofs::CompactLemmas::digit_first, crate::proofs::CompactLemmas::digit_next))]
 #[inline(always)]
 fn whole_number<'a>(text: &'a [u8]) -> Option<(u64, &'a [u8])>
     ensures { IfSome result (λ r. (text.now ≡ decimal r.0 ++ r.1.now) × (r.0 < 2 ^ 64)) }

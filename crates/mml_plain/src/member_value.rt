@@ -25,6 +25,7 @@ pub(crate) enum MemberValue<'a> {
 impl<'a> MemberValue<'a> {
     /// Returns the value for a JSON number. `found` is the number if it fits 64 bits and is written without a sign, a
     /// point or an exponent, as a request's numbers are. If `found` is `None`, the value is `Other`.
+    #[tactic(auto, using(crate::proofs::ReadingLemmas::shows_number, crate::proofs::ReadingLemmas::shows_other_number))]
     #[inline(always)]
     pub(crate) fn of_number(found: Option<u64>) -> MemberValue<'a>
         ensures { (n : Num) → as_u64 n ≡ found → Shows result (number n) }
@@ -86,6 +87,7 @@ impl<'a> MemberValue<'a> {
 /// Reads the text of a JSON number, as `serde_json` does. Returns `Some(Some(number))` if the number fits 64 bits and
 /// is written without a sign, a point or an exponent. Returns `Some(None)` for any other number, which no request uses.
 /// Returns `None` for a number that is too great for a float, which `serde_json` refuses.
+#[tactic(auto, unfolding(serde_json::specs::Read::number_of))]
 #[inline(always)]
 pub(crate) fn read_number(text: &str) -> Option<Option<u64>>
     ensures { result ≡ option_map as_u64 (number_of text.now) }

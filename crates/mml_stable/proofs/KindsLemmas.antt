@@ -1,6 +1,6 @@
 -- The rules that are enabled at the nodes are found one after another.
 use Rattle.std.proofs.Common.{◌≡◌, ◌+◌, ◌<◌, ℕ, List, Option, length, set, arith, get_or-set_same, get_or-set_other}
-use Rattle.std.proofs.lemmas.Bool.{cases_eq, Decides.nat_tests}
+use Rattle.std.proofs.lemmas.Bool.{Decides.nat_tests}
 use Rattle.mml_rules.specs.{declared.rule.Kind.Kind, Configuration.Configuration, Rules.enabled_kind}
 use Rattle.mml_stable.specs.inside.Kinds.{AreFound}
 
@@ -8,4 +8,4 @@ use Rattle.mml_stable.specs.inside.Kinds.{AreFound}
 -- the rules of the nodes below n + 1
 pub one_found : (c : Configuration) (n : ℕ) (kinds : List (Option Kind)) (o : Option Kind) → n < length kinds → AreFound c n kinds → o ≡ enabled_kind c n
     → AreFound c (n + 1) (set kinds n o)
-one_found c n kinds o room found is i h = grind (arith, nat_tests, cases_eq, get_or-set_same, get_or-set_other)
+one_found c n kinds o room found is i h = grind (arith, nat_tests, get_or-set_same, get_or-set_other)

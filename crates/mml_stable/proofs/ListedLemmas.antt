@@ -1,10 +1,9 @@
 -- Which items the lists of a report have, and in which order.
 use Rattle.std.proofs.Common.{◌≡◌, ◌↔◌, ℕ, zero, suc, ◌<◌, Bool, true, ◌&&◌, ltb, List, [], ◌∷◌, ◌++◌, Option, None, Some, inl, inr, arith, refl, sym, ap, ◌∙◌, subst, rules}
 use Rattle.std.specs.List.{All, Contains}
-use Rattle.std.proofs.lemmas.Bool.{and_parts, and_from, ltb-true, lt-ltb, not-true, not_from_false, false_from_ne_true, both_ways, cases_eq, cases_order, Decides.nat_tests}
+use Rattle.std.proofs.lemmas.Bool.{and_parts, and_from, lt-ltb, not-true, not_from_false, false_from_ne_true, both_ways, cases_eq, cases_order, Decides.nat_tests}
 use Rattle.std.proofs.lemmas.List.Elements.{All-nil, All-cons, All-append, All-head, All-tail, All-weaker, All-contains, Contains-append_left, Contains-append_right, Contains-append_cases}
 use Rattle.mml_rules.specs.{declared.rule.Kind.Kind, Configuration.Configuration, Configuration.IsLawful, Configuration.holds, Rules.is_married, Rules.enabled_kind, Matching.IsPair, Meaning.IsMarried}
-use Rattle.mml_rules.proofs.ConfigurationLemmas.{holds-true, holds-from}
 use Rattle.mml_rules.proofs.{RulesLemmas.pointee_in, EnabledKindLemmas.guard-kind, EnabledKindLemmas.kind-guard, MeaningLemmas.married-means, MeaningLemmas.guard-means}
 use Rattle.mml_stable.specs.{declared.open_link.OpenLink.OpenLink, Walk.certificate}
 use Rattle.mml_stable.specs.Reports.{each_below, listed_if, pair_at, pairs, is_free, free_nodes, privileged_at, privileged_nodes, is_open, open_link, open_links_at, open_links, is_stable}
@@ -14,13 +13,13 @@ use Rattle.mml_stable.proofs.{MatchingLemmas.maximal, MatchingLemmas.stable-mean
 -- ---- the items of a list
 
 in_nothing : {X : Type 0} (x : X) → Contains [] x → ⊥
-in_nothing x h = absurd (omega (arith, h.1))
+in_nothing x h = absurd (omega arith)
 
 in_one : {X : Type 0} (x y : X) → Contains (x ∷ []) y → x ≡ y
 in_one x y h = All-contains (λ z. x ≡ z) (x ∷ []) y (All-cons (λ z. x ≡ z) x [] refl (All-nil (λ z. x ≡ z))) h
 
 if_listed : {X : Type 0} (b : Bool) (x y : X) → Contains (listed_if b x) y → (b ≡ true) × (x ≡ y)
-if_listed b x y h = grind (arith, nat_tests, in_one, in_nothing)
+if_listed b x y h = grind (arith, nat_tests)
 
 listed : {X : Type 0} (b : Bool) (x : X) → b ≡ true → Contains (listed_if b x) x
 listed b x e = grind (arith, nat_tests)
@@ -28,7 +27,7 @@ listed b x e = grind (arith, nat_tests)
 below : {X : Type 0} (n : ℕ) (f : ℕ → List X) (x : X) → Contains (each_below n f) x → (i : ℕ) × (i < n) × Contains (f i) x
 below zero f x h = absurd (in_nothing x h)
 below (suc n) f x h = elim (Contains-append_cases (each_below n f) (f n) x h) [
-  | inl a ↦ let r = below n f x a in (r.0, omega (arith, r.1), r.2)
+  | inl a ↦ let r = below n f x a in (r.0, omega arith, r.2)
   | inr b ↦ (n, omega arith, b)
 ]
 
@@ -36,7 +35,7 @@ at_below : {X : Type 0} (n : ℕ) (f : ℕ → List X) (x : X) (i : ℕ) → i <
 at_below zero f x i l h = absurd (omega arith)
 at_below (suc n) f x i l h = elim (cases_eq i n) [
   | inl e ↦ Contains-append_right (each_below n f) (f n) x (subst (λ j. Contains (f j) x) e h)
-  | inr ne ↦ Contains-append_left (each_below n f) (f n) x (at_below n f x i (omega (arith, ne)) h)
+  | inr ne ↦ Contains-append_left (each_below n f) (f n) x (at_below n f x i (omega arith) h)
 ]
 
 -- ---- the order of a list
@@ -64,25 +63,19 @@ module _ {X : Type 0} (R : X → X → Type 0) (key : X → ℕ) (f : ℕ → Li
 
 module _ (c : Configuration) (l : IsLawful c) where
   pair_from : (i : ℕ) (o : Option ℕ) (p : ℕ × ℕ) → c.p i ≡ o → Contains (pair_at c i o) p → IsPairInOrder c p
-  pair_from i o p e h = grind (arith, nat_tests, in_nothing, if_listed, and_parts, ltb-true, holds-true)
-
-  pair_listed : (i j : ℕ) (o : Option ℕ) → o ≡ Some j → i < j → c.p j ≡ Some i → Contains (pair_at c i o) (i, j)
-  pair_listed i j o e lt back = grind (arith, nat_tests, listed, and_from, lt-ltb, holds-from)
+  pair_from i o p e h = grind (arith, nat_tests, in_nothing, if_listed)
 
   pub pairs_listed : (p : ℕ × ℕ) → Contains (pairs c) p ↔ IsPairInOrder c p
   pairs_listed p = (
     (λ h. let r = below c.size (λ i. pair_at c i (c.p i)) p h in pair_from r.0 (c.p r.0) p refl r.2),
-    (λ h. at_below c.size (λ i. pair_at c i (c.p i)) p p.0 (pointee_in c p.1 p.0 l h.1.1) (pair_listed p.0 p.1 (c.p p.0) h.1.0 h.0 h.1.1)),
+    (λ h. at_below c.size (λ i. pair_at c i (c.p i)) p p.0 (pointee_in c p.1 p.0 l h.1.1) (grind (arith, nat_tests, listed, and_from))),
   )
 
   pub free_listed : (i : ℕ) → Contains (free_nodes c) i ↔ IsFreeNode c i
   free_listed i = (to, from)
     where
       to : Contains (free_nodes c) i → IsFreeNode c i
-      to h =
-          let r = below c.size (λ i. listed_if (is_free c i) i) i h in
-          let t = if_listed (is_free c r.0) r.0 i r.2 in
-          subst (IsFreeNode c) t.1 (r.1, λ m. both_ways (is_married c r.0) (not-true (is_married c r.0) t.0) ((married-means c r.0 l).1 m))
+      to h = grind (arith, nat_tests, below c.size (λ i. listed_if (is_free c i) i) i h, if_listed, both_ways, not-true, married-means)
 
       from : IsFreeNode c i → Contains (free_nodes c) i
       from h = at_below c.size (λ i. listed_if (is_free c i) i) i i h.0
@@ -94,14 +87,11 @@ module _ (c : Configuration) (l : IsLawful c) where
       let r = kind-guard c i k e in
       subst (IsPrivilegedBy c) (in_one (i, k) p h) (lt, (r.0, r.1, (guard-means c i r.0 l).0 r.2))
 
-  privileged_here : (i : ℕ) (k : Kind) (o : Option Kind) → o ≡ Some k → Contains (privileged_at i o) (i, k)
-  privileged_here i k o e = grind (arith, nat_tests)
-
   pub privileged_listed : (p : ℕ × Kind) → Contains (privileged_nodes c) p ↔ IsPrivilegedBy c p
   privileged_listed p = (
     (λ h. let r = below c.size (λ i. privileged_at i (enabled_kind c i)) p h in privileged_from r.0 (enabled_kind c r.0) p r.1 refl r.2),
     (λ h. at_below c.size (λ i. privileged_at i (enabled_kind c i)) p p.0 h.0
-        (privileged_here p.0 p.1 (enabled_kind c p.0) (guard-kind c p.0 h.1.0 l ((guard-means c p.0 h.1.0 l).1 h.1.2) ∙ ap Some h.1.1))),
+        (grind (arith, nat_tests, enabled_kind c p.0, guard-kind c p.0 h.1.0 l ((guard-means c p.0 h.1.0 l).1 h.1.2) ∙ ap Some h.1.1))),
   )
 
   free_means : (i : ℕ) → is_free c i ≡ true → ¬ IsMarried c i
@@ -109,9 +99,6 @@ module _ (c : Configuration) (l : IsLawful c) where
 
   free_from : (i : ℕ) → ¬ IsMarried c i → is_free c i ≡ true
   free_from i h = not_from_false (is_married c i) (false_from_ne_true (is_married c i) (λ m. h ((married-means c i l).0 m)))
-
-  open_from : (a b : ℕ) → is_open c a b ≡ true → IsOpenLink c (open_link c a b)
-  open_from a b h = grind (arith, nat_tests, and_parts, ltb-true, free_means)
 
   is_open_at : (k : OpenLink) → IsOpenLink c k → is_open c k.a k.b ≡ true
   is_open_at k o = and_from _ _ o.linked (and_from _ _ (lt-ltb k.a k.b o.lower) (and_from _ _ (free_from k.a o.free_a) (free_from k.b o.free_b)))
@@ -127,8 +114,7 @@ module _ (c : Configuration) (l : IsLawful c) where
       to h =
           let a = below c.size (open_links_at c) k h in
           let b = below c.size (λ b. listed_if (is_open c a.0 b) (open_link c a.0 b)) k a.2 in
-          let t = if_listed (is_open c a.0 b.0) (open_link c a.0 b.0) k b.2 in
-          subst (IsOpenLink c) t.1 (open_from a.0 b.0 t.0)
+          grind (arith, nat_tests, if_listed (is_open c a.0 b.0) (open_link c a.0 b.0) k b.2, and_parts, free_means)
 
       from : IsOpenLink c k → Contains (open_links c) k
       from o =
@@ -159,21 +145,7 @@ module _ (c : Configuration) (l : IsLawful c) where
       same x y i e f = cc
 
       one : (p q : ℕ × ℕ) (i : ℕ) → IsPairInOrder c p → IsPairInOrder c q → HasEnd i p → HasEnd i q → p ≡ q
-      one p q i hp hq ep eq = elim ep [
-        | inl a ↦ elim eq [
-          | inl b ↦ both p q i a b (same p.1 q.1 i (subst (λ x. c.p x ≡ Some p.1) a hp.1.0) (subst (λ x. c.p x ≡ Some q.1) b hq.1.0))
-          | inr b ↦ let e : p.1 ≡ q.0 = same p.1 q.0 i (subst (λ x. c.p x ≡ Some p.1) a hp.1.0) (subst (λ x. c.p x ≡ Some q.0) b hq.1.1) in
-              absurd (omega (arith, hp.0, hq.0))
-        ]
-        | inr a ↦ elim eq [
-          | inl b ↦ let e : p.0 ≡ q.1 = same p.0 q.1 i (subst (λ x. c.p x ≡ Some p.0) a hp.1.1) (subst (λ x. c.p x ≡ Some q.1) b hq.1.0) in
-              absurd (omega (arith, hp.0, hq.0))
-          | inr b ↦ λ z. (same p.0 q.0 i (subst (λ x. c.p x ≡ Some p.0) a hp.1.1) (subst (λ x. c.p x ≡ Some q.0) b hq.1.1) z, (a ∙ sym b) z)
-        ]
-      ]
-        where
-          both : (p q : ℕ × ℕ) (i : ℕ) → p.0 ≡ i → q.0 ≡ i → p.1 ≡ q.1 → p ≡ q
-          both p q i a b e = λ z. ((a ∙ sym b) z, e z)
+      one p q i hp hq ep eq = grind (arith, nat_tests)
 
 -- ---- each list is in rising order
 

@@ -62,8 +62,7 @@ free-null c l s (suc n) i room in_c free = go (free-null c l s n) (c.p i) refl
     go further (Some j) e =
         let up = quiet-vain c i j l (idle-quiet c i l (s i in_c)) e free in
         let j_in = (l.in_range i j (l.to_linked i j e)).1 in
-        let j_free : is_married c j ≡ false = sym (idle-settled c j l (s j j_in)) ∙ up.0 in
-        absurd (quiet-alone c i j l e (further j (omega arith) j_in j_free) (idle-quiet c j l (s j j_in)))
+        grind (arith, nat_tests, sym (idle-settled c j l (s j j_in)) ∙ up.0, idle-settled, quiet-alone, idle-quiet)
 
 -- if a and its higher neighbour b have null pointers, m is false at b, and a is quiet, a seduction may be applied at a
 pub may_seduce : (c : Configuration) (a b : ℕ) → IsLawful c → c.linked a b ≡ true → a < b → IsQuiet c a → c.p a ≡ None → c.p b ≡ None → c.m b ≡ false
@@ -102,15 +101,7 @@ maximal c l s a b linked = go (is_married c a) (is_married c b) refl refl
     go true y e f = inl (paired c a e)
     go false true e f = inr (paired c b f)
     go false false e f =
-        let pa = free-null c l s c.size a (omega arith) a_in e in
-        let pb = free-null c l s c.size b (omega arith) b_in f in
-        elim (cases_order a b) [
-          | inl same ↦ absurd (both_ways (c.linked a a) (l.no_loop a) (subst (λ x. c.linked a x ≡ true) (sym same) linked))
-          | inr o ↦ elim o [
-            | inl lt ↦ absurd (no_open_link c a b l linked lt (s a a_in) pa pb (idle-settled c b l (s b b_in) ∙ f))
-            | inr gt ↦ absurd (no_open_link c b a l (l.symmetric a b linked) gt (s b b_in) pb pa (idle-settled c a l (s a a_in) ∙ e))
-          ]
-        ]
+        grind (arith, nat_tests, free-null c l s c.size a (omega arith) a_in e, free-null c l s c.size b (omega arith) b_in f, cases_order, no_open_link, idle-settled)
 
 -- `is_stable` is true exactly if no node is privileged
 pub stable-means : (c : Configuration) → (is_stable c ≡ true) ↔ IsStable c
@@ -122,9 +113,8 @@ stable-means c = (to, from)
         (λ e. both_ways (some_below c.size (is_privileged c)) (not-true _ h) (some_below-at c.size i (is_privileged c) l e))
 
     from : IsStable c → is_stable c ≡ true
-    from s = ap not (false_from_ne_true (some_below c.size (is_privileged c)) (λ e.
-        let r = some_below-find c.size (is_privileged c) e in both_ways (is_privileged c r.0) (s r.0 r.1) r.2))
+    from s = grind (arith, nat_tests, some_below-find)
 
 -- if no node is privileged, m is true exactly at the married nodes
 pub stable-m : (c : Configuration) (i : ℕ) → IsLawful c → IsStable c → i < c.size → (c.m i ≡ true) ↔ IsMarried c i
-stable-m c i l s i_in = grind (arith, nat_tests, idle-settled, married-means)
+stable-m c i l s i_in = grind (arith, idle-settled, married-means)

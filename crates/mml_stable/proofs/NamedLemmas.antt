@@ -1,7 +1,6 @@
 -- A report names only nodes of its world.
 use Rattle.std.proofs.Common.{◌≡◌, ℕ, zero, suc, ◌<◌, Bool, true, ◌&&◌, ltb, List, Option, None, Some, Result, arith, rules}
-use Rattle.std.specs.{Result.IfOk, List.All}
-use Rattle.std.proofs.lemmas.{Bool.and_parts, Bool.ltb-true, Bool.not-true, Bool.Decides.nat_tests, List.Elements.All-nil, List.Elements.All-append}
+use Rattle.std.{specs.Result.IfOk, specs.List.All, proofs.lemmas.Bool.and_parts, proofs.lemmas.Bool.Decides.nat_tests, proofs.lemmas.List.Elements.All-nil, proofs.lemmas.List.Elements.All-append}
 use Rattle.mml_rules.specs.{declared.rule.Kind.Kind, Configuration.Configuration, Configuration.IsLawful, Configuration.holds}
 use Rattle.mml_rules.proofs.RulesLemmas.{pointee_in}
 use Rattle.mml_board.specs.World.{World, IsWorld, size, configuration}
@@ -16,7 +15,7 @@ all_listed P b x h = grind (arith, nat_tests)
 -- if P holds of each item of the lists for the numbers below n, P holds of each item of `each_below`
 pub all_below : {X : Type 0} (P : X → Type 0) (n : ℕ) (f : ℕ → List X) → ((i : ℕ) → i < n → All P (f i)) → All P (each_below n f)
 all_below P zero f h = All-nil P
-all_below P (suc n) f h = All-append P (each_below n f) (f n) (all_below P n f (λ i l. h i (omega (arith, l)))) (h n (omega arith))
+all_below P (suc n) f h = All-append P (each_below n f) (f n) (all_below P n f (λ i l. h i (omega arith))) (h n (omega arith))
 
 module _ (w : World) (is : IsWorld w) where
   abbrev c : Configuration
@@ -33,11 +32,11 @@ module _ (w : World) (is : IsWorld w) where
   privileged_names i l o = grind (arith, nat_tests)
 
   link_names : (a b : ℕ) → a < c.size → b < c.size → is_open c a b ≡ true → IsOpenLinkOf c.size (open_link c a b)
-  link_names a b la lb h = grind (arith, nat_tests, and_parts, certified, lawful, ltb-true, not-true)
+  link_names a b la lb h = grind (arith, nat_tests, and_parts, certified)
 
   pub report_names : NamesNodes (size w) (report_of w)
   report_names = search (rules, all_below, pair_names, all_listed, privileged_names, link_names)
 
 -- a report on a lawful world names only nodes of that world
 pub named : {E : Type 0} (w : World) (told : Result Report E) → IsWorld w → IfOk told (λ r. r ≡ report_of w) → IfOk told (NamesNodes (size w))
-named w told is e = grind (arith, nat_tests, report_names)
+named w told is e = grind (arith, report_names)

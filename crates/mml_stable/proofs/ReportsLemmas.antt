@@ -1,6 +1,6 @@
 -- The lists of a report, as the loops over sets of nodes build them.
 use Rattle.std.proofs.Common.{◌≡◌, ◌≢◌, ℕ, zero, suc, ◌+◌, ◌<◌, Bool, true, false, cond, not, ◌&&◌, eqb, ltb, [], ◌∷◌, ◌++◌, length, map, sym, refl, ap, ◌∙◌, arith, add-one, Option, length-append}
-use Rattle.std.proofs.lemmas.{List.append-nil, List.Elements.filter_agree, Bool.lt-ltb, Bool.le-ltb, Bool.eq-eqb, Bool.ne_eqb, Bool.and_parts, Bool.cases_eq, Bool.cases_lt, Bool.Decides.nat_tests}
+use Rattle.std.proofs.lemmas.{List.append-nil, Bool.lt-ltb, Bool.le-ltb, Bool.ne_eqb, Bool.and_parts, Bool.cases_lt, Bool.Decides.nat_tests}
 use Rattle.std.specs.{Prelude.is_some, Ordering.nat_cmp, FinSet.FinSet}
 use Rattle.mml_ids.specs.{Search.some_below, Sets.those_below, inside.WordsLemmas.has-those_below, inside.WordsLemmas.has_remove}
 use Rattle.mml_ids.proofs.SetsLemmas.{ranks_in, passing, passing_more}
@@ -20,7 +20,7 @@ listed_below t f (suc n) = ap (passing t f) (sym (add-one n)) ∙ passing_more t
 -- if `ends` has the greater ends of the open links of a, the links from a to the nodes of `ends` are these open links
 pub links_of_ends : (c : Configuration) (a : ℕ) (ends : FinSet nat_cmp) → ((b : ℕ) → sets.contains ends b ≡ is_open c a b)
     → map (open_link c a) (ranks_in c.size ends) ≡ open_links_at c a
-links_of_ends c a ends same = grind (arith, nat_tests, filter_agree, listed_below)
+links_of_ends c a ends same = grind (arith, listed_below)
 
 -- both ends of an open link are nodes
 pub both_ends : (c : Configuration) (a b : ℕ) → IsLawful c → is_open c a b ≡ true → (a < c.size) × (b < c.size)
@@ -29,7 +29,7 @@ both_ends c a b lawful open_b = lawful.in_range a b (and_parts (c.linked a b) _ 
 -- the list of privileged nodes is empty exactly if no rule is enabled at any node
 pub none_listed : (n : ℕ) (kind : ℕ → Option Kind) → eqb (length (each_below n (λ i. privileged_at i (kind i)))) 0 ≡ not (some_below n (λ i. is_some (kind i)))
 none_listed zero kind = refl
-none_listed (suc n) kind = grind (arith, nat_tests, append-nil, ne_eqb, length-append, (none_listed n kind))
+none_listed (suc n) kind = grind (arith, nat_tests, append-nil, length-append, (none_listed n kind))
 
 -- the set of all free nodes has the free nodes from node 0 on
 pub all_left : (c : Configuration) (free : FinSet nat_cmp) → free ≡ those_below c.size (is_free c) → IsFreeFrom c 0 free
@@ -38,7 +38,7 @@ all_left c free e b =
     ∙ ap (λ t. not t && (ltb b c.size && is_free c b)) (sym (le-ltb b 0 (omega arith)))
 
 past : (a b : ℕ) (x : Bool) → (not (eqb b a) && (not (ltb b a) && x)) ≡ (not (ltb b (a + 1)) && x)
-past a b x = grind (arith, nat_tests, cases_lt, ne_eqb, lt-ltb, cases_eq, eq-eqb, le-ltb)
+past a b x = grind (arith, nat_tests, cases_lt, ne_eqb, lt-ltb)
 
 -- if node a is removed from the set of the free nodes from a on, this set has the free nodes from a + 1 on
 pub one_past : (c : Configuration) (a : ℕ) (rest left : FinSet nat_cmp) → IsFreeFrom c a rest → left ≡ sets.remove rest a → IsFreeFrom c (a + 1) left
@@ -49,17 +49,13 @@ one_past c a rest left from e b =
 pub has_self : (c : Configuration) (a : ℕ) (rest : FinSet nat_cmp) → a < c.size → IsFreeFrom c a rest → sets.contains rest a ≡ is_free c a
 has_self c a rest l from = from a ∙ (rw (le-ltb a a (omega arith), lt-ltb a c.size l) refl)
 
-row : (linked free_b from above in_size free_a : Bool) → (linked ≡ true → (from ≡ above) × (in_size ≡ true)) → free_a ≡ true
-    → (linked && (from && (in_size && free_b))) ≡ (linked && (above && (free_a && free_b)))
-row linked free_b from above in_size free_a within free = grind (arith, nat_tests)
-
 apart : (a b : ℕ) → a ≢ b → not (ltb b a) ≡ ltb a b
-apart a b ne = grind (arith, nat_tests, cases_lt, lt-ltb, le-ltb)
+apart a b ne = grind (arith, nat_tests)
 
 -- if a is free, the greater ends of its open links are its neighbours among the free nodes from a on
 pub open_row : (c : Configuration) (a b : ℕ) → IsLawful c → is_free c a ≡ true
     → (c.linked a b && (not (ltb b a) && (ltb b c.size && is_free c b))) ≡ is_open c a b
-open_row c a b l free = grind (arith, nat_tests, row, apart, lt-ltb)
+open_row c a b l free = grind (arith, nat_tests)
 
 -- a node that isn't free has no open links
 pub no_row : (c : Configuration) (a b : ℕ) → is_free c a ≡ false → false ≡ is_open c a b

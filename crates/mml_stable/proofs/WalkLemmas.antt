@@ -1,7 +1,7 @@
 -- The walk along the pointers rises and ends at a node that is privileged or points nowhere. The walk finds the witness
 -- of an open link. A climb is the walk with a limit on the number of its steps.
 use Rattle.std.proofs.Common.{◌≡◌, ℕ, zero, suc, ◌<◌, ◌≤◌, ◌+◌, Bool, true, false, cond, ◌⊎◌, inl, inr, Option, None, Some, unwrap_or, sym, refl, ap, ◌∙◌, subst, arith, add-one}
-use Rattle.std.proofs.lemmas.Bool.{both_ways, and_parts, Decides.nat_tests}
+use Rattle.std.proofs.lemmas.Bool.{both_ways, Decides.nat_tests}
 use Rattle.mml_rules.specs.{declared.rule.Rule.Rule, declared.rule.Kind.Kind, Configuration.Configuration, Configuration.IsLawful}
 use Rattle.mml_rules.specs.Rules.{is_married, guard, kind_of, enabled_kind, is_privileged}
 use Rattle.mml_rules.proofs.{RulesLemmas.none-null, EnabledKindLemmas.guard-kind, EnabledKindLemmas.kind-guard}
@@ -52,22 +52,15 @@ leads-null c i x (privileged h) e = absurd (both_ways _ e h)
 leads-null c i x (null h p) e = p
 leads-null c i x (onward h p r) e = leads-null c _ x r e
 
--- if a seduction may be applied at a node, the node's pointer is null
-guard-null : (c : Configuration) (i : ℕ) (r : Rule) → kind_of r ≡ Kind.Seduction → guard c i r ≡ true → c.p i ≡ None
-guard-null c i r e g = grind (arith, nat_tests, none-null, and_parts)
-
 only_seduction : (x : ℕ) (k : Kind) → unless_seduction x (Some k) ≡ None → k ≡ Kind.Seduction
 only_seduction x k h = grind (arith, nat_tests)
 
 idle_is_quiet : (c : Configuration) (x : ℕ) → IsLawful c → unless_seduction x (enabled_kind c x) ≡ None → IsQuiet c x
 idle_is_quiet c x l h = record { only = λ r g. only_seduction x (kind_of r) (ap (unless_seduction x) (sym (guard-kind c x r l g)) ∙ h) }
 
-idle_is_null : (c : Configuration) (i x : ℕ) → IsLawful c → LeadsTo c i x → unless_seduction x (enabled_kind c x) ≡ None → c.p x ≡ None
-idle_is_null c i x l leads h = grind (arith, nat_tests, leads-null, kind-guard, guard-null, only_seduction)
-
 -- if the walk from a free node finds no rule other than a seduction, the free node is quiet and has a null pointer
 pub idle-stays : (c : Configuration) (i : ℕ) → IsLawful c → i < c.size → is_married c i ≡ false → walk c i ≡ None → IsQuiet c i × (c.p i ≡ None)
-idle-stays c i l i_in free h = grind (arith, nat_tests, top-ends, idle_is_quiet, idle_is_null, quiet-alone)
+idle-stays c i l i_in free h = grind (arith, nat_tests, top-ends, idle_is_quiet, leads-null, kind-guard, none-null, quiet-alone)
 
 -- a node of the network, with the kind of the rule that is enabled there
 pub record IsWitness (c : Configuration) (e : ℕ × Kind) : Type 0 where
@@ -126,5 +119,4 @@ top_is c i n x e stays = sym stays ∙ e
 pub rises : (c : Configuration) (i j : ℕ) → IsLawful c → is_privileged c i ≡ false → (is_married c i ≡ false) ⊎ (c.m i ≡ false) → c.p i ≡ Some j
     → (i < j) × (c.m j ≡ false)
 rises c i j l idle free p =
-    let up = quiet-vain c i j l (idle-quiet c i l idle) p (elim free [ inl f ↦ f | inr f ↦ sym (idle-settled c i l idle) ∙ f ]) in
-    (up.1, up.0)
+    grind (arith, nat_tests, quiet-vain c i j l (idle-quiet c i l idle) p (elim free [ inl f ↦ f | inr f ↦ sym (idle-settled c i l idle) ∙ f ]), idle-quiet, idle-settled)

@@ -1,10 +1,10 @@
 -- If nodes get other names in the same order, each open link has the same node as its witness. A climb is the walk
 -- along the pointers with a limit on the number of its steps.
 use Rattle.std.proofs.Common.{◌≡◌, ◌⊎◌, ℕ, zero, suc, ◌<◌, ◌≤◌, Bool, true, false, Option, None, Some, unwrap_or, is_some, sym, refl, ap, ◌∙◌, subst, arith, inl, inr}
-use Rattle.std.proofs.lemmas.Bool.{and_parts, not-true, Decides.nat_tests}
+use Rattle.std.proofs.lemmas.Bool.{and_parts, Decides.nat_tests}
 use Rattle.mml_rules.specs.{declared.rule.Kind.Kind, Configuration.Configuration, Configuration.IsLawful, Rules.is_married, Rules.is_privileged, Naming.renamed, Naming.IsRenamed}
 use Rattle.mml_rules.proofs.{RulesLemmas.pointee_in, NamingLemmas.kind_named}
-use Rattle.mml_stable.specs.{Walk.climb, Walk.top, Walk.unless_seduction, Walk.walk, Walk.certificate, Walk.LeadsTo, Walk.LeadsTo.privileged, Walk.LeadsTo.null, Walk.LeadsTo.onward, Reports.is_open}
+use Rattle.mml_stable.specs.{Walk.climb, Walk.top, Walk.certificate, Walk.LeadsTo, Walk.LeadsTo.privileged, Walk.LeadsTo.null, Walk.LeadsTo.onward, Reports.is_open}
 use Rattle.mml_stable.proofs.WalkLemmas.{top-ends, climb_stops, climb_null, climb_onward}
 
 module _ (f : ℕ → ℕ) (c d : Configuration) (l : IsLawful c) (r : IsRenamed f c d) where
@@ -16,9 +16,6 @@ module _ (f : ℕ → ℕ) (c d : Configuration) (l : IsLawful c) (r : IsRenamed
   rank_first zero a = omega arith
   rank_first (suc i) a = let below = rank_first i (omega arith) in let up = r.rising i (suc i) (omega arith) a in omega arith
 
-  as_many : (n : ℕ) → c.size ≡ n → c.size ≤ d.size
-  as_many n e = grind (arith, nat_tests, rank_first)
-
   -- if a climb reaches the end of the walk, it reaches the same node under the new names
   climbed : (n m i : ℕ) → n ≤ m → i < c.size → (is_privileged c (climb c n i) ≡ true) ⊎ (c.p (climb c n i) ≡ None) → climb d m (f i) ≡ f (climb c n i)
   climbed n m i room i_in end = at n m i room i_in end (is_privileged c i) refl (c.p i) refl
@@ -26,8 +23,7 @@ module _ (f : ℕ → ℕ) (c d : Configuration) (l : IsLawful c) (r : IsRenamed
       at : (n m i : ℕ) → n ≤ m → i < c.size → (is_privileged c (climb c n i) ≡ true) ⊎ (c.p (climb c n i) ≡ None) → (b : Bool) → is_privileged c i ≡ b
           → (o : Option ℕ) → c.p i ≡ o → climb d m (f i) ≡ f (climb c n i)
       at n m i room i_in end true e o p = climb_stops d m (f i) (privileged_at i i_in ∙ e) ∙ ap f (sym (climb_stops c n i e))
-      at n m i room i_in end false e None p =
-          climb_null d m (f i) (privileged_at i i_in ∙ e) (r.p i i_in ∙ ap (renamed f) p) ∙ ap f (sym (climb_null c n i e p))
+      at n m i room i_in end false e None p = grind (arith, climb_null, privileged_at)
       at zero m i room i_in end false e (Some j) p = absurd (elim end [ inl t ↦ cc | inr none ↦ cc ])
       at (suc n) zero i room i_in end false e (Some j) p = absurd (omega arith)
       at (suc n) (suc m) i room i_in end false e (Some j) p =
@@ -44,18 +40,12 @@ module _ (f : ℕ → ℕ) (c d : Configuration) (l : IsLawful c) (r : IsRenamed
 
   top_named : (i : ℕ) → i < c.size → (is_married c i ≡ false) ⊎ (c.m i ≡ false) → top d (f i) ≡ f (top c i)
   unfolding top
-  top_named i i_in free = climbed c.size d.size i (as_many c.size refl) i_in (ends_there i (top c i) (top-ends c l i i_in free).leads)
+  top_named i i_in free = climbed c.size d.size i (grind (arith, rank_first)) i_in (ends_there i (top c i) (top-ends c l i i_in free).leads)
 
   -- the result of a walk, with the node under its new name
   abbrev found : Option (ℕ × Kind) → Option (ℕ × Kind)
   found None = None
   found (Some e) = Some (f e.0, e.1)
-
-  unless_named : (x : ℕ) (k : Option Kind) → unless_seduction (f x) k ≡ found (unless_seduction x k)
-  unless_named x k = grind (arith, nat_tests)
-
-  walk_named : (i : ℕ) → i < c.size → is_married c i ≡ false → walk d (f i) ≡ found (walk c i)
-  walk_named i i_in free = grind (arith, nat_tests, top-ends, top_named, kind_named, unless_named)
 
   either : (x y : Option (ℕ × Kind)) (a : ℕ)
       → unwrap_or (found x) (unwrap_or (found y) (f a, Kind.Seduction))
@@ -64,4 +54,4 @@ module _ (f : ℕ → ℕ) (c d : Configuration) (l : IsLawful c) (r : IsRenamed
 
   pub witness_named : (a b : ℕ) → is_open c a b ≡ true → certificate d (f a) (f b) ≡ (f (certificate c a b).0, (certificate c a b).1)
   unfolding certificate
-  witness_named a b h = grind (arith, nat_tests, and_parts, walk_named, not-true, either)
+  witness_named a b h = grind (arith, nat_tests, and_parts, top-ends, top_named, kind_named)

@@ -78,7 +78,7 @@ pass_items-items-preserved t c =
     let less : length r < length l.reader = rw (← going.1) c.in-Some.ensures.shorter in (
       n - 1,
       (λ ds. passed (item got.0 ds)),
-      omega (arith, l.invariant.2),
+      omega arith,
       l.invariant.3 ∙ ap (parse_map passed) (items_more c.args.depth n l.reader r got.0 l.invariant.2 going.0 some) ∙ mapped_twice passed (item got.0) _,
       omega (arith, l.invariant.4),
     )

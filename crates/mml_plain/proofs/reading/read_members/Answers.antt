@@ -41,7 +41,7 @@ members-preserved c =
     let lesser = c.in-Some-read_value.ensures.shorter in (
       n - 1,
       put k got.0 l.invariant.1,
-      omega (arith, l.invariant.2),
+      omega arith,
       l.invariant.3 ∙ members_more 126 l.invariant.1 n l.reader s k l.invariant.2 named c.read_value.new.reader got.0 got.1,
       rw c.put.ensures (holds_with k v got.0 l.invariant.1 got.2 l.fields l.invariant.4),
     )

@@ -1,4 +1,4 @@
-use Rattle.std.proofs.Common.{◌≡◌, List, ℕ, Bool, true, false, Some, None, Result, Ok, arith}
+use Rattle.std.proofs.Common.{◌≡◌, List, ℕ, Bool, true, Some, None, Result, Ok, arith}
 use Rattle.std.specs.{Bool.MatchBool, declared.alloc.AllocError.AllocError, Str.IsUtf8}
 use Rattle.json.specs.{Token.Token, Lex.tokens}
 use Rattle.serde_json.specs.Data.{Members, object}
@@ -16,9 +16,6 @@ object_is : (b : Bool) (fields : Fields) (line : List ℕ) → IsUtf8 line → F
     → (ms : Members) × (object_in line ≡ Some ms) × Holds fields (object ms)
 object_is b fields line u h e = grind (arith, object_in_is)
 
-other_is : (b : Bool) (fields : Fields) (line : List ℕ) → IsUtf8 line → Found b fields (tokens line) → the_answer b ≡ Ok false → object_in line ≡ None
-other_is b fields line u h e = grind (arith, object_in_is)
-
 pub returns-in_default-clause-other : goal.returns-in_default-clause-other
 returns-in_default-clause-other c = λ e. no_text c.args.line.now (c.in_default.ensures.cases.0)
 
@@ -26,4 +23,4 @@ pub returns-clause-object : goal.returns-clause-object
 returns-clause-object c = grind (arith, object_is)
 
 pub returns-clause-other : goal.returns-clause-other
-returns-clause-other c = grind (arith, other_is)
+returns-clause-other c = grind (arith, object_in_is)

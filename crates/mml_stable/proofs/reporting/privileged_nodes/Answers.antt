@@ -8,7 +8,7 @@ use Rattle.mml_stable.proofs.reporting.privileged_nodes.Goals as goal
 pub returns-clause-stable : goal.returns-clause-stable
 returns-clause-stable c =
     let d = configuration c.args.board.now in
-    let over : c.loop-index.index ≡ d.size = omega (arith, c.size-index-end.ensures.size) in
+    let over : c.loop-index.index ≡ d.size = omega arith in
     let count : vec_len c.loop-index.all ≡ length c.loop-index.all.items = search rules in
     c.is_empty-stable.ensures ∙ ap (λ k. eqb k 0) count ∙ ap (λ xs. eqb (length xs) 0) c.loop-index.invariant
     ∙ ap (λ n. eqb (length (each_below n (λ i. privileged_at i (enabled_kind d i)))) 0) over ∙ none_listed d.size (enabled_kind d)

@@ -8,7 +8,7 @@ use Rattle.std.specs.FinSet as sets
 use Rattle.mml_stable.proofs.reporting.put_open_links.Goals as goal
 
 pub loop-b-init : goal.loop-b-init
-loop-b-init c = grind (arith, nat_tests, links_of_ends)
+loop-b-init c = grind (arith, links_of_ends)
 
 pub loop-b-preserved : goal.loop-b-preserved
 loop-b-preserved c =
@@ -27,10 +27,10 @@ loop-b-preserved c =
     }
 
 pub returns : goal.returns
-returns c = grind (arith, nat_tests, all_put)
+returns c = grind (arith, all_put)
 
 pub open_link-requires-clause-a : goal.open_link-requires-clause-a
-open_link-requires-clause-a c = grind (arith, nat_tests, both_ends)
+open_link-requires-clause-a c = grind (arith, nat_tests)
 
 pub open_link-requires-clause-b : goal.open_link-requires-clause-b
-open_link-requires-clause-b c = grind (arith, nat_tests, both_ends)
+open_link-requires-clause-b c = grind (arith, nat_tests)
