@@ -20,7 +20,7 @@ use Rattle.mml_session.specs.Records.{Kept, stand, judged_at, is_shown, turn_ent
 use Rattle.mml_record.specs.{declared.kept_entry.Entry.Entry as KeptEntry, declared.stage.Stage.Stage, RecordedSeats.Held, RecordedSeats.RecordedSeat, RecordedSeats.IsResumedSeat}
 use Rattle.mml_record.specs.Entries.{all_kept, are_whole, are_ended, record_text as kept_texts}
 use Rattle.mml_record.specs.Certified.{Fits, FitsAsked, FitsGreeting, seen_after, phase_after, stage_at, stage_after, is_paused, is_line, is_journal, sees_some, asks_window, may_rise, may_grant, GoesOn, IsRecordOf}
-use Rattle.mml_record.proofs.{FitLemmas.first_of, OnceLemmas.ruling_no_bye, RecordLemmas.same_text, RecordLemmas.has_halted, RecordLemmas.turn_halted, RecordLemmas.shown_halted, ShownLemmas.sees_shown}
+use Rattle.mml_record.proofs.{FitLemmas.first_of, OnceLemmas.ruling_no_bye, RecordLemmas.same_text, RecordLemmas.has_halted, RecordLemmas.open_at, RecordLemmas.turn_halted, RecordLemmas.shown_halted, ShownLemmas.sees_shown}
 use Rattle.mml_record.proofs.SaidLemmas.{turns_all, turns_asked, judged_there, quiet}
 use Rattle.mml_codec.specs.declared.reply.Refused.TheVariants as refused
 use Rattle.mml_codec.specs.declared.reply.Reply.TheVariants as reply
@@ -226,10 +226,6 @@ module _ (lab : LabValue) (is : IsLab lab) (l : List Event) (number : ℕ) where
         subst (λ (m : List Event). IsPrefix m (take p l)) (sym seen)
         (prefix_shorter (take least l) (take p l) l (drop least l, take-append-drop least l) (drop p l, take-append-drop p l)
         (omega (arith, le, few, length-take-le p l few, length-take-le least l (omega (arith, le, few)))))
-
-    -- the open stage of a seat with this window
-    abbrev open_at : WindowValue → Stage
-    open_at w = stage_at phases.Open (has_halted w)
 
     -- let p be `least`, or let the known participant be one who can be shown something; if sessions make the rest of
     -- the entries from each window that has seen p events, and counted refusals `journal` if this one has, they also
