@@ -53,9 +53,9 @@ def run(attempt: Attempt) -> None:
 
 
 def check_rest(attempt: Attempt, seconds: float) -> None:
-    """Runs the stable class for `seconds` seconds, and checks that the bot asks for no move. Accepts one move for each
-    of its nodes, because it may follow from an earlier look. Raises `Fails` if the bot asks for more, or if it sends
-    its lines too fast."""
+    """Runs the stable class for LATE seconds, in which the bot's lines don't count, and then for `seconds` seconds.
+    Raises `Fails` if in this time the bot sends its lines too fast, or asks for more moves than it has nodes. One move
+    for each node is accepted, because the bot may ask for it after an earlier look."""
     attempt.run_for(LATE)
     before, lines, since = attempt.heard.asked, attempt.heard.lines, time.monotonic()
     attempt.run_for(seconds)

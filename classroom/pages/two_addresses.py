@@ -78,8 +78,9 @@ class AtAddress(PageRequest):
         return (known[0], rest) if known and slash else ("", "")
 
     def do_POST(self) -> None:
-        """Handles a line of the teacher. Answers 204, or 400 if the page may not send this line. Answers 404 at any
-        other address than that to act at."""
+        """Handles a line of the teacher, which is the request's body. Answers 204, or 400 if the page may not send this
+        line. Answers 404 if the path isn't `act` below the token to act, if the body has more than MOST_BYTES bytes, or
+        if its size isn't a number. Answers 421 if the request names another host or another port."""
         if self.reject_foreign_host():
             return
         body = self.body(MOST_BYTES) if self.asked() == (self.server.acts, "act") else None

@@ -245,7 +245,9 @@ class Desk:
         self.another_page()
 
     def renew_key(self, name: str) -> None:
-        """Gives the student `name` another key. Raises `ValueError` if that isn't possible."""
+        """Gives the student `name` another key. For that the server is restarted, so all programs have to connect
+        again. Raises `ValueError` if the run was started with --serve or there is no such student, and `Fault` if the
+        server can't be restarted."""
         if self.another_key is None:
             raise ValueError("the key can't be changed, because this run was started with --serve. End the run, and change the key by `class key`")
         self.another_key(name)
