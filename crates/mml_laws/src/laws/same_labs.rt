@@ -1,8 +1,9 @@
 //! Two labs that agree in everything that a journal names. Such labs are called the same here. Each law is the contract
 //! of a function that does nothing.
 //!
-//! A list of events is legal if each event is allowed in the world after the earlier ones. The audit of a journal
-//! checks that its lines are those of a legal list.
+//! A world is a network with its registers, its chosen moves, the number of its configuration, and the number of events
+//! so far. A list of events is legal if each event is allowed in the world after the earlier ones. The audit of a
+//! journal checks that its lines are those of a legal list. A journal is halted if a line couldn't be written to it.
 ghost use Rattle.std.specs.Prelude.{◌≡◌, ◌<◌, ℕ, Bool, List, length};
 ghost use Rattle.mml_lab.specs.declared.who.Who.{Who};
 ghost use Rattle.mml_lab.specs.Rosters.{IsPrincipal, name_of, owns};
@@ -46,9 +47,10 @@ pub fn same_labs_audit_alike()
         is_legal a.roster w e ≡ is_legal b.roster w e }
 {}
 
-/// In each world, each command has the same ruling in two labs that are the same. It shows something, or is denied,
-/// refused or granted, in both, for the same reason and with the same effect. A hello that is granted has the same
-/// reply line in both.
+/// Suppose that two labs are the same, that the limit of events is the same in both, and that the journal is halted in
+/// both or in neither. Then each command has the same ruling in both, in each world: the command is denied or refused
+/// in both for the same reason, granted in both with the same effect, or answered in both with the same result. A hello
+/// that is granted has the same reply line in both labs, even if their limits differ.
 pub fn same_labs_rule_alike()
     ensures rulings { (a b : LabValue) (limit : ℕ) (is_halted : Bool) (w : World) (who : Who)
         (c : Command) → IsLab a → IsLab b → IsSameLab a b →
