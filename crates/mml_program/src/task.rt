@@ -299,8 +299,8 @@ pub fn lab_of<R: Files + AllocGlobal>(rt: &R, path: &str) -> Result<Lab, Fault> 
     lab_in(rt.alloc(), bytes.as_slice())
 }
 
-/// Returns the lab that the `bytes` of a lab file describe. Returns `Lab` with the reason if they describe none, or
-/// `Memory` if memory runs out.
+/// Returns the lab that the `bytes` of a lab file describe. Returns the error `Fault::Lab` with the reason if they
+/// describe none, or `Fault::Memory` if memory runs out.
 pub fn lab_in(alloc: Global, bytes: &[u8]) -> Result<Lab, Fault> {
     Ok(read_lab(alloc, bytes)?)
 }
