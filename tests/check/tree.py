@@ -28,8 +28,8 @@ Quick = tuple[str, str, int, tuple[str, ...], tuple[str, ...]]
 
 
 def part(name: str, line: str, width: int = 1, needs: tuple[str, ...] = (), likes: tuple[str, ...] = ()) -> Quick:
-    """Returns a part for the stand-in's table of quick parts, which runs the shell line `line`. The other values are
-    those of a `Part` with this name."""
+    """Returns a row for the table QUICK in TABLES: a part named `name` that runs the shell line `line`. `width`,
+    `needs` and `likes` mean the same as in the class `Part` of `tools/check/parts.py`."""
     return name, line, width, needs, likes
 
 
@@ -65,8 +65,8 @@ class InTree(unittest.TestCase):
         return sorted(str(it.relative_to(self.tree)) for it in self.tree.rglob("*"))
 
     def environment(self, **more: str) -> dict[str, str]:
-        """Returns the environment of a check: without CI, and with its own folder for temporary files if they are
-        checked."""
+        """Returns the environment of a check: that of the test without the variable CI, with the folder `temporary` as
+        TMPDIR and the folder `room` as ROOM, and with `more`."""
         kept = {name: it for name, it in os.environ.items() if name != "CI"}
         return {**kept, "TMPDIR": str(self.temporary), "ROOM": str(self.room), **more}
 

@@ -57,6 +57,8 @@ class Hostile(Disputed):
     """Copies of a folder with a strange file each, and the error line of each subcommand."""
 
     def setUp(self) -> None:
+        """Makes the folder of a run in which gus was granted a move in configuration 0, and was then denied a move as
+        `stale`, because this request named configuration 7."""
         super().setUp()
         going = Going(self, CYCLE, "--close", "by-hand")
         with Raw(going.port, "gus") as gus:
@@ -64,12 +66,12 @@ class Hostile(Disputed):
             gus.ask(MOVE % 0)
             gus.ask(MOVE % 7)
         going.until("^disconnected: gus$")
-        self.whole_one = self.ended(going)
+        self.run_folder = self.ended(going)
 
     def copy(self) -> Path:
         """Returns another copy of the run's folder."""
         folder = self.room / f"copy-{len(list(self.room.iterdir()))}"
-        shutil.copytree(self.whole_one, folder)
+        shutil.copytree(self.run_folder, folder)
         return folder
 
     def says(self, done: subprocess.CompletedProcess[str], status: int, *named: Path | str) -> None:
@@ -80,7 +82,7 @@ class Hostile(Disputed):
             self.assertIn(str(each), told)
 
     def test_a_part_of_the_record_that_is_no_plain_file(self) -> None:
-        seat = self.seat(self.whole_one).name
+        seat = self.seat(self.run_folder).name
         for name in (seat, "lab", "begun"):
             for spoil in SPOILS:
                 folder = self.copy()
@@ -109,7 +111,7 @@ class Hostile(Disputed):
     def test_the_program_waits_for_no_pipe(self) -> None:
         it = host()
         assert it is not None
-        for name in (self.seat(self.whole_one).name, "begun"):
+        for name in (self.seat(self.run_folder).name, "begun"):
             for spoil in (pipe, endless, nowhere):
                 folder = self.copy()
                 spoil(folder / "record" / name)
@@ -145,7 +147,7 @@ class Hostile(Disputed):
         self.assertEqual((done.returncode, done.stderr), (4, "journal fault\n"))
 
     def test_texts_that_are_strange(self) -> None:
-        seat = self.seat(self.whole_one).name
+        seat = self.seat(self.run_folder).name
         number = seat.partition(".")[0]
         for name, text in (
             (f"record/{seat}", f"{number} 0 > {DEEP}\n{number} 0 < {DEEP}\n"), (f"record/{seat}", f"{number} {MANY} .\n"),
@@ -164,8 +166,8 @@ class Hostile(Disputed):
                 heard.catch_up(0)
 
     def test_what_a_run_keeps_and_is_none(self) -> None:
-        kept = json.loads((self.whole_one / RECORD).read_text(encoding="utf-8"))
-        self.assertIsNotNone(Record.read(self.whole_one))
+        kept = json.loads((self.run_folder / RECORD).read_text(encoding="utf-8"))
+        self.assertIsNotNone(Record.read(self.run_folder))
         for text in (DEEP, json.dumps(kept).replace(str(kept["port"]), MANY), json.dumps([kept]), "{}", "5", "", "\\xff", "null", MANY, *(
                 json.dumps(kept | change) for change in (
                     {"lab": 5}, {"lab": None}, {"lab": "\0"}, {"lab": "\ud800"}, {"port": "4711"}, {"port": -1}, {"port": 1 << 40}, {"desk": True},
@@ -188,7 +190,7 @@ class Hostile(Disputed):
         self.assertIsNone(Record.read(folder))
 
     def test_a_record_of_another_lab_is_refused(self) -> None:
-        text = (self.whole_one / "record" / "lab").read_text(encoding="utf-8")
+        text = (self.run_folder / "record" / "lab").read_text(encoding="utf-8")
         key = re.search(r'(?m)^key = "(.*)"$', text)
         assert key is not None
         other = {"another owner": text.replace('owner = "hana"', 'owner = "ines"', 1), "another link": text.replace("[1, 2]", "[1, 3]", 1)}

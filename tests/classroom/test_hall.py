@@ -99,7 +99,7 @@ class Served(unittest.TestCase):
 class OfAClass(Classes):
     """The page of a running class."""
 
-    def test_it_shows_closes_shakes_and_ends(self) -> None:
+    def test_it_shows_the_networks_and_shakes_resumes_and_ends_them(self) -> None:
         port = a_port()
         desk = self.begin("--close", "by-hand", "--page", str(port), "--rooms", "A,B")
         looks, acts = (next(found[1] for line in desk.lines if (found := re.fullmatch(f"page for all networks{kind} (http.*)", line)))
@@ -111,6 +111,7 @@ class OfAClass(Classes):
         for number, it in enumerate(state["networks"], 1):
             self.assertEqual(ask(it["page"])[0], 200)
             self.assertNotIn(urlsplit(json.loads(ask(f"{acts}state")[1])["networks"][number - 1]["page"]).path, json.dumps(state))
+        # The page accepts each line of the right form, also for a network that doesn't exist.
         self.assertEqual(ask(f"{acts}act", "maths-9: close")[0], 204)
         self.assertEqual(ask(f"{acts}act", "2: shake all")[0], 204)
         desk.until("^maths-2: the registers of 4 nodes were set$")

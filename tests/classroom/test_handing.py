@@ -168,7 +168,7 @@ class Anew(Slips):
 class Ways(unittest.TestCase):
     """The ways in for students."""
 
-    def test_names_that_an_address_can_t_have(self) -> None:
+    def test_an_address_escapes_special_characters_of_a_key(self) -> None:
         way = Way(4711, "maths", door=DOOR, fingerprint="0" * 64)
         self.assertEqual(printed.address(way, "zoe", "a b&c#d%"), f"https://{DOOR}/maths/#name=zoe&key=a%20b%26c%23d%25")
 

@@ -1,5 +1,5 @@
-"""Parts of experiments and grades: the merged table is the same as that of one run, byte for byte, also with GNU
-parallel."""
+"""Parts of experiments and grades: the merged table is the same as that of a single call without parts, byte for byte,
+also with GNU parallel."""
 from __future__ import annotations
 
 import argparse
@@ -37,15 +37,15 @@ class Numbers(unittest.TestCase):
 class Experiments(InRoom):
     """Tables of experiments."""
 
-    def one_run(self) -> bytes:
-        """Measures all runs by a single call. Returns the bytes of its table."""
+    def table_of_one_call(self) -> bytes:
+        """Makes all runs by a single call, without parts. Returns the bytes of its table."""
         whole = self.room / "whole.csv"
         done = words(*RUNS, "--csv", whole)
         self.assertEqual(done.returncode, 0, done.stderr)
         return whole.read_bytes()
 
-    def test_the_merged_table_is_that_of_one_run(self) -> None:
-        whole = self.one_run()
+    def test_the_merged_table_is_that_of_one_call(self) -> None:
+        whole = self.table_of_one_call()
         files = [self.room / f"part-{number}.csv" for number in (1, 2, 3)]
         for number, file in enumerate(files, 1):
             self.assertEqual(words(*RUNS, "--part", f"{number}/3", "--csv", file).returncode, 0)
@@ -76,7 +76,7 @@ class Experiments(InRoom):
     @unittest.skipUnless(shutil.which("parallel"), "not tried: parallel")
     def test_gnu_parallel_spreads_the_parts(self) -> None:
         """Runs the commands of docs/OPERATE.md, with the test's own programs as first words."""
-        whole = self.one_run()
+        whole = self.table_of_one_call()
         shown = (TOP / "docs/OPERATE.md").read_text(encoding="utf-8")
         for line in ("parallel ./class experiment --runs 1000 --part {}/8 --csv part-{}.csv ::: $(seq 8)",
                      "./class experiment --runs 1000 --merge part-*.csv --csv all.csv"):
@@ -96,7 +96,7 @@ class Grades(InRoom):
         every = json.loads((self.room / "whole.json").read_text(encoding="utf-8"))
         file.write_text(json.dumps(of(every, (number, count))), encoding="utf-8")
 
-    def test_the_merged_results_are_those_of_one_run(self) -> None:
+    def test_the_merged_results_are_those_of_one_call(self) -> None:
         """Each part has its own cases. The first part is run, and the others are copied from the whole."""
         labs = self.room / "labs"
         labs.mkdir()

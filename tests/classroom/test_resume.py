@@ -293,11 +293,12 @@ class Resume(Cycle):
         self.assertEqual(again.ended(), 0, again.lines)
         self.assertEqual(call("audit", kept, going.folder / "journal").status, 0)
 
-    def test_words(self) -> None:
+    def test_run_needs_either_a_lab_or_the_folder_of_a_run(self) -> None:
         both: list[str | Path] = [CYCLE, "--resume", self.room]
-        for asked in (both[:0], both):
+        for asked in (both[:0], both):  # neither of the two, and then both
             done = words("run", *asked)
             self.assertEqual((done.returncode, done.stderr), (1, "class: run: name either one or more labs, or the folder of a run by --resume FOLDER\n"))
+        # This folder isn't that of a run.
         self.assertEqual(words("run", "--resume", self.room).returncode, 1)
 
 

@@ -131,7 +131,8 @@ def drawing(text: str) -> str:
 
 
 def faults() -> list[str]:
-    """Returns error texts about what the picture shows and isn't true."""
+    """Returns an error text if `docs/crates.svg` isn't the picture of `crates.txt`. Returns another one for each crate
+    that lacks the function or law which its group provides, and for each folder in FOLDERS that doesn't exist."""
     text = (TOP / "crates.txt").read_text(encoding="utf-8")
     is_so = PICTURE.exists() and PICTURE.read_text(encoding="utf-8") == drawing(text)
     found = [] if is_so else ["docs/crates.svg isn't that of crates.txt: python3 -B -m tests.documents.crates"]

@@ -165,8 +165,9 @@ def gone(port: int, until: float, draw: random.Random) -> str:
     return ""
 
 
-def stands() -> str:
-    """Returns an empty text. The function is called to see that the process of a hostile client has begun."""
+def occupy_process() -> str:
+    """Keeps its process busy for half a second, so that the pool uses another process for the next call. Returns an
+    empty text, as a hostile client does if nothing is wrong."""
     time.sleep(0.5)
     return ""
 
@@ -368,7 +369,7 @@ def work(room: Path) -> str:
     rest = resting(server)
     with ProcessPoolExecutor(len(ALL)) as pool:
         # The processes are started before the time is measured, so that all clients run at once for `seconds` seconds.
-        answered([pool.submit(stands) for _ in ALL])
+        answered([pool.submit(occupy_process) for _ in ALL])
         until = time.monotonic() + seconds
         futures = [
             pool.submit(client, server.port, until, random.Random(seed)) for seed, client in enumerate(ALL)

@@ -211,8 +211,8 @@ def alone(host: Host) -> float:
 
 
 def waits_little(taken: list[float], quiet: float, most: float = 2.0) -> None:
-    """Checks that most of the times in `taken` are below `most` seconds. On a slow machine the limit is a multiple of
-    `quiet`, the time without outsiders."""
+    """Checks that more than half of the times in `taken` are at most `most` seconds plus 20 times `quiet`, the time
+    without outsiders. So the limit is higher on a slow machine."""
     if sorted(taken)[len(taken) // 2] > most + 20 * quiet:
         fail(f"outsiders: honest clients wait for a seat: {taken} seconds, alone {quiet}")
 
@@ -319,9 +319,10 @@ def nobody_behind(room: Path) -> None:
 
 
 def guesses(host: Host, quiet: float) -> tuple[int, int, float]:
-    """Honest hellos at both ports are answered within a tenth of a second while clients guess keys. Fifteen clients
-    guess at the students' port, and then fourteen also at the desk. Returns the number of denied guesses, the number of
-    clients with another answer, and the seconds."""
+    """Checks that honest clients at both ports are answered as soon as `waits_little` requires, with a limit of a tenth
+    of a second, while other clients guess keys. Five clients guess at the students' port, then fifteen, and then
+    fourteen also at the desk. Returns the number of denied guesses, the number of connections on which no guess was
+    denied, and the seconds."""
     stop, denied, others = threading.Event(), [0] * 29, [0] * 29
 
     def guess(at: int) -> None:
@@ -354,8 +355,9 @@ def guesses(host: Host, quiet: float) -> tuple[int, int, float]:
 
 
 def guessed_keys(room: Path) -> None:
-    """Clients that guess keys get less than a hundred denials a second in total, but nearly that. The teacher's
-    program gets lines about the guesses."""
+    """Clients that guess keys get at least a hundred denials in total, but at most a hundred a second. The number of
+    connections without a denial is at most a quarter of the number of denials. A line on the host's standard error
+    reports the guesses."""
     with Host(lab_of(room, 16), 0, 0) as host:
         denied, others, seconds = guesses(host, alone(host))
         if denied / seconds > 100 or denied < 100:
@@ -397,30 +399,31 @@ def queues(host: Host, caller: Caller) -> str:
 
 
 def never_reads(room: Path) -> None:
-    """A client that reads none of its replies for ten seconds is disconnected, and not much later."""
+    """A client that reads none of its replies is disconnected about ten seconds after the host's queues for it last
+    changed: not sooner than five seconds after that, and within 500 polls of the queues."""
     lab = lab_of(room, 4)
     with Host(lab, 0, 0) as host:
         deaf = let_in(host.port, hello("ana"))[0]
         deaf.socket.setblocking(False)
-        held, last, looks = "", time.monotonic(), 0
-        earlier = last
-        while looks < 500:
+        queued, last_change, polls = "", time.monotonic(), 0
+        change_before = last_change
+        while polls < 500:
             try:
                 deaf.socket.send(look("ana") * 1000)
             except BlockingIOError:
                 pass
             except ConnectionError:
-                # The change that was seen last may be the end of the connection itself.
-                last = earlier if looks == 1 else last
+                # If the last poll saw a change, this may have been the end of the connection itself. Then the change
+                # before it counts.
+                last_change = change_before if polls == 1 else last_change
                 break
-            if (now := queues(host, deaf)) != held:
-                earlier, held, last, looks = last, now, time.monotonic(), 0
+            if (now := queues(host, deaf)) != queued:
+                change_before, queued, last_change, polls = last_change, now, time.monotonic(), 0
             time.sleep(0.05)
-            looks += 1
-        # The connection may not end sooner than five seconds after its queues last changed. It has to end within 500
-        # looks, which take longer on a slow machine.
-        if time.monotonic() - last < 5 or looks == 500:
-            fail(f"outsiders: who never reads is cut off after {time.monotonic() - last} seconds")
+            polls += 1
+        # 500 polls take 25 seconds or more, and still longer on a slow machine.
+        if time.monotonic() - last_change < 5 or polls == 500:
+            fail(f"outsiders: who never reads is cut off after {time.monotonic() - last_change} seconds")
         ends(host, let_in(host.desk, hello("tess"))[0])
 
 

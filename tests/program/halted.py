@@ -77,8 +77,8 @@ class Limited:
         return Ended(done.returncode, done.stdout, done.stderr), self.journal.read_bytes()
 
 
-def first_part(script: bytes, replies: bytes) -> tuple[list[bytes], list[bytes]]:
-    """Returns the lines of a script with its first events and looks, and their replies."""
+def hellos_and_events(script: bytes, replies: bytes) -> tuple[list[bytes], list[bytes]]:
+    """Returns the lines of a script that are hellos or granted acts, and their replies."""
     pairs = list(zip(script.splitlines(keepends=True), replies.splitlines(keepends=True)))
     acts = [(line, reply) for line, reply in pairs if b'"place":' in reply or b'"hello"' in reply]
     return [line for line, _ in acts], [reply for _, reply in acts]
@@ -112,7 +112,7 @@ def work(room: Path) -> str:
     if ended != Ended(4, WELCOMES + ANSWERED, b"journal fault\n") or journal != b"1 0 grant ana 1 seduction\n":
         fail(f"another end of a run whose second line isn't taken: {ended} {journal!r}")
     script, out = (TOP / f"examples/whole-run.{kind}" for kind in ("script", "out"))
-    acts, replies = first_part(script.read_bytes(), out.read_bytes())
+    acts, replies = hellos_and_events(script.read_bytes(), out.read_bytes())
     for most in range(len(JOURNAL) + 2):
         ended, journal = limited.run(b"".join(acts), most)
         fault = fault_of(ended, most, replies) or ("" if journal == JOURNAL[:most] else f"another journal {journal!r}")

@@ -452,14 +452,15 @@ def slipped(room: Path) -> int:
 
 
 def work(room: Path) -> str:
-    """Compares records by hand, changed records, records of random runs and those of a host with the model. Returns a
-    line with their numbers."""
+    """Compares the verdicts of the program and of the model on these records: those written by hand, incomplete and
+    long ones, those with a changed byte, and those of random runs, some of them with an impossible entry. Then checks
+    classes that a host records. Returns a line with the numbers of records and classes."""
     lab_file = lab_of(room, 4, 100)
     document = lab_file.read_text(encoding="ascii")
     lab = read_lab(document.encode("ascii"))
     files = Files(room, document)
     hand = by_hand(files, lab) + without_a_node(room, document)
-    files = Files(room, document)
+    files = Files(room, document)  # since `without_a_node` has written another lab into the same file
     other_files(files, lab)
     by_pieces(files, lab)
     bytes_hurt = at_each_byte(files, lab)

@@ -74,7 +74,8 @@ def flood(caller: Caller, count: int) -> int:
 
 
 def leave(caller: Caller) -> None:
-    """Says bye on a connection, and waits until its seat is free."""
+    """Says bye on a connection, and waits until the host has closed it. Fails if the bye gets another reply than
+    usual."""
     if (caller.ask(BYE), caller.line()) != (BID, b""):
         fail("record: another reply to a bye after a flood")
 
