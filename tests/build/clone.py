@@ -33,6 +33,8 @@ with (room / "runs").open("a") as it:
     it.write(" ".join(crates) + "\\n")
 with (room / "processors").open("a") as it:
     it.write(f"{{crates[-1]}} {{len(crates)}} {{len(os.sched_getaffinity(0))}}\\n")
+with (room / "memory").open("a") as it, open("/proc/meminfo") as memory:
+    it.write(f"{{crates[-1]}} {{len(crates)}} {{memory.readline().split()[1]}}\\n")
 for crate in crates:
     kept = room / "kept" / crate
     if not kept.exists():

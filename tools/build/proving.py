@@ -129,7 +129,8 @@ class Proving:
         for crate in self.progress.next():
             if not self.runs or has_memory():
                 place = self.room.place(with_those_below([crate], self.crates))
-                self.runs[crate] = Run(place, self.progress.is_first(crate))
+                is_alone = len(self.progress.proved) + 1 == len(self.crates)
+                self.runs[crate] = Run(place, self.progress.is_first(crate), is_alone=is_alone)
                 self.progress.begun[crate] = time.monotonic()
 
     def outcome(self, run: Run, crates: list[str] | Uses) -> Path | None:

@@ -14,6 +14,7 @@ from types import FrameType
 
 from tools.build.place import Place
 from tools.build.progress import Progress
+from tools.build.wide import ALONE
 
 ENDING = (signal.SIGINT, signal.SIGTERM, signal.SIGHUP)
 PR_SET_PDEATHSIG = 1
@@ -94,11 +95,13 @@ class Screen:
 class Run:
     """A run of `rt ci` in a repository."""
 
-    def __init__(self, place: Place, is_first: bool = True, is_whole: bool = False) -> None:
+    def __init__(self, place: Place, is_first: bool = True, is_whole: bool = False, is_alone: bool = False) -> None:
         """Starts `rt ci` in a repository. If `is_first` is set, the run has the usual priority, and otherwise a lower
-        one. If only `is_first` is set, the run gets all processors. `is_whole` says that the run proves all crates."""
+        one. If `is_first` is set and `is_whole` isn't, the run gets all processors. `is_whole` says that the run proves
+        all crates. If `is_alone` is set, no other crate is left, and the run may use twice as much memory."""
         self.place, self.read = place, 0
-        words = ["rt"] if is_whole or not is_first else [sys.executable, "-B", str(WIDE)]
+        wide = [sys.executable, "-B", str(WIDE), *[ALONE] * is_alone]
+        words = ["rt"] if is_whole or not is_first else wide
         with place.log.open("wb") as output:
             self.process = subprocess.Popen(
                 [*words, "ci"], cwd=place.repository, stdin=subprocess.DEVNULL, stdout=output, stderr=subprocess.STDOUT,
