@@ -121,8 +121,9 @@ def table(path: Path, text: str, words: argparse.Namespace) -> People:
 
     parts = [whole] if whole is not None else [index for index in (first, last) if index is not None]
     if not parts:
-        raise Fault(f"{path}: {columns_told(heads)}, and none of them is called name. Say which column has the names, by --column COL, "
-                    "or which two have them, by --first-name COL and --last-name COL")
+        raise Fault(f"{path}: {columns_told(heads)}, and none of them is called name. Say which column has the names, "
+                    "by --column COL, or which two have them, by --first-name COL and --last-name COL. If the first row "
+                    "has no names of columns, write such a row above it")
     rows: list[tuple[list[str], Person | None]] = []
     for row in lines[1:]:
         row += [""] * (len(heads) - len(row))

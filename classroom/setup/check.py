@@ -26,6 +26,7 @@ KNOWN = {
     "student": ("name", "key", "written", "id"),
     "node": ("id", "owner", "owners", "p", "m"),
 }
+ABOVE = "above"  # stands for an advice: to write a key of the document above all tables
 MOST_LISTED = 8
 ENOUGH_BITS = 64  # the bits that a key needs if a person may have chosen it
 ENOUGH_DRAWN = keys.bits_of(keys.WORDS_EACH, keys.DIGITS)  # the bits that a key needs if it was drawn by lot, as `new` does
@@ -41,9 +42,40 @@ def refused(path: Path, error: str) -> Iterator[str]:
     line, what = place_of_error(text, error)
     if line is not None:
         yield f"  line {line}{what}: {text.splitlines()[line - 1].strip()}"
+    if hint := hint_of(error):
+        yield f"  {hint}"
     for found, key, meant in unknown_keys(text):
         if meant:
-            yield f"  line {found}: {key} isn't known here. Did you mean {meant}?"
+            yield f"  line {found}: {key} isn't known here. {suggestion(key, meant)}"
+
+
+def suggestion(key: str, meant: str) -> str:
+    """Returns what to write for an unknown key. `meant` is the third value of `unknown_keys`."""
+    if meant == ABOVE:
+        return f"Write {key} above the first line in brackets, such as [teacher]"
+    return f"Did you mean {meant}?"
+
+
+def hint_of(error: str) -> str:
+    """Returns what the format allows, for an error of the program that doesn't say it, or an empty text. Without the
+    limits of the program there is none."""
+    most = limits.known()
+    what = re.sub(r"^lab: (?:\w+ \d+: )?", "", error)
+    hints = {} if most is None else {
+        "bad name or key": f"A name has 1 to {most.name} letters a to z, digits and hyphens, and begins with a letter. "
+                           f"A key has 1 to {most.key} printable ASCII characters, and no space",
+        "owner and owners": "A node has either `owner` or `owners`. Delete one of the two",
+        "identifier out of range": f"`id` has to be from 1 to {most.identifier}",
+        "identifier stands twice": "An earlier node has the same `id`",
+        "name stands twice": "An earlier participant has the same name",
+        "owner stands twice": "The two owners are the same student",
+        "stands twice": "An earlier link joins the same nodes",
+        "too many nodes": f"A lab can have at most {most.nodes} nodes",
+        "events is out of its limits": f"`events` has to be from 1 to {most.events}",
+        "sessions is out of its limits": f"`sessions` has to be from 1 to {most.sessions}",
+        "student is out of its limits": f"A lab can have at most {most.students} students",
+    }
+    return hints.get(what, "")
 
 
 def place_of_error(text: str, error: str) -> tuple[int | None, str]:
@@ -93,7 +125,8 @@ def line_of_key(text: str, key: str) -> tuple[int | None, str]:
 
 def unknown_keys(text: str) -> Iterator[tuple[int, str, str | None]]:
     """Yields the keys and tables in a lab's text that the format doesn't have. Each is the number of its line, the key
-    or table, and the most similar known one, or None if none is similar."""
+    or table, and the most similar known one, or None if none is similar. For a key of the document in another table,
+    the third value is ABOVE."""
     for table in positions.tables(text):
         known = KNOWN.get(table.name)
         if known is None:
@@ -102,9 +135,7 @@ def unknown_keys(text: str) -> Iterator[tuple[int, str, str | None]]:
             continue
         for key, line in table.keys.items():
             if key not in known:
-                home = next((name for name, known_keys in KNOWN.items() if key in known_keys and not name), None)
-                meant = f"{key} above the first header" if home is not None else nearest(key, known)
-                yield line, key, meant
+                yield line, key, ABOVE if key in KNOWN[""] else nearest(key, known)
 
 
 def nearest(key: str, known: Iterable[str]) -> str | None:
@@ -237,7 +268,8 @@ def warnings(path: Path) -> Iterator[str]:
     one of them, and its keys, owners and limits aren't checked."""
     text = path.read_text(encoding="utf-8-sig")
     for line, key, meant in unknown_keys(text):
-        yield f"line {line}: {key} isn't known here, so it is ignored." + (f" Did you mean {meant}?" if meant else "")
+        more = f" {suggestion(key, meant)}" if meant else ""
+        yield f"line {line}: {key} isn't known here, so it is ignored.{more}"
     try:
         lab = labs.read(path)
     except Fault as fault:

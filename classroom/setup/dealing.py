@@ -28,9 +28,14 @@ class Part:
 def in_groups(people: list[str], count: int) -> list[list[str]]:
     """Returns the people in `count` groups, whose sizes differ by at most one. Raises `Fault` if `count` is less than 1
     or more than the number of people."""
-    if not 1 <= count <= len(people):
-        raise Fault(f"--groups {count}: each of the groups needs a student. Write a number from 1 to {len(people)}")
+    require_students(count, len(people))
     return [people[index::count] for index in range(count)]
+
+
+def require_students(count: int, students: int) -> None:
+    """Raises `Fault` unless there can be `count` groups, each with one of this number of students."""
+    if not 1 <= count <= students:
+        raise Fault(f"--groups {count}: each of the groups needs a student. Write a number from 1 to {students}")
 
 
 def parts(people: People, count: int | None, column: str | None) -> list[Part]:
@@ -54,12 +59,13 @@ def networks_of(rooms: dict[str, list[str]], count: int | None, column: str) -> 
     """Returns the number of networks of each room. `rooms` has the students of each. If `count` is None, each room has
     as many networks as give all its students a seat. Otherwise there are `count` in total: one for each room, and each
     further one goes to the room with the most students per network. Raises `Fault` if `count` is less than the number
-    of rooms. `column` is the name of the rooms' column, for the message."""
+    of rooms or more than that of students. `column` is the name of the rooms' column, for the message."""
     if count is None:
         seats = limits.allowed().seats
         return {room: -(-len(names) // seats) for room, names in rooms.items()}
     if count < len(rooms):
         raise Fault(f"--groups {count}: the column {column} has {len(rooms)} rooms, and each needs at least one group. The rooms are: {', '.join(rooms)}")
+    require_students(count, sum(map(len, rooms.values())))
     shares = dict.fromkeys(rooms, 1)
     for _ in range(count - len(rooms)):
         shares[max(rooms, key=lambda room: len(rooms[room]) / shares[room])] += 1

@@ -19,6 +19,7 @@ from classroom.core import lab as labs
 from classroom.core import bounds, limits, lists, networks
 from classroom.core.lists import Person
 from classroom.core.program import CLASS, Fault, call, program
+from classroom.core.statuses import LAB
 from classroom.door import certificate
 from classroom.setup import dealing, handing, keys, names, printed, shaking, slips
 from classroom.setup.slips import Way
@@ -41,9 +42,10 @@ def start(made: labs.Lab, word: str, chance: random.Random) -> None:
 
 def make(words: argparse.Namespace, people: dict[str, Person], chance: random.Random) -> labs.Lab:
     """Returns the lab that the arguments `words` describe, for the students in `people`, which has them by their names
-    in the lab. `chance` makes the random choices. Raises `Fault` if the arguments name no network, or there are fewer
-    students than owners of a node."""
+    in the lab. `chance` makes the random choices. Raises `Fault` if the arguments name no network, there are fewer
+    students than owners of a node, or the lab would exceed a limit."""
     students = list(people)
+    require_limits(words, len(students))
     if words.links:
         identifiers, links = networks.from_file(Path(words.links), words.nodes)
     else:
@@ -60,6 +62,20 @@ def make(words: argparse.Namespace, people: dict[str, Person], chance: random.Ra
     made = labs.Lab(words.events or most.events, words.sessions or most.sessions, teacher, known, nodes, links, people)
     start(made, words.start, chance)
     return made
+
+
+def require_limits(words: argparse.Namespace, students: int) -> None:
+    """Raises `Fault` if a lab can't have this number of students, or the events or seats that the arguments `words` ask
+    for."""
+    most = limits.allowed()
+    everybody, house = students + bool(words.stand_in), ", one of them the house" if words.stand_in else ""
+    if everybody > most.students:
+        raise Fault(f"this lab would have {everybody} students{house}, but a lab can have at most {most.students}. "
+                    "Make several labs by --groups")
+    limited = ("--events", words.events, most.events), ("--sessions", words.sessions, most.sessions)
+    for option, asked, allowed in limited:
+        if asked and asked > allowed:
+            raise Fault(f"{option} {asked}: a lab can have at most {allowed}. Write a lower number", LAB)
 
 
 @dataclass(frozen=True)
@@ -98,7 +114,7 @@ def checked_size(made: labs.Lab, wanted: Path) -> str:
             raise Fault(str(fault).replace(str(file), str(wanted)), fault.status) from None
         answer = call("check", file)
     if answer.status != 0:
-        raise Fault(f"no lab can be made from this list and network ({answer.error})", answer.status)
+        raise Fault(f"no lab can be made from this list and these options ({answer.error})", answer.status)
     return labs.with_house_apart(answer.output.strip().removeprefix("ok: "), made)
 
 

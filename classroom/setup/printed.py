@@ -100,7 +100,8 @@ def slip(made: Lab, shown: Lab, name: str, way: Way) -> str:
                f"port {way.port} of your own machine.</p>"
                f'<p class="small">The certificate\'s SHA-256 fingerprint: <code>{in_parts(way.fingerprint)}</code></p>')
     else:
-        how = (f"<p>From another machine, first: <code>{escape(forwards(way))}</code></p>"
+        account = " (NAME is your account on that machine)" * way.ssh.startswith("NAME@")
+        how = (f"<p>From another machine, first: <code>{escape(forwards(way))}</code>{account}</p>"
                f"<p>To play by hand: {anchor}</p>"
                f"<p>To start a bot: <code>python3 bot.py {escape(name)}.slip</code>, which connects to port {way.port}.</p>")
     code = square(link) if has_squares(way) else ""

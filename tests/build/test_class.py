@@ -105,7 +105,7 @@ class SetsUp(InClone):
         (self.clone / "names.txt").write_text("".join(f"student{number}\n" for number in range(7)) + "refused\n", encoding="utf-8")
         done = self.new("--groups", "2")
         self.assertEqual((done.returncode, done.stdout, self.made()), (2, "", []))
-        self.assertIn("no lab can be made from this list and network (lab fault: 3)", done.stderr)
+        self.assertIn("no lab can be made from this list and these options (lab fault: 3)", done.stderr)
 
     def test_a_full_disk(self) -> None:
         """If a file can't be written completely, neither it nor the others are left. A limit on file sizes stands

@@ -5,7 +5,7 @@ import math
 import unittest
 
 from classroom.core import lab as labs
-from classroom.setup.check import bits, key_warnings, unknown_keys
+from classroom.setup.check import ABOVE, bits, hint_of, key_warnings, unknown_keys
 from classroom.setup.positions import table as table_at
 from classroom.setup.positions import tables
 from tests.classroom.help import EXAMPLES, InRoom, words
@@ -58,7 +58,20 @@ class Check(InRoom):
         self.says(2, "lab: principal 2: bad name", 'line 13: [[student]]', change=('"jonas"\nkey = "2f', '"jonas"\nkey = "\\u00e4'))
         self.says(2, "lab: events is of the wrong kind", 'line 1: events = "many"', change=("events = 1000", 'events = "many"'))
         self.says(2, "lab: not a TOML document", "line 2 ", change=("sessions = 4", "sessions = = 4"))
-        self.says(2, "lab: node 1: identifier stands twice", "line 22 (the node with identifier 11)", change=("id = 12", "id = 11"))
+        self.says(2, "lab: node 1: identifier stands twice", "line 22 (the node with identifier 11)", "  An earlier node has the same `id`\n",
+                  change=("id = 12", "id = 11"))
+        self.says(2, "lab: sessions is out of its limits", f"  `sessions` has to be from 1 to {MOST['sessions']}\n",
+                  change=("sessions = 4", "sessions = 99"))
+
+    def test_hints(self) -> None:
+        """Each error of the program that has a hint is found in its text."""
+        for error in ("lab: principal 2: bad name or key", "lab: node 0: owner and owners", "lab: node 1: identifier out of range",
+                      "lab: node 1: identifier stands twice", "lab: principal 1: name stands twice", "lab: node 1: owner stands twice",
+                      "lab: link 3: stands twice", "lab: too many nodes", "lab: events is out of its limits",
+                      "lab: sessions is out of its limits", "lab: student is out of its limits"):
+            self.assertNotEqual(hint_of(error), "", error)
+        for error in ("lab: no nodes", "lab: link 1: a loop", "lab: events is missing"):
+            self.assertEqual(hint_of(error), "", error)
 
     def test_can_not_be_read(self) -> None:
         self.assertEqual(words("check", self.room / "none.toml").returncode, 4)
@@ -67,7 +80,7 @@ class Check(InRoom):
         self.warns("line 3: link isn't known here, so it is ignored. Did you mean links?", "node 11 has no neighbour",
                    "node 12 has no neighbour", "node 17 has no neighbour", "the network isn't connected: it has 3 parts",
                    "no node is privileged at the beginning", change=("links =", "link ="))
-        self.warns("line 8: links isn't known here, so it is ignored. Did you mean links above the first header?",
+        self.warns("line 8: links isn't known here, so it is ignored. Write links above the first line in brackets, such as [teacher]",
                    change=('61357"\n\n[[student]]\nname = "ana"', '61357"\nlinks = []\n\n[[student]]\nname = "ana"'))
         self.warns("line 20: colour isn't known here, so it is ignored", change=('owner = "ana"', 'owner = "ana"\ncolour = "red"'))
 
@@ -182,7 +195,7 @@ class Tables(unittest.TestCase):
         self.assertEqual(self.hints("[[student]]", "note = { name = 1 }", "nam = 'a'"),
                          [(2, "note", None), (3, "nam", "name")])
         self.assertEqual(self.hints("[[student]]", "node = [{ idd = 1 }]", "kei = 'a'"),
-                         [(2, "node", "node above the first header"), (3, "kei", "key")])
+                         [(2, "node", ABOVE), (3, "kei", "key")])
 
     def test_known_tables_in_braces(self) -> None:
         ana, ben = "{ name = 'ana', key = '{' }", '{ name = "ben", key = "]" }'

@@ -73,7 +73,8 @@ class Made(Slips):
 
     def test_without_an_account_the_line_has_a_place_for_the_name(self) -> None:
         self.new("--port", "5001", "--page-port", "6001")
-        self.assertRegex(self.page(2), r"<code>ssh -N -L 5002:127\.0\.0\.1:5002 -L 6002:127\.0\.0\.1:6002 NAME@[^<]+</code>")
+        self.assertRegex(self.page(2), r"<code>ssh -N -L 5002:127\.0\.0\.1:5002 -L 6002:127\.0\.0\.1:6002 NAME@[^<]+</code> "
+                                       r"\(NAME is your account on that machine\)</p>")
 
     def test_slips_through_a_door(self) -> None:
         told = self.new("--door", DOOR, PATH=self.path_with(qrencode=SQUARES))

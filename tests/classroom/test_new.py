@@ -191,6 +191,16 @@ class New(InRoom):
         self.clean()
         self.assertNotIn("note", self.new(*asked, "46"))
 
+    def test_limits_of_a_lab(self) -> None:
+        """The error names what is too much, and what to do."""
+        for option, limit in (("--events", MOST["events"]), ("--sessions", MOST["sessions"])):
+            refused = self.new(option, str(limit + 1), status=2)
+            self.assertEqual(refused, f"class: {option} {limit + 1}: a lab can have at most {limit}. Write a lower number\n")
+        many = MOST["students"] + 1
+        refused = self.new(students=many, status=1)
+        self.assertEqual(refused, f"class: this lab would have {many} students, but a lab can have at most {many - 1}. "
+                                  "Make several labs by --groups\n")
+
     def test_groups(self) -> None:
         many = SEATS + 9
         self.assertIn("--groups 2", self.new(students=many))
@@ -238,6 +248,8 @@ class New(InRoom):
         self.clean()
         refused = self.rooms({"A": 4, "B": 4}, "--groups", "1", status=1)
         self.assertRegex(refused, r"^class: --groups 1: the column room has 2 rooms, and each needs at least one group. The rooms are: (A, B|B, A)\n$")
+        refused = self.rooms({"A": 4, "B": 1}, "--groups", "6", status=1)
+        self.assertEqual(refused, "class: --groups 6: each of the groups needs a student. Write a number from 1 to 5\n")
         refused = self.rooms({"A": 4, "": 1}, status=1)
         self.assertEqual(refused, "class: --groups-by room: this column is empty for these students: Student  0. Write a room for each of them\n")
         self.assertEqual([*self.room.glob("lab*")], [])
