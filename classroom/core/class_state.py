@@ -12,7 +12,7 @@ a second and only if something has changed:
 - `events`, `limit`: how many events the journal has, and how many it may have
 - `closing`: how steps are closed, as an argument of the command `daemon`
 - `waiting`: a list of {`node`, `owners`, `rule`}: the privileged nodes that have no chosen move
-- `missing`: the students with a node who have no connection, as a list of names
+- `missing`: the students with a node who have no connection, as a list of names (null if the run has no record)
 - `idle`: the students whom no move was granted yet, as a list of names
 - `links`: a list of [node, node]
 - `nodes`: a list of [node, p or null, m, the rule of its chosen move or null]; empty unless the network has a page

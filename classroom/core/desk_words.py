@@ -91,7 +91,7 @@ WORDS = {
     "release": Word("NODE", "drop the granted move of a node", Action.ASK, (
         Button("release", "Release its move", "release #picked", "drops the granted move of this node", kind="button"),
     )),
-    "report": Word("", "print the matching, and how many events are left", Action.REPORT),
+    "report": Word("", "print the matching, and how many events are used", Action.REPORT),
     "wait": Word("", "print the nodes that the class waits for, with their students", Action.WAIT),
     "who": Word("", "print which students are connected, and which haven't had a granted move yet", Action.WHO),
     "play": Word("NAME", "let the house play the nodes of the student NAME", Action.PLAY),

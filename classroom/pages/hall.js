@@ -36,12 +36,20 @@ function say(element, text) {
   if (element.textContent !== text) element.textContent = text;
 }
 
+// What each button does, as its tooltip.
+const TITLES = {
+  close: "closes the step: all granted moves are applied together", end: "asks you to confirm, and then ends the run",
+  "shake 3": "sets the registers of three random nodes to random values", resume: "continues a network that is down",
+  "shake all": "sets the registers of all nodes to random values",
+};
+
 /** Returns the buttons that send a command to one network, or to all. The button for the end asks before it sends. */
 function buttons(to, isDown) {
   const row = made("p", "", "acts");
   const words = isDown ? ["resume", "end"] : ["close", "shake 3", "shake all", "end"];
   for (const word of words) {
     const button = made("button", `${word} ${to === "all" ? "everywhere" : ""}`.trim());
+    button.title = TITLES[word];
     button.dataset.line = `${to}: ${word}`;
     button.addEventListener("click", () => {
       if (word !== "end" || confirm(`End the run${to === "all" ? "s of all networks" : ` of network ${to}`}? After that, nobody can move any more.`)) order(button.dataset.line);
@@ -64,9 +72,10 @@ function told(network) {
   return network.state.stable ? "At rest" : `${counted(network.state.privileged.length, "node")} can move`;
 }
 
-/** Returns a text with the names of the missing students. */
+/** Returns a text with the names of the missing students, or an empty one if they aren't known. */
 function missing(state) {
   const names = state.missing;
+  if (names === null) return "";
   return names.length ? `missing: ${names.join(", ")}` : "nobody is missing";
 }
 

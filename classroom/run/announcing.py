@@ -179,10 +179,12 @@ class Announcer:
 
     def why_journal(self) -> str:
         """Returns why the journal takes no more lines, and the remedy. Waits a few seconds for the server to report
-        what happened to the file. If the server reports nothing, no line could be written."""
+        what happened to the file. If the server reports nothing, no line could be written. If the file at the journal's
+        path is another one or gone, the remedy is in the line of `put_back`, which comes when the server has ended."""
         for _ in range(LOOKS):
             lost = self.lost_journal()
             if lost:
-                return f"the journal's file {lost}. Put the old file back"
+                where = "Wait for the line that says where its lines are saved"
+                return f"the journal's file {lost}. {'Undo the change' if 'changed' in lost else where}"
             time.sleep(PAUSE)
         return "no line can be written to the journal. Make room on the disk"

@@ -49,7 +49,7 @@ def disk_line(left: int, why: str) -> tuple[str, str]:
     about it. `why` is the reason if nothing can be written, and empty otherwise."""
     if left > 0 and not why:
         return ("little", f"the disk is nearly full: {left} bytes are left. Make room, so that the journal can be written") if left < LITTLE else ("", "")
-    what = f"can't be written ({why})" if why else "is full"
+    what = f"can't be written to ({why})" if why else "is full"
     return "full", (f"the disk {what}. Make room now: if a line of the journal can't be written, "
                     "the server grants nothing more")
 
@@ -67,12 +67,14 @@ def limit_of(process: int) -> int | None:
 def limit_line(left: int, folder: Path) -> tuple[str, str]:
     """Returns the state of a journal that may grow by `left` bytes (`little`, `full` or an empty text), and the line to
     print about it. `folder` is that of the run."""
-    how = f"(ulimit -f). End the run, remove this limit, and continue by {CLASS} run --resume {folder}"
+    how = f"End the run, remove this limit, and continue by {CLASS} run --resume {folder}"
     if left >= LITTLE:
         return "", ""
     if left >= LINE:
-        return "little", f"the journal can only grow by {left} more bytes, because of a limit on the size of files {how}"
-    return "full", f"the journal has reached the limit on the size of files, so the server grants nothing more {how}"
+        return "little", (f"the journal can only grow by {left} more bytes, because of a limit on the size of files "
+                          f"(ulimit -f). {how}")
+    return "full", ("the journal has reached the limit on the size of files (ulimit -f), so the server grants nothing "
+                    f"more. {how}")
 
 
 def unlinked_file(folder: Path) -> IO[bytes] | None:

@@ -30,6 +30,14 @@ from classroom.run.typed import EOF, command_help, parse_command
 from classroom.setup.shaking import Registers, longest_start, pairs_of, shaken
 
 
+# For some denials and refusals of a command, what they mean for a teacher.
+IN_OTHER_WORDS = {
+    "empty": "no granted move waits for the end of the step",
+    "not-chosen": "this node has no granted move that waits",
+    "memory": "the server is out of memory: type the command again a little later",
+}
+
+
 class Desk:
     """The desk of a run: reads its events, prints them, and runs the teacher's commands."""
 
@@ -174,7 +182,8 @@ class Desk:
             self.read()
             self.actions[WORDS[word].action](word, rest)
         except (Denied, Refused) as no:
-            self.tell(f"the server {'denied' if isinstance(no, Denied) else 'refused'} this command: {no}")
+            more = f" ({IN_OTHER_WORDS[no.word]})" if no.word in IN_OTHER_WORDS else ""
+            self.tell(f"the server {'denied' if isinstance(no, Denied) else 'refused'} this command: {no}{more}")
             if isinstance(no, Refused) and no.word in ("full", "journal"):
                 self.read()
                 self.announcer.end_by(no.word)

@@ -20,15 +20,16 @@ def put_back(journal: IO[bytes], path: Path, tell: Callable[[str], None]) -> Non
     try:
         if os.path.samestat(os.fstat(journal.fileno()), path.stat()):
             return
-        path = path.with_name(f"{path.name}.saved")
         what = "another file is in the journal's place"
+        then = f". Rename this file to {path} before you continue the run"
+        path = path.with_name(f"{path.name}.saved")
     except FileNotFoundError:
-        what = "the journal's file was missing"
+        what, then = "the journal's file was missing", ""
     journal.seek(0)
     try:
         path.touch(0o600)
         path.write_bytes(journal.read())
-        tell(f"{what}, so the journal's old lines are saved in {path}")
+        tell(f"{what}, so the journal's old lines are saved in {path}{then}")
     except OSError as error:
         tell(f"{what}, and the journal's old lines can't be saved in {path}: {error.strerror}")
 

@@ -34,7 +34,7 @@ FACTS = {
     "look_from": re.compile(rf"{TO_LOOK}{FROM_ELSEWHERE} (http\S+)"),
 }
 TOLD_IN_TABLE = ("slips: ", "desk at ", READY, TO_ACT)
-DIED = re.compile(r"the server has ended.*|the desk can't be used: .*|nothing more is granted: .*|class: .*")
+DIED = re.compile(r"the server has ended.*|the desk can't be used.*|nothing more is granted: .*|class: .*")
 LEFT_OUT = re.compile(rf"{TO_CONTINUE}.*|the lesson .*|it is \d\d:\d\d: .*")  # The class's desk prints such a line itself, once for all networks.
 
 

@@ -47,7 +47,7 @@ def now_row(it: NetworkState) -> list[str]:
     moves = f"{state['moves']} of at most {state['most']}" if state.get("most") is not None else str(state.get("moves", NONE))
     events = f"{state['events']} of {state['limit']}" if state else NONE
     return [str(it.number), it.name, it.room or NONE, status, str(state.get("configuration", NONE)), moves, events,
-            named(state.get("missing", []))]
+            named(state.get("missing") or [])]
 
 
 def plural_privileged(count: int) -> str:

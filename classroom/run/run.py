@@ -141,8 +141,9 @@ def refuse_second_run(into: Path, lab_file: Path) -> None:
         return
     folder, record = found
     if not record.goes_on():
-        how = f"To continue it, type: {CLASS} run --resume {folder} (or add --beside to start another run)"
-        raise Fault(f"the last run of {lab_file} was interrupted. {how}")
+        how = f"To continue it, type: {CLASS} run --resume {folder} . "
+        raise Fault(f"the last run of {lab_file} was interrupted. {how}To start another run instead, add --beside to "
+                    "the command that you typed")
     where = f"a run of {lab_file} is still going on, at port {record.port} and in the folder {folder}"
     how = "" if record.run.lives() and not record.left else f"To control it, type: {CLASS} attach {folder} . "
     raise Fault(f"{where}. {how}To start another run beside it, add --beside")

@@ -59,10 +59,11 @@ class StateFile:
         return [{"node": node, "owners": [self.names.name(name) for name in owners(node)], "rule": rule}
                 for node, rule in desk.known.waiting()]
 
-    def missing(self, desk: Desk) -> list[str]:
-        """Returns the names of the students with a node who have no connection. Returns none if there is no record."""
+    def missing(self, desk: Desk) -> list[str] | None:
+        """Returns the names of the students with a node who have no connection. Returns None if there is no record, so
+        that this isn't known."""
         if desk.heard is None:
-            return []
+            return None
         lab, there = desk.announcer.shown, desk.heard.connected()
         return [self.names.name(name) for name in lab.students if lab.nodes_of(name) and not there[name]]
 

@@ -32,7 +32,7 @@ def take_desk(it: Server, teacher: tuple[str, str], typed: Typed, tell: Callable
             if isinstance(error, Over) or it.has_ended() or time.monotonic() >= end:
                 raise
             if not is_told:
-                tell(f"{reason_line(error)}; this is tried again for a minute")
+                tell(f"{reason_line(error)}; trying to connect again for a minute")
                 is_told = True
             if wait_for_end(typed, hung):
                 raise

@@ -118,7 +118,7 @@ class Broken(Cycle):
         journal = going.folder / "journal"
         size = journal.stat().st_size
         resource.prlimit(going.server(), resource.RLIMIT_FSIZE, (size, size))
-        going.until("^the journal has reached the limit on the size of files, so the server grants nothing more ")
+        going.until("^the journal has reached the limit on the size of files \\(ulimit -f\\), so the server grants nothing more. ")
         with Client(going.port, "gus", KEYS["gus"]) as gus, self.assertRaises(Refused) as refused:
             gus.move(gus.look(4))
         self.assertEqual((refused.exception.word, journal.stat().st_size), ("journal", size))
@@ -143,11 +143,13 @@ class Broken(Cycle):
         """Nobody asks for anything. The teacher is informed all the same, and nothing is lost."""
         for act in (self.remove, self.move, self.replace):
             going = self.lost(act)
-            told = f"the journal's file was removed, moved or replaced. Put the old file back, and then continue the run by {CLASS} run --resume {going.folder}"
+            told = "the journal's file was removed, moved or replaced. Wait for the line that says where its lines are saved, " \
+                   f"and then continue the run by {CLASS} run --resume {going.folder}"
             self.assertIn(f"nothing more is granted: {told}", going.lines)
             kept = going.folder / ("journal.saved" if act == self.replace else "journal")
             why = "another file is in the journal's place" if act == self.replace else "the journal's file was missing"
-            self.assertIn(f"{why}, so the journal's old lines are saved in {kept}", going.lines)
+            then = f". Rename this file to {going.folder / 'journal'} before you continue the run" if act == self.replace else ""
+            self.assertIn(f"{why}, so the journal's old lines are saved in {kept}{then}", going.lines)
             self.assertEqual(kept.read_bytes().count(b"\n"), 3)
             kept.replace(going.folder / "journal")
             again = Going(self, None, "run", "--resume", going.folder)
@@ -178,7 +180,7 @@ class Broken(Cycle):
         acts: list[tuple[Callable[[Path], object], int]] = [(lambda journal: os.truncate(journal, 19), 4), (lengthen, 3)]
         for act, status in acts:
             going = self.lost(act, status)
-            self.assertTrue(any(line.startswith("nothing more is granted: the journal's file was changed. Put the old file back, and then ")
+            self.assertTrue(any(line.startswith("nothing more is granted: the journal's file was changed. Undo the change, and then ")
                                 for line in going.lines), going.lines)
 
     def test_no_event_is_left(self) -> None:

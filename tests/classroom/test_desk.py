@@ -320,7 +320,7 @@ class Disk(InRoom):
         before = resource.getrlimit(resource.RLIMIT_FSIZE)
         resource.setrlimit(resource.RLIMIT_FSIZE, (0, before[1]))
         try:
-            self.assertEqual(self.told(room, 10**9, 10**9), [["the disk can't be written (File too large)"], []])
+            self.assertEqual(self.told(room, 10**9, 10**9), [["the disk can't be written to (File too large)"], []])
         finally:
             resource.setrlimit(resource.RLIMIT_FSIZE, before)
         self.assertEqual(self.told(room, 10**9), [[ROOM_AGAIN]])
@@ -338,7 +338,7 @@ class Disk(InRoom):
             journal.write_bytes(bytes(size))
             told.append([line.partition(". ")[0] for line in room.limit_news()])
         self.assertEqual(told, [[], ["the journal can only grow by 65535 more bytes, because of a limit on the size of files (ulimit -f)"], [],
-                                ["the journal has reached the limit on the size of files, so the server grants nothing more (ulimit -f)"], []])
+                                ["the journal has reached the limit on the size of files (ulimit -f), so the server grants nothing more"], []])
         unbounded = DiskRoom(self.room, os.getpid())
         self.addCleanup(unbounded.close)
         self.assertEqual(unbounded.limit_news(), [])

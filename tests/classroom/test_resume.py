@@ -120,7 +120,7 @@ class Resume(Cycle):
                 offered = words("run", CYCLE, "--into", self.room / "runs")
                 self.assertEqual((offered.returncode, offered.stderr),
                                  (1, f"class: the last run of {CYCLE} was interrupted. To continue it, type: {CLASS} run --resume {going.folder} "
-                                     "(or add --beside to start another run)\n"))
+                                     ". To start another run instead, add --beside to the command that you typed\n"))
                 before = (going.folder / "journal").read_bytes()
                 again = Going(self, None, "run", "--resume", going.folder)
                 self.assertEqual((again.port, again.folder), (going.port, going.folder))

@@ -147,7 +147,7 @@ class Seated(Cycle):
         both."""
         tess = Client(record.desk, *TESS)
         self.addCleanup(tess.hang_up)
-        again = Going(self, None, "attach", going.folder, ready="^another program is connected to the desk; this is tried again for a minute$")
+        again = Going(self, None, "attach", going.folder, ready="^another program is connected to the desk; trying to connect again for a minute$")
         return again, tess
 
     def test_the_teacher_at_the_desk_is_waited_for(self) -> None:

@@ -14,6 +14,7 @@ from classroom.core.class_state import NetworkState
 from classroom.core.classes import Class, name_of
 from classroom.core.program import host
 from classroom.run.addressed import addressed
+from classroom.run.member import DIED
 from classroom.run.network_table import now_table, start_table
 from tests.classroom.help import CLASS, LIMIT, wait_until, words
 from tests.classroom.several import Classes, GoingClass
@@ -55,6 +56,15 @@ class Lines(unittest.TestCase):
             " 1  maths-1   A 104  1 privileged  12             5 of at most 35  20 of 100  4 students: Ana L., Ben R., Cyd S. and 1 more",
             "10  maths-10  -      DOWN          -              -                -          -",
         ])
+        assert one.state is not None
+        one.state["missing"] = None  # Without a record it isn't known who is missing.
+        self.assertRegex(now_table([one]).split("\n")[1], "20 of 100 +-$")
+
+    def test_why_a_network_is_down(self) -> None:
+        """The alarm has these lines of a network's run."""
+        for line in ("the server has ended, by the signal SIGKILL", "nothing more is granted: the journal's file was changed. Undo it",
+                     "the desk can't be used, because it has no connection to the server: no answer in 30 seconds"):
+            self.assertIsNotNone(DIED.fullmatch(line), line)
 
     def test_the_name_of_a_class(self) -> None:
         for stems, name in (("maths-1 maths-2", "maths"), ("maths-10 maths-11", "maths"), ("a b", "class"), ("one one-2", "one"),
