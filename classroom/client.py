@@ -740,7 +740,7 @@ async def carry(reader: Any, writer: Any) -> None:
 
 
 async def tunnel(slip: Slip, port: int) -> None:
-    """Listens on a local port, and forwards each connection through the slip's door, until interrupted. Raises NoServer, or what `connected` raises."""
+    """Listens on a local port, and forwards each connection through the slip's door, until interrupted. Raises NoSlip if the port can't be used, or what `connected` raises."""
     import asyncio
 
     async def lead(reader: Any, writer: Any) -> None:
@@ -761,7 +761,7 @@ async def tunnel(slip: Slip, port: int) -> None:
     try:
         server = await asyncio.start_server(lead, "127.0.0.1", port)
     except OSError as error:
-        raise NoServer(f"port {port} of this machine can't be used: {error.strerror}; --tunnel SLIP PORT uses another port") from None
+        raise NoSlip(f"port {port} of this machine can't be used: {error.strerror}; --tunnel SLIP PORT uses another port") from None
     print(f"port {port} of this machine leads through the door at {slip.door} to the network {slip.network}; Ctrl-C closes the tunnel", flush=True)
     await server.serve_forever()
 
@@ -773,7 +773,7 @@ def by_hand(words: list[str]) -> None:
     if words[0] == "--tunnel":
         import asyncio
         far, rest = Slip.of(words[1:])
-        if problem := "this slip has no line `door ..`" if not far.door else "there are too many arguments" if len(rest) > 1 else "":
+        if problem := "the slip has no line `door ..`: use ssh (docs/STUDENT.md)" if not far.door else "there are too many arguments" if len(rest) > 1 else "":
             raise NoSlip(f"--tunnel SLIP [PORT]: {problem}{TOLD}")
         return asyncio.run(tunnel(far, port_of(rest[0]) if rest else far.port))
     log = None

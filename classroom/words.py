@@ -120,8 +120,10 @@ def add_play(words: argparse.ArgumentParser) -> None:
     from classroom.pages import play
 
     words.add_argument("run", nargs="+", metavar="FOLDER or LAB JOURNAL", help="the folder of a run; or a lab and its journal")
-    words.add_argument("-o", "--output", help="the file to write (run.html, or PLACE.svg)")
-    words.add_argument("--svg", type=play.places, metavar="PLACE,..", help="draw the configuration after this place as SVG, or several in one picture")
+    words.add_argument("-o", "--output", help="the file to write (run.html, or with --svg PLACE.svg)")
+    words.add_argument("--svg", type=play.places, metavar="PLACE,..",
+                       help="draw the configuration after the event with the number PLACE as SVG (0 is the beginning), "
+                            "or several in one picture")
     words.add_argument("--dark", action="store_true", help="draw the picture in the colours of a dark page")
     words.set_defaults(work=play.play)
 

@@ -46,7 +46,7 @@ def play(words: list[str]) -> None:
     Raises `NoSlip` if the arguments don't name a slip with nodes."""
     slip, rest = Slip.of(words)
     if not slip.nodes:
-        raise NoSlip(f"there are no nodes in {words[0]}")
+        raise NoSlip(f"there are no nodes in {'the arguments' if words[0].isdecimal() else words[0]}")
     patience = seconds_of(rest)
     me = enter(slip, min(60.0, patience))
     while True:

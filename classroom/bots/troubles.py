@@ -186,7 +186,7 @@ def turn(attempt: Attempt) -> None:
     """Makes a fault at a node of the bot, TURNS times. Each time sets the node's registers again between the bot's look
     and its move, so that another rule is enabled there. Raises `Fails` if the bot does something wrong or is too
     late."""
-    attempt.doing = f", after a step was closed between its look and its move (`stale` is no error: look again){ON}"
+    attempt.doing = f", after a fault between its look and its move (`stale` is no error: look again){ON}"
     for _ in range(TURNS):
         attempt.playing.turns = 1
         node = hurt(attempt)

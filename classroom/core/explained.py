@@ -10,7 +10,7 @@ from classroom.core import lab as labs
 from classroom.core.processes import run
 from classroom.core.program import TOP
 
-MARK = "the plain model, which doesn't decide the result, explains: "
+MARK = "a second program with the same rules, which doesn't decide the result, explains: "
 LIMIT = 60.0  # seconds after which a search for an explanation is given up
 
 

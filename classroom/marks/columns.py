@@ -24,8 +24,9 @@ COLUMNS = {
     "first": "the number of the event that was the first granted move; 5 is the fifth event of the journal",
     "last": "the number of the event that was the last granted move",
     "shared": "how many moves were applied at nodes that have a second owner",
-    "clause1": "how many requests clause 1 denied: the node isn't the student's own or isn't visible, or only the teacher may ask for this",
-    "clause2": "how many requests clause 2 denied: the move was asked for in an older configuration, or a key was wrong",
+    "clause1": "how many requests clause 1 denied: the node isn't the student's own or isn't visible, only the teacher "
+               "may ask for this, or it was a second hello",
+    "clause2": "how many requests clause 2 denied: the move was asked for in an older configuration",
     "clause3": "how many requests clause 3 denied: the node had a granted move already",
     "clause4": "how many requests clause 4 denied: the guard of the rule didn't hold",
     "malformed": "how many lines of the student weren't requests",

@@ -18,7 +18,7 @@ from pathlib import Path
 from classroom.core import lab as labs
 from classroom.core import classes, folders
 from classroom.core.counts import plural
-from classroom.core.journal import Event, events
+from classroom.core.journal import Event, events, in_words
 from classroom.core.present import Book
 from classroom.core.printable import guarded, printable
 from classroom.core.program import Fault
@@ -159,9 +159,9 @@ def steps(lab: labs.Lab, journal: list[Event], name: str, own: set[int]) -> Iter
             nodes_moved = ", ".join(f"node {node} ({who}): {rule}" for node, who, rule in moved)
             what = f"configuration {event.at + 1}: {nodes_moved}"
         elif event.makes_configuration:
-            what = f"configuration {event.at + 1}: {' '.join(event.words)}"
+            what = f"configuration {event.at + 1}: {in_words(event).removeprefix('⚡ ')}"
         elif nodes & set(event.nodes):
-            what = " ".join(event.words)
+            what = f"{'granted: ' * (event.kind == 'grant')}{in_words(event)}"
         else:
             continue
         yield Row(event.place, event=what)

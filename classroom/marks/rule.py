@@ -134,13 +134,22 @@ def tokens_of(text: str) -> list[tuple[str, str]]:
     while text[at:].strip() and not text[at:].lstrip().startswith("#"):
         token = TOKEN.match(text, at)
         if token is None:
-            raise Wrong(f"the character {text[at:].lstrip()[0]!r} can't be used in a rule")
+            raise wrong_character(text[at:].lstrip())
         kind = str(token.lastgroup)
         if kind == "number" and len(token[kind]) > MOST_DIGITS:
             raise Wrong(f"the number {token[kind]} has more than {MOST_DIGITS} digits")
         found.append((kind, token[kind]))
         at = token.end()
     return found
+
+
+def wrong_character(rest: str) -> Wrong:
+    """Returns the error to raise if no token begins at the first character of `rest`, the rest of a line."""
+    if rest[0] in "\"'":
+        return Wrong(f"the text that begins at {rest[0]} has no {rest[0]} at its end")
+    if rest[0] == ".":
+        return Wrong("a point has to be between two digits, as in 0.5")
+    return Wrong(f"the character {rest[0]!r} can't be used in a rule")
 
 
 class Parser:

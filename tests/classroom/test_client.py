@@ -229,7 +229,7 @@ class CommandLine(InRoom):
             ([slip, "--log"], "--log needs the name of a file" + HINT),
             ([slip, "again"], "again: this argument is one too many" + HINT),
             (["4711", "gus"], "write the arguments SLIP, or PORT NAME KEYFILE NODE,.." + HINT),
-            (["--tunnel", slip], "--tunnel SLIP [PORT]: this slip has no line `door ..`" + HINT),
+            (["--tunnel", slip], "--tunnel SLIP [PORT]: the slip has no line `door ..`: use ssh (docs/STUDENT.md)" + HINT),
             (["none.slip"], "none.slip: No such file or directory"), (["0", "gus", slip], "0 isn't a port: write a number from 1 to 65535"),
         ):
             self.assertEqual(self.called(*given), (1, "", f"client.py: {why}\n"), given)

@@ -353,8 +353,8 @@ class Tunnels(AtDoor):
         with socket.create_server(("127.0.0.1", 0)) as taken:
             done = subprocess.run([sys.executable, CLIENT, "--tunnel", slip, str(taken.getsockname()[1])], capture_output=True, text=True,
                                   check=False, timeout=LIMIT)
-            self.assertEqual(done.returncode, 4)
-            self.assertIn("--tunnel SLIP PORT uses another port", done.stderr)
+            self.assertEqual(done.returncode, 1)
+            self.assertTrue(done.stderr.endswith("; --tunnel SLIP PORT uses another port\n"), done.stderr)
         far = Slip(4711, "gus", "k", (), f"127.0.0.1:{opening_port()}", "maths", "0" * 64)
         done = subprocess.run([sys.executable, CLIENT, "--tunnel", self.files(far)], capture_output=True, text=True, check=False, timeout=LIMIT)
         self.assertEqual(done.returncode, 4)

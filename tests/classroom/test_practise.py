@@ -54,7 +54,7 @@ class Practise(InRoom):
         self.assertEqual(done.returncode, 5, done.stdout + done.stderr)
         self.assertIn("\nyou: move at node 1 by marriage with 2 is denied as guard, clause 4: the guard of this rule does not hold; "
                       "node 1 has p null and m false; its neighbours: 2 (p null, m false); seduction would be granted there now; "
-                      "the plain model, which doesn't decide the result, explains: p of node 2 isn't 1, but null; "
+                      "a second program with the same rules, which doesn't decide the result, explains: p of node 2 isn't 1, but null; "
                       'a correct bot would send {"at":0,"do":"move","node":1,"rule":"seduction"}\n', done.stdout)
         self.assertIn("\nyou: the bot ended by itself, with status 1\n", done.stdout)
         self.assertRegex(done.stdout, r"(?m)^the run is given up, since no bot is running any longer; it waits for seduction at node 1 \(you\), ")
@@ -137,7 +137,8 @@ class Practise(InRoom):
         self.assertEqual(done.returncode, 5, done.stdout + done.stderr)
         self.assertRegex(done.stdout, r"(?m)^the run is given up, since nothing has happened for 1 seconds; it waits for \w+ at node \d \(you\).*; "
                                       r"you: the bot never connected to port \d+; "
-                                      r"the plain model, which doesn't decide the result, explains: " r'a correct bot would send {"at":1?\d,"do":"move",.*}$')
+                                      r"a second program with the same rules, which doesn't decide the result, explains: "
+                                      r'a correct bot would send {"at":1?\d,"do":"move",.*}$')
         self.assertTrue(done.stdout.endswith("\nyou: 0 granted moves, 0 denials; rules that were never asked for: update, marriage, seduction, "
                                              "abandonment\n"), done.stdout)
 

@@ -23,7 +23,7 @@ WRONG = TOP / "tests/classroom/wrong_bots/wrong.py"
 RIGHT = sorted((TOP / "tests/classroom/right_bots").glob("[a-z]*.py"))
 AT_ONCE = 8  # the number of bots at the same time; they mostly wait
 SECONDS = 12.0
-GUARD = r"denied as guard, clause 4: .*; the plain model, which doesn't decide the result, explains: {part}; a correct bot would send "
+GUARD = r"denied as guard, clause 4: .*; a second program with the same rules, which doesn't decide the result, explains: {part}; a correct bot would send "
 HANGS = r"(didn't become stable within|didn't ask for \w+ at node \d+, which is privileged,).* {rule}"
 # For each bot: the case of `small` that finds its mistake, and the recorded reason.
 FOUND = {

@@ -117,11 +117,12 @@ def figures(checks: Checks, parts: dict[str, float]) -> str:
             lines.append(f"{crate:24}" + "".join(f"{sums.get((crate, kind), 0):8.1f}" for kind in KINDS))
         lines.append(f"{'sum':24}" + "".join(f"{of_kind[kind]:8.1f}" for kind in KINDS))
         dearest = sorted(sums.items(), key=lambda it: -it[1])[:3]
-        lines.append("the dearest: " + ", ".join(f"{crate} {kind} {it:.1f}" for (crate, kind), it in dearest))
+        lines.append("most processor time: " + ", ".join(f"{crate} {kind} {it:.1f}" for (crate, kind), it in dearest))
         held = checks.most_held / 1e9, checks.most_held_in_all / 1e9
         lines.append(f"memory: at most {held[0]:.1f} GB in one check, {held[1]:.1f} GB in those side by side")
         if ("mml_rules", "proof") in sums:
-            lines.append(f"the machine: mml_rules proof {sums['mml_rules', 'proof']:.2f}")
+            rules = sums["mml_rules", "proof"]
+            lines.append(f"the speed of this machine: the proof of mml_rules took {rules:.2f} processor minutes")
     scripts = {name: it for name, it in parts.items() if name not in PROVING}
     whole = sum(parts.values())
     of_scripts = sum(scripts.values())
