@@ -1,8 +1,8 @@
 -- The error that is reported for a lab file is the first one in the order of `order_of`.
 use Rattle.std.proofs.lemmas.Bool.{Decides.nat_tests, cases_lt, lt-ltb, le-ltb, lt-leb, le-leb}
-use Rattle.std.proofs.Common.{◌≡◌, ◌<◌, ◌+◌, ℕ, suc, List, [], ◌∷◌, ◌++◌, Option, Some, None, Result, Ok, Err, option_map, nat_lt, nat_le, sym, ◌∙◌, subst, arith}
+use Rattle.std.proofs.Common.{◌≡◌, ◌<◌, ◌+◌, ℕ, suc, List, [], ◌∷◌, ◌++◌, Option, Some, None, Result, Ok, Err, option_map, sym, ◌∙◌, subst, arith}
 use Rattle.std.specs.List.{slice_get}
-use Rattle.mml_ids.specs.Gives.{◌>>◌, need, first_fault, fault_if}
+use Rattle.mml_ids.specs.Gives.{◌>>◌, first_fault}
 use Rattle.mml_lab.specs.declared.lab_fault.LabFault.{LabFault}
 use Rattle.mml_lab_file.specs.{Shape.RawSpec, LabErrors.order_of, LabErrors.errors_of, LabErrors.IsFirstError}
 use Rattle.mml_lab_file.specs.Reading.{both_fault, ids_fault, forms_fault, no_owner_fault, owner_twice_fault, ends_fault, loops_fault, again_fault, pointers_fault, pass_unless, identified, enrolled}
@@ -57,9 +57,6 @@ pub record EndsIn (r : Result (Unit {0}) LabFault) (ts : List (Option LabFault))
 one : (t : Option LabFault) → EndsIn (pass_unless t) (t ∷ [])
 one t = grind arith
 
-one_above : (n greatest : ℕ) (e : LabFault) → EndsIn (need (nat_le n greatest) e) (fault_if (nat_lt greatest n) e ∷ [])
-one_above n greatest e = grind (arith, nat_tests, cases_lt, lt-ltb, lt-leb, le-ltb, le-leb)
-
 more : (r s : Result (Unit {0}) LabFault) {ts us : List (Option LabFault)} → EndsIn r ts → EndsIn s us → EndsIn (r >> s) (ts ++ us)
 more r s {ts} {us} a b = record { first = by r ts a.first }
   where
@@ -74,7 +71,7 @@ more r s {ts} {us} a b = record { first = by r ts a.first }
 -- the error that the tests of a file report is the first one in `errors_of`
 pub first_error : (raw : RawSpec) → EndsIn (checked raw) (errors_of raw)
 unfolding checked identified enrolled owned linked limited
-first_error raw = grind (arith, more, one, one_above)
+first_error raw = grind (arith, more, one, nat_tests, cases_lt, lt-ltb, lt-leb, le-ltb, le-leb)
 
 -- no other error of the file comes before the reported one in the order
 pub told_in_order : (raw : RawSpec) (f : LabFault) → lab_fault raw ≡ Some f → IsFirstError raw f

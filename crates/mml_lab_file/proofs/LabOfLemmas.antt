@@ -1,7 +1,7 @@
 -- Which bytes describe a lab, and that the error of a file is never that memory ran out.
-use Rattle.std.proofs.Common.{◌≡◌, ◌≢◌, ◌↔◌, ℕ, List, length, Bool, Option, Some, None, Ok, arith}
+use Rattle.std.proofs.Common.{◌≡◌, ◌≢◌, ◌↔◌, ℕ, List, length, Option, Some, None, Ok, arith}
 use Rattle.std.specs.Prelude.{option_map}
-use Rattle.mml_ids.specs.{Gives.fault_if, Search.first_below, Ids.id_fault, declared.id_table.IdFault.IdFault}
+use Rattle.mml_ids.specs.{Search.first_below, Ids.id_fault, declared.id_table.IdFault.IdFault}
 use Rattle.mml_ids.proofs.GivesLemmas.{bind-ok, bind-from}
 use Rattle.mml_lab_file.specs.{Shape.RawSpec, LabMeaning.IsLabOfFile, LabMeaning.IsFirstLinkAgain}
 use Rattle.mml_lab.specs.Labs.{LabValue}
@@ -28,14 +28,8 @@ abbrev OfFault : {E : Type 0} → (E → Type 0) → Option E → Type 0
 OfFault P None = Unit {0}
 OfFault P (Some f) = P f
 
-of_if : {E : Type 0} (P : E → Type 0) (b : Bool) (f : E) → P f → OfFault P (fault_if b f)
-of_if P b f p = grind arith
-
-of_index : {E : Type 0} (P : E → Type 0) (f : ℕ → E) → ((k : ℕ) → P (f k)) → (o : Option ℕ) → OfFault P (option_map f o)
-of_index P f all o = grind arith
-
 of_ids : (ns : List ℕ) → OfFault Tells (id_fault ns)
-of_ids ns = grind (arith, of_if, of_index)
+of_ids ns = grind arith
 
 -- the error of a file is never that memory ran out in the test of its identifiers
 pub no_memory_of_ids : (raw : RawSpec) → lab_fault raw ≢ Some (fault.Id id.Memory)

@@ -60,13 +60,10 @@ pub fault_at : {X : Type 0} (accounts : List Account) (x : X) (k : ℕ) → k < 
     → unless_fault (name_twice accounts) x ≡ Err (fault.NameTwice k)
 fault_at accounts x k lt again so_far = grind (arith, first_here)
 
-second_false : (a b : Bool) → (a || b) ≡ false → b ≡ false
-second_false a b h = grind (arith, true≢false)
-
 -- if a name isn't taken, the map has no entry for it
 pub absent : (teacher : List ℕ) (es : List Entry) (name : List ℕ) (k : String Global) (r : Bool) → string_bytes k ≡ name → r ≡ is_taken teacher es name
     → r ≡ false → lookup (λ q. bytes_eq (string_bytes k) (string_bytes q)) es ≡ None
-absent teacher es name k r same is at = rw same (grind (arith, true≢false, second_false (bytes_eq name teacher) _ (sym is ∙ at)))
+absent teacher es name k r same is at = rw same (grind (arith, true≢false))
 
 pub one_more : (done : List KeptAccount) (x : KeptAccount) (es new : List Entry) (n v : String Global) → map entry_account es ≡ map account_view done
     → new ≡ es ++ (n, v) ∷ [] → entry_account (n, v) ≡ account_view x → map entry_account new ≡ map account_view (done ++ x ∷ [])

@@ -4,7 +4,7 @@ use Rattle.std.specs.Prelude.{codes, ok_or, IfErr}
 use Rattle.toml.specs.Data.{Data, Items, no_items, item, Members, as_table, as_array}
 use Rattle.mml_ids.specs.Gives.{◌>>=◌}
 use Rattle.mml_lab.specs.declared.lab_fault.{LabFault.LabFault, Key.Key}
-use Rattle.mml_lab_file.specs.{Reading.lab_fault, Reading.lab_of, Shape.of_kind, Shape.needed, Shape.optional_of, Shape.each, Shape.account_in, Shape.student_of, Shape.names_of, Shape.node_of}
+use Rattle.mml_lab_file.specs.{Reading.lab_fault, Reading.lab_of, Shape.of_kind, Shape.needed, Shape.each, Shape.account_in, Shape.student_of, Shape.names_of, Shape.node_of}
 use Rattle.mml_lab_file.specs.{Shape.link_of, Shape.RawSpec, Shape.links_of, Shape.teacher_of, Shape.students_of, Shape.nodes_of, Shape.raw_of, Shape.table_in, Shape.spelled}
 use Rattle.mml_lab_file.proofs.{LabFaultLemmas.refuses, LabOfLemmas.no_memory, LabOfLemmas.no_memory_of_ids}
 use Rattle.mml_ids.specs.declared.id_table.IdFault.TheVariants as id
@@ -33,9 +33,6 @@ kind key f value = or_fault (f value) (fault.WrongKind key) tt
 there : {A : Type 0} (key : Key) (name : List ℕ) (f : Data → Option A) (members : Members) → OfResult (needed key name f members)
 there key name f members = grind (arith, then, or_fault, kind)
 
-may_lack_kind : {A : Type 0} (key : Key) (f : Data → Option A) (o : Option Data) → OfResult (optional_of key f o)
-may_lack_kind key f o = grind (arith, then, of_kind key f, kind key f)
-
 in_turn : {A : Type 0} (f : Data → Result A LabFault) (items : Items) → ((value : Data) → OfResult (f value)) → OfResult (each f items)
 in_turn f no_items h = tt
 in_turn f (item first rest) h = grind (arith, then, in_turn f rest h)
@@ -54,7 +51,7 @@ names value = grind (arith, then, kind, in_turn)
 
 node : (value : Data) → OfResult (node_of value)
 unfolding node_of
-node value = grind (arith, then, kind, there, may_lack_kind, names, or_fault)
+node value = grind (arith, then, kind, there, of_kind, names, or_fault)
 
 link : (value : Data) → OfResult (link_of value)
 unfolding link_of

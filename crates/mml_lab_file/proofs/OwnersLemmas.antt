@@ -6,7 +6,7 @@ use Rattle.std.proofs.lemmas.{List.get_or-map, List.length-map, List.Quantifiers
 use Rattle.toml.specs.Data.{Data, Items, no_items, item, get_member, as_integer, as_array}
 use Rattle.mml_ids.proofs.{GivesLemmas.bind-ok, SearchLemmas.position-None}
 use Rattle.mml_lab.specs.{declared.lab_fault.LabFault.LabFault, Rosters.has_name, Rosters.no_account, Rosters.owners_of, Rosters.Account, Labs.LabValue}
-use Rattle.mml_lab_file.specs.Shape.{NodeSpec, RawSpec, needed, optional, each, names_of, owner_names, node_of, nodes_of, links_of, teacher_of, students_of, raw_of, table_in, spelled}
+use Rattle.mml_lab_file.specs.Shape.{NodeSpec, RawSpec, needed, each, names_of, node_of, nodes_of, links_of, teacher_of, students_of, raw_of, table_in, spelled}
 use Rattle.mml_lab_file.specs.Reading.{lab_fault, are_one_twice, student_index, owners_in, owners_with, lab_in, lab_of}
 use Rattle.mml_lab_file.proofs.{LabFaultLemmas.IsFaultless, LabFaultLemmas.faultless, LabInLemmas.ids, LabInLemmas.node_at, LabInLemmas.index-position, LabInLemmas.owners-known, LabOfLemmas.of_file}
 use Rattle.mml_lab.specs.declared.lab_fault.LabFault.TheVariants as fault
@@ -27,13 +27,9 @@ names_ok : (value : Data) (names : List (List ℕ)) → names_of value ≡ Ok na
 unfolding names_of
 names_ok value names e = grind (arith, bind-ok, and_parts, ltb-true, leb-true, nat_lt, nat_le)
 
-owner_names_ok : (owner : Option (List ℕ)) (owners : Option (List (List ℕ))) (value : Option Data) (names : List (List ℕ)) → optional names_of value ≡ Ok owners
-    → owner_names owner owners ≡ Some names → IsOneOrTwo (length names)
-owner_names_ok owner owners value names e is = grind (arith, bind-ok, names_ok)
-
 node_ok : (value : Data) (node : NodeSpec) → node_of value ≡ Ok node → IsOneOrTwo (length node.owners)
 unfolding node_of
-node_ok value node e = grind (arith, bind-ok, owner_names_ok)
+node_ok value node e = grind (arith, bind-ok, names_ok)
 
 nodes_ok : (bytes : List ℕ) (raw : RawSpec) → spelled bytes ≡ Ok raw → (d : NodeSpec) (k : ℕ) → k < length raw.nodes → IsOneOrTwo (length (get_or raw.nodes k d).owners)
 unfolding spelled raw_of nodes_of
