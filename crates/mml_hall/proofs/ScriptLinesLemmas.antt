@@ -1,9 +1,8 @@
 -- Which lines are script lines, and which input is bad.
-use Rattle.std.proofs.lemmas.{Bool.Decides.nat_tests, Fmt.decimal-digits_of}
-use Rattle.std.proofs.Common.{◌≡◌, ◌≢◌, ℕ, ◌+◌, ◌-◌, ◌<◌, ◌≤◌, ◌^◌, List, [], ◌∷◌, ◌++◌, length, map, decimal, get_or, arith, sym, subst, ◌∙◌, length-append, refl, ap, zero, suc}
-use Rattle.std.proofs.Common.{All, Option, Some, inr}
+use Rattle.std.proofs.lemmas.{Bool.Decides.nat_tests, Fmt.decimal-digits_of, List.get_or-append_right, List.Elements.All-nil, List.Elements.All-cons}
+use Rattle.std.proofs.Common.{◌≡◌, ◌≢◌, ℕ, ◌+◌, ◌-◌, ◌<◌, ◌≤◌, ◌^◌, List, [], ◌∷◌, ◌++◌, length, map, decimal, get_or, arith, sym, subst, ◌∙◌, length-append, refl, ap, zero, suc, All, Option, Some}
+use Rattle.std.proofs.Common.{inr}
 use Rattle.std.specs.{Int.Digits.digits_of, List.AllByRecursion, Io.KnownBytes.Consumes, Io.KnownBytes.prepend_known}
-use Rattle.std.proofs.lemmas.List.{get_or-append_right, Elements.All-nil, Elements.All-cons}
 use Rattle.mml_ids.specs.Lines.{IsUnbroken, ended}
 use Rattle.mml_lines.specs.{LinesOf.IsWithinLimit, LinesOf.IsTooLong, declared.lines.TheConstants.READ_SIZE}
 use Rattle.mml_lines.proofs.{KnownBytesLemmas.put_back, LinesOfLemmas.tail_unbroken}

@@ -1,9 +1,8 @@
 -- The lines that are answered so far, and the ways in which the script may end after them. An output line is the line
 -- that answers a script line. A hall answers requests in one thread. A transcript has the script lines so far, with
 -- their replies.
-use Rattle.std.proofs.lemmas.Bool.Decides.{nat_tests}
+use Rattle.std.{proofs.lemmas.Bool.Decides.nat_tests, specs.Prelude.⊤, specs.Io.KnownBytes.Consumes, specs.Io.KnownBytes.prepend_known, proofs.lemmas.List.map-append, proofs.KnownBytes.Consumes-trans}
 use Rattle.std.proofs.Common.{◌≡◌, ℕ, ◌+◌, List, [], ◌∷◌, ◌++◌, length, map, flat_map, refl, sym, ◌∙◌, ap, Option, subst, inl, inr, Result, IsErrAnd, ◌<◌, length-append, arith}
-use Rattle.std.{specs.Prelude.⊤, specs.Io.KnownBytes.Consumes, specs.Io.KnownBytes.prepend_known, proofs.lemmas.List.map-append, proofs.KnownBytes.Consumes-trans}
 use Rattle.mml_lab.specs.Labs.{LabValue}
 use Rattle.mml_ids.specs.Lines.{ended}
 use Rattle.mml_lines.specs.{Sending.BreaksOff, Sending.Sends, declared.lines.TheConstants.READ_SIZE, declared.write_fault.WriteFault.WriteFault}

@@ -115,26 +115,15 @@ refused_turn lab st k line = by_turn lab st k line (λ out. IsRefusal out.reply 
       | inr (inr grants) ↦ absurd (granted_not_refused _ _ grants.done (subst IsRefusal grants.reply h))
     ]
 
-other_known : (st : State) (k j : ℕ) (x : Option Who) → 0 < k → 0 < j → j ≢ k → known_on (with_known st k x) j ≡ known_on st j
-other_known st k j x some some' differ = grind (arith, nat_tests, st.greeted, get_or-set_other)
-
 -- a turn on one connection doesn't change who is known on another
 pub others_turn : (lab : LabValue) (st : State) (k j : ℕ) (line : List ℕ) (out : Outcome) → Turn lab st k line out → 0 < k → 0 < j → j ≢ k
     → known_on out.state j ≡ known_on st j
-others_turn lab st k j line out t some some' differ = grind (arith, nat_tests, by_turn, plain_does, other_known)
+others_turn lab st k j line out t some some' differ = grind (arith, nat_tests, by_turn, plain_does, get_or-set_other)
 
 -- ---- replies that aren't short, which are those to a look or a report
 
-long_turn : (lab : LabValue) (st : State) (k : ℕ) (line : List ℕ) → is_short (plain_turn lab st k line).reply ≡ false → (plain_turn lab st k line).state ≡ st
-long_turn lab st k line long = grind (arith, nat_tests, plain_does, short_done)
-
 long_takes_memory : (r : Reply) → is_short r ≡ false → takes_memory r ≡ true
 long_takes_memory r h = or_right (is_grant r) (not (is_short r)) (ap not h)
-
--- if the plain reply isn't short, the turn may have the refusal `memory` as its reply, and the state of the plain turn
-wanting : (lab : LabValue) (st : State) (k : ℕ) (line : List ℕ) (told : Reply) → told ≡ (without_memory st).reply
-    → is_short (plain_turn lab st k line).reply ≡ false → Turn lab st k line (record { reply = told; state = (plain_turn lab st k line).state })
-wanting lab st k line told want long = grind (arith, nat_tests, long_turn, long_takes_memory)
 
 -- if the refusal `memory` is sent in place of a reply that isn't short, the outcome with this refusal is also possible
 pub told_turn : (lab : LabValue) (st : State) (k : ℕ) (line : List ℕ) (out : Outcome) (told : Reply) → Turn lab st k line out → TellsFor out.reply told
@@ -142,7 +131,7 @@ pub told_turn : (lab : LabValue) (st : State) (k : ℕ) (line : List ℕ) (out :
 told_turn lab st k line out told t (inl same) = subst (λ (r : Reply). Turn lab st k line (record { reply = r; state = out.state })) (sym same) t
 told_turn lab st k line out told t (inr want) =
     by_turn lab st k line (λ out. is_short out.reply ≡ false → Turn lab st k line (record { reply = told; state = out.state }))
-    (wanting lab st k line told want.1) (λ long. absurd (true≢false long)) (λ long. absurd (true≢false long)) out t want.0
+    (grind (arith, nat_tests, plain_does, short_done, long_takes_memory)) (λ long. absurd (true≢false long)) (λ long. absurd (true≢false long)) out t want.0
 
 -- ---- the events that turns add
 

@@ -1,5 +1,4 @@
-use Rattle.std.proofs.lemmas.Bool.Decides.{nat_tests}
-use Rattle.std.proofs.Common.{arith, refl}
+use Rattle.std.proofs.{lemmas.Bool.Decides.nat_tests, Common.arith, Common.refl}
 use Rattle.mml_hall.proofs.ScriptsLemmas.{nothing_yet, sent_on, one_more, finished_so, bad_so, unread_so, unwritten_so, unflushed_so, bad_unflushed_so, write_told}
 use Rattle.mml_hall.proofs.script.answer_lines.Goals as goal
 

@@ -1,5 +1,4 @@
-use Rattle.std.proofs.lemmas.Bool.Decides.{nat_tests}
-use Rattle.std.{proofs.Common.[], proofs.Common.◌∙◌, proofs.Common.arith, proofs.Common.length-append, specs.Io.KnownBytes.prepend_known}
+use Rattle.std.{proofs.lemmas.Bool.Decides.nat_tests, proofs.Common.[], proofs.Common.◌∙◌, proofs.Common.arith, proofs.Common.length-append, specs.Io.KnownBytes.prepend_known}
 use Rattle.mml_hall.proofs.{ScriptLinesLemmas.too_long, ServingLemmas.serves_next, ServingLemmas.bad_next, ServingLemmas.none_unsent, ServingLemmas.nearer}
 use Rattle.mml_hall.proofs.script.serve_next.Goals as goal
 
