@@ -1,6 +1,7 @@
 -- What a result of `Lines::next` means for the held bytes, those in the buffer. The unread ones are those from `start`
 -- on.
-use Rattle.std.proofs.Common.{◌≡◌, ℕ, ◌+◌, ◌-◌, ◌<◌, ◌≤◌, List, length, drop, arith, ◌∙◌, Option, Some, None, IfNone}
+use Rattle.std.proofs.lemmas.Bool.Decides.{nat_tests}
+use Rattle.std.proofs.Common.{◌≡◌, ℕ, ◌+◌, ◌-◌, ◌<◌, ◌≤◌, List, length, drop, arith, Option, None, IfNone}
 use Rattle.std.{specs.List.slice_range, proofs.Math.Nat.lt_of_not-le, proofs.lemmas.List.length-take, proofs.lemmas.List.get_or-take, proofs.lemmas.List.length-drop}
 use Rattle.mml_lines.specs.{declared.lines.Step.Step, declared.lines.TheConstants.READ_SIZE, Finding.HasLine, LinesOf.IsWithinLimit, inside.LinesView.IsReadNoFurther}
 
@@ -11,16 +12,7 @@ line_within limit start len held line = omega (arith, line.1, length-drop start 
 -- a line that comes first is within the limit, and fewer than READ_SIZE unread bytes follow it
 pub line_says : (ending : Option Step) (limit start len : ℕ) (held : List ℕ) → HasLine len limit (drop start held) → IsReadNoFurther limit (drop start held)
     → IfNone ending (IsWithinLimit limit (slice_range held start (start + len)) × (length (drop (start + len + 1) held) < READ_SIZE))
-line_says (Some step) limit start len held line front = tt
-line_says None limit start len held line front =
-    let size : start + len - start ≡ len = omega arith in
-    rw size (
-      (line.3, omega (arith, length-take len (drop start held))),
-      lt_of_not-le
-          (λ long. let before : len < length (drop start held) - READ_SIZE = omega (arith, length-drop start held, length-drop (start + len + 1) held) in
-          front.0 len (omega (arith, length-take (length (drop start held) - READ_SIZE) (drop start held)))
-          (get_or-take (length (drop start held) - READ_SIZE) (drop start held) len 0 before ∙ line.2)),
-    )
+line_says ending limit start len held line front = grind (arith, nat_tests, length-take, lt_of_not-le, length-drop, get_or-take)
 
 -- if no more was read than was needed to find a line, `IsReadNoFurther` still holds after the line was returned
 pub no_further_after : (limit start len : ℕ) (held : List ℕ) → HasLine len limit (drop start held) → IsReadNoFurther limit (drop start held)
