@@ -2,7 +2,7 @@
 -- events, from 1. A window is what a session has seen of this list, and the places of the events that were granted to
 -- it.
 use Rattle.std.proofs.lemmas.Bool.Decides.{nat_tests}
-use Rattle.std.proofs.Common.{◌≡◌, ℕ, ◌+◌, arith, Result, Ok, Err, List, [], ◌∷◌, ◌++◌, flat_map, sym, ◌∙◌, ap, append_assoc, append-nil, subst, inl, inr, All, Option}
+use Rattle.std.proofs.Common.{◌≡◌, ℕ, ◌+◌, ◌-◌, length, arith, Result, Ok, Err, List, [], ◌∷◌, ◌++◌, flat_map, sym, ◌∙◌, ap, append_assoc, append-nil, subst, inl, inr, All, Option}
 use Rattle.std.{specs.Prelude.IfSome, specs.List.AllByRecursion, proofs.lemmas.List.Elements.All-nil, proofs.lemmas.List.Elements.All-cons}
 use mathlib.Core.List.{IsPrefix}
 use Rattle.mml_lab.specs.{declared.who.Who.Who, Labs.LabValue}
@@ -14,7 +14,7 @@ use Rattle.mml_codec.specs.{declared.TheConstants.MAX_REQUEST, declared.reply.Re
 use Rattle.mml_codec.specs.{declared.greeting.Greeting.Greeting, declared.greeting.Greeting.TheVariants.Answered, declared.greeting.Greeting.TheVariants.LeftToJudge, Greetings.greeting, Greetings.refusal_of, Lines.request_in}
 use Rattle.mml_window.specs.Windows.{WindowValue}
 use Rattle.mml_window.proofs.PrefixLemmas.{prefix_self, prefix_trans}
-use Rattle.mml_session.specs.Turns.{Standing, places_in, halts_in, halts_of, Told, Settles, Asked, Turn}
+use Rattle.mml_session.specs.Turns.{Standing, places_in, halts_in, halts_of, spare_in, Told, Settles, Asked, Turn}
 use Rattle.mml_session.specs.Talks.{Talk, LineTurn, bytes_read}
 use Rattle.mml_session.proofs.{EngineLemmas.seen_told, EngineLemmas.turn_does, GreetingLemmas.IsPlain, GreetingLemmas.plain_greeting}
 use Rattle.mml_engine.proofs.NamingLemmas as naming
@@ -76,6 +76,31 @@ module _ (lab : LabValue) where
   turn_count : (st next : Standing) (line : List ℕ) (r : Reply) → Turn lab st line r next → next.window.halts ≡ st.window.halts + halts_in r
   turn_count st next line r (inl h) = asked_count st next (request_in line) r h
   turn_count st next line r (inr h) = same_count st next r (ap (λ (s : Standing). s.window) h.1) (ap halts_in h.0)
+
+  unhalted_unspared : (n : ℕ) (r : Reply) → halts_in r ≡ 0 → spare_in n r ≡ 0
+  unhalted_unspared n r none = grind (arith, nat_tests)
+
+  abbrev IsSpared : Standing → Reply → Standing → Type 0
+  IsSpared st r next = next.window.spare ≡ st.window.spare + spare_in (lab.events - length next.window.seen) r
+
+  same_spare : (st next : Standing) (r : Reply) → next.window ≡ st.window → halts_in r ≡ 0 → IsSpared st r next
+  same_spare st next r same none = omega (arith, ap (λ (w : WindowValue). w.spare) same, unhalted_unspared (lab.events - length next.window.seen) r none)
+
+  settled_spare : (st next : Standing) (g : Greeting) (r : Reply) → IsPlain g → Settles lab st g r next → IsSpared st r next
+  settled_spare st next (Answered q x) r plain h = same_spare st next r (ap (λ (s : Standing). s.window) h.1) (ap halts_in h.0 ∙ plain.2)
+  settled_spare st next (LeftToJudge who c) r plain h = h.1.spared
+
+  asked_spare : (st next : Standing) (asked : Result Request LineFault) (r : Reply) → Asked lab st asked r next → IsSpared st r next
+  asked_spare st next (Err fault) r h = same_spare st next r (ap (λ (s : Standing). s.window) h.1) (ap halts_in h.0 ∙ told_fault fault)
+  asked_spare st next (Ok q) r h = settled_spare st next (greeting lab.roster st.known q) r (plain_greeting lab.roster st.known q) h
+
+  turn_spare : (st next : Standing) (line : List ℕ) (r : Reply) → Turn lab st line r next → IsSpared st r next
+  turn_spare st next line r (inl h) = asked_spare st next (request_in line) r h
+  turn_spare st next line r (inr h) = same_spare st next r (ap (λ (s : Standing). s.window) h.1) (ap halts_in h.0)
+
+  pub turn_spares : (st after : Standing) (t : LineTurn lab st after)
+      → after.window.spare ≡ st.window.spare + spare_in (lab.events - length after.window.seen) t.reply
+  turn_spares st after t = turn_spare st after t.line t.reply t.turn
 
   pub turn_halts : (st after : Standing) (t : LineTurn lab st after) → after.window.halts ≡ st.window.halts + halts_in t.reply
   turn_halts st after t = turn_count st after t.line t.reply t.turn

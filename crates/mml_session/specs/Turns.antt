@@ -1,7 +1,7 @@
 -- The turns of a session: how it answers one line, and many lines one after another. The place of an event is its
 -- number in the list of events, from 1. A window is what the session has seen of this list, and the places of the
 -- events that were granted to it. The known participant is the one whose hello was granted in the session.
-use Rattle.std.specs.Prelude.{◌≡◌, ◌⊎◌, ℕ, ◌+◌, Bool, true, false, List, [], ◌∷◌, ◌++◌, Option, None, Some, IfSome, Result, Ok, Err}
+use Rattle.std.specs.Prelude.{◌≡◌, ◌⊎◌, ℕ, ◌+◌, ◌-◌, Bool, true, false, List, [], ◌∷◌, ◌++◌, length, Option, None, Some, IfSome, Result, Ok, Err}
 use mathlib.Core.List.{IsPrefix}
 use Rattle.mml_lab.specs.{declared.who.Who.Who, Labs.LabValue}
 use Rattle.mml_board.specs.{declared.event.Event.Event, Lists.is_legal_in, Lists.world_in}
@@ -39,6 +39,11 @@ abbrev pub halts_in : Reply → ℕ
 halts_in (reply.Refuse refused.Journal) = 1
 halts_in _ = 0
 
+-- the number n if the reply is the refusal `journal`, and otherwise 0
+abbrev pub spare_in : ℕ → Reply → ℕ
+spare_in n (reply.Refuse refused.Journal) = n
+spare_in n _ = 0
+
 -- how many of these replies are the refusal `journal`
 abbrev pub halts_of : List Reply → ℕ
 halts_of [] = 0
@@ -63,7 +68,8 @@ abbrev pub Refuses : List Event → List ℕ → Ruling → Reply → WindowValu
 Refuses l ps ruled r new = (why : Refused) × (r ≡ reply.Refuse why) × MayRefuse ruled why new.refused × HasSeen l ps new
 
 -- the window's reply to a command, which is judged after a legal list that begins with all events that the window had
--- seen. The window counts the refusals `journal`, and is granted nothing after such a refusal
+-- seen. The window counts the refusals `journal`, and adds up how many more events the lab allows at each. It is granted
+-- nothing after such a refusal
 pub record Told (lab : LabValue) (old : WindowValue) (who : Who) (c : Command) (r : Reply) (new : WindowValue) : Type 0 where
   pub list : List Event
   pub later : IsPrefix old.seen list
@@ -71,6 +77,7 @@ pub record Told (lab : LabValue) (old : WindowValue) (who : Who) (c : Command) (
   pub says : Plainly lab list old.places (ruling_at lab (world_in lab list) who c) r new
       ⊎ Refuses list old.places (ruling_at lab (world_in lab list) who c) r new
   pub counted : new.halts ≡ old.halts + halts_in r
+  pub spared : new.spare ≡ old.spare + spare_in (lab.events - length new.seen) r
   pub unhalted : IfSome (place_in r) (λ place. old.halts ≡ 0)
 
 -- the effect of a request: if the rules of greeting answer it, their reply, and the window stays as it is; otherwise

@@ -5,12 +5,12 @@
 //! connection, and the state of the session's window. A turn is the reply to one line of a session, and the standing
 //! after it. A talk is the answered lines of one session, with their replies. The place of an event is its number in
 //! the list of events, from 1. A flush writes all replies that were buffered.
-ghost use Rattle.std.specs.Prelude.{◌≡◌, ◌++◌, ◌+◌, ℕ, List, Option, Some, flat_map, length};
+ghost use Rattle.std.specs.Prelude.{◌≡◌, ◌++◌, ◌+◌, ◌-◌, ℕ, List, Option, Some, flat_map, length};
 ghost use mathlib.Core.List.{IsPrefix};
 ghost use Rattle.mml_lab.specs.Labs.{LabValue};
 ghost use Rattle.mml_ids.specs.Lines.{IsUnbroken};
 ghost use Rattle.mml_lines.specs.LinesOf.{lines_of};
-ghost use Rattle.mml_session.specs.Turns.{Standing, places_in, halts_in, halts_of};
+ghost use Rattle.mml_session.specs.Turns.{Standing, places_in, halts_in, halts_of, spare_in};
 ghost use Rattle.mml_session.specs.Talks.{Talk, LineTurn, bytes_read};
 ghost use Rattle.mml_session.specs.Ends.{Ended};
 ghost use Rattle.mml_session.specs.Holding.{LacksLastFlush};
@@ -27,12 +27,16 @@ pub fn places_are_those_told()
         t.end.window.places ≡ st.window.places ++ flat_map places_in t.replies }
 {}
 
-/// A window counts the replies that refuse an act because the journal is halted (`journal`), and no other replies.
+/// A window counts the replies that refuse an act because the journal is halted (`journal`), and no other replies. For
+/// each of them, it adds how many more events the lab allows after those that the window has then seen.
 pub fn refusals_for_the_journal_are_counted()
     ensures turn { (lab : LabValue) (st after : Standing) (t : LineTurn lab st after) →
         after.window.halts ≡ st.window.halts + halts_in t.reply }
     ensures talk { (lab : LabValue) (st : Standing) (t : Talk lab st) →
         t.end.window.halts ≡ st.window.halts + halts_of t.replies }
+    ensures spare { (lab : LabValue) (st after : Standing) (t : LineTurn lab st after) →
+        after.window.spare
+        ≡ st.window.spare + spare_in (lab.events - length after.window.seen) t.reply }
 {}
 
 /// What a session's window has seen only grows. The events that it had seen before one or several turns are the first

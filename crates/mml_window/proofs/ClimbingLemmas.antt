@@ -1,9 +1,9 @@
 -- Places that climb: each is greater than the one before it. The place of an event is its number in the list of events,
 -- from 1.
-use Rattle.std.proofs.Common.{ℕ, ◌+◌, ◌<◌, ◌≤◌, List, [], ◌∷◌, ◌++◌, length, arith, le_refl}
+use Rattle.std.proofs.Common.{ℕ, ◌+◌, ◌*◌, ◌-◌, ◌<◌, ◌≤◌, List, [], ◌∷◌, ◌++◌, length, arith, le_refl, le_trans, mul-le-mul_left}
 use mathlib.Core.List.{IsPrefix}
 use Rattle.mml_board.specs.declared.event.Event.{Event}
-use Rattle.mml_window.specs.Climbing.{Climbs}
+use Rattle.mml_window.specs.{Climbing.Climbs, Windows.AreSpared}
 use Rattle.mml_window.proofs.PrefixLemmas.{prefix_length}
 
 pub climbs_more : (low : ℕ) (ps : List ℕ) (high higher : ℕ) → high ≤ higher → Climbs low ps high → Climbs low ps higher
@@ -22,3 +22,8 @@ climbs_count low (p ∷ ps) high c = omega (arith, c.0, climbs_count p ps high c
 -- if places climb and none is above the number of events seen, the same is true after more events were seen
 pub climbs_on : (ps : List ℕ) (xs ys : List Event) → IsPrefix xs ys → Climbs 0 ps (length xs) → Climbs 0 ps (length ys)
 climbs_on ps xs ys pre c = climbs_more 0 ps (length xs) (length ys) (prefix_length xs ys pre) c
+
+-- if the lab allowed enough more events at each refusal, this is still true after more events were seen
+pub spares_on : (limit halts spare : ℕ) (xs ys : List Event) → IsPrefix xs ys → AreSpared limit (length xs) halts spare → AreSpared limit (length ys) halts spare
+spares_on limit halts spare xs ys pre are =
+    record { least = le_trans (mul-le-mul_left halts (omega (arith, prefix_length xs ys pre))) are.least }

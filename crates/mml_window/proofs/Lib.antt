@@ -9,3 +9,4 @@ pub mod BookLemmas
 pub mod AnswerLemmas
 pub mod AboutLemmas
 pub mod TallyLemmas
+pub mod ShareLemmas

@@ -147,7 +147,7 @@ told_push [] w = append-nil w.places
 told_push (v ∷ ws) w = ap (λ (l : List ℕ). v.places ++ l) (told_push ws w) ∙ sym (append_assoc v.places (told_of ws) w.places)
 
 -- windows that have seen all events have the places that they had before
-pub told_shown : (events : List Event) (ws : List WindowValue) → told_of (map (λ w. window_with events w.places w.refused w.halts) ws) ≡ told_of ws
+pub told_shown : (events : List Event) (ws : List WindowValue) → told_of (map (λ w. window_with events w.places w.refused w.halts w.spare) ws) ≡ told_of ws
 told_shown events [] = refl
 told_shown events (w ∷ ws) = ap (λ (l : List ℕ). w.places ++ l) (told_shown events ws)
 

@@ -6,8 +6,8 @@ use Rattle.mml_lab.specs.{declared.who.Who.Who, Labs.LabValue, Labs.IsLab}
 use Rattle.mml_board.specs.{declared.event.Event.Event, World.World, World.size, Lists.world_in}
 use Rattle.mml_policy.specs.declared.{command.Command.Command, ruling.Ruling.Ruling, refusal.Refusal.Refusal}
 use Rattle.mml_window.specs.declared.{sight.SightFault.SightFault, seeing.View.View, published.Published.Published}
-use Rattle.mml_window.specs.{Rulings.ruling_at, Rule.Saw, Windows.WindowValue, Windows.window_with, Windows.SeesOn, Views.Shows, Views.AnswersView}
-use Rattle.mml_window.proofs.ListLemmas.{nodes_in}
+use Rattle.mml_window.specs.{Rulings.ruling_at, Rule.Saw, Windows.WindowValue, Windows.window_with, Windows.IsWindow, Windows.SeesOn, Views.Shows, Views.AnswersView}
+use Rattle.mml_window.proofs.{ListLemmas.nodes_in, ClimbingLemmas.climbs_on, ClimbingLemmas.spares_on}
 use Rattle.mml_window.specs.declared.sight.SightFault.TheVariants as fault
 
 -- if the result shows the ruling after the events that the window has then seen, it answers the view
@@ -23,17 +23,30 @@ tells shown lab old new who command (Err fault.Closed) on s = absurd s
 pub nodes_entered : {lab : LabValue} {x : Published} {v w : View} → IsLab lab → Saw lab v x w → length lab.ids ≡ size x.board
 nodes_entered {lab} {x} {v} {w} is saw = nodes_in lab x.events.items is ∙ sym (ap size saw.published.board)
 
+-- a window that has read on is a window
+pub window_entered : (lab : LabValue) (x : Published) (v w u : View) (ps : List ℕ) (why : Option Refusal) (n m : ℕ) → Saw lab v x w → u ≡ w
+    → IsWindow lab (window_with v.seen ps why n m) → IsWindow lab (window_with u.seen ps why n m)
+window_entered lab x v w u ps why n m saw left is =
+    let seen : x.events.items ≡ u.seen = ap (λ (y : View). y.seen) (sym saw.view ∙ sym left) in
+    subst (λ (l : List Event). IsWindow lab (window_with l ps why n m)) seen (record {
+      lawful = is.lawful;
+      legal = saw.published.legal;
+      few = saw.published.few;
+      climbs = climbs_on ps v.seen x.events.items saw.begins is.climbs;
+      spares = spares_on lab.events n m v.seen x.events.items saw.begins is.spares;
+    })
+
 -- if a reader enters, the result shows the ruling on the board that it sees, and the reader leaves, the result answers
 -- the view. The window's places, its last refusal and its count of refusals stay as they were
 pub tells_entered : {A : Type 0} (shown : A → Ruling) (lab lab' : LabValue) (x : Published) (v w u : View) (board : World) (who : Who) (command : Command)
-    (r : Result A SightFault) (old : WindowValue) (ps : List ℕ) (why : Option Refusal) (n : ℕ)
-    → lab' ≡ lab → Saw lab v x w → u ≡ w → board ≡ x.board → old ≡ window_with v.seen ps why n
-    → Shows shown (ruling_at lab' board who command) r → AnswersView shown lab old who command r (window_with u.seen ps why n)
-tells_entered shown lab lab' x v w u board who command r old ps why n named saw left read was s =
+    (r : Result A SightFault) (old : WindowValue) (ps : List ℕ) (why : Option Refusal) (n m : ℕ)
+    → lab' ≡ lab → Saw lab v x w → u ≡ w → board ≡ x.board → old ≡ window_with v.seen ps why n m
+    → Shows shown (ruling_at lab' board who command) r → AnswersView shown lab old who command r (window_with u.seen ps why n m)
+tells_entered shown lab lab' x v w u board who command r old ps why n m named saw left read was s =
     let seen : x.events.items ≡ u.seen = ap (λ (y : View). y.seen) (sym saw.view ∙ sym left) in
     let world : board ≡ world_in lab x.events.items = read ∙ saw.published.board in
-    subst (λ (o : WindowValue). AnswersView shown lab o who command r (window_with u.seen ps why n)) (sym was)
-    (subst (λ (l : List Event). AnswersView shown lab (window_with v.seen ps why n) who command r (window_with l ps why n)) seen
-    (tells shown lab (window_with v.seen ps why n) (window_with x.events.items ps why n) who command r
-    (record { begins = saw.begins; legal = saw.published.legal; places = refl; refused = refl; halts = refl })
+    subst (λ (o : WindowValue). AnswersView shown lab o who command r (window_with u.seen ps why n m)) (sym was)
+    (subst (λ (l : List Event). AnswersView shown lab (window_with v.seen ps why n m) who command r (window_with l ps why n m)) seen
+    (tells shown lab (window_with v.seen ps why n m) (window_with x.events.items ps why n m) who command r
+    (record { begins = saw.begins; legal = saw.published.legal; places = refl; refused = refl; halts = refl; spare = refl })
     (subst (λ (k : Ruling). Shows shown k r) (λ t. ruling_at (named t) (world t) who command) s)))

@@ -2,11 +2,11 @@
 -- of its configuration, and the number of events so far. The place of an event is its number in the list of events,
 -- from 1. A window is one session's view of the published events and board. A list of events is legal if the rules
 -- allow each event after the earlier ones.
-use Rattle.std.specs.Prelude.{◌≡◌, ◌⊎◌, ℕ, ◌+◌, true, false, List, [], ◌∷◌, ◌++◌, length, Option, None, Some}
+use Rattle.std.specs.Prelude.{◌≡◌, ◌⊎◌, ℕ, ◌+◌, ◌-◌, true, false, List, [], ◌∷◌, ◌++◌, length, Option, None, Some}
 use mathlib.Core.List.{IsPrefix}
 use Rattle.mml_lab.specs.{declared.who.Who.Who, Labs.LabValue}
 use Rattle.mml_board.specs.{declared.event.Event.Event, declared.done.Done.Done, World.World, Lists.is_legal_in, Lists.world_in}
-use Rattle.mml_policy.specs.declared.{command.Command.Command, refusal.Refusal.TheVariants.Full, refusal.Refusal.TheVariants.Journal, refusal.Refusal.TheVariants.Memory}
+use Rattle.mml_policy.specs.declared.{command.Command.Command, refusal.Refusal.Refusal, refusal.Refusal.TheVariants.Full, refusal.Refusal.TheVariants.Journal, refusal.Refusal.TheVariants.Memory}
 use Rattle.mml_policy.specs.About.{IsDone}
 use Rattle.mml_window.specs.declared.answer.Answer.{Answer, TheVariants.Granted, TheVariants.Denied, TheVariants.Refused}
 use Rattle.mml_window.specs.{Rulings.ruling_at, Windows.WindowValue, Windows.window_with, Books.BookValue, Books.IsBook, Books.Grows, Books.HaltsBook}
@@ -46,28 +46,36 @@ Lets lab failures old e done (Refused Memory) new = new ≡ old
 Lets lab failures old e done (Granted place number d) new =
     (d ≡ done) × (place ≡ length old.events + 1) × (number ≡ (world_in lab new.events).number) × Grows failures old new e
 
--- the answer is right after the list l, for a window that was granted `places`, and `halts` of whose acts were refused
--- because the journal was halted. `new` is the window after the answer; it has the reason if the act was refused. If an
--- act was refused because the journal was halted, nothing is granted any more
-abbrev pub Says : LabValue → List Event → List ℕ → ℕ → Who → Command → Answer → WindowValue → Type 0
-Says lab l places halts who command (Denied d) new =
-    (ruling_at lab (world_in lab l) who command ≡ ruling.Denied d) × (new ≡ window_with l places None halts)
-Says lab l places halts who command (Refused Full) new =
-    (ruling_at lab (world_in lab l) who command ≡ ruling.Full) × (length l ≡ lab.events) × (new ≡ window_with l places (Some Full) halts)
-Says lab l places halts who command (Refused Journal) new = Grants lab l who command × (new ≡ window_with l places (Some Journal) (halts + 1))
-Says lab l places halts who command (Refused Memory) new = Grants lab l who command × (new ≡ window_with l places (Some Memory) halts)
-Says lab l places halts who command (Granted place number done) new =
-    (e : Event) × Takes lab l who command e place number done × (new ≡ window_with (l ++ e ∷ []) (places ++ place ∷ []) None halts) × (halts ≡ 0)
+-- the window after an answer that isn't a grant: it has seen the list, and keeps this reason
+abbrev pub seeing : List Event → WindowValue → Option Refusal → WindowValue
+seeing l old why = window_with l old.places why old.halts old.spare
+
+-- the window after the refusal because the journal is halted: it has seen the list, after which the lab allows `spare`
+-- more events
+abbrev pub halting : List Event → WindowValue → ℕ → WindowValue
+halting l old spare = window_with l old.places (Some Journal) (old.halts + 1) (old.spare + spare)
+
+-- the answer is right after the list l, for the window `old`. `new` is the window after the answer; it has the reason
+-- if the act was refused. If an act was refused because the journal was halted, nothing is granted any more
+abbrev pub Says : LabValue → List Event → WindowValue → Who → Command → Answer → WindowValue → Type 0
+Says lab l old who command (Denied d) new = (ruling_at lab (world_in lab l) who command ≡ ruling.Denied d) × (new ≡ seeing l old None)
+Says lab l old who command (Refused Full) new =
+    (ruling_at lab (world_in lab l) who command ≡ ruling.Full) × (length l ≡ lab.events) × (new ≡ seeing l old (Some Full))
+Says lab l old who command (Refused Journal) new = Grants lab l who command × (new ≡ halting l old (lab.events - length l))
+Says lab l old who command (Refused Memory) new = Grants lab l who command × (new ≡ seeing l old (Some Memory))
+Says lab l old who command (Granted place number done) new =
+    (e : Event) × Takes lab l who command e place number done
+    × (new ≡ window_with (l ++ e ∷ []) (old.places ++ place ∷ []) None old.halts old.spare) × (old.halts ≡ 0)
 
 -- the answer is decided after a legal list that begins with all events that the window had seen
 abbrev pub Answers : LabValue → WindowValue → Who → Command → Answer → WindowValue → Type 0
-Answers lab old who command answer new = (l : List Event) × IsPrefix old.seen l × (is_legal_in lab l ≡ true) × Says lab l old.places old.halts who command answer new
+Answers lab old who command answer new = (l : List Event) × IsPrefix old.seen l × (is_legal_in lab l ≡ true) × Says lab l old who command answer new
 
 -- the answer is decided after a legal list that begins with all events that the window had seen, and leads to this
 -- world
 abbrev pub AnswersAt : LabValue → World → WindowValue → Who → Command → Answer → WindowValue → Type 0
 AnswersAt lab w old who command answer new =
-    (l : List Event) × IsPrefix old.seen l × (is_legal_in lab l ≡ true) × (world_in lab l ≡ w) × Says lab l old.places old.halts who command answer new
+    (l : List Event) × IsPrefix old.seen l × (is_legal_in lab l ≡ true) × (world_in lab l ≡ w) × Says lab l old who command answer new
 
 -- A book of the lab decides the act. The list after which the answer is decided leads to the world of this book, so
 -- none of the book's events was left out. The events that the window has seen afterwards lead to the world of the book

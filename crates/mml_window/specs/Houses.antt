@@ -4,16 +4,17 @@ use Rattle.std.specs.Prelude.{ℕ, List, []}
 use Rattle.mml_lab.specs.{Labs.LabValue, Rosters.no_account}
 use Rattle.mml_board.specs.declared.event.Event.{Event}
 
--- the name of a house: those of its two ledgers, for refusals and for grants, and how many events came before the house
--- was opened
+-- the name of a house: those of its three ledgers, two for refusals and one for grants, and how many events came before
+-- the house was opened
 pub record HouseName : Type 0 where
   pub halts : ℕ
+  pub spares : ℕ
   pub grants : ℕ
   pub first : ℕ
 
--- the name that consists of those of two ledgers, and of a number of events
-abbrev pub name_of : ℕ → ℕ → ℕ → HouseName
-name_of halts grants first = record { halts = halts; grants = grants; first = first }
+-- the name that consists of those of three ledgers, and of a number of events
+abbrev pub name_of : ℕ → ℕ → ℕ → ℕ → HouseName
+name_of halts spares grants first = record { halts = halts; spares = spares; grants = grants; first = first }
 
 -- a house: its name and its lab
 pub record HouseValue : Type 0 where
@@ -36,7 +37,7 @@ resumed_of name lab begun = record { name = name; lab = lab; begun = begun }
 
 -- a name that no house has
 abbrev pub no_name : HouseName
-no_name = name_of 0 0 0
+no_name = name_of 0 0 0 0
 
 -- the lab of the house with this name: it has no nodes
 abbrev pub no_lab : LabValue

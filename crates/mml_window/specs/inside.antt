@@ -5,3 +5,4 @@ pub mod Cursors
 pub mod Readers
 pub mod Keeping
 pub mod Seats
+pub mod Shares

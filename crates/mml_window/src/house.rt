@@ -58,7 +58,19 @@ impl<H: House> Ledger for Halts<H> {
     ghost parts = { H.lab.sessions };
 }
 
-/// The second ledger of a house. It counts the events that the house granted. It has a part for each event that the lab
+/// The second ledger of a house. For each act that the house refused because its journal was halted, it adds how many
+/// more events the lab allowed then. It has a part for each session of the lab.
+pub(crate) struct Spares<H: House> {
+    of: PhantomData<H>,
+}
+
+impl<H: House> Ledger for Spares<H> {
+    ghost name = { H.name.spares };
+
+    ghost parts = { H.lab.sessions };
+}
+
+/// The third ledger of a house. It counts the events that the house granted. It has a part for each event that the lab
 /// allows, and one more.
 pub(crate) struct Grants<H: House> {
     of: PhantomData<H>,
@@ -78,8 +90,32 @@ pub(crate) type HaltCount<H> = Book<Halts<H>>;
 /// A share of the first ledger: how many acts of one window were refused because the journal was halted.
 pub(crate) type HaltShare<H> = Share<Halts<H>>;
 
-/// The total of the second ledger: how many events the house granted.
+/// The total of the second ledger: the sum over the refusals that the first one counts.
+pub(crate) type SpareCount<H> = Book<Spares<H>>;
+
+/// A share of the second ledger: the sum over such refusals of one window.
+pub(crate) type SpareShare<H> = Share<Spares<H>>;
+
+/// The total of the third ledger: how many events the house granted.
 pub(crate) type GrantCount<H> = Book<Grants<H>>;
 
-/// A share of the second ledger: how many events were granted to one window, or in one act.
+/// A share of the third ledger: how many events were granted to one window, or in one act.
 pub(crate) type GrantShare<H> = Share<Grants<H>>;
+
+/// A share of each of the three ledgers of a house.
+#[derive(Drop)]
+pub(crate) struct Shares<H: House> {
+    pub halts: HaltShare<H>,
+    pub spares: SpareShare<H>,
+    pub grants: GrantShare<H>,
+}
+
+/// The totals of the three ledgers of a house.
+#[derive(Drop)]
+pub(crate) struct Totals<H: House> {
+    pub halts: HaltCount<H>,
+    pub spares: SpareCount<H>,
+    pub grants: GrantCount<H>,
+    /// The parts of the count of grants that aren't used yet.
+    pub unused: GrantShare<H>,
+}

@@ -1,4 +1,5 @@
-//! The check that the windows were granted all places (event numbers) above a given one, each once.
+//! The check that the windows were granted all places (event numbers) above a given one, each once; and what their
+//! shares of the house's ledgers are together.
 //!
 //! A window is one session's view of the published events and board. There are at most as many windows as a lab may
 //! have sessions. The place of an event is its number in the list of events, from 1. A window keeps the places of the
@@ -6,12 +7,14 @@
 //! is a count that only contracts can read: a total, and shares whose amounts add up to it. It takes no bytes.
 //!
 //! The loops run over indices, since their invariants speak of the windows before an index.
-ghost use Rattle.std.specs.Prelude.{◌≡◌, ℕ, ◌+◌, ◌<◌, ◌≤◌, [], ◌∷◌, length, All, MatchBool};
+ghost use Rattle.std.specs.Prelude.{◌≡◌, ℕ, ◌+◌, ◌<◌, ◌≤◌, [], ◌∷◌, length, All, MatchBool, MatchOption};
 ghost use Rattle.mml_lab.specs.declared.TheConstants.{MAX_SESSIONS};
 ghost use Rattle.mml_window.specs.Tallies.{times, told_of, IsEachOnceFrom};
+ghost use Rattle.mml_window.specs.Windows.{IsWindow};
 ghost use Rattle.mml_window.specs.inside.Cursors.{left_of, IsStuck};
+ghost use Rattle.mml_window.specs.inside.Shares.{AreJoined};
 
-use crate::house::{GrantShare, HaltCount, House};
+use crate::house::{House, Shares};
 use crate::window::Window;
 use mml_lab::MAX_SESSIONS;
 
@@ -51,26 +54,27 @@ pub(crate) fn is_each_once<H: House>(windows: &[Window<H>], first: u64, most: u6
     are_counted_off(windows, &cursors)
 }
 
-/// Changes nothing. It is called for its contract: `count`, the house's total of acts that were refused because the
-/// journal was halted, is at least the share of each window.
-pub(crate) fn audit_halts<H: House>(windows: &mut Vec<Window<H>>, count: &mut HaltCount<H>)
-    ensures windows { windows.new.items ≡ windows.old.items }
-    ensures total { count.new.total ≡ count.old.total }
-    ensures few { All (λ w. w.halts ≤ count.old.total) windows.old.items }
-{
-    'windows: for index in 0..windows.len() {
-        windows[index].audit_halts(count);
-    }
-}
-
-/// Drops the windows, and adds their shares of the count of granted events to `count`.
-pub(crate) fn join_grants<H: House>(windows: Vec<Window<H>>, count: &mut GrantShare<H>)
-    ensures { count.new.amount ≡ count.old.amount + length (told_of windows.items) }
+/// Drops the windows. Merges their shares of each ledger of the house into one share, and returns these three. Returns
+/// `None` if there is no window.
+pub(crate) fn join_shares<H: House>(windows: Vec<Window<H>>) -> Option<Shares<H>>
+    ensures windows { All (IsWindow H.lab) windows.items }
+    ensures shares { MatchOption result (windows.items ≡ []) (λ s. AreJoined windows.items
+        s.halts.amount s.halts.parts s.spares.amount s.spares.parts s.grants.amount) }
 {
     let mut windows = windows;
+    let last = windows.pop()?;
+    let mut all = last.into_shares();
     while let Some(window) = windows.pop() {
-        count.merge(window.into_grants());
+        let Shares {
+            halts,
+            spares,
+            grants,
+        } = window.into_shares();
+        all.halts.merge(halts);
+        all.spares.merge(spares);
+        all.grants.merge(grants);
     }
+    Some(all)
 }
 
 /// Counts off one place (event number): advances the cursor of the first window whose next place is `place`, and

@@ -6,7 +6,7 @@
 //! events, from 1. An act is a request for an event. The journal is halted if a line couldn't be written to it. A
 //! ledger is a count that only contracts can read: a total, and shares whose amounts add up to it. It takes no bytes. A
 //! clause `nodes` says that a result names only nodes of the lab.
-ghost use Rattle.std.specs.Prelude.{◌≡◌, ◌≢◌, ℕ, ◌+◌, ◌<◌, ◌≤◌, ◌++◌, ◌∷◌, [], length, drop, vec_capacity, IfOk, IfErr, IsTrue, IsFalse, MatchBool};
+ghost use Rattle.std.specs.Prelude.{◌≡◌, ◌≢◌, ℕ, ◌+◌, ◌-◌, ◌<◌, ◌≤◌, ◌++◌, ◌∷◌, [], length, drop, vec_capacity, IfOk, IfErr, IsTrue, IsFalse, MatchBool};
 ghost use mathlib.Core.List.{IsPrefix};
 ghost use Rattle.std.specs.Arc.{arc_value};
 ghost use Rattle.mml_lab.specs.Labs.{IsLab};
@@ -22,10 +22,11 @@ ghost use Rattle.mml_window.specs.Views.{AnswersView, TellsNumber};
 ghost use Rattle.mml_window.specs.Tallies.{times};
 ghost use Rattle.mml_window.specs.inside.Cursors.{IsStuck};
 ghost use Rattle.mml_window.specs.inside.Seats.{IsSeat};
+ghost use Rattle.mml_window.specs.inside.Shares.{IsShareOf};
 ghost use Rattle.mml_window.specs.inside.Keeping.{IsNextPlace, Keeps, granted_by};
 
 use crate::answer::Answer;
-use crate::house::{GrantShare, HaltCount, HaltShare, House, Press};
+use crate::house::{GrantShare, HaltCount, HaltShare, House, Press, Shares, SpareCount, SpareShare};
 use crate::looking::{Reader, enter, leave, look_for, take_slot};
 use crate::showing::{look_at, report_at, see_at};
 use crate::sight::{Closed, SightFault};
@@ -52,6 +53,8 @@ pub struct Window<H: House> {
     refused: Option<Refusal>,
     // How many of its acts were refused because the journal was halted.
     halts: HaltShare<H>,
+    // The sum over these refusals: how many more events the lab allowed then.
+    spares: SpareShare<H>,
     // How many events the session was granted, that is, how many places there are.
     grants: GrantShare<H>,
     of: PhantomData<H>,
@@ -65,12 +68,12 @@ impl<H: House> Model for Window<H> {
 
     ghost Value = { WindowValue };
 
-    ghost view = { λ w. window_with (view_by w.reader).seen w.places.items w.refused w.halts.amount };
+    ghost view = { λ w. window_with (view_by w.reader).seen w.places.items w.refused w.halts.amount w.spares.amount };
 
     ghost invariant = { λ w. IsWindow H.lab
-        (window_with (view_by w.reader).seen w.places.items w.refused w.halts.amount)
-        × (arc_value w.lab ≡ H.lab) × (H.lab.events ≤ vec_capacity w.places) × (0 < w.halts.parts)
-        × (w.grants.amount ≡ length w.places.items) };
+        (window_with (view_by w.reader).seen w.places.items w.refused w.halts.amount w.spares.amount)
+        × (arc_value w.lab ≡ H.lab) × (H.lab.events ≤ vec_capacity w.places) × (w.halts.parts ≡ 1)
+        × (w.grants.amount ≡ length w.places.items) × (w.spares.parts ≡ 1) };
 }
 
 /// What a window is made of: the lab, and room for the places that its session may be granted. The place of an event is
@@ -83,23 +86,25 @@ pub(crate) struct Seat {
 
 impl<H: House> Window<H> {
     /// Returns a window that is made of a seat (the lab, and room for places), and has seen nothing yet. It takes a
-    /// slot of `press` if one is free; otherwise it takes one at a later act. `halts` is its share of the count of acts
-    /// that were refused because the journal was halted, and must have a part. `grants` is its share of the count of
-    /// granted events. Neither may have counted anything yet.
-    pub(crate) fn over(
-        press: &Press<H>,
-        seat: Seat,
-        halts: HaltShare<H>,
-        grants: GrantShare<H>,
-    ) -> Window<H>
+    /// slot of `press` if one is free; otherwise it takes one at a later act. `shares` are its shares of the house's
+    /// ledgers. None may have counted anything yet, and those of the two counts of acts that were refused because the
+    /// journal was halted must have one part.
+    pub(crate) fn over(press: &Press<H>, seat: Seat, shares: Shares<H>) -> Window<H>
         requires lawful { IsLab H.lab }
         requires seat { IsSeat H.lab seat }
-        requires part { 0 < halts.parts }
-        requires none { halts.amount ≡ 0 }
-        requires no_grants { grants.amount ≡ 0 }
+        requires part { shares.halts.parts ≡ 1 }
+        requires spare_part { shares.spares.parts ≡ 1 }
+        requires none { shares.halts.amount ≡ 0 }
+        requires none_spared { shares.spares.amount ≡ 0 }
+        requires no_grants { shares.grants.amount ≡ 0 }
         ensures { result ≡ window [] [] }
     {
         let Seat { lab, places } = seat;
+        let Shares {
+            halts,
+            spares,
+            grants,
+        } = shares;
         let mut reader = None;
         take_slot(press, &mut reader);
         Window {
@@ -108,6 +113,7 @@ impl<H: House> Window<H> {
             places,
             refused: None,
             halts,
+            spares,
             grants,
             of: PhantomData,
         }
@@ -185,7 +191,6 @@ impl<H: House> Window<H> {
 
     /// Returns the number of the configuration that is published. Returns `Closed` if the house has ended, or the
     /// window has no reader's slot.
-    #[tactic(auto, using(crate::proofs::ClimbingLemmas::climbs_on))]
     pub fn number(&mut self) -> Result<u64, Closed>
         ensures { TellsNumber H.lab self.old result self.new }
     {
@@ -199,7 +204,6 @@ impl<H: House> Window<H> {
 
     /// Returns the published registers of the node with the identifier `node`, if `who` may see it, and else `Denied`
     /// with the reason. Returns `Closed` if the house has ended, or the window has no reader's slot. Allocates nothing.
-    #[tactic(auto, using(crate::proofs::ClimbingLemmas::climbs_on))]
     pub fn see(&mut self, who: Who, node: u64) -> Result<See, SightFault>
         ensures tells { AnswersView rulings.Seen H.lab self.old who (command.See node) result self.new }
         ensures nodes { IfOk result (IsSeen H.lab.ids) }
@@ -216,7 +220,6 @@ impl<H: House> Window<H> {
     /// Returns the published node with the identifier `node` as its owners see it, if `who` owns it or is the teacher,
     /// and else `Denied` with the reason. Returns `Memory` if memory runs out, and `Closed` if the house has ended, or
     /// the window has no reader's slot.
-    #[tactic(auto, using(crate::proofs::ClimbingLemmas::climbs_on))]
     pub fn look(&mut self, alloc: Global, who: Who, node: u64) -> Result<Look, SightFault>
         ensures tells { AnswersView rulings.Looked H.lab self.old who (command.Look node) result
             self.new }
@@ -232,7 +235,6 @@ impl<H: House> Window<H> {
 
     /// Returns the report on the published configuration, if `who` is the teacher, and else `Denied` with the reason.
     /// Returns `Memory` if memory runs out, and `Closed` if the house has ended, or the window has no reader's slot.
-    #[tactic(auto, using(crate::proofs::ClimbingLemmas::climbs_on))]
     pub fn report(&mut self, alloc: Global, who: Who) -> Result<Report, SightFault>
         ensures tells { AnswersView (λ r. rulings.Reported) H.lab self.old who command.Report result
             self.new }
@@ -250,7 +252,6 @@ impl<H: House> Window<H> {
     /// Reads the published data until the window has seen the board that `press`, the writer, has published last, and
     /// events that lead to this board. Waits for a reader's slot if the window has none and none is free. With a slot,
     /// one reading is enough, since nothing is published while `press` is borrowed.
-    #[tactic(auto, using(crate::proofs::ClimbingLemmas::climbs_on))]
     pub(crate) fn read_until_board<R: Wait>(&mut self, rt: &R, press: &Press<H>)
         ensures on { SeesOn H.lab self.old self.new }
         ensures world { world_in H.lab self.new.seen ≡ press.now.desk.shown.value.board }
@@ -263,10 +264,9 @@ impl<H: House> Window<H> {
 
     /// Reads the published data until the window has seen all events that `press`, the writer, has published. Waits for
     /// a slot as `read_until_board` does.
-    #[tactic(auto, using(crate::proofs::ClimbingLemmas::climbs_on))]
     pub(crate) fn read_until_all<R: Wait>(&mut self, rt: &R, press: &Press<H>)
         ensures window { self.new ≡ window_with press.now.desk.shown.value.events.items
-            self.old.places self.old.refused self.old.halts }
+            self.old.places self.old.refused self.old.halts self.old.spare }
         ensures begins { IsPrefix self.old.seen press.now.desk.shown.value.events.items }
     {
         let events = press.published().events.as_slice();
@@ -275,14 +275,23 @@ impl<H: House> Window<H> {
         });
     }
 
-    /// Counts one more act of the window's session that was refused because the journal was halted. `count` is the
-    /// house's total of such acts.
-    pub(crate) fn count_halt(&mut self, count: &mut HaltCount<H>)
+    /// Counts one more act of the window's session that was refused because the journal was halted. `halts` is the
+    /// house's total of such acts. `spare` is how many more events the lab allows, at least after what the window has
+    /// seen. It is added to `spares`, the house's sum over such acts.
+    pub(crate) fn count_halt(
+        &mut self,
+        halts: &mut HaltCount<H>,
+        spares: &mut SpareCount<H>,
+        spare: u64,
+    )
+        requires { H.lab.events - length self.old.seen ≤ spare }
         ensures window { self.new ≡ window_with self.old.seen self.old.places self.old.refused
-            (self.old.halts + 1) }
-        ensures total { count.new.total ≡ count.old.total + 1 }
+            (self.old.halts + 1) (self.old.spare + spare) }
+        ensures total { halts.new.total ≡ halts.old.total + 1 }
+        ensures spared { spares.new.total ≡ spares.old.total + spare }
     {
-        count.add(&mut self.halts, 1);
+        halts.add(&mut self.halts, 1);
+        spares.add(&mut self.spares, spare);
     }
 
     /// Changes nothing. It is called for its contract: `count`, the house's total of acts that were refused because the
@@ -295,12 +304,24 @@ impl<H: House> Window<H> {
         count.audit(&mut self.halts);
     }
 
-    /// Drops the window, and returns its share of the count of granted events.
-    pub(crate) fn into_grants(self) -> GrantShare<H>
-        ensures { result.amount ≡ length self.places }
+    /// Drops the window, and returns its shares of the house's ledgers.
+    pub(crate) fn into_shares(self) -> Shares<H>
+        ensures window { IsWindow H.lab self }
+        ensures shares { IsShareOf self result.halts.amount result.spares.amount result.grants.amount }
+        ensures part { result.halts.parts ≡ 1 }
+        ensures spare_part { result.spares.parts ≡ 1 }
     {
-        let Window { grants, .. } = self;
-        grants
+        let Window {
+            halts,
+            spares,
+            grants,
+            ..
+        } = self;
+        Shares {
+            halts,
+            spares,
+            grants,
+        }
     }
 
     /// Returns how many places (event numbers) the window's session was granted.

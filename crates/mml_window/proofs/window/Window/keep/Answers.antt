@@ -2,7 +2,7 @@ use Rattle.std.proofs.Common.{rules, ◌≡◌, ◌+◌, length-append, ◌++◌
 use mathlib.Core.List.{IsPrefix}
 use Rattle.mml_board.specs.{declared.event.Event.Event, Lists.is_legal_in}
 use Rattle.mml_window.specs.{Windows.window_with, inside.Keeping.Keeps, inside.Readers.view_by}
-use Rattle.mml_window.proofs.{ClimbingLemmas.climbs_push, PrefixLemmas.before_last, PrefixLemmas.one_more}
+use Rattle.mml_window.proofs.{ClimbingLemmas.climbs_push, ClimbingLemmas.spares_on, PrefixLemmas.before_last, PrefixLemmas.one_more}
 use Rattle.mml_window.proofs.window.Window.keep.Goals as goal
 
 pub invariant_of-self-in-Some : goal.invariant_of-self-in-Some
@@ -20,12 +20,14 @@ invariant_of-self-in-Some g c =
         few = omega (arith, ap length seen, saw.published.few);
         climbs = rw (c.push_reserved.ensures.items, seen, count)
             (climbs_push 0 c.self.inside.places.items (length (view_by c.self.inside.reader).seen) c.in-Granted.place (omega (arith, more)) was.climbs);
+        spares = rw seen (spares_on g.H.House.lab.events _ _ _ _ saw.begins was.spares);
       },
       search rules,
       search rules,
       search rules,
       rw c.push_reserved.ensures.items
           (omega (arith, c.merge.ensures.amount, c.self.invariant.4, counted, length-append c.self.inside.places.items (c.in-Granted.place ∷ []))),
+      search rules,
     )
 
 pub returns-in-Some : goal.returns-in-Some
@@ -39,8 +41,9 @@ returns-in-Some g c =
     let seen : (view_by c.look_for.new.reader).seen ≡ c.args.self.now.seen ++ e ∷ [] = ap (λ v. v.seen) saw.view ∙ next in
     let places : c.push_reserved.new.self.items ≡ c.args.self.now.places ++ c.in-Granted.place ∷ [] = search rules in
     let halts : c.self.inside.halts.amount ≡ c.args.self.now.halts = ap (λ w. w.halts) c.self.view_is in
+    let spare : c.self.inside.spares.amount ≡ c.args.self.now.spare = ap (λ w. w.spare) c.self.view_is in
     let all : c.deref.result.now ≡ c.args.press.now.desk.shown.value.events.items = search rules in
     let final = before_last c.deref.result.now e c.in-Some.ensures.item.3.0 (search rules) in
     subst (λ a. Keeps c.args.press.now.desk.shown.value.events.items c.args.self.now a
-    (window_with (view_by c.look_for.new.reader).seen c.push_reserved.new.self.items None c.self.inside.halts.amount))
-    (sym c.in-Granted.is) (take (length c.deref.result.now - 1) c.deref.result.now, e, sym all ∙ final, λ t. window_with (seen t) (places t) None (halts t))
+    (window_with (view_by c.look_for.new.reader).seen c.push_reserved.new.self.items None c.self.inside.halts.amount c.self.inside.spares.amount))
+    (sym c.in-Granted.is) (take (length c.deref.result.now - 1) c.deref.result.now, e, sym all ∙ final, λ t. window_with (seen t) (places t) None (halts t) (spare t))
