@@ -1,7 +1,7 @@
 -- An accepted entry describes a turn of a session. A view is a command that only asks to be shown something: a see, a
 -- look or a report. A window is what a session has seen of the list of events. The place of an event is its number in
 -- this list, from 1.
-use Rattle.std.proofs.Common.{◌≡◌, ◌⊎◌, ℕ, ◌+◌, ◌≤◌, zero, suc, Bool, true, false, List, [], ◌∷◌, ◌++◌, length, take, refl, sym, ap, ◌∙◌, subst, inl, inr, Option, None, Some, Result, Ok, Err}
+use Rattle.std.proofs.Common.{◌≡◌, ◌⊎◌, ℕ, ◌+◌, ◌-◌, ◌≤◌, zero, suc, Bool, true, false, List, [], ◌∷◌, ◌++◌, length, take, refl, sym, ap, ◌∙◌, subst, inl, inr, Option, None, Some, Result, Ok, Err}
 use Rattle.std.proofs.Common.{arith, append-nil, length-append}
 use Rattle.std.{proofs.lemmas.List.length-take-le, proofs.lemmas.Bool.Decides.nat_tests, specs.Prelude.IfSome}
 use mathlib.Core.List.{IsPrefix}
@@ -16,7 +16,7 @@ use Rattle.mml_codec.specs.{Greetings.greeting, Lines.request_in, Replies.place_
 use Rattle.mml_codec.proofs.RulingsLemmas.{place_of_done}
 use Rattle.mml_window.specs.{Rulings.ruling_at, Windows.WindowValue, Windows.window_with}
 use Rattle.mml_window.proofs.PrefixLemmas.{prefix_length}
-use Rattle.mml_session.specs.{Turns.standing, Turns.entered, Turns.places_in, Turns.halts_in, Turns.MayRefuse, Turns.Told, Turns.Settles, Turns.Asked, Turns.Turn, Records.judged_at, Records.is_shown}
+use Rattle.mml_session.specs.{Turns.standing, Turns.entered, Turns.places_in, Turns.halts_in, Turns.spare_in, Turns.MayRefuse, Turns.Told, Turns.Settles, Turns.Asked, Turns.Turn, Records.judged_at, Records.is_shown}
 use Rattle.mml_session.proofs.GreetingLemmas.{IsPlain, plain_greeting}
 use Rattle.mml_record.specs.Certified.{IsNext, may_refuse, FitsRuling, FitsGreeting, FitsAsked, Fits, seen_after, is_left, asks_window}
 use Rattle.mml_record.proofs.{FitLemmas.first_of, PlaceLemmas.legal_first, ShownLemmas.CanBeShown}
@@ -62,15 +62,16 @@ module _ (lab : LabValue) (l : List Event) (legal : is_legal_in lab l ≡ true) 
       → (new : WindowValue) × Told lab w who c r new × IsAfter w r new
   tells w who c r later (inl fits) unhalted =
       let ruled = ruling_at lab (world_in lab (take p l)) who c in
-      let new = window_with (entered (take p l) (event_of ruled)) (w.places ++ places_in r) None (w.halts + halts_in r) in
+      let new = window_with (entered (take p l) (event_of ruled)) (w.places ++ places_in r) None (w.halts + halts_in r)
+      (w.spare + spare_in (lab.events - length (entered (take p l) (event_of ruled))) r) in
       let u = after_ruling (world_in lab (take p l)) ruled in
       let seen = enters u ruled fits.1 ∙ ap (λ (q : Reply). take (seen_after p (place_in q)) l) (sym fits.0) in
       let most = subst (λ (q : Reply). seen_after p (place_in q) ≤ length l) (sym fits.0) (below u ruled fits.1) in
-      (new, record { list = take p l; later = later; legal = legal_first lab l legal p; says = inl (fits.0, (refl, refl)); counted = refl; unhalted = unhalted }, (seen, refl, most))
+      (new, record { list = take p l; later = later; legal = legal_first lab l legal p; says = inl (fits.0, (refl, refl)); counted = refl; spared = refl; unhalted = unhalted }, (seen, refl, most))
   tells w who c r later (inr fits) unhalted =
-      let new = window_with (take p l) w.places (kept_for fits.0) (w.halts + halts_in r) in (
+      let new = window_with (take p l) w.places (kept_for fits.0) (w.halts + halts_in r) (w.spare + spare_in (lab.events - length (take p l)) r) in (
         new,
-        record { list = take p l; later = later; legal = legal_first lab l legal p; says = inr (fits.0, fits.1, refuses_so _ fits.0 fits.2, (refl, refl)); counted = refl; unhalted = unhalted },
+        record { list = take p l; later = later; legal = legal_first lab l legal p; says = inr (fits.0, fits.1, refuses_so _ fits.0 fits.2, (refl, refl)); counted = refl; spared = refl; unhalted = unhalted },
         (
           ap (λ (q : Reply). take (seen_after p (place_in q)) l) (sym fits.1),
           sym (append-nil w.places) ∙ ap (λ (q : Reply). w.places ++ places_in q) (sym fits.1),
