@@ -15,8 +15,8 @@ use Rattle.mml_session.specs.Records.{Kept, Stand, stand, Adds, EndedRecorded}
 use Rattle.mml_serving.specs.Serving.{Each}
 use Rattle.mml_hosting.specs.declared.{hosted.Hosted.Hosted, seat.SeatRecord.SeatRecord, seat.ServedSession.ServedSession}
 use Rattle.mml_hosting.specs.{Hosting.HostsFrom, Ports.numbers_of, Seats.Led, Seats.Leads, Seats.Terms, Seats.terms, Seats.kept_from, Seats.sessions_of}
-use Rattle.mml_record.specs.RecordedSeats.{Held, RecordedSeat, IsResumedSeat, IsRecordText, fresh}
-use Rattle.mml_record.proofs.RecordLemmas.{is_record_from}
+use Rattle.mml_record.specs.RecordedSeats.{Held, RecordedSeat, IsResumedSeat, IsFinalText, fresh}
+use Rattle.mml_record.proofs.TextLemmas.{are_final}
 use Rattle.mml_laws.specs.{Classes.seat_of, Classes.seats_of, ClassAnswers.HasAnswers, ClassAnswers.HaveAnswers, OneScript.IsOneScript}
 use Rattle.mml_laws.specs.Served.{Answered, answers_in, IsConversation, AreConversations, AreHeard, AreWritten, AreServed, replies_of, named_by}
 use Rattle.mml_laws.proofs.{ZipsLemmas.zip_append, ServedLemmas.house_once, ServedLemmas.house_written, OneScriptLemmas.one_script}
@@ -104,15 +104,6 @@ module _ {K C R W : Type 0} (t : Terms K C R W) where
   resumed_seats (r ∷ rs) (w ∷ ws) empty led = (resumed_seat r w empty.0 led.0, resumed_seats rs ws empty.1 led.1)
   resumed_seats _ _ empty led = absurd led
 
-record_texts : (lab : LabValue) (l begun : List Event) (ps : List RecordedSeat) (ws : List WindowValue) → All (λ w. IsPrefix w.seen l) ws
-    → AllZip (IsResumedSeat lab begun) ps ws → AllZip (λ p w. IsRecordText lab l p.number p.kept w.places) ps ws
-record_texts lab l begun [] [] seen held = tt
-record_texts lab l begun (p ∷ ps) (w ∷ ws) seen held = (
-  is_record_from lab l begun p w held.0 (All-head (λ w. IsPrefix w.seen l) w ws seen),
-  record_texts lab l begun ps ws (All-tail (λ w. IsPrefix w.seen l) w ws seen) held.1,
-)
-record_texts lab l begun _ _ seen held = absurd held
-
 -- ---- the numbers of the seats
 
 -- 0 for a number from 1 to `most`, otherwise 1
@@ -191,13 +182,13 @@ module _ {S K C R W : Type 0} (begun : List Event) (given : ℕ → Option Kept)
 
   pub class_seats : ((n : ℕ) → 0 < n → n ≤ lab.sessions → given n ≡ Some fresh)
       → AllZip (IsResumedSeat lab begun) (seats_of recorded shows house) (h.desk_windows ++ h.windows)
-      × AllZip (λ p w. IsRecordText lab house.log.events p.number p.kept w.places) (seats_of recorded shows house) (h.desk_windows ++ h.windows)
+      × AllZip (λ p w. IsFinalText lab house.log.events p.number p.kept w.places) (seats_of recorded shows house) (h.desk_windows ++ h.windows)
   class_seats empty =
       let none : sum_by (out_of lab.sessions) (numbers_of (house.at_desk.items ++ house.others.items)) ≡ 0 =
       sym (h.numbers (out_of lab.sessions)) ∙ range_within lab.sessions 1 lab.sessions (omega arith) (omega arith) in
       let seats = resumed_seats (terms lab begun given remaining contents recorded shows) (house.at_desk.items ++ house.others.items) (h.desk_windows ++ h.windows)
       (are_empty lab.sessions given empty (house.at_desk.items ++ house.others.items) none) all_led in
-      (seats, record_texts lab house.log.events begun (seats_of recorded shows house) (h.desk_windows ++ h.windows) h.kept.seen seats)
+      (seats, are_final lab house.log.events begun (seats_of recorded shows house) (h.desk_windows ++ h.windows) h.kept.book.few h.kept.seen (h.kept.last window_count) seats)
 
 pub kept_fresh : {C : Type 0} (recorded : C → Option Kept) (cs : List C) (first n : ℕ) → AllByRecursion (λ c. recorded c ≡ Some fresh) cs → first ≤ n
     → n < first + length cs → kept_from recorded first cs n ≡ Some fresh

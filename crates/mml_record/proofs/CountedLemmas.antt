@@ -152,8 +152,14 @@ module _ (lab : LabValue) where
   leaves_least : (limit n : ℕ) (ps : List ℕ) → n ≤ limit → All (λ p. p ≤ n) ps → length ps * (limit - n) ≤ sum_by (λ p. limit - p) ps
   leaves_least limit n [] within each = omega arith
   leaves_least limit n (p ∷ ps) within each =
-      omega (arith, within, sum_by-cons (λ p. limit - p) p ps, suc-mul (length ps) (limit - n), All-head (λ p. p ≤ n) p ps each,
-      leaves_least limit n ps within (All-tail (λ p. p ≤ n) p ps each))
+      omega (
+        arith,
+        within,
+        sum_by-cons (λ p. limit - p) p ps,
+        suc-mul (length ps) (limit - n),
+        All-head (λ p. p ≤ n) p ps each,
+        leaves_least limit n ps within (All-tail (λ p. p ≤ n) p ps each),
+      )
 
   each_is : (limit n : ℕ) (ps : List ℕ) → n ≤ limit → All (λ p. p ≤ n) ps → sum_by (λ p. limit - p) ps ≡ length ps * (limit - n) → All (λ p. p ≡ n) ps
   each_is limit n [] within each sum = All-nil (λ p. p ≡ n)

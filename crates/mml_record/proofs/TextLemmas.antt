@@ -30,10 +30,15 @@ module _ (lab : LabValue) (l : List Event) where
       let es = session_entries end lab old.window mid.window one.input one.left one.wrote one.wrote' one.ended.0 in
       let first = session_first lab l end old.window mid.window one.input one.left one.wrote one.wrote' one.ended.0 (length old.window.seen) rest.0 rest.1
       refl (prefix_trans mid.window.seen new.window.seen l on begins) rest.3 in
-      let places = rest.2 ∙ ap (λ (xs : List ℕ). xs ++ rest.1) first.1 ∙ append_assoc old.window.places first.0 rest.1 in
-      (es ++ rest.0, first.0 ++ rest.1, places, first.2, records_trans number old.kept mid.kept new.kept es rest.0 one.ended.2 rest.4,
-      counted_append lab old.window mid.window new.window es rest.0
-      (session_counted lab end old.window mid.window one.input one.left one.wrote one.wrote' one.ended.0) rest.5)
+      let places = rest.2 ∙ ap (λ (xs : List ℕ). xs ++ rest.1) first.1 ∙ append_assoc old.window.places first.0 rest.1 in (
+        es ++ rest.0,
+        first.0 ++ rest.1,
+        places,
+        first.2,
+        records_trans number old.kept mid.kept new.kept es rest.0 one.ended.2 rest.4,
+        counted_append lab old.window mid.window new.window es rest.0
+            (session_counted lab end old.window mid.window one.input one.left one.wrote one.wrote' one.ended.0) rest.5,
+      )
 
 -- what was recorded of a seat is a record of it, also in a class that was resumed after the events `begun`
 pub is_record_from : (lab : LabValue) (l begun : List Event) (p : RecordedSeat) (w : WindowValue) → IsResumedSeat lab begun p w → IsPrefix w.seen l

@@ -26,7 +26,9 @@ ghost use Rattle.mml_window.specs.inside.Shares.{IsShareOf};
 ghost use Rattle.mml_window.specs.inside.Keeping.{IsNextPlace, Keeps, granted_by};
 
 use crate::answer::Answer;
-use crate::house::{GrantShare, HaltCount, HaltShare, House, Press, Shares, SpareCount, SpareShare};
+use crate::house::{
+    GrantShare, HaltCount, HaltShare, House, Press, Shares, SpareCount, SpareShare,
+};
 use crate::looking::{Reader, enter, leave, look_for, take_slot};
 use crate::showing::{look_at, report_at, see_at};
 use crate::sight::{Closed, SightFault};

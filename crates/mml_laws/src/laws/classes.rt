@@ -18,7 +18,7 @@ ghost use Rattle.mml_hosting.specs.declared.seat.ServedSession.{ServedSession};
 ghost use Rattle.mml_hosting.specs.Hosting.{HostsFrom};
 ghost use Rattle.mml_hosting.specs.Seats.{kept_from};
 ghost use Rattle.mml_resuming.specs.Resuming.{Resumes};
-ghost use Rattle.mml_record.specs.RecordedSeats.{IsResumedSeat, IsRecordText, fresh};
+ghost use Rattle.mml_record.specs.RecordedSeats.{IsResumedSeat, IsFinalText, fresh};
 ghost use Rattle.mml_laws.specs.Classes.{seats_of};
 ghost use Rattle.mml_laws.specs.Served.{AreServed, named_by};
 
@@ -48,7 +48,8 @@ pub fn a_class_is_a_house<S, K, C, R, W>()
 /// `given n` is what the recorder of seat n had kept when the class began. Suppose that each recorder had kept nothing.
 /// Then each has recorded the sessions of its seat. These sessions led the seat's window from the events before the
 /// class to its final state. So what each recorder has kept is the text of a record that fits the class's one list of
-/// events, or a beginning of that text. The clause `kept` is for the contracts of `serve_host` and `resume_class`, in
+/// events, or a beginning of that text. In this record no event follows a refusal `journal`: at such a refusal, the seat
+/// had seen all events of the list. The clause `kept` is for the contracts of `serve_host` and `resume_class`, in
 /// which `given` is `kept_from` of a list of recorders. If each recorder in this list was empty, the assumption holds.
 pub fn a_class_has_recorded_seats<S, K, C, R, W>()
     ensures seats { (begun : List Event) (given : ℕ → Option Kept) (lab : LabValue)
@@ -58,7 +59,7 @@ pub fn a_class_has_recorded_seats<S, K, C, R, W>()
         (h : HostsFrom begun given lab sink remaining contents recorded shows to_desk to_come house) →
         ((n : ℕ) → 0 < n → n ≤ lab.sessions → given n ≡ Some fresh) →
         AllZip (IsResumedSeat lab begun) (seats_of recorded shows house) (h.desk_windows ++ h.windows)
-        × AllZip (λ p w. IsRecordText lab house.log.events p.number p.kept w.places)
+        × AllZip (λ p w. IsFinalText lab house.log.events p.number p.kept w.places)
         (seats_of recorded shows house) (h.desk_windows ++ h.windows) }
     ensures kept { (recorded : C → Option Kept) (shows : K → ServedSession R W) (cs : List C) (n : ℕ) →
         AllByRecursion (λ c. recorded c ≡ Some fresh) cs → 0 < n → n ≤ length cs →
