@@ -1,4 +1,7 @@
-use Rattle.std.proofs.{Common.length, lemmas.Result.IfErr-weaker}
+use Rattle.std.proofs.{Common.◌≡◌, Common.List, Common.[], Common.length, Common.ap, Common.subst, lemmas.Result.IfErr-weaker}
+use Rattle.std.specs.Prelude.{All}
+use Rattle.mml_board.specs.declared.event.Event.{Event}
+use Rattle.mml_window.specs.Windows.{window}
 use Rattle.mml_hosting.specs.Seats.{terms}
 use Rattle.mml_hosting.proofs.HouseLemmas.{hosted, unhosted, all_fresh}
 use Rattle.mml_hosting.proofs.hosted.host_in_house.Goals as goal
@@ -29,3 +32,7 @@ serve_both-requires-clause-desk_seats g c κs within = all_fresh _ c.in-Ok-seats
 
 pub serve_both-requires-clause-seats : goal.serve_both-requires-clause-seats
 serve_both-requires-clause-seats g c κs within = all_fresh _ c.in-Ok-seats_of_house.seats.items c.in-Ok-seats_of_house.ensures.unused.1
+
+pub seats_of_house-requires-clause-windows : goal.seats_of_house-requires-clause-windows
+seats_of_house-requires-clause-windows g c =
+    subst (λ (begun : List Event). All (λ w. w ≡ window begun []) c.in-Ok.windows.items) (ap (λ house. house.begun) c.requires.named) c.in-Ok.ensures.windows
