@@ -1,6 +1,6 @@
 -- The refusals `journal` in the entries of sessions, which a window counts. For each of them it adds how many more events
 -- the lab allows. A window is what a session has seen of the list of events.
-use Rattle.std.proofs.Common.{◌≡◌, ◌⊎◌, ℕ, ◌+◌, ◌-◌, ◌*◌, ◌≤◌, Bool, true, false, nat_lt, List, [], ◌∷◌, ◌++◌, length, if◌then◌else◌, refl, sym, ap, ◌∙◌, subst, arith, length-append, inl, inr, suc-mul}
+use Rattle.std.proofs.Common.{◌≡◌, ◌⊎◌, ℕ, ◌+◌, ◌-◌, ◌*◌, ◌≤◌, Bool, true, false, nat_lt, List, [], ◌∷◌, ◌++◌, length, if◌then◌else◌, refl, sym, ap, ◌∙◌, subst, arith, length-append, inl, suc-mul}
 use Rattle.std.{specs.Prelude.All, specs.Prelude.sum_by, specs.List.AllByRecursion, proofs.lemmas.Bool.false≢true, proofs.lemmas.Bool.Decides.nat_tests}
 use Rattle.std.proofs.lemmas.List.{Sums.sum_by-cons, Sums.sum_by-append, Elements.All-nil, Elements.All-cons, Elements.All-head, Elements.All-tail}
 use Rattle.std.proofs.Common.{Option, None, Some}
@@ -16,8 +16,6 @@ use Rattle.mml_session.proofs.TalkLemmas.{turn_halts, turn_spares}
 use Rattle.mml_record.specs.declared.{kept_entry.Entry.Entry as KeptEntry, stage.Stage.Stage}
 use Rattle.mml_record.specs.{Entries.all_kept, Entries.are_whole, Certified.is_journal, Certified.GoesOn, Certified.stage_after, Certified.stage_at, Certified.phase_after, Certified.seen_after, Halts.first_halt, Halts.outlived_at, Halts.outlived}
 use Rattle.mml_record.proofs.RecordLemmas.{journal_line}
-use Rattle.mml_codec.specs.declared.reply.Refused.TheVariants as refused
-use Rattle.mml_codec.specs.declared.reply.Reply.TheVariants as replies
 use Rattle.mml_session.specs.declared.entry.Entry.TheVariants as entry
 use Rattle.mml_record.specs.declared.kept_entry.Entry.TheVariants as kept
 use Rattle.mml_session.specs.declared.session.SessionEnd.TheVariants as ends

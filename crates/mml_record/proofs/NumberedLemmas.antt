@@ -1,5 +1,5 @@
 -- Replies whose first member is a number. The digits of a number contain no comma.
-use Rattle.std.proofs.Common.{◌≡◌, ℕ, zero, suc, ◌+◌, ◌/◌, ◌%◌, Bool, true, false, cond, eqb, List, [], ◌∷◌, ◌++◌, decimal, refl, arith}
+use Rattle.std.proofs.Common.{◌≡◌, ℕ, zero, suc, ◌/◌, ◌%◌, Bool, true, false, cond, eqb, List, [], ◌∷◌, ◌++◌, decimal, refl, arith}
 use Rattle.std.{specs.Prelude.nat_lt, specs.Fmt.digits, specs.Fmt.digits_onto, specs.Fmt.digit_glyph, proofs.lemmas.Bool.and_from, proofs.lemmas.Bool.Decides.nat_tests}
 use Rattle.mml_journal.proofs.CuttingLemmas.{avoids}
 

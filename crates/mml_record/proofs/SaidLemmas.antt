@@ -9,7 +9,7 @@ use Rattle.mml_lab.specs.{declared.who.Who.Who, Labs.LabValue}
 use Rattle.mml_lines.specs.LinesOf.{IsWithinLimit}
 use Rattle.mml_board.specs.{World.World, declared.event.Event.Event, declared.done.Done.Done, Lists.is_legal_in, Lists.world_in}
 use Rattle.mml_policy.specs.{declared.command.Command.Command, declared.refusal.Refusal.Refusal, Rulings.event_of, Rulings.after_ruling}
-use Rattle.mml_policy.specs.declared.ruling.Ruling.{Ruling, TheVariants.Journal}
+use Rattle.mml_policy.specs.declared.ruling.Ruling.{Ruling}
 use Rattle.mml_codec.specs.declared.{TheConstants.MAX_REQUEST, request.LineFault.LineFault, request.Request.Request, reply.Refused.Refused, reply.Reply.Reply}
 use Rattle.mml_codec.specs.declared.greeting.Greeting.{Greeting, TheVariants.Answered, TheVariants.LeftToJudge}
 use Rattle.mml_codec.specs.{Greetings.greeting, Lines.request_in, Replies.place_in, Replies.as_list, Rulings.reply_of, Rulings.reply_of_done}

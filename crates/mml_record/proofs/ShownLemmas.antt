@@ -9,7 +9,7 @@ use Rattle.mml_ids.proofs.{SearchLemmas.some_below-find, GivesLemmas.bind-from, 
 use Rattle.mml_lab.specs.{declared.who.Who.Who, Labs.LabValue, Labs.IsLab, Rosters.owns}
 use Rattle.mml_lines.specs.LinesOf.{IsWithinLimit}
 use Rattle.mml_board.specs.{declared.event.Event.Event, Lists.world_in}
-use Rattle.mml_policy.specs.{declared.command.Command.Command, declared.verdict.Leave.TheVariants.Look, Rulings.after_ruling}
+use Rattle.mml_policy.specs.{declared.command.Command.Command, Rulings.after_ruling}
 use Rattle.mml_codec.specs.{declared.TheConstants.MAX_REQUEST, Canonical.canonical, Canonical.IsWritable, Lines.request_in, Rulings.reply_of}
 use Rattle.mml_codec.proofs.CanonicalLemmas.{canonical_line, request_in-canonical}
 use Rattle.json.specs.Print.{escape_byte}

@@ -1,6 +1,6 @@
 -- The records of seats and houses. The place of an event is its number in the list of events, from 1. A window is what a
 -- session has seen of the list.
-use Rattle.std.proofs.Common.{◌≡◌, ◌≤◌, ◌*◌, ◌-◌, ℕ, true, List, [], ◌∷◌, ◌++◌, length, refl, sym, ap, ◌∙◌, subst, Option, None, Some, arith, append_assoc, append-nil, All}
+use Rattle.std.proofs.Common.{◌≡◌, ◌≤◌, ◌*◌, ◌-◌, ℕ, true, List, [], ◌∷◌, ◌++◌, length, refl, sym, ap, ◌∙◌, subst, None, Some, arith, append_assoc, append-nil, All}
 use Rattle.std.{specs.List.AllZip, proofs.lemmas.List.Elements.All-head, proofs.lemmas.List.Elements.All-tail, proofs.lemmas.Bool.Decides.nat_tests}
 use mathlib.Core.List.{IsPrefix}
 use Rattle.mml_lab.specs.Labs.{LabValue}
@@ -10,7 +10,7 @@ use Rattle.mml_window.specs.Windows.{WindowValue, window}
 use Rattle.mml_window.proofs.PrefixLemmas.{prefix_trans}
 use Rattle.mml_session.specs.{declared.entry.Entry.Entry, declared.session.SessionEnd.SessionEnd, Records.session_entries, Records.Stand, Records.stand, Records.AddsTo, Records.Records}
 use Rattle.mml_session.proofs.RecordLemmas.{records_nil, records_trans}
-use Rattle.mml_record.specs.{Certified.IsRecordOf, Certified.first_stage, Entries.all_kept, Halts.outlived}
+use Rattle.mml_record.specs.{Certified.IsRecordOf, Certified.first_stage, Entries.all_kept}
 use Rattle.mml_record.specs.RecordedSeats.{Held, RecordedSeat, IsResumedSeat, IsRecordedSeat, IsRecordText, IsFinalText, fresh}
 use Rattle.mml_record.proofs.{RecordLemmas.GoesOn, RecordLemmas.open_at, RecordLemmas.same_text, RecordLemmas.from_fresh, RecordLemmas.session_first, RecordLemmas.held_on}
 use Rattle.mml_record.proofs.CountedLemmas.{AreCounted, counted_none, counted_append, session_counted, counted_last}
