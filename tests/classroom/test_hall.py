@@ -1,4 +1,6 @@
-"""The page for all networks of a class: its addresses, its state, and the lines that it accepts."""
+"""The page for all networks of a class: its addresses, its state, and the lines that it accepts. Its server is the
+*hall*. The page has an address to look at, and another one at which the teacher can act by sending lines. Each address
+has a random token in its path."""
 from __future__ import annotations
 
 import json
@@ -26,7 +28,7 @@ def ask(address: str, line: str | None = None) -> tuple[int, str]:
             return error.code, ""
 
 
-def two(port: int | None = None) -> ClassState:
+def state_of_two(port: int | None = None) -> ClassState:
     """Returns the state of a class with two networks, one of which is down. `port` is that of the other one."""
     state = {"configuration": 3, "stable": True, "privileged": [], "pairs": [[1, 2]], "open": 0, "moves": 4, "most": 9, "missing": ["Zoë M."]}
     return ClassState("<maths>", [NetworkState(1, "maths-1", "A", port, "", 15, 4, "runs", "", state),
@@ -37,15 +39,17 @@ class Served(unittest.TestCase):
     """The server of the page."""
 
     def setUp(self) -> None:
+        """Starts the hall of a class with two networks. The list `acts` gets the lines that the hall accepts."""
         self.acts: list[str] = []
-        self.hall = hall.opened(a_port(), "<maths>", self.acts.append, two())
+        self.hall = hall.opened(a_port(), "<maths>", self.acts.append, state_of_two())
         self.addCleanup(self.hall.close)
 
-    def test_each_address_has_its_state(self) -> None:
-        self.hall.show(two(4711), two(4712))
+    def test_each_address_has_its_own_state_and_page_without_the_other_token(self) -> None:
+        """Other paths are answered with status 404."""
+        self.hall.show(state_of_two(4711), state_of_two(4712))
         for address, port, kind in ((self.hall.address, 4711, "looks"), (self.hall.address_to_act, 4712, "acts")):
             status, text = ask(f"{address}state")
-            self.assertEqual((status, json.loads(text)), (200, two(port).table()))
+            self.assertEqual((status, json.loads(text)), (200, state_of_two(port).table()))
             status, page = ask(address)
             self.assertEqual(status, 200)
             self.assertIn(f'<body class="hall {kind}">', page)
@@ -55,22 +59,24 @@ class Served(unittest.TestCase):
         for path in ("", "x/", f"{self.hall.looks}", f"{self.hall.looks}/x", f"{self.hall.looks}/act"):
             self.assertEqual(ask(f"http://127.0.0.1:{self.hall.server_port}/{path}")[0], 404, path)
 
-    def test_only_the_page_to_act_acts(self) -> None:
+    def test_lines_are_accepted_only_at_the_address_to_act_and_only_in_a_known_form(self) -> None:
         for line in ("2: close", "all: shake 3", "maths-1: shake all", "1: end", "2: resume"):
             self.assertEqual(ask(f"{self.hall.address_to_act}act", line)[0], 204, line)
             self.assertEqual(ask(f"{self.hall.address}act", line)[0], 404)
         self.assertEqual(self.acts, ["2: close", "all: shake 3", "maths-1: shake all", "1: end", "2: resume"])
         for line in ("close", "2: fault 1 - true", "2: close\n1: end", "2: shake 1000", "2: key ana", "", "2: close x", "2:close"):
             self.assertEqual(ask(f"{self.hall.address_to_act}act", line)[0], 400, line)
+        # A line has at most 200 bytes.
         self.assertEqual(ask(f"{self.hall.address_to_act}act", "2: close" + " " * 300)[0], 404)
         self.assertEqual(len(self.acts), 5)
 
-    def test_news_come_as_they_change_and_end(self) -> None:
+    def test_the_events_begin_with_the_present_state_and_end_with_the_last_one(self) -> None:
+        """The request for `events` is answered until the class ends."""
         got: list[str] = []
         opened = threading.Event()
 
         def read() -> None:
-            """Reads all events to the end."""
+            """Reads the lines of all events into `got`, to the end. Sets `opened` when the first line has come."""
             with urllib.request.urlopen(f"{self.hall.address}events", timeout=LIMIT) as news:
                 for line in news:
                     got.append(line.decode().strip())
@@ -79,15 +85,15 @@ class Served(unittest.TestCase):
         reader = threading.Thread(target=read)
         reader.start()
         self.assertTrue(opened.wait(LIMIT))
-        self.hall.show(two(4711), two(4711))
-        ended = two(4711)
+        self.hall.show(state_of_two(4711), state_of_two(4711))
+        ended = state_of_two(4711)
         ended.ended = True
         self.hall.stop(ended, ended)
         reader.join(LIMIT)
         told = [json.loads(line.removeprefix("data: ")) for line in got if line.startswith("data: ")]
-        self.assertEqual((told[0], told[-1]), (two().table(), ended.table()))
+        self.assertEqual((told[0], told[-1]), (state_of_two().table(), ended.table()))
 
-    def test_another_name_of_the_machine_is_refused(self) -> None:
+    def test_a_request_that_names_another_host_is_answered_with_status_421(self) -> None:
         asked = urllib.request.Request(f"{self.hall.address}state", headers={"Host": "evil.example"})
         with self.assertRaises(urllib.error.HTTPError) as error:
             urllib.request.urlopen(asked, timeout=LIMIT)
@@ -108,6 +114,7 @@ class OfAClass(Classes):
         self.assertRegex(state["title"], r"^maths, \d{4}-\d\d-\d\d$")
         self.assertEqual([(it["number"], it["name"], it["room"], it["status"]) for it in state["networks"]],
                          [(1, "maths-1", "A", "runs"), (2, "maths-2", "B", "runs")])
+        # Each network has a page of its own. The state to look at lacks the address at which the teacher acts there.
         for number, it in enumerate(state["networks"], 1):
             self.assertEqual(ask(it["page"])[0], 200)
             self.assertNotIn(urlsplit(json.loads(ask(f"{acts}state")[1])["networks"][number - 1]["page"]).path, json.dumps(state))
@@ -115,6 +122,7 @@ class OfAClass(Classes):
         self.assertEqual(ask(f"{acts}act", "maths-9: close")[0], 204)
         self.assertEqual(ask(f"{acts}act", "2: shake all")[0], 204)
         desk.until("^maths-2: the registers of 4 nodes were set$")
+        # Each of the four registers that are set makes a configuration.
         self.until_state(looks, lambda it: (it["networks"][1]["state"] or {}).get("configuration") == 4)
         state = json.loads(ask(f"{looks}state")[1])["networks"][1]["state"]
         self.assertEqual((len(state["nodes"]), len(state["missing"])), (4, 4))
@@ -128,7 +136,8 @@ class OfAClass(Classes):
         self.assertEqual(desk.ends(), 0, desk.lines)
 
     def until_state(self, looks: str, holds: object) -> None:
-        """Reads events at the address to look at until `holds` returns a true value for a state."""
+        """Reads the events at `looks`, an address to look at, until `holds` returns a true value for a state. Fails if
+        the events end before."""
         assert callable(holds)
         with urllib.request.urlopen(f"{looks}events", timeout=LIMIT) as news:
             for line in news:

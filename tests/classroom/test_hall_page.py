@@ -1,5 +1,6 @@
 """The page for all networks of a class in a real browser: its contents for each state, in four windows and both
-themes."""
+themes. Its server is the *hall*. The page has an `article` for each network. There is one address to look at, and one
+at which the teacher can also act."""
 from __future__ import annotations
 
 import random
@@ -26,7 +27,7 @@ BOXES = """
 const box = (it) => { const {left, top, right, bottom} = it.getBoundingClientRect(); return [left, top, right, bottom]; };
 return [...document.querySelectorAll('article svg')].map((svg) => [box(svg), [...svg.querySelectorAll('.node')].map((it) => box(it.querySelector('.disc')))]);
 """
-# Collects what a screen reader reads out, which is each new text of the live regions.
+# Collects what a screen reader says, which is each new text of the live regions.
 LISTEN = """
 window.heard = [];
 for (const region of document.querySelectorAll('[aria-live], [role=status]')) {
@@ -45,7 +46,10 @@ def network(word: str, count: int | None) -> tuple[labs.Lab, Links]:
 
 
 def state_of(links: Links, nodes: int, privileged: Sequence[Sequence[Any]], pairs: Links, rows: Sequence[Sequence[Any]]) -> dict[str, Any]:
-    """Returns the state of a network in the form that its run writes. Nodes that aren't in `rows` are clean."""
+    """Returns the state of a network in the form that its run writes (`classroom.core.class_state`). `links` are its
+    links, and `nodes` is the number of its nodes. `privileged` has each enabled node with its rule, and `pairs` the
+    married pairs. Each row is a node with its p, its m, and the rule of its chosen move. Nodes that aren't in `rows`
+    are clean."""
     told = {row[0]: row for row in rows}
     return {"configuration": 3, "stable": not privileged, "privileged": privileged, "pairs": [list(pair) for pair in pairs], "open": 2, "moves": 4,
             "most": 70, "events": 9, "limit": 100, "closing": "by-hand", "waiting": [], "missing": ["Zoë M.", "Jonas E."], "idle": [],
@@ -56,6 +60,7 @@ class Page(unittest.TestCase):
     """A class of four networks, one of which is down and one stable."""
 
     def setUp(self) -> None:
+        """Starts the hall, and gives it the state. Network 2 is down and network 3 is stable."""
         self.driver: Any = browser()
         self.addCleanup(resize, self.driver, None)
         self.addCleanup(show_as, self.driver)
@@ -82,7 +87,9 @@ class Page(unittest.TestCase):
         """Returns the visible texts of the elements with this selector, one for each network."""
         return [it.text for it in self.driver.find_elements("css selector", f"article {of}")]
 
-    def test_each_network_is_drawn_as_its_state_is(self) -> None:
+    def test_texts_and_drawings_show_the_state_of_each_network(self) -> None:
+        """The drawing of network 1 is checked in full: the data of its nodes, its one arrow, and the letters of its
+        rules."""
         self.open(self.hall.address)
         self.assertEqual(self.texts(".state"), ["2 nodes can move", "Down", "At rest", "1 node can move"])
         self.assertEqual(self.texts(".facts")[0], "1 pair · step 3 · 4 of at most 70 moves")
@@ -94,18 +101,19 @@ class Page(unittest.TestCase):
                   7: {"rule": "update"}, 4: {"p": "8"}}
         self.assertEqual(drawn, {node: {"node": str(node)} | clean | wanted.get(node, {}) for node in range(1, 13)})
         arrows = self.driver.execute_script("return document.querySelectorAll('article[data-number=\"1\"] path.pointer[d]').length")
-        self.assertEqual(arrows, 1)
+        self.assertEqual(arrows, 1)  # From 4 to 8. The pair 1 and 5 has a line in place of its arrows.
         letters = [it.text for it in self.driver.find_elements("css selector", "article[data-number='1'] .rule") if it.text]
-        self.assertEqual(letters, ["✓S", "U"])
+        self.assertEqual(letters, ["✓S", "U"])  # The seduction of node 2 is chosen, and node 7 could update.
 
-    def test_a_dead_host_is_red_and_says_what_helps(self) -> None:
+    def test_a_network_whose_server_was_killed_has_a_red_border_and_says_what_helps(self) -> None:
         self.open(self.hall.address)
         down = self.driver.find_element("css selector", "article.down")
         self.assertEqual(down.find_element("class name", "alarm").text, DOWN)
         red = self.driver.execute_script("return getComputedStyle(arguments[0]).borderTopColor", down)
         self.assertEqual(red, "rgb(176, 0, 32)")
 
-    def test_it_fits_four_windows_in_both_themes(self) -> None:
+    def test_texts_can_be_read_and_nodes_fit_into_drawings_in_four_windows_and_both_themes(self) -> None:
+        """On a laptop the page to look at also fits into the window without scrolling."""
         for address in (self.hall.address, self.hall.address_to_act):
             for size in WINDOWS:
                 resize(self.driver, size)
@@ -121,8 +129,8 @@ class Page(unittest.TestCase):
         self.open(self.hall.address)
         self.assertLessEqual(self.driver.execute_script("return document.documentElement.scrollHeight"), WINDOWS[1][1])
 
-    def test_a_new_state_is_said_once(self) -> None:
-        """Unchanged elements stay, and the focus of the keyboard too."""
+    def test_a_screen_reader_says_each_change_once_and_the_focus_stays(self) -> None:
+        """A new state doesn't replace unchanged elements, so the button with the keyboard's focus keeps it."""
         self.open(self.hall.address_to_act)
         self.driver.execute_script(LISTEN)
         self.driver.find_element("css selector", "article[data-number='1'] button").send_keys("")
@@ -133,7 +141,7 @@ class Page(unittest.TestCase):
         network_state |= {"stable": True, "privileged": [], "configuration": 4}
         self.hall.show(self.state, self.state)
         until(self.driver, lambda driver: self.texts(".state")[0] == "At rest")
-        self.state.networks[0].seats = 14  # Texts that the page must not show.
+        self.state.networks[0].seats = 14  # The page doesn't show this number, so nothing may be said.
         self.hall.show(self.state, self.state)
         self.state.lines = [*self.state.lines, "maths-1: the end"]
         self.hall.show(self.state, self.state)

@@ -1,4 +1,5 @@
-"""Slips for students: with ssh or a door, with or without QR codes, and made again."""
+"""Slips for students: with ssh or a door, with or without QR codes, and made again. A *slip* has the data that a
+student needs to connect, as a file and on a page to print. A *door* is a TLS port for students on other machines."""
 from __future__ import annotations
 
 import argparse
@@ -17,7 +18,8 @@ from classroom.setup.slips import Way
 from tests.classroom.help import InRoom, words
 
 DOOR = "class.example:4700"
-SQUARES = "#!/bin/sh\nread link\n[ -n \"$link\" ] && printf '##  ##\\n  ##  \\n'\n"  # as `qrencode -t ASCII` prints modules
+# A program in place of `qrencode -t ASCII`. It prints a QR code of two rows with three black squares, each as `##`.
+SQUARES = "#!/bin/sh\nread link\n[ -n \"$link\" ] && printf '##  ##\\n  ##  \\n'\n"
 
 
 class Slips(InRoom):
@@ -39,8 +41,8 @@ class Slips(InRoom):
         return {file.stem: file.read_text(encoding="utf-8") for file in sorted(self.room.glob("**/*.slip"))}
 
     def path_with(self, **programs: str | None) -> str:
-        """Returns a search path with these programs alone. Each has the given text, or is the system's if there is
-        none."""
+        """Makes a folder that contains only openssl and these programs, and returns it as a search path. A program is a
+        file with the given text, or a link to the system's program if the text is None."""
         folder = self.room / "path"
         shutil.rmtree(folder, ignore_errors=True)
         folder.mkdir()
@@ -71,18 +73,20 @@ class Made(Slips):
                 self.assertEqual(Slip.read(self.room / f"maths-{number}-slips/{name}.slip").door, "")
         self.assertFalse((self.room / "door.pem").exists())
 
-    def test_without_an_account_the_line_has_a_place_for_the_name(self) -> None:
+    def test_without_an_account_the_ssh_line_has_the_word_name_in_its_place(self) -> None:
         self.new("--port", "5001", "--page-port", "6001")
         self.assertRegex(self.page(2), r"<code>ssh -N -L 5002:127\.0\.0\.1:5002 -L 6002:127\.0\.0\.1:6002 NAME@[^<]+</code> "
                                        r"\(NAME is your account on that machine\)</p>")
 
-    def test_slips_through_a_door(self) -> None:
+    def test_slips_with_a_door_have_its_address_its_fingerprint_and_a_qr_code(self) -> None:
+        """The table for a mail merge has the names, e-mail addresses, networks and rooms."""
         told = self.new("--door", DOOR, PATH=self.path_with(qrencode=SQUARES))
         self.assertNotIn("QR", told)
         known = certificate.fingerprint(self.room / "door.pem")
         for number, room in ((1, "A 1"), (2, "B 2")):
             page = self.page(number)
             self.assertEqual(page.count(f"<h2>maths-{number} · {room}</h2>"), 2)
+            # The three squares that SQUARES prints.
             self.assertEqual(page.count('<path d="M0 0h1v1h-1zM2 0h1v1h-1zM1 1h1v1h-1z"/>'), 2)
             self.assertEqual(page.count(f"<code>{printed.in_parts(known)}</code>"), 2)
             for name, key in read(self.room / f"maths-{number}.toml").students.items():
@@ -94,28 +98,30 @@ class Made(Slips):
         self.assertEqual(rows, [("Zoë Müller", "z@x.example", "maths-1", "A 1"), ("Cyd", "c@x.example", "maths-1", "A 1"),
                                 ("Ben", "b@x.example", "maths-2", "B 2"), ("Dan", "", "maths-2", "B 2")])
 
-    def test_a_machine_whose_name_no_certificate_can_have(self) -> None:
+    def test_a_door_given_as_a_port_is_refused_if_no_certificate_can_have_the_machine_s_name(self) -> None:
+        """A door with an address is accepted on such a machine too."""
         with mock.patch.object(handing, "own_host_name", return_value="my_pc"):
             with self.assertRaisesRegex(argparse.ArgumentTypeError, "^this machine calls itself 'my_pc', .*: --door ADDRESS:PORT$"):
                 handing.door("4700")
             self.assertEqual(handing.door(DOOR), DOOR)
 
-    def test_no_qrencode(self) -> None:
+    def test_without_qrencode_slips_have_no_qr_codes_and_the_output_says_so(self) -> None:
         told = self.new("--door", DOOR, PATH=self.path_with())
         self.assertIn(f"\nnote: {printed.NO_SQUARE}\n", told)
         self.assertNotIn("<svg", self.page(1))
         self.assertIn(f"https://{DOOR}/maths-1/#name=", self.page(1))
         done = words("slips", self.room / "maths-1.toml", PATH=self.path_with())
+        # The first line names the files.
         self.assertEqual((done.returncode, done.stdout.splitlines()[1:]), (0, [printed.NO_SQUARE]))
 
-    def test_a_qrencode_that_fails(self) -> None:
+    def test_a_failing_qrencode_ends_the_command_and_no_file_is_left(self) -> None:
         told = self.new("--door", DOOR, status=4, PATH=self.path_with(qrencode="#!/bin/sh\necho too long >&2\nexit 1\n"))
         self.assertEqual(told, "class: qrencode couldn't make a QR code. It printed: too long\n")
         self.assertEqual([*self.room.glob("maths*"), *self.room.glob("door.pem")], [])
 
 
 class Anew(Slips):
-    """`./class slips`."""
+    """`./class slips`, which makes the slips of labs again."""
 
     def again(self, *more: str, status: int = 0) -> str:
         """Makes the slips of both networks again with these options, and checks the status. Returns the output."""
@@ -123,7 +129,8 @@ class Anew(Slips):
         self.assertEqual(done.returncode, status, done.stdout + done.stderr)
         return done.stdout + done.stderr
 
-    def test_another_door(self) -> None:
+    def test_another_door_changes_only_its_address_on_the_slips(self) -> None:
+        """The labs, with the keys, stay the same."""
         self.new("--door", DOOR)
         before, labs = self.slips(), [(self.room / f"maths-{number}.toml").read_bytes() for number in (1, 2)]
         told = self.again("--door", "other.example:4701")
@@ -135,7 +142,9 @@ class Anew(Slips):
         self.assertEqual(self.slips(), {name: text.replace(DOOR, "other.example:4701") for name, text in before.items()})
         self.assertEqual([(self.room / f"maths-{number}.toml").read_bytes() for number in (1, 2)], labs)
 
-    def test_without_words_all_stays(self) -> None:
+    def test_without_options_the_slips_stay_the_same(self) -> None:
+        """Port and door are taken from the earlier slips. If these were removed, the same options make the same slips,
+        except for the rooms, which nothing else contains."""
         self.new("--door", DOOR, "--port", "5001")
         before, page = self.slips(), self.page(2)
         self.again()
@@ -145,7 +154,7 @@ class Anew(Slips):
         self.again("--door", DOOR, "--port", "5001")
         self.assertEqual({name: re.sub("room .*\n", "", text) for name, text in before.items()}, self.slips())
 
-    def test_from_a_door_to_ssh_and_back(self) -> None:
+    def test_slips_change_from_a_door_to_ssh_and_back(self) -> None:
         self.new("--door", DOOR)
         before = self.slips()
         self.again("--ssh", "me@x.example")
@@ -154,7 +163,7 @@ class Anew(Slips):
         self.again("--door", DOOR)
         self.assertEqual(self.slips(), before)
 
-    def test_what_has_no_slips(self) -> None:
+    def test_two_labs_with_one_name_and_a_missing_lab_are_refused(self) -> None:
         self.new()
         (self.room / "sub").mkdir()
         shutil.copy(self.room / "maths-1.toml", self.room / "sub/maths-1.toml")
@@ -167,7 +176,7 @@ class Anew(Slips):
 
 
 class Ways(unittest.TestCase):
-    """The ways in for students."""
+    """The way into a network, which is what all its slips have in common."""
 
     def test_an_address_escapes_special_characters_of_a_key(self) -> None:
         way = Way(4711, "maths", door=DOOR, fingerprint="0" * 64)

@@ -1,4 +1,9 @@
-"""The lines that `./class run` prints from the record: connections, guessed keys, denied requests, floods."""
+"""The lines that `./class run` prints from the record: connections, guessed keys, denied requests, floods.
+
+The *record* has a file of entries for each *seat*, which serves one connection after another. Seat 1 is that of the
+teacher's desk. An *entry* is a line with its reply, or a mark: `.` if the connection ended, and `!` if its further
+lines aren't recorded. A *place* is the number of an event.
+"""
 from __future__ import annotations
 
 import unittest
@@ -18,6 +23,8 @@ class Listened(InRoom):
     """Growing records that are written by hand."""
 
     def setUp(self) -> None:
+        """Makes the empty record of a run of the cycle of `examples/`, and an object that follows it. `now` is the time
+        of the object's last look at the record."""
         super().setUp()
         self.folder = self.room / "record"
         self.folder.mkdir()
@@ -39,13 +46,15 @@ class Listened(InRoom):
         self.say(seat, 0, HELLO % (name, "some-key"), f'{{"ok":"hello","who":"{name}"}}')
 
     def news(self, step: int = 0, seconds: float = 1.0) -> list[str]:
-        """Returns the lines that are printed after `seconds` more seconds. `step` is the place of the last step."""
+        """Lets `seconds` seconds pass, and looks at the record. Returns the lines that a run would print then. `step`
+        is the place of the last step."""
         self.now += seconds
         return self.heard.look(step, self.now)
 
-    def test_who_comes_and_goes(self) -> None:
+    def test_each_change_in_a_student_s_number_of_connections_is_reported_once(self) -> None:
+        """The command `who` lists all connections. Its first argument is their number, as the system reports it."""
         self.assertEqual((self.news(), self.heard.who(0, 7)), ([], "nobody (0 of 7 seats are taken)"))
-        self.greet(1, "tess")
+        self.greet(1, "tess")  # The desk isn't listed.
         self.greet(5, "gus")
         self.assertEqual(self.news(), ["connected: gus"])
         self.assertEqual(self.news(), [])
@@ -60,10 +69,11 @@ class Listened(InRoom):
         self.assertEqual(self.news(), ["disconnected: gus, 1 connection left", "disconnected: hana"])
         self.put(4, "4 0 .\n")
         self.greet(4, "gus")
-        self.assertEqual(self.news(), [])
+        self.assertEqual(self.news(), [])  # Since the last look gus has left and come again, so nothing has changed.
         self.assertEqual(self.heard.who(1, 7), "gus (1 of 7 seats are taken)")
 
-    def test_nothing_more_is_granted(self) -> None:
+    def test_over_is_the_last_refusal_that_means_that_nothing_more_is_granted(self) -> None:
+        """These refusals are `full` and `journal`. A run that catches up with the record forgets them."""
         for word in ("malformed", "memory", "busy"):
             self.say(5, 0, MOVE, f'{{"refuse":"{word}"}}')
         self.news()
@@ -79,7 +89,7 @@ class Listened(InRoom):
         again.catch_up(0)
         self.assertEqual(again.over, "")
 
-    def test_entries_come_in_pieces(self) -> None:
+    def test_each_entry_of_a_file_that_grows_by_single_bytes_is_read_once(self) -> None:
         whole = f'5 0 > {HELLO % ("gus", "k")}\n5 0 < {{"ok":"hello","who":"gus"}}\n5 0 .\n'
         told = []
         for at in range(len(whole)):
@@ -87,7 +97,8 @@ class Listened(InRoom):
             told += self.news()
         self.assertEqual(told, ["connected: gus", "disconnected: gus"])
 
-    def test_wrong_keys_are_told_as_their_number_doubles(self) -> None:
+    def test_wrong_keys_for_a_name_are_reported_whenever_their_number_has_doubled(self) -> None:
+        """Names that aren't in the lab are counted together, and aren't printed."""
         told = []
         for _ in range(11):
             self.say(6, 0, HELLO % ("gus", "heron-32"), UNKNOWN)
@@ -95,12 +106,15 @@ class Listened(InRoom):
         self.assertEqual(told, [f"{count} with a wrong key for gus" for count in ("1 hello", "2 hellos", "4 hellos", "8 hellos")])
         for name in ("\x1b[2Jmallory", "heron-31", "tess"):
             self.say(5, 0, HELLO % (name.replace("\x1b", "\\u001b"), "x"), UNKNOWN)
+        # Of two values of `name` the last one counts.
         self.say(5, 0, '{"do":"hello","name":"gus","name":"hana","key":"k"}', UNKNOWN, 11)
         self.assertEqual(self.news(), ["2 hellos with a wrong key for names that aren't in the lab", "1 hello with a wrong key for tess",
                                        "11 hellos with a wrong key for hana"])
         self.assertEqual(self.heard.amiss(), ["hellos with wrong keys: 11 for gus, 2 for names that aren't in the lab, 1 for tess, 11 for hana"])
 
-    def test_who_asks_in_vain_since_the_last_step(self) -> None:
+    def test_ten_denials_since_the_last_step_are_reported_and_again_whenever_doubled(self) -> None:
+        """Each student and each kind of denial is counted by itself. A new step begins the counts anew. Denials of the
+        teacher aren't counted, neither at the desk nor elsewhere."""
         self.greet(5, "gus")
         self.say(5, 2, MOVE, STALE, 9)
         self.assertEqual(self.news(), ["connected: gus"])
@@ -121,10 +135,12 @@ class Listened(InRoom):
         self.say(4, 4, '{"do":"close"}', '{"clause":2,"deny":"empty","text":"no node is chosen"}', 50)
         self.assertEqual(self.news(step=4), ["connected: tess", "12 requests of a connection without a hello since the last step were denied as `not-greeted`"])
 
-    def test_floods(self) -> None:
+    def test_the_beginning_and_the_end_of_a_flood_are_reported(self) -> None:
+        """A student floods if the number of lines a second reaches FLOOD. At the end, the mark that the further lines
+        aren't recorded is reported too."""
         self.greet(5, "gus")
         self.news()
-        lines = int(FLOOD) * 3
+        lines = int(FLOOD) * 3  # for three seconds
         self.say(5, 0, MOVE, STALE, lines - 1)
         self.assertEqual(self.news(seconds=3)[-1], f"{lines - 1} requests of gus since the last step were denied as `stale`")
         self.say(5, 0, MOVE, STALE, lines)
@@ -140,7 +156,9 @@ class Listened(InRoom):
             "example because the disk is full. `mark` doesn't count these lines, and `history` doesn't show them, but granted moves are still in the "
             "journal. If the disk is full, make room now"])
 
-    def test_who_goes_on_is_told_only_what_is_new(self) -> None:
+    def test_after_catching_up_counts_are_reported_only_once_they_have_doubled(self) -> None:
+        """A run that continues catches up with the record. The counts that it finds aren't printed, but those who are
+        connected are."""
         self.greet(5, "gus")
         self.say(5, 0, MOVE, STALE, 15)
         self.say(6, 0, HELLO % ("hana", "x"), UNKNOWN, 3)
@@ -151,9 +169,10 @@ class Listened(InRoom):
         self.say(5, 0, MOVE, STALE, 15)
         self.assertEqual(self.news(), ["6 hellos with a wrong key for hana", "30 requests of gus since the last step were denied as `stale`"])
 
-    def test_a_record_that_is_not_there_or_is_none_ends_nothing(self) -> None:
+    def test_a_missing_or_damaged_record_raises_no_error_and_damaged_lines_are_skipped(self) -> None:
         self.assertEqual(Heard(self.room / "none", read(CYCLE)).look(0, self.now), [])
         (self.folder / "3.record").mkdir()
+        # The last line is a granted hello, but a reply that follows no request is no entry.
         self.put(2, "nonsense\n\n2 x > y\n2 0 < {\n2 0 > x\n2 0 < no reply\n\xff\n" + '2 0 < {"ok":"hello","who":"hana"}\n')
         self.greet(5, "gus")
         self.assertEqual(self.news(), ["connected: gus"])

@@ -7,6 +7,8 @@ import unittest
 from classroom.marks.hiding import Hider
 
 HIDER = Hider(["heron-31", "swift-86", "chalk"], ["gus", "hana", "tess"])
+# Lines that were sent, each with the text that is shown in its place. In a JSON object, each key is hidden. Any other
+# line is shown up to the first place at which a key may be.
 CASES = (
     (b'{"do":"hello","name":"gus","key":"heron-31"}', '{"do":"hello","name":"gus","key":"***"}'),
     (b'{"do":"hello","key":"heron-32","name":"gus"}', '{"do":"hello","key":"***","name":"gus"}'),
@@ -27,15 +29,15 @@ CASES = (
     (b"\x1b[2J\xffgo\r\xe2\x80\xae", "\\x1b[2J\\xffgo\\r\\u202e"),
     (b'{"do":"\x7f"}', '{"do":"\\x7f"}'),
 )
-
-
-ESCAPED = ('ab"cd', "ef\\gh", "/ij/", "\\\"")
+ESCAPED = ('ab"cd', "ef\\gh", "/ij/", "\\\"")  # keys with characters that JSON escapes, or may escape
 
 
 class Hiding(unittest.TestCase):
     """Lines that are written by hand."""
 
-    def test_a_key_that_is_escaped_is_hidden_in_any_line(self) -> None:
+    def test_a_key_is_hidden_however_it_is_escaped_and_wherever_it_stands(self) -> None:
+        """A key may be escaped once, twice or three times. It may stand in a JSON object, in another JSON text, or in a
+        line that isn't JSON. Lines without a key are shown whole."""
         for key in ESCAPED:
             hider = Hider([key, "chalk"], ["gus"])
             once = json.dumps(key)[1:-1]
@@ -50,11 +52,12 @@ class Hiding(unittest.TestCase):
             self.assertEqual(hider.line(b'{"do":"see","node":1}'), '{"do":"see","node":1}')
             self.assertEqual(hider.line(b"look 4"), "look 4")
 
-    def test_by_hand(self) -> None:
+    def test_each_line_of_the_table_is_shown_as_it_says(self) -> None:
         for line, wanted in CASES:
             self.assertEqual(HIDER.line(line), wanted)
 
-    def test_no_key_of_anyone_is_shown_wherever_it_stands(self) -> None:
+    def test_no_key_is_shown_if_a_line_is_cut_or_loses_or_gains_a_character(self) -> None:
+        """The line has the keys of three people. It is changed at each of its characters."""
         whole = b'{"do":"hello","name":"gus","key":"heron-31","more":["swift-86",{"chalk":"chalk"}]}'
         for at in range(len(whole)):
             for line in (whole[:at], whole[at:], whole[:at] + whole[at + 1:], whole[:at] + b"\\" + whole[at:], whole[:at] + b'"' + whole[at:]):
