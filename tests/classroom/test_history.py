@@ -1,5 +1,10 @@
 """The record of a class: the lines that `run` prints from it, its counts in `mark`, and `./class history`, which
-shows a student's lines."""
+shows a student's lines.
+
+The *record* has a file of entries for each *seat*, which serves one connection after another. An *entry* is a line with
+its reply, or a mark, such as the end of a connection. Each entry has the number of events before it. The command
+`verify` checks a record. A record is *whole* if no entry is missing.
+"""
 from __future__ import annotations
 
 import csv
@@ -22,12 +27,14 @@ from classroom.marks.vouched import entries_up_to
 from tests.classroom.browser import browser, is_ready, shown, until
 from tests.classroom.help import CYCLE, KEYS, Cycle, Going, words
 
-MOVE = b'{"do":"move","node":4,"rule":"update","at":%d}\n'
+MOVE = b'{"do":"move","node":4,"rule":"update","at":%d}\n'  # gus owns node 4
+# A malformed line with control characters of a terminal, a byte that isn't UTF-8, and the key of gus.
 EVIL = b'\x1b[2J\xff=1+1 {"key":"heron-31"}\n'
 UNENDED = "the server is still running or was killed, so the last entries of this record may be missing; no student caused this"
 UNKNOWN = '{"clause":2,"deny":"unknown","text":"name and key do not match"}'
 STALE = '{"at":1,"clause":2,"deny":"stale","text":"this is not the current configuration"}'
 GUARD = '{"clause":4,"deny":"guard","text":"the guard of this rule does not hold"}'
+# The history of gus in the run that `disputed` makes, in three parts. SEAT stands for the number of a seat.
 GUESSED = f"""\
   after 0 events, seat SEAT > {{"do":"hello","name":"gus","key":"***"}}
                    < {UNKNOWN}
@@ -62,7 +69,7 @@ class Raw:
             self.ask(hello(name, key or KEYS[name]))
 
     def ask(self, line: bytes) -> str:
-        """Returns the reply to a line."""
+        """Sends a line, and returns the reply without its newline."""
         self.socket.sendall(line)
         return self.replies.readline().decode("ascii").rstrip("\n")
 
@@ -75,7 +82,7 @@ class Raw:
 
 
 def hello(name: str, key: str) -> bytes:
-    """Returns the line of a hello."""
+    """Returns the line of a hello with this name and key."""
     return b'{"do":"hello","name":"%s","key":"%s"}\n' % (name.encode(), key.encode())
 
 
@@ -84,8 +91,9 @@ class Disputed(Cycle):
     """A class in which gus claims that the server was wrong."""
 
     def disputed(self, stale: int = 1) -> Going:
-        """Starts a run, and returns it. In this run gus moves once, is denied `stale` times as stale and once by the
-        guard, and sends a malformed line."""
+        """Starts a run, and returns it while it is still going on. In this run somebody tries a wrong key for gus. Then
+        gus and jonas move once, in the same step. After that gus is denied `stale` times as stale and once by the
+        guard, sends a malformed line, and disconnects. Checks some of the desk's lines about this."""
         going = Going(self, CYCLE, "--close", "by-hand")
         with Raw(going.port) as wrong:
             self.assertEqual(wrong.ask(hello("gus", "heron-13")), UNKNOWN)
@@ -136,7 +144,9 @@ class Disputed(Cycle):
 class Told(Disputed):
     """The output during a class and after it."""
 
-    def test_a_student_is_answered(self) -> None:
+    def test_the_history_has_the_same_entries_during_the_run_and_after_it(self) -> None:
+        """During the run the record isn't whole. The history of hana, who sent nothing, has only the step. That of the
+        teacher has the close at the desk."""
         going = self.disputed()
         now = self.history(going.folder)
         verdict = host_call("verify", going.folder / "lab.toml", going.folder / "journal", going.folder / "record").output.partition("\n")[0]
@@ -151,7 +161,7 @@ class Told(Disputed):
         self.assertEqual(other.splitlines()[1:], ["  event 3: configuration 1: node 4 (gus): update, node 7 (jonas): abandonment"])
         self.assertIn('> {"do": "close"}', self.history(folder, name="tess"))
 
-    def test_a_connection_goes_on(self) -> None:
+    def test_a_connection_is_shown_as_open_and_after_a_crash_as_one_whose_rest_is_missing(self) -> None:
         going = Going(self, CYCLE, "--close", "by-hand")
         with Raw(going.port, "gus") as gus:
             gus.ask(MOVE % 0)
@@ -166,7 +176,8 @@ class Told(Disputed):
         self.assertNotIn("is still open", now)
         self.assertRegex(now, r"(?m)^  after 1 event, seat \d+: the rest of this connection isn't recorded$")
 
-    def test_a_table(self) -> None:
+    def test_the_table_has_a_row_for_each_entry_and_each_step(self) -> None:
+        """The first four rows are sorted, since their order depends on which seats were free."""
         folder = self.ended(self.disputed())
         heads, *rows = csv.reader(io.StringIO(self.history(folder, "--csv")))
         self.assertEqual(heads, ["place", "seat", "session", "asked", "reply", "denied", "event"])
@@ -175,7 +186,8 @@ class Told(Disputed):
         self.assertEqual([row[5] for row in rows[4:]], ["", "stale", "guard", "malformed", ""])
         self.assertEqual((rows[5][4], rows[4][6]), (STALE, "configuration 1: node 4 (gus): update, node 7 (jonas): abandonment"))
 
-    def test_asking_in_vain_is_told_and_listed(self) -> None:
+    def test_equal_entries_have_a_row_each_in_the_table_and_are_counted_elsewhere(self) -> None:
+        """With at least 20 stale denials, `disputed` also checks that the desk reports them."""
         folder = self.ended(self.disputed(stale=40))
         self.assertEqual(self.history(folder, "--csv").count("this is not the current configuration"), 40)
         told = squeezed(self.history(folder))
@@ -184,7 +196,8 @@ class Told(Disputed):
         self.history(folder, "-o", page)
         self.assertIn(", 40 times <code>", page.read_text(encoding="utf-8"))
 
-    def test_others_read_nothing_and_no_key_is_told(self) -> None:
+    def test_only_the_teacher_can_read_the_record_and_no_output_contains_a_key(self) -> None:
+        """No output contains an escape character either."""
         going = self.disputed()
         folder = self.ended(going)
         record = folder / "record"
@@ -199,7 +212,7 @@ class Told(Disputed):
         for text in told:
             self.assertNotIn("\x1b", text)
 
-    def test_the_page_opens_the_player_at_an_entry(self) -> None:
+    def test_the_link_of_an_entry_moves_the_player_to_the_entry_s_place(self) -> None:
         folder = self.ended(self.disputed())
         page = self.room / "gus.html"
         self.history(folder, "-o", page)
@@ -215,7 +228,7 @@ class Told(Disputed):
         until(driver, lambda it: shown(it)[0]["place"] == "3")
         self.assertIn("\\x1b[2J", entries[-2].text)
 
-    def test_words_that_are_not_understood(self) -> None:
+    def test_a_name_that_isn_t_in_the_lab_and_a_folder_without_a_run_are_refused(self) -> None:
         folder = self.ended(self.disputed())
         done = words("history", folder, "mallory")
         self.assertEqual((done.returncode, done.stdout), (1, ""))
@@ -233,7 +246,9 @@ class Verified(Disputed):
         gus = run["students"]["gus"]
         return {column: gus[column] for column in COLUMNS if gus[column] != 0}, run["whole"]
 
-    def test_marks_say_what_the_record_is(self) -> None:
+    def test_marks_have_denials_only_if_there_is_a_record_that_verify_accepts(self) -> None:
+        """Tries the record as the run left it, a record that says that entries are missing, one with a changed reply,
+        and no record."""
         folder = self.ended(self.disputed())
         self.assertEqual(self.denied(folder), ({"clause2": 1, "clause4": 1, "malformed": 1}, True))
         seat, record = self.seat(folder), folder / "record"
@@ -263,12 +278,13 @@ class Verified(Disputed):
         self.assertEqual(self.denied(folder), (dict.fromkeys(COLUMNS), False))
         self.assertEqual(words("history", folder, "gus").returncode, 1)
 
-    def test_a_grant_that_is_lacking_is_found_after_the_end_alone(self) -> None:
+    def test_a_missing_grant_is_an_error_only_if_the_server_ended_as_it_should(self) -> None:
+        """The server then printed `done: `. Otherwise the record may lack its last entries."""
         folder = self.ended(self.disputed())
         seat = self.seat(folder)
         lines = seat.read_bytes().splitlines(keepends=True)
         at = next(at for at, line in enumerate(lines) if b'"place":1' in line)
-        seat.write_bytes(b"".join(lines[:at - 1] + lines[at + 1:]))
+        seat.write_bytes(b"".join(lines[:at - 1] + lines[at + 1:]))  # Without the request for the move and its reply.
         done = words("history", folder, "gus")
         self.assertEqual((done.returncode, done.stdout), (3, ""))
         self.assertIn("verify: place 1: granted in no record", done.stderr)
@@ -276,7 +292,8 @@ class Verified(Disputed):
         output.write_text(output.read_text(encoding="utf-8").partition("done: ")[0], encoding="utf-8")
         self.assertIn(f", not whole: {UNENDED}\n", self.history(folder))
 
-    def test_a_class_whose_server_died(self) -> None:
+    def test_after_a_crash_a_torn_entry_is_left_out_and_the_resumed_run_continues_the_record(self) -> None:
+        """The record isn't whole, since the end of hana's connection is missing."""
         going = self.disputed()
         with Raw(going.port, "hana"):
             going.until("^connected: hana$")
@@ -301,8 +318,11 @@ class Verified(Disputed):
         self.assertIn("events, not whole\n", told)
         self.assertIn("the rest of this connection isn't recorded", self.history(folder, name="hana"))
 
-    def test_another_key_and_the_record_before(self) -> None:
+    def test_after_a_change_of_a_key_the_history_and_the_marks_have_both_records(self) -> None:
+        """With the changed lab the resumed run begins another record, and the first one is kept as `record.~1~`. The
+        history hides the old key and the new one."""
         folder = self.ended(self.disputed())
+        # `./class key` also changes the lab's own file, which `run.json` names. It must not be the one in `examples/`.
         lab = self.file("lab.toml", CYCLE.read_text(encoding="utf-8"))
         record = json.loads((folder / "run.json").read_text(encoding="utf-8"))
         (folder / "run.json").write_text(json.dumps({**record, "lab": str(lab)}), encoding="utf-8")
@@ -323,7 +343,9 @@ class Verified(Disputed):
         self.assertIn("record.~1~: ok: ", (folder / "marks.txt").read_text(encoding="utf-8"))
         self.assertEqual(self.denied(folder), ({"clause2": 1, "clause4": 2, "malformed": 1}, True))
 
-    def test_a_disk_that_takes_no_more_of_the_record(self) -> None:
+    def test_if_the_record_can_t_be_written_the_run_says_so_and_the_journal_stays_complete(self) -> None:
+        """The limit of 64 KiB for each file stands for a full disk. Each request for a move in configuration 7, which
+        doesn't exist, is denied. So only the record grows."""
         going = Going(self, CYCLE, "--close", "by-hand", before=("bash", "-c", 'trap "" XFSZ; ulimit -f 64; exec "$@"', "bash"))
         with Raw(going.port, "gus") as gus:
             going.until("^connected: gus$")
@@ -336,7 +358,8 @@ class Verified(Disputed):
         self.assertRegex((going.folder / "marks.txt").read_text(encoding="utf-8"), r"(?m)^record: ok: .*, not whole$")
         self.assertEqual(self.whole(going.folder), 0)
 
-    def test_a_record_that_claims_to_have_begun_at_the_end(self) -> None:
+    def test_an_emptied_record_is_shown_as_one_that_began_after_the_last_event(self) -> None:
+        """`verify` can't refuse such a record, so the line about it has to say that three events came before."""
         folder = self.ended(self.disputed())
         record = folder / "record"
         (record / "begun").write_text("3\n", encoding="ascii")
@@ -346,7 +369,7 @@ class Verified(Disputed):
         self.assertTrue(self.history(folder).startswith(f"{folder}/{wanted}"))
         self.assertIn(f"\n{wanted}", words("mark", folder).stdout)
 
-    def test_where_a_record_begins(self) -> None:
+    def test_begun_returns_the_number_in_its_file_and_raises_a_fault_for_other_texts(self) -> None:
         for text, number in (("3\n", 3), ("0", 0), ("", None), ("x\n", None), ("-1\n", None)):
             self.file("begun", text)
             if number is None:
@@ -354,9 +377,11 @@ class Verified(Disputed):
             else:
                 self.assertEqual(begun(self.room), number)
 
-    def test_whole_entries_up_to_an_event(self) -> None:
+    def test_entries_up_to_keeps_complete_entries_up_to_a_number_of_events(self) -> None:
+        """The three entries are a refusal before all events, a granted move that is event 1, and the end of the
+        connection after event 2. Then the text is cut at each of its bytes."""
         whole = b'4 0 > x\n4 0 < {"refuse":"malformed"}\n4 0 > y\n4 0 < {"at":0,"ok":"move","place":1}\n4 2 .\n'
-        ends = [0, whole.index(b"4 0 > y"), len(whole) - 6, len(whole)]
+        ends = [0, whole.index(b"4 0 > y"), whole.index(b"4 2 ."), len(whole)]
         self.assertEqual([len(entries_up_to(whole, events)) for events in range(4)], [ends[1], ends[2], ends[3], ends[3]])
         for at in range(len(whole) + 1):
             self.assertEqual(len(entries_up_to(whole[:at], 9)), max(end for end in ends if end <= at))

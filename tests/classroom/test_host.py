@@ -1,4 +1,5 @@
-"""`./class run` with the built host: a seat goes from one connection to the next."""
+"""`./class run` with the built host, the server of a class. Each *seat* of the host serves one connection after
+another. The *desk* is the port for the teacher, with one seat, which `run` itself takes."""
 from __future__ import annotations
 
 import json
@@ -21,21 +22,21 @@ class Hosted(Cycle):
     """Runs of the cycle of `examples/`, with three seats, one of which is the desk's, or with all seats."""
 
     def begin(self, sessions: int, *more: str) -> Going:
-        """Starts a run of a lab with this number of seats and these options."""
+        """Starts a run of the cycle with this number of seats and these options. Checks that one seat is the desk's."""
         text = re.sub(r"(?m)^sessions = \d+", f"sessions = {sessions}", CYCLE.read_text(encoding="utf-8"))
         going = Going(self, self.file("cycle.toml", text), *more)
         self.assertTrue(any(f"for at most {sessions - 1} students at once; folder" in line for line in going.lines), going.lines)
         return going
 
     def ended(self, going: Going) -> None:
-        """Checks that a run was ended by the bye at its desk, and that its folder is complete."""
+        """Waits until a run ends. Checks that it was ended by the bye at its desk, and that its folder is complete."""
         self.assertEqual(going.ends(), 0, going.lines)
         events = self.whole(going.folder)
         self.assertRegex((going.folder / "server.txt").read_text(encoding="utf-8"),
                          rf"^listening on port \d+, desk on port \d+\ndone: {events} events, configuration \d+\n$")
 
     def let_in(self, port: int, name: str, key: str) -> Client:
-        """Connects and says hello, and again until a seat is free. Returns the connection."""
+        """Connects and says hello, again and again until a seat is free. Returns the connection."""
         while True:
             try:
                 return Client(port, name, key)
@@ -47,8 +48,8 @@ class Hosted(Cycle):
         """Returns the desk's port."""
         return next(int(found[1]) for line in going.lines if (found := re.match(r"desk at port (\d+), ", line)))
 
-    def test_run_until_stable_with_bots_that_die_and_come_again(self) -> None:
-        """Bots are killed, and others connect in their place. The run still becomes stable."""
+    def test_a_run_becomes_stable_although_bots_are_killed_and_others_connect_in_their_place(self) -> None:
+        """More connections come than there are seats."""
         going = self.begin(8, "--close", "when-idle:0.3", "--until", "stable")
         for name in KEYS:
             for _ in range(3):
@@ -56,14 +57,14 @@ class Hosted(Cycle):
         for _ in range(20):
             gus = self.let_in(going.port, "gus", KEYS["gus"])
             gus.look(4)
-            gus.__exit__(OSError, None, None)
+            gus.__exit__(OSError, None, None)  # Closes the connection without a bye, as after an error.
         for name in KEYS:
             self.bot(going, name)
         self.ended(going)
         self.assertIn(", stable", (going.folder / "audit.txt").read_text(encoding="utf-8"))
 
-    def test_a_full_house(self) -> None:
-        """If all seats are taken, newcomers get `busy`. A seat becomes free when a bot is killed."""
+    def test_newcomers_are_refused_while_all_seats_are_taken_and_a_killed_bot_frees_its_seat(self) -> None:
+        """The run reports only once that all seats are taken, though three newcomers are refused."""
         going = self.begin(3, "--close", "by-hand")
         gus = self.bot(going, "gus")
         going.until("^connected: gus$")
@@ -87,9 +88,8 @@ class Hosted(Cycle):
         self.ended(going)
         self.assertEqual(sum("all seats are taken" in line for line in going.lines), 1)
 
-    def test_the_desk_is_held_and_the_teacher_comes_to_the_port_too(self) -> None:
-        """Nobody else gets the seat of the desk while `run` has it. The teacher can also connect to the students'
-        port."""
+    def test_run_has_the_only_seat_of_the_desk_and_the_teacher_can_use_the_students_port(self) -> None:
+        """A second connection to the desk gets `busy`. At the students' port the teacher closes a step."""
         going = self.begin(4, "--close", "by-hand")
         with self.assertRaises(Refused) as refused:
             Client(self.desk(going), *TEACHER)
@@ -103,9 +103,8 @@ class Hosted(Cycle):
         going.type("end\nend")
         self.ended(going)
 
-    def test_the_host_goes_on_where_the_run_is_killed(self) -> None:
-        """If `run` is killed, its server keeps running until the teacher says bye at the desk. Then the journal can be
-        marked."""
+    def test_if_run_is_killed_its_server_runs_until_the_teacher_says_bye_at_the_desk(self) -> None:
+        """Then the journal can be marked."""
         going = self.begin(3, "--close", "by-hand")
         server = Path(f"/proc/{going.server()}/stat")
         with Client(going.port, "gus", KEYS["gus"]) as gus:
@@ -119,6 +118,7 @@ class Hosted(Cycle):
             with self.assertRaises(Closed):
                 while True:  # The host hangs up after it has answered the bye.
                     gus.look(4)
+        # After its end the server may stay a zombie (Z), since `run`, which would take its exit status, was killed.
         until = time.monotonic() + LIMIT
         while server.exists() and server.read_text(encoding="ascii").rpartition(") ")[2][0] != "Z":
             self.assertLess(time.monotonic(), until)
@@ -127,8 +127,8 @@ class Hosted(Cycle):
         self.assertEqual(marks.returncode, 0, marks.stderr)
         self.assertEqual(json.loads(marks.stdout)["runs"][0]["events"], 2)
 
-    def test_an_interrupt_in_a_terminal(self) -> None:
-        """Ctrl-C in the terminal of `run` ends the run with status 0."""
+    def test_ctrl_c_in_the_terminal_of_a_run_ends_it_with_status_0(self) -> None:
+        """The folder of the run is complete then."""
         terminal = InTerminal(self)
         terminal.type(b"fault 1 2 true\n", b"fault at node 1: p 2, m true;")
         terminal.type(b"\x03", b"all files of the run are in ")

@@ -1,4 +1,7 @@
-"""Absent students: the house plays in its own name, and changes no student's marks."""
+"""Absent students: the house plays in its own name, and changes no student's marks. The *house* is a player inside
+`run`, and is the second owner of each node. It plays the nodes of the students whom the command `play` names, and with
+`--stand-in TIME` each node for which the class has waited so long. The class waits for a node that has an enabled rule
+and no granted move."""
 from __future__ import annotations
 
 import csv
@@ -24,9 +27,11 @@ NAMES = "Name\nAna Lima\nGus Roy\nHouse\nEva Sol\n"
 
 
 class Alone(unittest.TestCase):
-    """The nodes that the house may play."""
+    """A house without a server. `due` is called with the nodes for which the class waits and the time in seconds, and
+    returns the nodes that the house may play."""
 
     def setUp(self) -> None:
+        """Makes the house the second owner of each node of the cycle. `told` gets the lines that a house prints."""
         lab = read(CYCLE)
         lab.students[HOUSE] = "key"
         for node in lab.nodes:
@@ -35,25 +40,28 @@ class Alone(unittest.TestCase):
         self.told: list[str] = []
 
     def house(self, seconds: float | None) -> House:
-        """Returns a house that plays a node for which the class has waited for `seconds` seconds. A first student has
-        come already."""
+        """Returns a house that plays each node for which the class has waited for `seconds` seconds, or only nodes of
+        students named by `play` if `seconds` is None. A first student has come already. Port 1 isn't used."""
         house = House(self.lab, 1, seconds, self.told.append)
         house.student_came = True
         return house
 
-    def test_a_node_waits_its_time_and_a_move_begins_it_anew(self) -> None:
+    def test_the_house_may_play_a_node_after_twenty_seconds_and_a_move_begins_the_time_anew(self) -> None:
+        """The time also begins anew if the class doesn't wait for a node in between. The node that waits longest comes
+        first."""
         house = self.house(20)
         self.assertEqual(house.due([1, 2], 100), [])
         self.assertEqual(house.due([1, 2, 3], 119.9), [])
         self.assertEqual(house.due([2, 3, 1], 120), [1, 2])
         house.note(events("1 0 grant gus 1 update\n")[0])
         self.assertEqual(house.due([1, 2, 3], 121), [2])
-        self.assertEqual(house.due([1, 3], 122), [])
+        self.assertEqual(house.due([1, 3], 122), [])  # The class doesn't wait for node 2, so its time is forgotten.
         self.assertEqual(house.due([1, 2, 3], 139.9), [3])
         self.assertEqual(house.due([1, 2, 3], 141), [3, 1])
         self.assertEqual(self.house(None).due([1, 2, 3], 1e9), [])
 
-    def test_no_time_passes_before_a_first_student_has_come(self) -> None:
+    def test_no_time_is_counted_before_a_first_student_has_come(self) -> None:
+        """Until then the house only plays nodes of students named by `play`."""
         house = House(self.lab, 1, 20, self.told.append)
         self.assertEqual((house.due([1, 2], 100), house.due([1, 2], 200)), ([], []))
         self.assertTrue(house.told().endswith("; the house begins when the first student has said hello"))
@@ -65,7 +73,8 @@ class Alone(unittest.TestCase):
         self.assertEqual(house.due([1, 2], 221), [1, 2])
         self.assertFalse(house.waits())
 
-    def test_a_student_is_played_at_once_until_it_is_stopped(self) -> None:
+    def test_the_house_plays_for_a_named_student_at_once_until_it_is_stopped(self) -> None:
+        """Names of nobody with a node, and of the house itself, are refused."""
         house = House(self.lab, 1, None, self.told.append)
         gus = self.lab.nodes_of("gus")
         self.assertEqual(house.play("gus"), f"the house now plays for gus, at nodes {', '.join(map(str, gus))}")
@@ -80,7 +89,8 @@ class Alone(unittest.TestCase):
             house.stop("gus")
         self.assertEqual(house.due([1, 2, 3, 4, 5, 6, 7], 1e9), [])
 
-    def test_who_is_no_house(self) -> None:
+    def test_an_owner_called_house_that_owns_a_node_alone_is_an_ordinary_student(self) -> None:
+        """`held` returns the nodes at which the house may play. It may play nowhere in the changed lab."""
         self.assertEqual(self.lab.held(), [1, 2, 3, 4, 5, 6, 7])
         self.assertEqual(self.lab.without_house(), read(CYCLE))
         self.lab.nodes[0].owners.remove("gus")
@@ -89,9 +99,11 @@ class Alone(unittest.TestCase):
 
 @unittest.skipUnless(host(), "not tried: no host is built")
 class Standing(InRoom):
-    """Runs of a class with four students, one of whom is called House."""
+    """Runs of a class with four students, one of whom is called House. In the lab this student is `house-2`, since
+    `house` is the name of the player."""
 
     def setUp(self) -> None:
+        """Makes the lab and the slips by `./class new --stand-in`. `told` is the output."""
         super().setUp()
         self.list = self.file("names.csv", NAMES)
         self.made = self.room / "maths.toml"
@@ -101,7 +113,7 @@ class Standing(InRoom):
         self.lab: Lab = read(self.made)
 
     def bot(self, going: Going, name: str) -> None:
-        """Starts the bot of a student."""
+        """Starts the bot of a student in a run."""
         slip = self.file(f"{name}.slip", re.sub(r"port \d+", f"port {going.port}", self.slip(name).read_text(encoding="utf-8")))
         bot = subprocess.Popen([sys.executable, EXAMPLES / "bot.py", slip], stdin=subprocess.DEVNULL, stdout=subprocess.DEVNULL,
                                stderr=subprocess.DEVNULL)
@@ -109,7 +121,7 @@ class Standing(InRoom):
         self.addCleanup(bot.kill)
 
     def slip(self, name: str) -> Path:
-        """Writes the slip of a student, and returns its path."""
+        """Returns the path of the slip that `./class new` made for a student."""
         return self.room / "maths-slips" / f"{name}.slip"
 
     def grants(self, folder: Path) -> dict[str, set[int]]:
@@ -133,7 +145,9 @@ class Standing(InRoom):
         self.assertEqual(checked.stdout.splitlines()[0], "ok: 8 nodes, 8 links, 4 students and the house")
         self.assertIn("toml: 8 nodes, 8 links, 4 students and the house; slips for printing: ", self.told)
 
-    def test_the_house_plays_for_who_is_absent_and_nobody_is_marked_by_it(self) -> None:
+    def test_the_house_plays_for_absent_students_and_its_moves_are_in_nobody_else_s_marks(self) -> None:
+        """Two of the four students are absent. After the network is stable, `shake` sets its registers to random
+        values, so that the house and the bots have to move again."""
         going = Going(self, self.made, "--daemon", "synchronous", "--stand-in", "0.5s")
         for name in ("ana-lima", "eva-sol"):
             self.bot(going, name)
@@ -162,16 +176,18 @@ class Standing(InRoom):
         self.assertEqual((list(rows), rows["House"], rows["Gus Roy"]), (["Ana Lima", "Gus Roy", "House", "Eva Sol"], 0, 0))
 
     def greet(self, going: Going, name: str = "ana-lima") -> None:
-        """Connects as a student, and leaves without a move."""
+        """Connects as a student, and disconnects without a move. The house counts seconds only after a student has said
+        hello."""
         with Client(going.port, name, self.lab.students[name]):
             pass
 
-    def test_a_class_to_which_nobody_has_come_yet_is_left_to_its_students(self) -> None:
+    def test_the_house_makes_no_move_before_the_first_student_has_said_hello(self) -> None:
+        """The hello of the teacher doesn't count. After that of a student, the house plays the whole network."""
         going = Going(self, self.made, "--daemon", "synchronous", "--stand-in", "0.2s", "--until", "stable")
         self.assertIn("the house begins when the first student has said hello", going.lines)
         with Client(going.port, *self.lab.teacher):
-            going.until("^connected: teacher$")  # The name of nobody in the class.
-        time.sleep(1)
+            going.until("^connected: teacher$")
+        time.sleep(1)  # Five times the 0.2 seconds after which the house would play.
         going.type("who")
         going.until("^the house plays at each node for which the class has waited 0.2 seconds; the house begins when the first student has said hello$")
         self.assertEqual((going.folder / "journal").read_bytes(), b"")
@@ -180,12 +196,12 @@ class Standing(InRoom):
         self.assertIn("the network is stable, so the run is ended", going.lines)
         self.assertEqual(set(self.grants(going.folder)), {HOUSE})
 
-    def test_a_student_is_played_and_left_alone_again(self) -> None:
+    def test_after_play_the_house_plays_a_student_s_nodes_and_after_stop_it_no_longer_does(self) -> None:
         going = Going(self, self.made, "--daemon", "by-hand")
         going.type("play gus-roy")
         nodes = self.lab.nodes_of("gus-roy")
         going.until(f"^the house now plays for gus-roy, at nodes? {', '.join(map(str, nodes))}$")
-        self.comes_back_without(going, nodes)
+        self.let_house_play(going, nodes)
         going.type("stop gus-roy")
         going.until("^the house no longer plays for gus-roy$")
         going.type("stop gus-roy")
@@ -198,8 +214,10 @@ class Standing(InRoom):
         self.assertEqual(going.ended(), 0, going.lines)
         self.assertEqual(self.grants(going.folder), before)
 
-    def comes_back_without(self, going: Going, nodes: list[int]) -> None:
-        """Closes steps, at least one, until no rule is enabled at any of these nodes."""
+    def let_house_play(self, going: Going, nodes: list[int]) -> None:
+        """Lets the house play these nodes, which belong to gus-roy, until no rule is enabled at any of them. Closes a
+        step whenever each of the nodes with an enabled rule has a granted move. If no rule was enabled from the
+        beginning, enables one by a fault."""
         with Client(going.port, "gus-roy", self.lab.students["gus-roy"]) as me:
             moved = 0
             while True:
@@ -211,7 +229,8 @@ class Standing(InRoom):
                     going.until("^configuration ")
                     moved += 1
 
-    def test_no_process_and_no_page_has_its_key(self) -> None:
+    def test_no_process_no_page_and_no_file_but_the_lab_contains_the_key_of_the_house(self) -> None:
+        """Looks at the command line and the environment of each process."""
         key = self.lab.students[HOUSE].encode()
         going = Going(self, self.made, "--stand-in", "0.1s", "--daemon", "when-idle:0.3", "--page", str(a_port()))
         address = going.until("^page for the projector http").removeprefix("page for the projector ")
@@ -219,7 +238,7 @@ class Standing(InRoom):
         self.greet(going)
         going.type("play gus-roy\nshake all 2")
         going.until("^stable (again )?after ")
-        for each in Path("/proc").iterdir():
+        for each in Path("/proc").iterdir():  # Another process may end meanwhile, or may not be read.
             for name in ("cmdline", "environ"):
                 try:
                     self.assertNotIn(key, (each / name).read_bytes() if each.name.isdecimal() else b"")
@@ -237,7 +256,8 @@ class Standing(InRoom):
                 self.assertNotIn(key, file.read_bytes(), file.name)
         self.assertNotIn(">house<", (going.folder / "run.html").read_text(encoding="utf-8"))
 
-    def test_it_goes_on_after_the_server_died(self) -> None:
+    def test_a_resumed_run_has_a_house_that_plays_for_the_same_students_after_the_same_time(self) -> None:
+        """Of the two students who were named by `play`, one was stopped before the server was killed."""
         going = Going(self, self.made, "--stand-in", "0.3s", "--daemon", "by-hand")
         self.greet(going)
         for line, told in (("play eva-sol", "for eva-sol, at "), ("play gus-roy", "for gus-roy, at "), ("stop eva-sol", "no longer plays for eva-sol")):
@@ -256,7 +276,8 @@ class Standing(InRoom):
         self.assertEqual(again.ends(), 0, again.lines)
         self.assertEqual(set(self.grants(again.folder)), {HOUSE})
 
-    def test_where_all_seats_are_taken(self) -> None:
+    def test_a_house_that_finds_no_free_seat_says_so_once(self) -> None:
+        """The lab has a seat for the desk and one for all others. The house plays when the student has left."""
         lab = self.file("one.toml", re.sub(r"(?m)^sessions = \d+", "sessions = 2", self.made.read_text(encoding="utf-8")))
         going = Going(self, lab, "--stand-in", "0.1s", "--daemon", "synchronous")
         with Client(going.port, "ana-lima", self.lab.students["ana-lima"]):
@@ -267,9 +288,9 @@ class Standing(InRoom):
 
 
 class Refused(InRoom):
-    """Runs in which nobody can stand in."""
+    """Labs and options with which the house can't play."""
 
-    def test_labs_without_a_house_say_how_to_get_one(self) -> None:
+    def test_in_a_lab_without_a_house_the_errors_say_how_to_get_one(self) -> None:
         done = words("run", CYCLE, "--stand-in", "20s", "--into", self.room / "runs")
         self.assertEqual((done.returncode, done.stdout), (1, ""))
         self.assertEqual(done.stderr, f"class: {CYCLE}: the house can't play in this lab, since no node has `house` as its second owner. "
@@ -281,14 +302,14 @@ class Refused(InRoom):
             going.until("^the house can't play for gus, because it owns no node in this lab. With --stand-in, `./class new` makes a lab "
                         "in which the house is the second owner of each node$")
 
-    def test_no_third_owner(self) -> None:
+    def test_new_refuses_a_house_beside_two_owners_of_each_node(self) -> None:
         students = self.file("students", "Ana\nBen\n")
         done = words("new", self.room / "lab.toml", "--students", students, "--pairs", "--stand-in")
         self.assertEqual((done.returncode, done.stdout), (1, ""))
         self.assertIn("a node has at most two", done.stderr)
         self.assertFalse((self.room / "lab.toml").exists())
 
-    def test_a_time_is_a_time(self) -> None:
+    def test_the_time_of_stand_in_has_to_be_a_number_of_seconds_above_zero(self) -> None:
         for word in ("0s", "x", "-1", "20m"):
             done = words("run", CYCLE, "--stand-in", word, "--into", self.room / "runs")
             self.assertEqual(done.returncode, 1)
