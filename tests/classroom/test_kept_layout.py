@@ -21,9 +21,11 @@ def lab(word: str, seed: int = 1) -> labs.Lab:
 
 
 class Kept(InRoom):
-    """A folder, and the layout in it."""
+    """The folder of a run, and the layout in it."""
 
     def setUp(self) -> None:
+        """Lets the test begin without known layouts. Afterwards forgets those that it computed, and restores the
+        layouts that this process knew before."""
         super().setUp()
         self.addCleanup(shapes.kept_shape.cache_clear)
         self.addCleanup(springs.searched.cache_clear)
@@ -37,7 +39,8 @@ class Kept(InRoom):
         shapes.kept_shape.cache_clear()
         springs.searched.cache_clear()
 
-    def test_a_network_is_searched_once(self) -> None:
+    def test_a_kept_layout_spares_the_search_and_is_never_replaced(self) -> None:
+        """A network with one link less is searched for. The layout of another network doesn't replace the file."""
         made = lab("random:40:60")
         nodes = [node.id for node in made.nodes]
         first = lay_out(nodes, made.links)
@@ -52,12 +55,14 @@ class Kept(InRoom):
         kept_layout.save(self.room, lab("random:40:60", 2))
         self.assertEqual((self.room / LAYOUT).read_bytes(), before)
 
-    def test_other_shapes_keep_nothing(self) -> None:
+    def test_no_layout_is_kept_of_a_grid_a_tree_or_a_complete_graph(self) -> None:
+        """Their positions need no search. With 12 nodes and 11 links, or 8 nodes and 28 links, a random network is a
+        tree or complete."""
         for word in ("grid:4x3", "random:12:11", "random:8:28"):
             kept_layout.save(self.room, lab(word))
             self.assertEqual([*self.room.iterdir()], [], word)
 
-    def test_what_is_no_layout_is_left_alone(self) -> None:
+    def test_a_missing_file_and_files_that_aren_t_layouts_are_ignored(self) -> None:
         whole = {"links": [[1, 2], [2, 3], [1, 3], [3, 4]], "points": {"1": [0, 0], "2": [1, 0], "3": [0, 1], "4": [1, 1]}}
         texts = ["", "{", "[]", "null", '{"links":[]}', json.dumps(whole | {"points": [1]}), json.dumps(whole | {"links": [[1, "a"]]}),
                  json.dumps(whole | {"points": {"1": [0, 1e9]}}), json.dumps(whole | {"points": {"1": [0, float("nan")]}}), "[" * 100_000,

@@ -10,14 +10,16 @@ from classroom.setup.word_list import WORDS
 
 
 class Keys(unittest.TestCase):
-    """Keys of three words and two digits."""
+    """Keys of three words and two digits for people, and keys of 32 hexadecimal digits for programs."""
 
-    def test_the_words(self) -> None:
+    def test_the_list_has_4096_different_words_of_three_to_seven_letters_in_order(self) -> None:
         self.assertEqual((len(WORDS), len(set(WORDS))), (4096, 4096))
         self.assertEqual([word for word in WORDS if not re.fullmatch("[a-z]{3,7}", word)], [])
         self.assertEqual(WORDS, sorted(WORDS))
 
-    def test_keys(self) -> None:
+    def test_keys_have_the_right_parts_and_these_are_random(self) -> None:
+        """Among 2000 keys about 1580 different words are expected at each place, and all of the 100 pairs of digits. A
+        key has more than 42 bits of entropy."""
         made = {for_people() for _ in range(2000)}
         self.assertEqual(len(made), 2000)
         parts = [key.split("-") for key in made]

@@ -1,4 +1,5 @@
-"""The example bots in other languages than Python. Each is tested if its compiler or interpreter is installed."""
+"""The example bots in other languages than Python. Each is tested if its compiler or interpreter is installed. Some
+tests also try the example in Python."""
 from __future__ import annotations
 
 import os
@@ -46,7 +47,8 @@ def bots() -> dict[str, Command]:
 class Languages(unittest.TestCase):
     """The files themselves."""
 
-    def test_each_is_short_and_tried(self) -> None:
+    def test_each_bot_has_less_than_80_lines(self) -> None:
+        """If a bot can't run here, counts as skipped, with the missing programs as the reason."""
         for name in PROGRAMS:
             self.assertLess(len((EXAMPLES / name).read_text(encoding="utf-8").splitlines()), 80, name)
         missing = [program for name, program in PROGRAMS.items() if name not in bots()]
@@ -57,7 +59,8 @@ class Languages(unittest.TestCase):
 class Bots(Cycle):
     """The behaviour of the bots in a run."""
 
-    def test_all_in_one_run(self) -> None:
+    def test_bots_in_several_languages_make_a_network_stable_together(self) -> None:
+        """If fewer than four bots can run here, the example in Python plays for the other students."""
         going = Going(self, CYCLE, "--close", "when-idle:0.5", "--until", "stable")
         for number, name in enumerate(("gus", "hana", "ines", "jonas")):
             others = [*bots().values()]
@@ -65,7 +68,9 @@ class Bots(Cycle):
         self.assertEqual(going.ends(), 0, going.lines)
         self.assertGreater(self.whole(going.folder), 10)
 
-    def test_what_ends_them(self) -> None:
+    def test_each_bot_ends_with_one_line_and_the_status_for_what_is_wrong_in_its_slip(self) -> None:
+        """The statuses are 1 for a slip that can't be read, 2 for a wrong key, 3 for a node of another student, and 4
+        for a port without a server."""
         going = Going(self, CYCLE, "--close", "by-hand")
         good = self.slip(going.port, "gus")
         slip = good.read_text(encoding="utf-8")
@@ -76,8 +81,9 @@ class Bots(Cycle):
                 said = subprocess.run([*command, self.file("bad.slip", text)], capture_output=True, text=True, check=False, timeout=LIMIT)
                 self.assertEqual((said.returncode, said.stderr.count("\n")), (status, 1), (name, text, said.stderr))
 
-    def all_in(self, going: Going) -> list[tuple[str, subprocess.Popen[str]]]:
-        """Starts a bot in each language, all for one student. Returns them after all have greeted."""
+    def greeted_bots(self, going: Going) -> list[tuple[str, subprocess.Popen[str]]]:
+        """Starts a bot in each language, all for one student. Returns the names of their files and their processes
+        after all have greeted."""
         every: dict[str, Command] = {"bot.py": (sys.executable, EXAMPLES / "bot.py"), **bots()}
         playing = []
         for name, command in every.items():
@@ -90,14 +96,14 @@ class Bots(Cycle):
         return playing
 
     def are_ended(self, playing: list[tuple[str, subprocess.Popen[str]]], status: int, why: str) -> None:
-        """Checks that each of these bots ends with this status, and prints this reason."""
+        """Waits until each of these bots ends. Checks its status, and the reason in the line that it prints."""
         for name, bot in playing:
             said = bot.communicate(timeout=LIMIT)[1]
             self.assertEqual((bot.returncode, said.partition(": ")[2].partition(" (")[0].rstrip()), (status, why), (name, said))
 
-    def test_they_greet_again_where_the_class_goes_on(self) -> None:
+    def test_bots_whose_server_is_killed_greet_again_when_the_run_is_resumed(self) -> None:
         going = Going(self, CYCLE, "--close", "by-hand")
-        playing = self.all_in(going)
+        playing = self.greeted_bots(going)
         os.kill(going.server(), signal.SIGKILL)
         self.assertEqual(going.ends(), 4, going.lines)
         again = Going(self, None, "run", "--resume", going.folder, "--close", "by-hand")
@@ -107,9 +113,10 @@ class Bots(Cycle):
         self.assertEqual(again.ended(), 0, again.lines)
         self.are_ended(playing, 0, "the run is over")
 
-    def test_a_connection_that_stays_lost_is_no_end_of_the_run(self) -> None:
+    def test_bots_whose_server_is_killed_try_for_a_minute_and_end_with_status_7(self) -> None:
+        """They must not take the lost connection for the end of the run."""
         going = Going(self, CYCLE, "--close", "by-hand")
-        playing = self.all_in(going)
+        playing = self.greeted_bots(going)
         begun = time.monotonic()
         os.kill(going.server(), signal.SIGKILL)
         self.assertEqual(going.ends(), 4, going.lines)
@@ -120,7 +127,9 @@ class Bots(Cycle):
 class Reset(InRoom):
     """A server that resets a connection in place of a reply, as the system does after a kill."""
 
-    def test_they_come_again(self) -> None:
+    def test_each_bot_connects_again_after_a_reset_and_ends_when_the_run_is_over(self) -> None:
+        """The test itself is the server. It resets the first connection after the hello and another request, and
+        answers `over` to the second."""
         every: dict[str, Command] = {"bot.py": (sys.executable, EXAMPLES / "bot.py"), **bots()}
         for name, command in every.items():
             with self.subTest(name), socket.create_server(("127.0.0.1", 0)) as listener:
@@ -134,6 +143,7 @@ class Reset(InRoom):
                         lines.readline()
                         its.sendall(b'{"ok":"hello","who":"gus"}\n')
                         lines.readline()
+                        # With a linger time of 0 seconds, closing resets the connection.
                         its.setsockopt(socket.SOL_SOCKET, socket.SO_LINGER, struct.pack("ii", is_reset, 0))
                         its.sendall(b"" if is_reset else b'{"refuse":"over"}\n')
                 said = bot.communicate(timeout=LIMIT)[1]
@@ -143,8 +153,9 @@ class Reset(InRoom):
 class Graded(InRoom):
     """The grades of the bots in each language."""
 
-    def test_each_passes_all_of_small(self) -> None:
-        given = [command[-1] for name, command in bots().items() if name != "Bot.java"]  # The bot in Python is graded in test_grade.py.
+    def test_each_bot_passes_all_twelve_cases_of_the_suite_small(self) -> None:
+        """The bots in Java and Python are graded in `test_grade.py`."""
+        given = [command[-1] for name, command in bots().items() if name != "Bot.java"]
         done = words("grade", *given, "--timeout", "120", "--into", self.room / "grades")
         self.assertEqual(done.returncode, 0, done.stdout + done.stderr)
         self.assertEqual(done.stdout.count(": 12 of 12 cases passed\n"), len(given), done.stdout)

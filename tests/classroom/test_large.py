@@ -1,5 +1,5 @@
-"""The page of the largest run opens and steps in time, as measured by the browser. The page of the longest run
-isn't large."""
+"""The page of the largest run opens and steps in time, as measured by the browser. The page of a long run isn't
+large. A page *steps* when it shows the state after another event. A *place* is the number of an event."""
 from __future__ import annotations
 
 import unittest
@@ -44,6 +44,7 @@ class Large(Played):
     """256 nodes in a complete graph, and 1,000 events."""
 
     def setUp(self) -> None:
+        """Lets the browser measure processor time, so that other programs don't change the result much."""
         super().setUp()
         self.driver.execute_cdp_cmd("Performance.enable", {"timeDomain": "threadTicks"})
         self.addCleanup(self.driver.execute_cdp_cmd, "Performance.disable", {})
@@ -68,7 +69,8 @@ class Large(Played):
         return self.spent() - start
 
     def opened(self, page: Path) -> float:
-        """Opens a page. Returns the time that it takes, divided by the slowness of this machine."""
+        """Opens a page, and shows its first state. Returns the processor time that it takes in milliseconds, divided by
+        the slowness of this machine."""
         self.driver.get("about:blank")
         slowness = self.slowness()
         self.driver.get(page.as_uri())
@@ -77,13 +79,16 @@ class Large(Played):
         return self.spent() / slowness
 
     def stepped(self, places: list[int]) -> list[float]:
-        """Steps to each of these places. Returns the time that each step takes, divided by the slowness of this
-        machine."""
+        """Steps to each of these places, beginning at the one before the first. Returns the processor time that each
+        step takes in milliseconds, divided by the slowness of this machine."""
         slowness = self.slowness()
         self.step(places[0] - 1)
         return [self.step(place) / slowness for place in places]
 
-    def test_the_largest_lab_opens_and_steps_in_time(self) -> None:
+    def test_the_page_of_the_largest_lab_opens_and_steps_in_time(self) -> None:
+        """Each measurement is made three times, and the shortest time counts. Steps are measured at each event that
+        makes a configuration, and at forty events in a row. A step between two grants or releases changes little of the
+        drawing."""
         lab, journal = largest_run(self.room)
         kinds = [line.split(" ")[2] for line in journal.read_text().splitlines()]
         self.assertEqual(len(kinds), 1000)
@@ -104,6 +109,7 @@ class Long(Played):
     """A run of 20,000 events."""
 
     def test_its_page_has_less_than_a_megabyte_more_than_its_journal(self) -> None:
+        """The page also opens at the last event."""
         lab, journal = long_run(self.room, 20_000)
         page = self.page(lab, journal)
         size, most = page.stat().st_size, journal.stat().st_size + 1_000_000

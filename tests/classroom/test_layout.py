@@ -1,4 +1,6 @@
-"""Layouts show the family of a network, and labels overlap nothing."""
+"""Layouts show the family of a network, and labels overlap nothing. A *layout* has a point for each node, in a *field*
+of the page. A *family* is a kind of network that `./class new` can make, such as a cycle. A *label* has the name of a
+node's owner, and the frame for its rule."""
 from __future__ import annotations
 
 import math
@@ -28,7 +30,7 @@ def network(word: str, size: int = 15) -> tuple[list[int], Links]:
 
 
 def renamed(nodes: list[int], links: Links, seed: int) -> tuple[list[int], Links]:
-    """Returns the same network with random identifiers, and its nodes in the old order."""
+    """Returns the same network with random identifiers: the nodes in the same order as before, and the links."""
     drawn = random.Random(seed).sample(range(1, 60000), len(nodes))
     names = dict(zip(nodes, drawn))
     return drawn, [(names[a], names[b]) for a, b in links]
@@ -54,6 +56,8 @@ class Shapes(unittest.TestCase):
         return layout.kind, layout, nodes
 
     def test_families_are_recognised_whatever_the_nodes_are_called(self) -> None:
+        """A random network with many links is drawn on an ellipse. A grid that lacks a link, and a network of two
+        triangles without a path between them, are of no known shape, called `general`."""
         for word, kind in (("path", "path"), ("cycle", "cycle"), ("star", "star"), ("tree", "tree"), ("complete", "complete"), ("grid:4x3", "grid"),
                            ("grid:8x8", "grid"), ("grid:2x9", "grid"), ("random:12:16", "general"), ("random:15:80", "ellipse")):
             for seed in range(4):
@@ -65,7 +69,7 @@ class Shapes(unittest.TestCase):
 
     def test_a_grid_s_rows_are_lines_in_order(self) -> None:
         for word in ("grid:4x3", "grid:8x8", "grid:3x5"):
-            width = int(word[5])
+            width = int(word[5])  # the digit after `grid:`
             for seed in (0, 5):
                 _, layout, nodes = self.shape(word, seed=seed)
                 rows = [[layout.points[node] for node in nodes[start:start + width]] for start in range(0, len(nodes), width)]
@@ -79,7 +83,8 @@ class Shapes(unittest.TestCase):
                     self.assertEqual([x for x, _ in above], [x for x, _ in below])
                     self.assertLess(above[0][1], below[0][1])
 
-    def test_a_path_is_a_line_that_turns_back(self) -> None:
+    def test_a_path_is_drawn_in_rows_and_turns_back_at_the_end_of_each_row(self) -> None:
+        """All links are level but those from one row to the next. A path of seven nodes has only one row."""
         for size in (2, 5, 9, 15, 40):
             for seed in (0, 3):
                 _, layout, nodes = self.shape("path", size, seed)
@@ -108,11 +113,12 @@ class Shapes(unittest.TestCase):
             sides = [math.dist(layout.points[a], layout.points[b]) for a, b in pairwise([*nodes, nodes[0]])]
             self.assertLess(max(sides), 1.2 * min(sides))
 
-    def test_a_tree_has_layers(self) -> None:
+    def test_nodes_of_one_depth_in_a_tree_are_level_and_each_node_is_above_the_middle_of_its_children(self) -> None:
+        """A random network of 20 nodes and 19 links is a tree."""
         for word, size in (("tree", 15), ("tree", 31), ("random:20:19", 20)):
             nodes, links = network(word, size)
             layout, depth = lay_out(nodes, links), {1: 0}
-            for a, b in links * len(nodes):
+            for a, b in links * len(nodes):  # Each round over the links finds the depth of at least one more node.
                 for near, far in ((a, b), (b, a)):
                     if near in depth:
                         depth.setdefault(far, depth[near] + 1)
@@ -122,7 +128,7 @@ class Shapes(unittest.TestCase):
                 if children:
                     self.assertAlmostEqual(layout.points[node][0], (min(children) + max(children)) / 2, delta=0.2)
 
-    def test_each_family_is_drawn_apart_in_each_field_and_always_alike(self) -> None:
+    def test_nodes_don_t_touch_and_are_in_the_field_and_the_order_of_nodes_and_links_doesn_t_matter(self) -> None:
         for word in FAMILIES:
             nodes, links = network(word)
             for field in (WIDE, TALL, CELL):
@@ -142,7 +148,8 @@ class Shapes(unittest.TestCase):
                 layout = lay_out(nodes, links)
                 self.assertEqual(tangles(layout.points, links, layout.radius), 0)
 
-    def test_large_networks_in_time(self) -> None:
+    def test_networks_of_256_nodes_are_laid_out_in_time_and_faster_in_a_second_field(self) -> None:
+        """The search for a layout is made once, and its result is used for all fields."""
         took: list[float] = []
         for word in ("random:256:300", "random:256:1000", "grid:16x16", "tree", "path", "cycle"):
             nodes, links = network(word, 256)
@@ -161,6 +168,8 @@ class Springs(unittest.TestCase):
     """Any other network: distances correspond to the lengths of paths."""
 
     def test_parts_that_no_path_joins_are_drawn_apart(self) -> None:
+        """The network has two equal parts and node 9, which has no link. Without a path the distance is 3, one more
+        than the longest path of a part."""
         links = [(1, 2), (2, 3), (1, 3), (3, 4), (5, 6), (6, 7), (5, 7), (7, 8)]
         nodes = list(range(1, 10))
         far = distances(nodes, links)
@@ -168,8 +177,9 @@ class Springs(unittest.TestCase):
         layout = lay_out(nodes, links)
         self.assertEqual((len(layout.points), tangles(layout.points, links, layout.radius)), (9, 0))
 
-    def test_a_few_pivots_draw_as_all_nodes_do(self) -> None:
-        """A grid without one of its links isn't a grid. Both methods unfold it."""
+    def test_both_methods_unfold_a_grid_that_lacks_a_link(self) -> None:
+        """In a network of at most FEW_NODES nodes, each node is pulled by all others, and in a larger one only by some
+        of them, the pivots."""
         for word in ("grid:9x8", "grid:10x9"):
             nodes, links = network(word)
             links.remove((11, 12))
@@ -178,12 +188,14 @@ class Springs(unittest.TestCase):
             self.assertLess(tangles(points, links, 0.1), 3, word)
             self.assertGreaterEqual(min(math.dist(a, b) for a, b in combinations(points.values(), 2)), LEAST - 0.01)
 
-    def test_how_far_a_node_is_from_a_link(self) -> None:
+    def test_the_distance_to_a_line_is_that_to_its_nearest_point(self) -> None:
+        """The line has two ends. It may also be a single point."""
         for point, far in (((5.0, 3.0), 3.0), ((-3.0, 4.0), 5.0), ((13.0, -4.0), 5.0), ((10.0, 0.0), 0.0)):
             self.assertEqual(distance_to_line(point, (0.0, 0.0), (10.0, 0.0)), far)
         self.assertEqual(distance_to_line((3.0, 4.0), (0.0, 0.0), (0.0, 0.0)), 5.0)
 
-    def test_a_crossing_a_touch_and_a_node_on_a_link(self) -> None:
+    def test_tangles_counts_crossings_and_nodes_on_links_but_not_common_ends(self) -> None:
+        """The radius of nodes is 1, so node 5 is on the link between 1 and 2."""
         square = {1: (0.0, 0.0), 2: (10.0, 0.0), 3: (10.0, 10.0), 4: (0.0, 10.0), 5: (5.0, 0.5)}
         for links, count in (([(1, 3), (2, 4)], 1), ([(1, 2), (3, 4)], 1), ([(1, 3), (1, 2)], 1), ([(3, 4), (2, 3)], 0)):
             self.assertEqual(tangles(square, links, 1.0), count, links)
@@ -193,7 +205,7 @@ class Labels(unittest.TestCase):
     """Names and rules overlap no disc, no link and no other label."""
 
     def boxes(self, view: View) -> dict[int, Box]:
-        """Returns the box of each label with the name and the widest rule."""
+        """Returns for each node the box around its label, with the name and the widest rule."""
         form, found = view.form, {}
         for node, label in view.labels.items():
             x, y = view.layout.points[node]
@@ -203,7 +215,7 @@ class Labels(unittest.TestCase):
             found[node] = Box(left, y + lines[0], left + width, y + lines[-1])
         return found
 
-    def test_small_networks_have_names_upon_nothing(self) -> None:
+    def test_labels_in_small_networks_overlap_no_label_disc_or_link_and_are_in_the_field(self) -> None:
         words = [(word, size) for word in ("path", "cycle", "star", "tree") for size in (3, 7, 12, 15)]
         for word, size in [*words, ("grid:4x3", 12), ("grid:5x3", 15), ("grid:3x5", 15), ("grid:2x7", 14)]:
             with self.subTest(word, size=size):
@@ -217,9 +229,9 @@ class Labels(unittest.TestCase):
                     self.assertEqual([node for node, point in view.layout.points.items() if near(box, point) < radius], [])
                     self.assertEqual([link for link in links if box.on_line(*(view.layout.points[node] for node in link)) > 0], [])
 
-    def test_letters_of_rules_lie_upon_no_neighbour(self) -> None:
-        """In random networks, on a phone and in a small drawing, letters overlap neither nodes nor other letters."""
-        looked = 0
+    def test_in_narrow_fields_the_frames_of_rules_overlap_no_other_node_and_no_other_frame(self) -> None:
+        """Tries random, complete and crowded networks, on a phone and in a small drawing. There are no names there."""
+        checked = 0
         for seed in range(8):
             for word in ("random:8:12", "random:12:18", "random:14:22", "random:16:24", "complete", "crowd"):
                 count, links = family(word, None if ":" in word else 9, 0, random.Random(seed))
@@ -230,20 +242,21 @@ class Labels(unittest.TestCase):
                               for node, point in view.layout.points.items()}
                     if radius < LEAST_FRAMED:
                         continue  # No letter is drawn.
-                    looked += 1
+                    checked += 1
                     with self.subTest(word, seed=seed, field=field):
                         self.assertEqual([(a, b) for a, frame in frames.items() for b, point in view.layout.points.items()
                                           if a != b and near(frame, point) < radius], [])
                         for a, b in combinations(frames.values(), 2):
                             self.assertFalse(min(a.right, b.right) > max(a.left, b.left) and min(a.bottom, b.bottom) > max(a.top, b.top))
-        self.assertGreater(looked, 80)
+        self.assertGreater(checked, 80)  # Of 96 drawings, few may have discs that are too small for frames.
 
-    def test_a_box_on_a_line(self) -> None:
+    def test_on_line_returns_the_length_of_the_part_of_a_line_in_a_box_that_is_widened_by_the_gap(self) -> None:
+        """GAP is 2, so this box reaches from 8 to 22."""
         box = Box(10, 10, 20, 20)
         for a, b, length in (((0, 15), (30, 15), 14), ((15, 0), (15, 9), 1), ((0, 0), (5, 30), 0), ((0, 30), (30, 0), 14 * math.sqrt(2))):
             self.assertAlmostEqual(box.on_line(a, b), length)
 
-    def test_names_are_cut_and_letters_are_no_names(self) -> None:
+    def test_long_names_are_cut_and_networks_without_room_have_no_labels(self) -> None:
         view, _ = viewed("grid:4x3", 12)
         self.assertIn("jean-baptiste-lam…", [label.text for label in viewed("cycle")[0].labels.values()])
         self.assertTrue(all(len(label.text) <= view.form.letters for label in view.labels.values()))
