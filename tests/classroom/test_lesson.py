@@ -1,4 +1,5 @@
-"""A scripted lesson of two hours: late students, a wrong key, faults, a crash, a full disk, a closed terminal."""
+"""A scripted lesson: late students, a wrong key, faults, a crash, a full disk, a closed terminal. The *desk* is the
+teacher's connection, which `run` has, and later `attach`. Its typed lines, such as `fault`, change the network."""
 from __future__ import annotations
 
 import csv
@@ -28,6 +29,8 @@ class Lesson(InRoom):
     """Twelve students on a grid."""
 
     def setUp(self) -> None:
+        """Makes the lab and the slips from a list of the students. At the beginning one node in three has random
+        registers."""
         super().setUp()
         self.list = self.file("names.csv", "First name,Surname,ID number\n" + "".join(f"{name},{number}\n" for number, name in enumerate(NAMES, 101)))
         self.file_of_lab, self.port = self.room / "maths.toml", a_port()
@@ -49,12 +52,12 @@ class Lesson(InRoom):
         return started
 
     def slip(self, name: str) -> Path:
-        """Writes the slip of a student, and returns its path."""
+        """Returns the path of the slip that `./class new` made for a student."""
         return self.room / "maths-slips" / f"{name}.slip"
 
     def are_told_of_the_end(self, bots: list[subprocess.Popen[str]], *statuses: int) -> None:
-        """Checks that the bots ended with the right status and message when their server or its grants ended. This
-        includes one that came too late."""
+        """Waits until these bots end. Checks that each ends with one of these statuses and the line for it: 0 if the
+        run is over, 4 if there is no server, and 6 if nothing is granted any longer."""
         for bot in bots:
             said = bot.communicate(timeout=LIMIT)[1]
             why = {0: "the run is over\n", 4: f"no server at port {self.port}", 6: "nothing is granted any longer: tell your teacher"}
@@ -80,15 +83,16 @@ class Lesson(InRoom):
                 chosen.clear()
         return found
 
-    def test_from_the_list_to_the_marks(self) -> None:
+    def test_after_a_crash_a_full_disk_and_a_closed_terminal_the_marks_match_the_journal(self) -> None:
+        """The run is begun, and continued twice. Each part of it is in a method of its own."""
         folder = self.first_half()
         self.full_disk(folder)
         self.second_half(folder)
         self.marks(folder)
 
     def first_half(self) -> Path:
-        """Most students come, one with a wrong key, some late. There are two faults, and then the server is
-        killed."""
+        """Starts the run with most of the bots and one bot with a wrong key, makes two faults, starts the late bots,
+        and kills the server. Returns the run's folder."""
         going = Going(self, self.file_of_lab, "--close", "every:0.3", "--port", str(self.port))
         self.assertEqual(going.port, self.port)
         bots = self.bots([name for name in self.lab.students if name not in LATE])
@@ -111,8 +115,9 @@ class Lesson(InRoom):
         return going.folder
 
     def full_disk(self, folder: Path) -> None:
-        """Continues the run in a folder until the disk is full. Each file has room before that, also the record of a
-        desk that closed without success."""
+        """Continues the run in a folder with a limit on the size of files, which stands for a full disk, and ends it by
+        faults that fill the journal. At first all files are below the limit. The largest one may be the desk's record,
+        which has each denied close."""
         journal = folder / "journal"
         most = max(file.stat().st_size for file in (journal, *(folder / "record").iterdir())) // 1024 + 1
         limited = self.file("host", f'#!/bin/bash\ntrap "" XFSZ\nulimit -f {most}\nexec "{host()}" "$@"\n')
@@ -120,19 +125,20 @@ class Lesson(InRoom):
         going = Going(self, None, "run", "--resume", folder, MML_HOST=str(limited))
         self.assertEqual(going.port, self.port)
         bots = self.bots(list(self.lab.students))
+        # Each fault adds at least twenty bytes to the journal.
         going.type("\n".join(["fault 11 null true"] * (60 + (1024 * most - journal.stat().st_size) // 20)))
         going.until("^nothing more is granted: no line can be written to the journal. Make room on the disk, and then .*class run --resume ")
         self.assertEqual(going.ends(), 4, going.lines)
         self.are_told_of_the_end(bots, 0, 4, 6)
 
     def second_half(self, folder: Path) -> None:
-        """Continues the run in a folder in a terminal, which is closed. The desk is taken over, and all programs end
-        when the network is stable."""
+        """Continues the run in a terminal, closes the terminal, and takes over the desk by `./class attach`. Ends the
+        run when each student has an applied move and the network is stable. Checks that all programs end."""
         terminal = InTerminal(self, "run", "--resume", folder)
         terminal.type(b"fault 3 null true\n", b": fault at node 3: p null, m true; ")
         bots = self.bots(list(self.lab.students))
         os.close(terminal.ours)
-        self.told(folder, f"the terminal was closed, and the run continues. To control it again, type: {CLASS} attach {folder}")
+        self.wait_for_line(folder, f"the terminal was closed, and the run continues. To control it again, type: {CLASS} attach {folder}")
         self.assertIsNone(terminal.process.poll())
         record = Record.read(folder)
         assert record is not None
@@ -152,18 +158,20 @@ class Lesson(InRoom):
         going.until("; stable; ")
         going.type("end")
         self.assertEqual(going.ends(), 0, going.lines)
-        self.assertFalse(Process.of(record.server.number) == record.server)
+        self.assertFalse(Process.of(record.server.number) == record.server)  # The server has ended.
         self.are_told_of_the_end(bots, 0, 4)
 
-    def told(self, folder: Path, line: str) -> None:
-        """Waits until `run.txt` has a line, after its hour and minute."""
+    def wait_for_line(self, folder: Path, line: str) -> None:
+        """Waits until the file `run.txt` of a run's folder has a line with the time and the text `line`. Fails after a
+        time limit."""
         end = time.monotonic() + LIMIT
         while not re.search(rf"(?m)^\d\d:\d\d {re.escape(line)}$", (folder / "run.txt").read_text(encoding="utf-8")):
             self.assertLess(time.monotonic(), end)
             time.sleep(0.05)
 
     def marks(self, folder: Path) -> None:
-        """Checks that the marks of all students are in the order and form of the list, and match the journal."""
+        """Checks that the marks of all students are in the order and form of the list, and match the journal. Also
+        checks that the desk's lines about faults are in `run.txt`."""
         self.assertRegex(call("audit", folder / "lab.toml", folder / "journal").output, "^ok: .*, stable\n$")
         done = words("mark", folder, "--roster", self.list, "--total")
         self.assertEqual((done.returncode, done.stderr), (0, ""))

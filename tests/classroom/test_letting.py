@@ -1,4 +1,5 @@
-"""A run with a door: its lines, and the same door for a resumed run."""
+"""A run with a door: its lines, and the same door for a resumed run. A *door* is a TLS port for students on other
+machines. The door has a process of its own, and its address is on the slips."""
 from __future__ import annotations
 
 import os
@@ -22,6 +23,7 @@ class Doors(InRoom):
     """Runs of a lab whose slips name a door."""
 
     def setUp(self) -> None:
+        """Makes a lab for three students, and slips with a door at a free port. `slip` is that of the student Ben."""
         super().setUp()
         self.port, self.lab = a_port(), self.room / "maths.toml"
         students = self.file("list.csv", "Name\nZoë Müller\nBen\nCyd\n")
@@ -42,7 +44,7 @@ class Doors(InRoom):
         return kept
 
     def comes(self) -> Client:
-        """Connects through the door, again and again until that succeeds. Returns the connection."""
+        """Connects through the door as Ben, again and again until that succeeds. Returns the connection."""
         end = time.monotonic() + LIMIT
         while True:
             try:
@@ -52,12 +54,13 @@ class Doors(InRoom):
                 time.sleep(0.1)
 
     def grants(self, client: Client) -> int:
-        """Asks for the enabled move of the student's node. Returns the number of events after that."""
+        """Asks for the enabled move of Ben's first node. Returns the number of events after that, or 0 if no rule is
+        enabled or a move is chosen already."""
         look = client.look(self.slip.nodes[0])
         return client.move(look).place if look.rule and not look.chosen else 0
 
-    def test_a_killed_server_s_run_goes_on_behind_the_same_door(self) -> None:
-        """If the server is killed, the process of the door ends. `run --resume` starts a new one at the same address."""
+    def test_the_resumed_run_of_a_killed_server_has_a_new_door_at_the_same_address(self) -> None:
+        """If the server is killed, the run and the process of the door end."""
         going = self.begin()
         address = going.until("^page for the projector, from other machines https://")
         with self.comes() as client:
@@ -78,7 +81,8 @@ class Doors(InRoom):
         self.assertNotEqual(self.door(again).process, door)
         self.assertEqual(again.ended(), 0, again.lines)
 
-    def test_a_door_that_outlives_its_run_is_kept(self) -> None:
+    def test_the_server_and_the_door_outlive_a_killed_run_and_the_resumed_run_has_a_door_at_the_same_port(self) -> None:
+        """It may be the same door or a new one. After the resumed run, no door is left."""
         going = self.begin()
         record, door = Record.read(going.folder), self.door(going).process
         assert record is not None
@@ -96,8 +100,8 @@ class Doors(InRoom):
         self.assertEqual(again.ended(), 0, again.lines)
         wait_until(lambda: not door.lives() and not self.door(again).process.lives())
 
-    def test_slips_that_lead_elsewhere_are_named(self) -> None:
-        """`run` prints a warning if the slips name another address than that of the door."""
+    def test_a_run_warns_of_slips_with_another_address_than_that_of_its_door(self) -> None:
+        """After `./class slips` with the right address there is no warning."""
         self.port = a_port()
         going = self.begin()
         self.assertTrue(any(line.startswith(f"the slips of {self.lab} don't have the address of this door. ") for line in going.lines), going.lines)
@@ -108,8 +112,8 @@ class Doors(InRoom):
         self.assertFalse([line for line in going.lines if "the address of this door" in line])
         self.assertEqual(going.ended(), 0, going.lines)
 
-    def test_another_certificate(self) -> None:
-        """With `--certificate` the door has this certificate, and the slips have its fingerprint."""
+    def test_a_certificate_that_is_named_is_that_of_the_door_and_its_fingerprint_is_on_the_slips(self) -> None:
+        """A file that has no certificate is refused."""
         own = self.room / "own.pem"
         subprocess.run(["openssl", "req", "-x509", "-newkey", "ec", "-pkeyopt", "ec_paramgen_curve:prime256v1", "-nodes", "-subj", "/CN=own",
                         "-keyout", own, "-out", self.room / "certificate"], check=True, capture_output=True)
@@ -128,7 +132,8 @@ class Doors(InRoom):
 class Ports(InRoom):
     """The ports of labs, taken from their slips."""
 
-    def test_those_of_the_slips(self) -> None:
+    def test_labs_have_the_ports_on_their_slips_if_these_are_all_known_and_differ(self) -> None:
+        """Otherwise they have consecutive ports, from the one that is asked for or from the default port on."""
         self.assertEqual(ports_for(None, 4711, [4711, 4720, 4712]), [4711, 4720, 4712])
         self.assertEqual(ports_for(5000, 4711, [4711, 4720]), [5000, 5001])
         shared_or_lacking: list[list[int | None]] = [[4711, 4711], [None, 4720], [None, None]]
@@ -136,8 +141,8 @@ class Ports(InRoom):
             self.assertEqual(ports_for(None, 4711, known), [4711, 4712])
 
     @unittest.skipUnless(host(), "not tried: no host is built")
-    def test_labs_in_another_order(self) -> None:
-        """Each network gets the port on its slips, whatever the order of the labs on the command line."""
+    def test_each_network_has_the_port_on_its_slips_whatever_the_order_of_the_labs(self) -> None:
+        """So has a network that is run alone."""
         students, first = self.file("names", "".join(f"Student {number}\n" for number in range(6))), a_port()
         done = words("new", self.room / "maths.toml", "--students", students, "--groups", "2", "--port", str(first), "--page-port", str(first + 100))
         self.assertEqual(done.returncode, 0, done.stderr)

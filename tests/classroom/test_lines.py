@@ -1,4 +1,5 @@
-"""The table of all lines that a teacher or a student can see, and phrases that none of them contains."""
+"""The table of all lines that a teacher or a student can see, and phrases that none of them contains.
+`tests/classroom/lines.py` makes the table from the sources."""
 from __future__ import annotations
 
 import re
@@ -18,13 +19,14 @@ NOT_SAID = (
 class Lines(unittest.TestCase):
     """The table."""
 
-    def test_it_has_every_line(self) -> None:
+    def test_the_table_is_the_one_that_is_made_from_the_sources(self) -> None:
+        """If a line in a source has changed, the table has to be written anew."""
         kept = TABLE.read_text(encoding="utf-8").splitlines()
         self.assertEqual(kept, lines(), "python3 -B -m tests.classroom.lines writes the table anew; read what has changed")
         self.assertGreater(len(kept), 1000)
 
-    def test_it_has_those_that_are_seen(self) -> None:
-        """Checks some lines of each kind, so that the table isn't empty or wrong."""
+    def test_the_table_has_known_lines_from_each_kind_of_source(self) -> None:
+        """Otherwise the sources might be searched in a wrong way."""
         kept = TABLE.read_text(encoding="utf-8").splitlines()
         for line in (
             "classroom/run/desk: students without a granted move so far: {}", "classroom/run/several: ALARM {} is down: {}",
@@ -39,7 +41,7 @@ class Lines(unittest.TestCase):
         ):
             self.assertIn(line, kept)
 
-    def test_none_says_what_readers_stumbled_over(self) -> None:
+    def test_no_line_has_a_phrase_that_readers_did_not_understand(self) -> None:
         for line in lines():
             for pattern in NOT_SAID:
                 self.assertIsNone(re.search(pattern, line), line)

@@ -1,4 +1,6 @@
-"""`./class mark`: counts that are checked by hand, its forms, and refused journals."""
+"""`./class mark`: counts that are checked by hand, its forms, and refused journals. The *journal* of a run has its
+events, and the *record* all lines and replies of its connections. A move is *granted*, and *applied* when its step is
+closed. A *roster* is a list of students for which `mark` adds up their marks."""
 from __future__ import annotations
 
 import csv
@@ -24,7 +26,8 @@ from tests.classroom.help import EXAMPLES, LIMIT, InRoom, words
 from tests.classroom.test_check import GOOD, PAIR
 from tests.record.recording import Recording
 
-# For each student: the applied updates, marriages, seductions and abandonments, steps, first, last, shared.
+# For each student in three runs: the applied updates, marriages, seductions and abandonments, the number of steps that
+# applied one, the places of the first and the last granted move, and the number of applied moves at shared nodes.
 CYCLE = {"gus": (2, 0, 0, 1, 3, 2, 18, 0), "hana": (2, 1, 0, 1, 4, 8, 19, 0), "ines": (2, 1, 0, 1, 3, 1, 10, 0),
          "jonas": (1, 1, 0, 1, 3, 3, 11, 0)}
 SHARED = {"ana": (0, 0, 2, 1, 2, 1, 18, 1), "ben": (3, 1, 2, 1, 5, 3, 16, 3), "cyd": (1, 1, 0, 0, 2, 6, 9, 0)}
@@ -55,7 +58,8 @@ class Mark(InRoom):
         runs: list[dict[str, Any]] = json.loads(done.stdout)["runs"]
         return runs
 
-    def test_by_hand(self) -> None:
+    def test_the_marks_of_three_runs_are_those_that_were_counted_by_hand(self) -> None:
+        """In these runs all granted moves were applied."""
         built_in = self.file("built-in.toml", BUILT_IN)
         cases = (
             (EXAMPLES / "cycle.toml", self.journal(EXAMPLES / "cycle.toml", EXAMPLES / "cycle-run.script"), CYCLE,
@@ -77,7 +81,9 @@ class Mark(InRoom):
             self.assertEqual(found, wanted)
             self.assertTrue(all(it["granted"] == it["applied"] for it in run["students"].values()))
 
-    def test_granted_and_applied(self) -> None:
+    def test_moves_that_are_released_or_dropped_by_a_fault_are_granted_but_not_applied(self) -> None:
+        """Ana's first move is released, and the marriage of jonas is dropped by the fault at node 11. Node 12 belongs
+        to both. A move at a shared node is also counted for each owner by itself."""
         lab = self.file("lab.toml", GOOD.replace(*PAIR))
         journal = self.file("journal", "1 0 grant ana 11 seduction\n2 0 release 11\n3 0 grant ana 11 seduction\n"
                                        "4 0 grant jonas 12 seduction\n5 0 close\n6 1 grant jonas 17 marriage 12\n"
@@ -94,21 +100,23 @@ class Mark(InRoom):
         said = words("mark", lab, journal).stdout
         self.assertEqual(len(re.findall(r"(?m)^node \d+: .*jonas got 1 granted move \(1 seduction\)", said)), 1, said)
 
-    def test_who_made_none(self) -> None:
+    def test_a_student_without_moves_and_without_a_record_has_zeros_and_nulls(self) -> None:
         run, = self.marks(self.file("lab.toml", GOOD.replace(*PAIR)), self.file("journal", ""))
         none = {"update": 0, "marriage": 0, "seduction": 0, "abandonment": 0}
         self.assertEqual(run["students"]["jonas"],
                          {"granted": none, "applied": none, "steps": 0, "first": None, "last": None, "shared": 0, "whole": False, "nodes": 2, "network": "lab",
                           **dict.fromkeys((*DENIED, "access_denials", "stale_denials", "chosen_denials", "guard_denials"))})
 
-    def test_a_long_run(self) -> None:
+    def test_each_of_30_000_events_is_counted(self) -> None:
         lab = self.file("lab.toml", GOOD.replace(*PAIR).replace("events = 1000", "events = 100000"))
         lines = [f"{2 * k + 1} {2 * k} {'cut' if k % 2 == 0 else 'link'} 11 12\n{2 * k + 2} {2 * k + 1} fault 12 17 true\n"
                  for k in range(15_000)]
         run, = self.marks(lab, self.file("journal", "".join(lines)))
         self.assertEqual((run["events"], run["links"], run["cuts"], run["faults"]), (30_000, 7_500, 7_500, 15_000))
 
-    def test_a_run_that_is_answered_otherwise_is_not_marked(self) -> None:
+    def test_a_run_isn_t_marked_if_replies_to_its_replayed_events_differ_from_its_journal(self) -> None:
+        """`mark` replays the journal: it asks the program for the same events again. Here one reply is changed on its
+        way."""
         lab = self.file("lab.toml", GOOD.replace(*PAIR))
         journal = self.file("journal", "1 0 grant ana 11 seduction\n2 0 close\n")
         self.assertEqual(marked(lab, journal).tally.events, 2)
@@ -127,7 +135,7 @@ class Mark(InRoom):
                 marked(lab, journal)
             self.assertIn(error, str(fault.exception))
 
-    def test_refused(self) -> None:
+    def test_illegal_journals_arguments_in_the_wrong_order_and_missing_files_are_refused(self) -> None:
         lab = self.file("lab.toml", GOOD.replace(*PAIR))
         done = words("mark", lab, self.file("journal", "1 0 grant jonas 11 seduction\n"))
         self.assertEqual(done.returncode, 3)
@@ -140,7 +148,9 @@ class Mark(InRoom):
         self.assertEqual(words("mark", folder).returncode, 1)
         self.assertEqual(words("mark", lab, self.room / "none").returncode, 4)
 
-    def test_a_row_a_person_over_all_runs(self) -> None:
+    def test_with_total_each_person_has_a_row_with_the_marks_of_all_runs_together(self) -> None:
+        """The table has the columns of the roster, and keeps its rows without a person. A person is found in another
+        roster by the identifier. A missing row is reported."""
         students = self.file("class.csv", 'Student;SIS User ID;Section\nPoints Possible;;\n"Müller, Zoë";s1;A\nBen;s2;B\nEva;s3;B\n')
         made = words("new", self.room / "lab.toml", "--students", students, "--family", "path", "--groups", "1", "--nodes", "3")
         self.assertEqual(made.returncode, 0, made.stderr)
@@ -163,7 +173,9 @@ class Mark(InRoom):
         self.assertEqual(words("mark", lab, one, two, "--total").stdout.splitlines()[1], '"Müller, Zoë",s1,2,1,0,0,1,0,1,0,2,0,0,0,0,0,0,2,lab')
 
     def recorded(self) -> Path:
-        """Makes a run's folder with a record: a denied hello, a granted move, and a close."""
+        """Makes the folder of a run with a record, and returns it. In this run ana's first hello, with a wrong key, is
+        denied. Then she is denied a move at the node of another student, and is granted one at her own node. The
+        teacher closes the step."""
         folder = self.room / "run"
         (folder / "record").mkdir(parents=True)
         run = Recording(read_lab(BUILT_IN.encode()))
@@ -180,7 +192,8 @@ class Mark(InRoom):
             (folder / "record" / f"{number}.record").write_bytes(text)
         return folder
 
-    def test_a_second_opinion(self) -> None:
+    def test_with_second_the_plain_model_counts_too_and_a_different_count_is_reported(self) -> None:
+        """The marks are printed nevertheless."""
         folder = self.recorded()
         first = words("mark", folder)
         self.assertEqual((first.returncode, first.stderr), (0, ""))
@@ -202,7 +215,9 @@ class Mark(InRoom):
             self.assertIn(f"class: {folder / of}: {told}", done.stderr)
             self.assertEqual(len(json.loads(done.stdout)["runs"]), 1)
 
-    def test_names_that_have_unprintable_letters_keep_their_marks(self) -> None:
+    def test_students_with_unprintable_letters_in_their_names_are_found_in_the_roster(self) -> None:
+        """The first and the third student are granted a move each. The second roster lacks the fourth student. A lab of
+        version 1.0.0 has such letters in the escaped form in which they are printed."""
         names = ["Zoë\u00a0Müller", "می\u200cخواهم", "क्\u200dष", "Ben\x7f \"B\" \\ \u2028"]
         students = self.file("class.csv", "Name,ID\n" + "".join(
             '"{}",{}\n'.format(name.replace('"', '""'), f"\u00a0s\u200d{number}" if number < 2 else "") for number, name in enumerate(names)))
@@ -215,6 +230,7 @@ class Mark(InRoom):
         self.assertTrue(all(map(str.isprintable, lab.read_text(encoding="utf-8").split("\n"))))
         people = labs.read(lab).people
         self.assertEqual([person.written for person in people.values()], [name.strip() for name in names])
+        # The third student owns node 3.
         journal = self.file("journal", "".join(f"{place} 0 grant {name} {place} seduction\n" for place, name in enumerate(list(people)[::2], 1))
                             .replace(" 2 seduction", " 3 seduction"))
         for roster, more in ((students, ()), (self.file("names", "\n".join(names[:3]) + "\n"), ("--total",))):
@@ -232,7 +248,8 @@ class Mark(InRoom):
         self.assertEqual((done.returncode, done.stderr), (0, ""))
         self.assertEqual([row.split(",")[2] for row in done.stdout.splitlines()[1:3]], ["1", "0"])
 
-    def test_no_cell_is_a_formula(self) -> None:
+    def test_cells_that_a_spreadsheet_would_take_for_formulas_begin_with_an_apostrophe(self) -> None:
+        """Such cells have names of students, also of a roster without columns, or the name of a journal."""
         students = self.file("names.csv", "Name\n=1+1\n@cmd\n+49\n-2\n")
         lab = self.room / "lab.toml"
         self.assertEqual(words("new", lab, "--students", students, "--family", "path").returncode, 0)
@@ -246,14 +263,14 @@ class Mark(InRoom):
         heads, *rows = csv.reader(io.StringIO(words("mark", "--total", "--roster", plain, lab, journal).stdout))
         self.assertEqual([row[0] for row in rows], ["'=1+1", "'@cmd", "'+49", "'-2"])
 
-    def test_a_cell_that_is_too_long_is_an_error_line(self) -> None:
-        roster = self.file("roster.csv", f"Name\nAna\n{'B' * 131_073}\n")
+    def test_a_roster_with_a_cell_that_is_too_long_is_refused_with_its_line(self) -> None:
+        roster = self.file("roster.csv", f"Name\nAna\n{'B' * 131_073}\n")  # One character more than Python's csv reads.
         for done in (words("new", self.room / "lab.toml", "--students", roster),
                      words("mark", self.file("lab.toml", BUILT_IN), self.file("journal", ""), "--roster", roster)):
             self.assertEqual((done.returncode, done.stdout), (1, ""))
             self.assertEqual(done.stderr, f"class: {roster}: line 3 isn't CSV: field larger than field limit (131072)\n")
 
-    def test_forms(self) -> None:
+    def test_csv_has_a_row_for_each_student_and_the_text_says_what_a_journal_lacks(self) -> None:
         lab = self.file("lab.toml", GOOD.replace(*PAIR))
         journal = self.file("journal", "1 0 grant ana 11 seduction\n2 0 close\n")
         rows = list(csv.reader(io.StringIO(words("mark", "--csv", lab, journal).stdout)))

@@ -1,4 +1,6 @@
-"""`./class new`."""
+"""`./class new`: the names of students, class lists, and the labs and slips that it makes. A *slip* is the file with
+what a student needs to connect. A *seat* of the server serves one student at a time. Students of one *room* are in the
+same networks."""
 from __future__ import annotations
 
 import argparse
@@ -19,6 +21,7 @@ from classroom.setup import names
 from tests.classroom.help import InRoom, words
 from tests.common.limits import MOST
 
+# Names in many scripts, and names with digits, without letters, or too long for a lab.
 SCRIPTS = (
     "Zoë Müller", "Łukasz Żółć", "Иван Жуков", "Γιώργος Παπάς", "かな さくら", "김철수", "გიორგი", "王小明", "محمد علي", "שרה לוי",
     "आरव शर्मा", "สมชาย ใจดี", "Արամ", "O'Brien", "1337", "-", "a" * 80, "José María de la Cruz-Ñuñez y Todos los Santos",
@@ -28,27 +31,30 @@ SEATS = MOST["sessions"] - 1  # of students
 
 
 class Names(unittest.TestCase):
-    """Names in a class list, and in the lab."""
+    """Names in a class list, and in the lab. `names.all_of` returns the people by their names in the lab."""
 
-    def test_forms(self) -> None:
+    def test_names_in_all_scripts_get_different_names_of_the_form_that_a_lab_allows(self) -> None:
         made = names.all_of(map(Person, [*SCRIPTS, *SCRIPTS]))
         self.assertEqual(len(made), 2 * len(SCRIPTS))
         for name in made:
             self.assertRegex(name, FORM)
             self.assertLessEqual(len(name), 32)
 
-    def test_known(self) -> None:
+    def test_lab_name_spells_letters_of_many_scripts_in_latin_letters(self) -> None:
+        """Chinese characters aren't known, so nothing is left of such a name."""
         known = {"Zoë Müller": "zoe-mueller", "Łukasz Żółć": "lukasz-zolc", "Иван Жуков": "ivan-zhukov", "김철수": "gimceolsu",
                  "かな さくら": "kana-sakura", "O'Brien": "obrien", "1337": "s-1337", "王小明": "",
                  "Müller, Zoë": "zoe-mueller", "محمد علي": "mhmd-aly", "שרה לוי": "shrh-lvy", "आरव शर्मा": "aarava-sharamaaa"}
         for name, form in known.items():
             self.assertEqual(names.lab_name(name), form)
 
-    def test_numbers(self) -> None:
+    def test_a_number_is_added_to_a_name_that_is_taken(self) -> None:
+        """The fifth person, whose name has no known letter, is called by the number in the list."""
         listed = map(Person, ["Ana", "ana", "Ána", "Teacher", "王小明"])
         self.assertEqual(list(names.all_of(listed, ["teacher"])), ["ana", "ana-2", "ana-3", "teacher-2", "s-5"])
 
-    def test_two_of_one_name_are_told_apart_by_what_the_list_has(self) -> None:
+    def test_the_identifier_in_the_list_is_added_to_equal_names(self) -> None:
+        """A person without a known letter is called by the identifier. Long names are cut before it."""
         listed = [Person("Ana Lima", "77"), Person("Ben", "78"), Person("Ana Lima", "A 9"), Person("王小明", "80"), Person("-", "")]
         made = names.all_of(listed)
         self.assertEqual(list(made), ["ana-lima-77", "ben", "ana-lima-a-9", "s-80", "s-5"])
@@ -61,14 +67,14 @@ class Lists(InRoom):
     """Class lists in different forms."""
 
     def people(self, content: bytes, name: str = "list.csv", **words: str) -> list[tuple[str, str]]:
-        """Returns the names and identifiers of the people in a file with this content. `words` are options that name
-        columns."""
+        """Writes a file with this content and name. Returns the names and identifiers of the people in it. `words` are
+        options that name columns."""
         path = self.room / name
         path.write_bytes(content)
         asked = argparse.Namespace(**{"column": None, "first_name": None, "last_name": None, "id": None} | words)
         return [(person.written, person.id) for person in lists.read(path, asked).people]
 
-    def test_encodings(self) -> None:
+    def test_lists_are_read_in_utf_8_utf_16_and_latin_1(self) -> None:
         text = "Name;ID number\nZoë Müller;1\nŁukasz Żółć;2\n"
         wanted = [("Zoë Müller", "1"), ("Łukasz Żółć", "2")]
         for encoding in ("utf-8", "utf-8-sig", "utf-16", "utf-16-le", "utf-16-be"):
@@ -76,14 +82,15 @@ class Lists(InRoom):
         self.assertEqual(self.people("Name,ID\r\nZoë Müller,1\r\n".encode("latin-1")), [("Zoë Müller", "1")])
         self.assertEqual(self.people("Zoë\nBen\n".encode("utf-16"), "names.txt"), [("Zoë", ""), ("Ben", "")])
 
-    def test_moodle_and_canvas_as_they_come(self) -> None:
+    def test_exports_of_moodle_and_canvas_are_read_without_options(self) -> None:
+        """The row of points and the row of the test student in an export of Canvas are no people."""
         moodle = '"First name","Last name","ID number","Email address"\nZoë,Müller,1001,z@x.example\nAna,"Lima, dos",1002,a@x.example\n'
         self.assertEqual(self.people(moodle.encode("utf-8-sig")), [("Zoë Müller", "1001"), ("Ana Lima, dos", "1002")])
         canvas = ('Student,ID,SIS User ID,SIS Login ID,Section,Quiz (1)\n"    Points Possible",,,,,10.00\n'
                   '"Müller, Zoë",31,s1001,zoe,A,\n"Lima, Ana",32,s1002,ana,A,\n"Student, Test",33,,x,A,\n')
         self.assertEqual(self.people(canvas.encode()), [("Müller, Zoë", "s1001"), ("Lima, Ana", "s1002")])
 
-    def test_columns_that_are_named(self) -> None:
+    def test_options_name_the_columns_in_any_case_and_a_missing_column_is_a_fault(self) -> None:
         content = "who\tgiven\tfamily\tno\nx\tZoë\tMüller\t7\n".encode()
         for name in ("list.tsv", "list.txt"):
             self.assertEqual(self.people(content, name, first_name="given", last_name="FAMILY", id="no"), [("Zoë Müller", "7")])
@@ -94,7 +101,7 @@ class Lists(InRoom):
 
 
 class New(InRoom):
-    """Labs and slips."""
+    """Labs and slips that the command makes."""
 
     def new(self, *more: str, students: int = 5, status: int = 0) -> str:
         """Runs `./class new` for `students` students with these options, and checks the status. Returns the output."""
@@ -104,14 +111,15 @@ class New(InRoom):
         return done.stdout + done.stderr
 
     def clean(self) -> None:
-        """Removes all files that `new` has made."""
+        """Removes all files and folders that `new` has made, so that the next call can make them again."""
         for file in self.room.glob("lab*"):
             if file.is_dir():
                 shutil.rmtree(file)
             else:
                 file.unlink()
 
-    def test_a_lesson_has_events_enough_and_all_seats(self) -> None:
+    def test_by_default_a_lab_has_the_greatest_numbers_of_events_and_sessions(self) -> None:
+        """Options set other numbers."""
         self.new()
         made = labs.read(self.room / "lab.toml")
         self.assertEqual((made.events, made.sessions), (MOST["events"], MOST["sessions"]))
@@ -120,14 +128,15 @@ class New(InRoom):
         made = labs.read(self.room / "lab.toml")
         self.assertEqual((made.events, made.sessions), (70, 6))
 
-    def test_families(self) -> None:
+    def test_each_family_has_the_right_numbers_of_nodes_and_links(self) -> None:
+        """A family without a size gets a node for each of the five students."""
         sizes = {"path": (5, 4), "cycle": (5, 5), "star": (5, 4), "complete": (5, 10), "tree": (5, 4), "grid:4x3": (12, 17),
                  "random:9:14": (9, 14)}
         for family, (nodes, links) in sizes.items():
             self.clean()
             self.assertIn(f"{nodes} nodes, {links} links, 5 students", self.new("--family", family, "--start", "random"))
 
-    def test_links_of_a_file(self) -> None:
+    def test_links_are_read_from_a_file_and_an_error_has_the_number_and_text_of_its_line(self) -> None:
         links = self.file("links", "1 2\n2 7 # a far one\n\n7-9\n")
         self.assertIn("4 nodes, 3 links", self.new("--links", str(links)))
         self.clean()
@@ -139,7 +148,9 @@ class New(InRoom):
             links = self.file("links", f"1 2\n\n{line}  # this\n")
             self.assertIn(f"class: {links}: line 3 is wrong: {line}  # this ({what})\n", self.new("--links", str(links), status=1))
 
-    def test_students_without_a_node_are_told_with_a_network_that_has_enough(self) -> None:
+    def test_a_warning_names_the_students_without_a_node_and_a_network_with_enough_nodes(self) -> None:
+        """With `--strict` this is an error, and no lab is made. With `--pairs` each node has two owners, so three nodes
+        are enough for five students."""
         for more, offered in ((("--family", "grid:2x2"), "--family grid:2x3"), (("--nodes", "4"), "--nodes 5"),
                               (("--family", "random:4:5"), "--family random:5:6"), (("--pairs", "--nodes", "3", "--family", "path"), None)):
             self.clean()
@@ -154,7 +165,8 @@ class New(InRoom):
                                           f"With {offered}, each student gets one\n")
                 self.assertEqual([*self.room.glob("lab*")], [])
 
-    def test_the_lab_keeps_written_names_and_ids(self) -> None:
+    def test_the_lab_has_the_names_and_identifiers_as_the_list_has_them(self) -> None:
+        """`./class check` knows the fields in which the lab has them."""
         students = self.file("class.csv", 'Name,ID\n"Zoë ""Z"" Müller",7\n😀 王,8\nBen,\n')
         done = words("new", self.room / "lab.toml", "--students", students, "--family", "path")
         self.assertEqual(done.returncode, 0, done.stderr)
@@ -163,7 +175,8 @@ class New(InRoom):
         self.assertEqual(people, {"zoe-z-mueller": Person('Zoë "Z" Müller', "7"), "s-8": Person("😀 王", "8"), "ben": Person("Ben")})
         self.assertNotIn("isn't known here", words("check", self.room / "lab.toml").stdout)
 
-    def test_pairs_keys_and_slips(self) -> None:
+    def test_with_pairs_each_node_has_two_owners_and_the_slips_have_the_keys_of_the_students_only(self) -> None:
+        """All keys differ, and nobody else can read the lab."""
         self.new("--pairs", "--nodes", "6")
         it = tomllib.loads((self.room / "lab.toml").read_text(encoding="utf-8"))
         self.assertTrue(all(len(set(node["owners"])) == 2 for node in it["node"]))
@@ -177,7 +190,7 @@ class New(InRoom):
         self.assertNotIn(it["teacher"]["key"], slips)
         self.assertEqual((self.room / "lab.toml").stat().st_mode & 0o077, 0)
 
-    def test_overwrites_nothing(self) -> None:
+    def test_if_one_of_its_files_exists_new_makes_no_file_and_overwrites_none(self) -> None:
         for name in ("lab.toml", "lab-slips.html", "lab-teacher.slip", "lab-slips.csv"):
             there = self.file(name, "mine")
             self.assertIn("isn't overwritten", self.new(status=1))
@@ -185,7 +198,8 @@ class New(InRoom):
             self.assertEqual(len(list(self.room.glob("lab*"))), 1)
             there.unlink()
 
-    def test_few_events_are_told(self) -> None:
+    def test_a_note_says_if_the_network_may_need_more_events(self) -> None:
+        """A path of 5 nodes with 4 links makes at most 23 moves, in as many closed steps, so 46 events are enough."""
         asked = ("--family", "path", "--events")
         self.assertIn("note: 45 events may be too few. The moves and closed steps until the network is stable need at most 46", self.new(*asked, "45"))
         self.clean()
@@ -201,8 +215,9 @@ class New(InRoom):
         self.assertEqual(refused, f"class: this lab would have {many} students, but a lab can have at most {many - 1}. "
                                   "Make several labs by --groups\n")
 
-    def test_groups(self) -> None:
-        many = SEATS + 9
+    def test_with_groups_the_students_are_divided_among_labs_and_each_has_a_seat(self) -> None:
+        """Without this option a note recommends it."""
+        many = SEATS + 9  # more than the seats of one network
         self.assertIn("--groups 2", self.new(students=many))
         self.clean()
         told = self.new("--groups", "2", students=many)
@@ -212,7 +227,8 @@ class New(InRoom):
             self.assertEqual((len(it["student"]), it["sessions"], it["events"]), (many // 2, MOST["sessions"], MOST["events"]))
 
     def rooms(self, sizes: dict[str, int], *more: str, status: int = 0) -> str:
-        """Makes labs by rooms, for a list with this number of students in each room in turn. Returns the output."""
+        """Makes labs by rooms with these options, and checks the status. `sizes` has the number of students in each
+        room, and the list has them room by room. Returns the output."""
         names = [f"Student {room} {number},{room}" for room, size in sizes.items() for number in range(size)]
         students = self.file("rooms.csv", "Name,Room\n" + "\n".join(sorted(names, key=lambda line: line[::-1])) + "\n")
         done = words("new", self.room / "lab.toml", "--students", students, "--groups-by", "room", "--family", "path", *more)
@@ -230,13 +246,16 @@ class New(InRoom):
             found.append((rooms.pop().removeprefix("room "), len(texts)))
         return found
 
-    def test_rooms_have_as_many_networks_as_give_all_a_seat(self) -> None:
+    def test_each_room_has_the_least_number_of_networks_in_which_all_its_students_have_a_seat(self) -> None:
+        """The students of a room are divided evenly among its networks."""
         many = 2 * SEATS + 1
         told = self.rooms({"A": many, "B": SEATS, "C": 2})
         self.assertNotIn("note", told)
         self.assertEqual(sorted(self.sizes()), [*(("A", (many + at) // 3) for at in range(3)), ("B", SEATS), ("C", 2)])
 
-    def test_rooms_share_a_number_of_networks(self) -> None:
+    def test_with_groups_the_rooms_share_this_number_of_networks_by_their_sizes(self) -> None:
+        """A note says if a network has too few seats. Fewer networks than rooms, and a student without a room, are
+        refused."""
         self.rooms({"A": 12, "B": 5, "C": 2}, "--groups", "5")
         self.assertEqual(sorted(self.sizes()), [("A", 4), ("A", 4), ("A", 4), ("B", 5), ("C", 2)])
         self.clean()
@@ -254,7 +273,8 @@ class New(InRoom):
         self.assertEqual(refused, "class: --groups-by room: this column is empty for these students: Student  0. Write a room for each of them\n")
         self.assertEqual([*self.room.glob("lab*")], [])
 
-    def test_several_labs_are_made_or_none(self) -> None:
+    def test_with_strict_one_lab_with_too_few_nodes_keeps_all_labs_from_being_made(self) -> None:
+        """Without this option it is a warning."""
         refused = self.rooms({"A": 4, "B": 6}, "--nodes", "5", "--strict", status=1)
         self.assertRegex(refused, r"^class: --strict: there are more students than nodes; these get no node: student-b-\d. "
                                   r"With --nodes 6, each student gets one\n$")
@@ -262,7 +282,8 @@ class New(InRoom):
         warned = self.rooms({"A": 4, "B": 6}, "--nodes", "5")
         self.assertEqual(warned.count("WARNING: there are more students than nodes; these get no node: student-b-"), 1)
 
-    def test_a_spreadsheet_s_own_file_is_refused_by_name(self) -> None:
+    def test_a_file_of_a_spreadsheet_program_is_refused(self) -> None:
+        """It is recognised by its name or by its first bytes, which are those of a ZIP archive."""
         for name in ("list.xlsx", "list.ODS", "list.csv"):
             file = self.file(name, "PK\x03\x04 and more")
             done = words("new", self.room / "lab.toml", "--students", file)
@@ -270,20 +291,22 @@ class New(InRoom):
                                                                  "program, save it as CSV (UTF-8), and name the new file instead\n"))
         self.assertEqual([*self.room.glob("lab*")], [])
 
-    def test_a_csv(self) -> None:
+    def test_a_table_with_a_column_of_names_is_read_and_a_missing_column_is_an_error(self) -> None:
         self.file("class.csv", "number;Name\n1;Zoë Müller\n2;Ana\n")
         done = words("new", self.room / "lab.toml", "--students", self.room / "class.csv", "--family", "path")
         self.assertRegex(done.stdout, r"\nZoë Müller +zoe-mueller +lab +1\n")
         done = words("new", self.room / "other.toml", "--students", self.room / "class.csv", "--column", "who")
         self.assertIn("none of them is called who", done.stderr)
 
-    def test_no_lab(self) -> None:
+    def test_networks_and_numbers_that_are_impossible_are_refused_and_no_file_is_made(self) -> None:
+        """The status for too many events is 2, since the program refuses the lab."""
         for more in (["--family", "ring"], ["--family", "random:5:3"], ["--family", "grid:0x4"], ["--nodes", str(MOST["nodes"] + 1)],
                      ["--events", str(MOST["events"] + 1)], ["--family", "cycle", "--nodes", "2"]):
             self.new(*more, status=2 if "--events" in more else 1)
             self.assertEqual(list(self.room.glob("lab*")), [])
 
-    def test_two_hundred_lists(self) -> None:
+    def test_labs_of_200_random_lists_are_valid_and_their_nodes_are_dealt_evenly(self) -> None:
+        """The numbers of nodes of any two students differ by one at most."""
         chance = random.Random(7)
         for number in range(200):
             people = [chance.choice(SCRIPTS) + chance.choice(["", " B", " Ω"]) for _ in range(chance.randint(2, 40))]

@@ -16,6 +16,7 @@ from classroom.core.program import TOP
 from tests.classroom.help import LIMIT, InRoom
 
 NOTEBOOK = TOP / "course/how-long.ipynb"
+# A small table in the form of `experiment --csv`, and texts that the cells print about it.
 HEADS = "family,nodes,links,daemon,start,seed,moves,closes,rounds,stable\n"
 ROWS = ("crowd,4,4,central,worst,1,12,12,6,true", "crowd,4,4,central,worst,2,14,14,5,true", "crowd,8,16,central,worst,1,26,26,7,true",
         "random:6:9,6,9,synchronous,random,1,16,7,6,true")
@@ -27,12 +28,13 @@ class Notebook(InRoom):
     """The notebook with a small table."""
 
     def setUp(self) -> None:
+        """Writes the table, and reads the cells from the notebook's file."""
         super().setUp()
         self.table = self.file("runs.csv", HEADS + "".join(f"{row}\n" for row in ROWS))
         self.cells: list[dict[str, Any]] = json.loads(NOTEBOOK.read_text(encoding="utf-8"))["cells"]
 
     def done(self, table: Path) -> str:
-        """Runs the notebook's cells on a table. Returns what they print."""
+        """Runs the notebook's cells on a table, in this process. Returns what they print."""
         printed, names = io.StringIO(), dict[str, Any]()
         with unittest.mock.patch.dict(os.environ, RUNS=str(table)), contextlib.redirect_stdout(printed):
             for cell in self.cells:
@@ -40,23 +42,23 @@ class Notebook(InRoom):
                     exec("".join(cell["source"]), names)  # Runs the cell as a kernel does.
         return printed.getvalue()
 
-    def test_its_cells_count_what_the_table_has(self) -> None:
-        """The cells print the numbers of the table's runs."""
+    def test_the_cells_print_the_numbers_of_the_table_s_runs(self) -> None:
         told = self.done(self.table)
         for line in WANTED:
             self.assertIn(line, told)
 
-    def test_a_run_above_a_bound_is_news(self) -> None:
-        """A cell raises an error if a run has more moves or rounds than the bound allows."""
+    def test_a_cell_raises_an_error_if_a_run_has_more_moves_or_rounds_than_proved(self) -> None:
+        """With 4 nodes and 4 links there are at most 20 moves and 8 rounds. Such a run would be news, as the error
+        says."""
         for moves, rounds in ((21, 6), (12, 9)):
             table = self.file("news.csv", f"{HEADS}crowd,4,4,central,worst,1,{moves},12,{rounds},true\n")
             with self.assertRaisesRegex(AssertionError, "would be news"):
                 self.done(table)
 
-    def test_no_outputs_are_kept(self) -> None:
+    def test_the_file_of_the_notebook_contains_no_outputs(self) -> None:
         self.assertEqual([cell for cell in self.cells if cell.get("outputs") or cell.get("execution_count")], [])
 
-    def test_nbconvert_runs_it(self) -> None:
+    def test_nbconvert_makes_a_page_of_the_notebook_with_the_numbers_of_the_table(self) -> None:
         if shutil.which("jupyter-nbconvert") is None:
             self.skipTest("not tried: no jupyter-nbconvert (Debian's jupyter-nbconvert and python3-ipykernel)")
         done = subprocess.run(["jupyter-nbconvert", "--to", "html", "--execute", NOTEBOOK, "--output-dir", self.room], capture_output=True, text=True,

@@ -1,5 +1,6 @@
-"""The page of a student's own run: each line is at its place, and each denial has the part of the guard that
-failed."""
+"""The page of a run for one student: each line that the student sent is at its place, and each denial by a guard has
+the part of the guard that failed. A *guard* is the condition of a rule. A *place* is the number of an event, and a
+*session* is what the record has of one connection."""
 from __future__ import annotations
 
 import re
@@ -21,12 +22,14 @@ from classroom.marks.vouched import Vouched
 from tests.classroom.browser import Played, show_as, shown, until
 from tests.classroom.help import CYCLE, EXAMPLES, Cycle, Going, InRoom, words
 from tests.classroom.runs import journal_of
+from tests.classroom.test_history import Raw
 from tests.classroom.test_shown import WINDOWS, can_be_read, resize
 
 FAULTY = TOP / "tests/classroom/bots/faulty.py"
+# Requests of gus, each with its reply.
 HELLO = b'{"do":"hello","name":"gus","key":"heron-31"}', b'{"ok":"hello","who":"gus"}'
 MOVE = b'{"do":"move","node":4,"rule":"update","at":9}', b'{"at":9,"node":4,"ok":"move","place":42,"rule":"update"}'
-# The width and height of the drawing and of the list beside it.
+# Returns the width and height of the drawing, and those of the list beside it.
 ROOM = """
 return ['.stage', '.history'].map((it) => document.querySelector(it).getBoundingClientRect()).map(({width, height}) => [width, height]);
 """
@@ -39,16 +42,18 @@ def items(page: str) -> list[tuple[str, str, str]]:
 
 
 class Beginnings(unittest.TestCase):
-    """The first lines of a session. The record has them at the place of the seat's last session."""
+    """The first entries of a session, up to its hello. In the record their place is that of the seat's last session,
+    so they may have come later."""
 
     def listed(self, *said: Entry) -> list[Said]:
-        """Returns the rows of a session with these entries, together with steps after ten and after forty-one
-        events."""
+        """Returns the rows of a session of gus with these entries, together with rows for two steps, which are the
+        events 10 and 41."""
         part = Vouched(Path("record"), Path("copy"), 0, "ok")
         lines = rows_of([(part, [*said], {"gus"})], "gus", Hider({"heron-31"}, ["gus"]))
         return merged(lines, [Said(10, event="a step"), Said(41, event="another step")])
 
-    def test_a_seat_s_first_entry_is_listed_before_what_follows_it(self) -> None:
+    def test_entries_up_to_the_hello_are_listed_just_before_the_entry_after_it(self) -> None:
+        """Their moment is shown as the least and the greatest number of events that can have come before."""
         rows = self.listed(Entry(3, 0, b"no request", b'{"refuse":"malformed"}'), Entry(3, 0, *HELLO), Entry(3, 41, *MOVE), Entry(3, 42, mark=ENDED))
         self.assertEqual([row.event or row.denied or row.reply[:12] for row in rows],
                          ["a step", "another step", "malformed", '{"ok":"hello', '{"at":9,"nod', "this connection ended"])
@@ -56,9 +61,9 @@ class Beginnings(unittest.TestCase):
         self.assertEqual([row.place for row in rows], [10, 41, 0, 0, 41, 42])
         self.assertIn('\n  after 0 to 41 events, seat 3 > {"do":"hello","name":"gus","key":"***"}\n', text([], rows))
 
-    def test_where_nothing_is_known_it_stays(self) -> None:
-        """Three sessions: one that has only a beginning, one without a name, and one whose first line came at
-        once."""
+    def test_first_entries_are_listed_at_their_own_place_if_no_other_is_known(self) -> None:
+        """Tries a session with only a hello, one without a hello, and one whose first move is at the same place as its
+        hello. At last tries a session whose rest isn't recorded."""
         for said in ([Entry(3, 0, *HELLO), Entry(3, 0, mark=ENDED)], [Entry(3, 5, b"x", b'{"refuse":"malformed"}'), Entry(3, 5, mark=ENDED)],
                      [Entry(3, 0, *HELLO), Entry(3, 0, *MOVE), Entry(3, 41, mark=ENDED)]):
             rows = [row for row in self.listed(*said) if row.seat and not row.event]
@@ -69,9 +74,11 @@ class Beginnings(unittest.TestCase):
 class Reasons(unittest.TestCase):
     """The part of a guard that failed, at its place in the journal."""
 
-    def test_each_denial_is_explained_at_its_moment(self) -> None:
+    def test_each_denied_move_has_the_reason_that_held_at_its_place(self) -> None:
+        """The same move is denied at three places, for two different reasons. Other lines have no reason."""
         lab = labs.read(EXAMPLES / "built-in.toml")
         happened = events((EXAMPLES / "whole-run.journal").read_text(encoding="ascii"))
+        # Three places, each with the number of the configuration there.
         rows = [(place, happened[place - 1].at + happened[place - 1].makes_configuration if place else 0) for place in (0, 3, len(happened))]
         asked = [(place, '{"do":"move","node":1,"rule":"abandonment","at":%d}' % at) for place, at in rows]
         found = reasons(lab, happened, [*asked, (2, "no request"), (2, '{"do":"look","node":1}')])
@@ -83,9 +90,9 @@ class Reasons(unittest.TestCase):
 
 
 class Practised(InRoom):
-    """The pages that `practise` and `grade` make."""
+    """The pages that `practise` and `grade` make. The bot FAULTY asks for marriages with any neighbour."""
 
-    def test_practise_keeps_each_denial_with_its_reason(self) -> None:
+    def test_the_page_of_practise_has_the_denied_move_with_its_reason(self) -> None:
         done = words("practise", f"python3 {FAULTY} marries-anyone", "--family", "path", "--nodes", "4", "--node", "1,2,3,4",
                      "--start", "clean", "--daemon", "by-hand", "--into", self.room)
         self.assertEqual(done.returncode, 5, done.stdout + done.stderr)
@@ -95,7 +102,7 @@ class Practised(InRoom):
         for part in ('"rule": "marriage", "with": 2}', '"deny":"guard"', MARK, "p of node 2 isn't 1, but null"):
             self.assertIn(part, entry[2])
 
-    def test_practise_keeps_what_was_granted_among_the_steps(self) -> None:
+    def test_the_page_of_practise_has_granted_moves_and_steps_in_their_order_and_no_key(self) -> None:
         done = words("practise", EXAMPLES / "bot.py", "--nodes", "4", "--into", self.room)
         self.assertEqual(done.returncode, 0, done.stdout + done.stderr)
         (page,) = self.room.glob("*/run.html")
@@ -108,7 +115,7 @@ class Practised(InRoom):
         for key in (*made.students.values(), made.teacher[1]):
             self.assertNotIn(key, page.read_text(encoding="utf-8"))
 
-    def test_a_failed_case_has_the_bot_s_own_page(self) -> None:
+    def test_grade_makes_a_page_with_reasons_for_a_case_that_the_bot_fails(self) -> None:
         folder = self.room / "labs"
         folder.mkdir()
         (folder / "path.toml").write_bytes((EXAMPLES / "path.toml").read_bytes())
@@ -122,7 +129,9 @@ class Practised(InRoom):
 class Read(Played):
     """The page in four windows and both themes."""
 
-    def test_the_page_can_be_read_and_leads_to_each_entry(self) -> None:
+    def test_the_page_can_be_read_and_the_link_of_an_entry_moves_the_player_to_its_place(self) -> None:
+        """The drawing takes more than half of the width, and on a phone more than nine tenths. The drawing and the list
+        are each more than 180 pixels wide and high."""
         self.addCleanup(resize, self.driver, None)
         self.addCleanup(show_as, self.driver)
         lab = EXAMPLES / "grid.toml"
@@ -149,9 +158,8 @@ class Read(Played):
 class OfARun(Cycle):
     """The pages that a run makes for its students."""
 
-    def test_each_student_has_a_page(self) -> None:
-        from tests.classroom.test_history import Raw
-
+    def test_each_student_who_sent_something_has_a_page_with_only_the_own_lines_and_no_key(self) -> None:
+        """The second move of gus is denied, so his page has the part of the guard that failed."""
         going = Going(self, CYCLE, "--close", "by-hand")
         with Raw(going.port, "gus") as gus, Raw(going.port, "jonas") as jonas:
             gus.ask(b'{"do":"move","node":4,"rule":"update","at":0}\n')

@@ -1,4 +1,5 @@
-"""Bugs that are planted into the player. For each bug the named test fails, and it passes without the bug."""
+"""Bugs that are planted into the player, the page that replays a run. For each bug the named test fails, and it passes
+without the bug."""
 from __future__ import annotations
 
 import unittest
@@ -35,7 +36,7 @@ def planted(of: type[Played], test: str, old: str, new: str) -> unittest.TestRes
         """The same tests over changed pages."""
 
         def page(self, lab: Path, journal: Path) -> Path:
-            """Returns the page with the bug."""
+            """Makes the page of a run, and replaces `old` in it, which it must have once. Returns its file."""
             made: Path = super().page(lab, journal)
             text = made.read_text(encoding="utf-8")
             self.assertEqual(text.count(old), 1, old)
@@ -48,16 +49,18 @@ def planted(of: type[Played], test: str, old: str, new: str) -> unittest.TestRes
 
 
 class Bugs(unittest.TestCase):
-    """One test for each bug."""
+    """The bugs in PLANTS, each tried with the test that has to find it."""
 
-    def test_each_bug_is_seen(self) -> None:
+    def test_the_named_test_fails_on_each_bug(self) -> None:
+        """It must fail by a check of its own, and not by another error."""
         for bug, old, new, (of, test) in PLANTS:
             with self.subTest(bug):
                 found = planted(of, test, old, new)
                 self.assertEqual([trace for _, trace in found.errors], [])
                 self.assertGreater(len(found.failures), 0, f"not seen by {test}")
 
-    def test_without_a_bug_they_pass(self) -> None:
+    def test_the_named_tests_pass_on_pages_without_a_bug(self) -> None:
+        """Here the replacement only adds an attribute that nothing reads."""
         for of, test in {plant[3] for plant in PLANTS}:
             with self.subTest(test):
                 found = planted(of, test, "<body class=\"player\">", "<body class=\"player\" data-planted=\"none\">")
