@@ -138,7 +138,8 @@ class Lesson(InRoom):
         terminal.type(b"fault 3 null true\n", b": fault at node 3: p null, m true; ")
         bots = self.bots(list(self.lab.students))
         os.close(terminal.ours)
-        self.wait_for_line(folder, f"the terminal was closed, and the run continues. To control it again, type: {CLASS} attach {folder}")
+        self.wait_for_line(folder, "the terminal was closed, and the run continues. "
+                                   f"To control it again, type: {CLASS} attach {folder}")
         self.assertIsNone(terminal.process.poll())
         record = Record.read(folder)
         assert record is not None

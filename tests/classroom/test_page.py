@@ -1,4 +1,5 @@
-"""The page of a running class, in a real browser."""
+"""The page of a running class, in a real browser. It has two addresses: one to look at, and one at which the teacher
+can also act. Each has a random token in its path. The tests open the page to act, unless they say otherwise."""
 from __future__ import annotations
 
 import base64
@@ -33,7 +34,8 @@ class Live(InRoom):
         self.keys = read(CYCLE).students
 
     def begin(self, *more: str) -> None:
-        """Starts a run with a page, whose steps are closed by hand, and opens it."""
+        """Starts a run with these options, whose steps are closed by hand, and opens its page. `looks` is the address
+        to look at, and `address` the one to act at."""
         port = str(a_port())
         self.going = Going(self, CYCLE, "--close", "by-hand", "--page", port, *more)
         self.looks = self.going.until("^page for the projector http").removeprefix("page for the projector ")
@@ -41,17 +43,17 @@ class Live(InRoom):
         self.open()
 
     def open(self) -> None:
-        """Loads the page again."""
+        """Loads the page at `address` anew."""
         self.driver.get("about:blank")
         self.driver.get(self.address)
         until(self.driver, is_ready)
 
-    def find(self, name: str) -> None:
+    def click(self, name: str) -> None:
         """Clicks on the element with this identifier."""
         self.driver.find_element("id", name).click()
 
     def click_node(self, node: int) -> None:
-        """Clicks on a node."""
+        """Clicks on a node of the drawing."""
         self.driver.find_element("css selector", f'#drawing .node[data-node="{node}"] .identifier').click()
 
     def fill_seconds(self, text: str) -> None:
@@ -64,13 +66,13 @@ class Live(InRoom):
         """Chooses by a button when steps are closed, and waits until the page shows this."""
         if seconds:
             self.fill_seconds(seconds)
-        self.find(button)
+        self.click(button)
         wanted = f"{button}:{seconds}" if seconds else button
         until(self.driver, lambda driver: driver.find_element("id", "closes").get_attribute("data-closing") == wanted)
 
     def sees(self, event: str) -> Shown:
-        """Waits until `event`, a line of the journal, is the newest event on the page. Returns the contents of the
-        page."""
+        """Waits until `event`, in the words of the journal, is the newest event on the page. Returns the contents of
+        the page: the values of the drawing, those of its nodes, and the line about the event."""
         told = in_words(Event(0, 0, tuple(event.split(" "))))
         until(self.driver, lambda driver: shown(driver)[2].partition(": ")[2] == told)
         return shown(self.driver)
@@ -86,7 +88,8 @@ class Live(InRoom):
             connection.close()
 
     def end(self) -> Path:
-        """Ends the run, and checks that its last frame is what the page showed. Returns its folder."""
+        """Ends the run, and checks that the page shows the state after the last event of the journal. Returns the run's
+        folder."""
         self.assertEqual(self.going.ended(), 0, self.going.lines)
         until(self.driver, lambda driver: "over" in driver.find_element("id", "connection").text)
         last = shown(self.driver)
@@ -97,12 +100,13 @@ class Live(InRoom):
         return folder
 
     def student(self, name: str) -> Client:
-        """Returns the connection of the student with this name."""
+        """Connects as the student with this name. Returns the connection, which is closed after the test."""
         client = Client(self.going.port, name, self.keys[name])
         self.addCleanup(client.__exit__, OSError, None, None)
         return client
 
-    def test_what_the_teacher_does(self) -> None:
+    def test_the_page_shows_students_moves_and_the_teacher_closes_sets_links_cuts_and_releases_on_it(self) -> None:
+        """The lines of the journal are those of the page's acts."""
         self.begin()
         self.assertEqual(shown(self.driver)[0], {"place": "0", "number": "0", "privileged": "3", "pairs": "0"})
         gus, ines, jonas = map(self.student, ("gus", "ines", "jonas"))
@@ -111,15 +115,15 @@ class Live(InRoom):
         ines.move(ines.look(3))
         jonas.move(jonas.look(7))
         self.sees("grant jonas 7 abandonment")
-        self.find("close")
+        self.click("close")
         root, nodes, _ = self.sees("close")
         self.assertEqual((root["number"], nodes[6]["p"], nodes[6]["chosen"]), ("1", "", ""))
         self.click_node(5)
         self.assertEqual(self.driver.find_element("id", "p").get_property("value"), "6")
         self.driver.execute_script("document.getElementById('p').value = '4'; document.getElementById('m').value = 'true'")
-        self.find("set")
+        self.click("set")
         self.assertEqual(self.sees("fault 5 4 true")[1][4]["p"], "4")
-        self.find("tool-link")
+        self.click("tool-link")
         for event in ("link 1 4", "cut 4 5"):
             for node in map(int, event.split(" ")[1:]):
                 self.click_node(node)
@@ -127,16 +131,17 @@ class Live(InRoom):
         hana = self.student("hana")
         hana.move(hana.look(5))
         self.assertEqual(self.sees("grant hana 5 update")[1][4]["chosen"], "update")
-        self.find("tool-fault")
+        self.click("tool-fault")
         self.click_node(5)
-        self.find("release")
+        self.click("release")
         self.assertEqual(self.sees("release 5")[1][4]["chosen"], "")
         lines = (self.end() / "journal").read_text(encoding="ascii").splitlines()
         kinds = [line.split(" ", 2)[2] for line in lines]
         self.assertEqual(kinds[3:7], ["close", "fault 5 4 true", "link 1 4", "cut 4 5"])
         self.assertEqual(kinds[-1], "release 5")
 
-    def test_by_keys_alone(self) -> None:
+    def test_registers_can_be_set_by_keys_alone(self) -> None:
+        """The second node of the drawing is given the focus by a script, and everything else is done by keys."""
         self.begin()
         self.driver.execute_script("document.querySelector('#drawing .node[data-node=\"2\"]').focus()")
         press(self.driver, Keys.ENTER)
@@ -144,48 +149,49 @@ class Live(InRoom):
         press(self.driver, Keys.ESCAPE)
         self.assertTrue(self.driver.find_element("id", "panel").get_property("hidden"))
         self.driver.execute_script("document.querySelector('#drawing .node[data-node=\"2\"]').focus()")
+        # Opens the panel with the focus at p, changes p, sets m to `true`, and presses the button after m.
         press(self.driver, " " + Keys.ARROW_UP + Keys.TAB + "t" + Keys.TAB + Keys.ENTER)
         until(self.driver, lambda driver: shown(driver)[0]["number"] == "1")
         self.assertEqual(shown(self.driver)[1][1]["m"], "true")
         self.end()
 
-    def test_every_so_many_seconds_and_frozen(self) -> None:
+    def test_the_page_lets_steps_be_closed_at_intervals_and_a_frozen_picture_stays_the_same(self) -> None:
+        """The page receives events while the picture is frozen, and shows them afterwards."""
         self.begin()
         self.close_by("every", "0.2")
         gus = self.student("gus")
         gus.move(gus.look(4))
         self.sees("close")
         self.close_by("by-hand")
-        self.find("freeze")
+        self.click("freeze")
         before = shown(self.driver)
         self.going.type("fault 1 7 true")
         self.going.until("fault at node 1: p 7, m true")
         until(self.driver, lambda driver: driver.execute_script("return live.row.number") == 2)
         self.assertEqual(shown(self.driver), before)
-        self.find("freeze")
+        self.click("freeze")
         self.assertEqual(shown(self.driver)[1][0]["p"], "7")
         self.end()
 
-    def test_the_end_is_asked_about(self) -> None:
-        """One click ends nothing. The question is answered by a key or a click, and the run ends even if it isn't
-        stable."""
+    def test_the_button_for_the_end_asks_a_question_and_only_the_second_answer_ends_the_run(self) -> None:
+        """The first answer is that the run continues. The run ends even if it isn't stable."""
         self.begin()
         menu = self.driver.find_element("css selector", ".acts summary")
         for answer in ("go-on", "do-end"):
             if self.driver.find_element("css selector", ".acts details").get_attribute("open") is None:
                 menu.click()
-            self.find("end")
+            self.click("end")
             until(self.driver, lambda driver: driver.find_element("id", "ask").is_displayed())
-            self.find(answer)
+            self.click(answer)
             until(self.driver, lambda driver: not driver.find_element("id", "ask").is_displayed())
             if answer == "go-on":
                 self.going.type("fault 1 2 true")
                 self.sees("fault 1 2 true")
         self.assertEqual(self.going.ends(), 0, self.going.lines)
 
-    def test_the_chart_has_a_bar_for_each_step(self) -> None:
-        """A bar shows how many nodes could move, from the report, and how many were chosen. A page that is opened
-        later has all bars too."""
+    def test_the_chart_has_a_bar_for_each_configuration(self) -> None:
+        """A bar has the number of nodes that can move in this configuration, the number of chosen moves, and the kind
+        of event that made the configuration. A page that is opened later has all bars too."""
         self.begin()
         gus = self.student("gus")
         gus.move(gus.look(4))
@@ -200,16 +206,18 @@ class Live(InRoom):
         self.assertEqual(self.driver.execute_script("return live.bars.map(({number, moved, kind}) => [number, moved, kind])"), bars)
         self.end()
 
-    def test_no_is_told(self) -> None:
+    def test_a_denied_command_is_reported_on_the_page(self) -> None:
+        """No move is chosen, so the server denies the close as `empty`."""
         self.begin()
-        self.find("close")
+        self.click("close")
         until(self.driver, lambda driver: "the server denied this command: empty" in driver.find_element("id", "lines").text)
         self.end()
 
-    def test_texts_are_readable_in_both_themes(self) -> None:
+    def test_texts_have_enough_contrast_in_both_themes_also_on_disabled_buttons(self) -> None:
+        """A denied command, a chosen move and an open panel put more texts on the page."""
         self.begin()
         self.addCleanup(show_as, self.driver)
-        self.find("close")
+        self.click("close")
         until(self.driver, lambda driver: "the server denied this command: empty" in driver.find_element("id", "lines").text)
         gus = self.student("gus")
         gus.move(gus.look(4))
@@ -225,7 +233,8 @@ class Live(InRoom):
         self.driver.execute_script("for (const it of document.querySelectorAll('button')) it.disabled = false")
         self.end()
 
-    def test_opened_again_and_twice(self) -> None:
+    def test_a_page_that_is_opened_later_or_in_a_second_window_shows_the_same_state(self) -> None:
+        """Links that were made and cut meanwhile are drawn too."""
         self.begin()
         for event in ("link 1 3", "cut 1 2", "fault 3 1 true"):
             self.going.type(event)
@@ -251,14 +260,16 @@ class Live(InRoom):
         self.end()
 
     def drawn(self) -> list[str]:
-        """Returns the path data of all drawn links."""
+        """Returns the path data of all drawn links, sorted."""
         found: list[str] = self.driver.execute_script(
             "return [...document.querySelectorAll('g.links path, g.open path')]"
             ".flatMap((path) => (path.getAttribute('d') || '').split('M')).sort()"
         )
         return found
 
-    def test_a_slow_page_delays_nobody(self) -> None:
+    def test_a_page_that_reads_slowly_delays_nobody_and_gets_fewer_states(self) -> None:
+        """Its connection has a small buffer, and reads nothing before all 60 configurations have been made. The last of
+        them is among the states that it gets."""
         self.begin()
         parts = urlsplit(self.address)
         with socket.socket() as slow:
@@ -276,7 +287,9 @@ class Live(InRoom):
             self.assertLess(pieces, 60)
         self.end()
 
-    def test_without_the_token(self) -> None:
+    def test_requests_without_the_token_from_other_hosts_or_with_unknown_lines_do_nothing(self) -> None:
+        """The status is 404 for a wrong path, and 421 for another host or port. For a line that the page may not send
+        it is 400, and for one that is too long 404."""
         self.begin()
         parts = urlsplit(self.address)
         token, host = parts.path.strip("/"), parts.netloc
@@ -295,7 +308,8 @@ class Live(InRoom):
             self.assertIn(self.ask("POST", f"{parts.path}act", words.encode("utf-8"), Host=host)[0], (400, 404), words)
         self.assertEqual(self.end().joinpath("journal").read_bytes(), b"")
 
-    def test_no_key_is_in_its_bytes(self) -> None:
+    def test_neither_the_page_nor_its_events_contain_a_key_or_the_token_to_act(self) -> None:
+        """The page to look at doesn't contain this token either."""
         self.begin()
         parts = urlsplit(self.address)
         status, page = self.ask("GET", parts.path, Host=parts.netloc)
@@ -315,7 +329,8 @@ class Live(InRoom):
         self.assertNotIn(parts.path.strip("/").encode(), looks)
         self.end()
 
-    def test_acts_are_taken_back(self) -> None:
+    def test_the_command_page_replaces_the_address_to_act_and_nobody_can_act_at_the_old_one(self) -> None:
+        """Nobody can act at the address to look at. The file `run.txt` has only that address."""
         self.begin()
         parts, looks = urlsplit(self.address), urlsplit(self.looks)
         self.assertNotEqual(parts.path, looks.path)
@@ -330,7 +345,7 @@ class Live(InRoom):
         self.address = other
         self.open()
         self.click_node(5)
-        self.find("set")
+        self.click("set")
         until(self.driver, lambda driver: "fault at node 5: " in shown(driver)[2])
         kept = (self.going.folder / "run.txt").read_text(encoding="utf-8")
         self.assertIn(self.looks, kept)
@@ -338,7 +353,8 @@ class Live(InRoom):
             self.assertNotIn(address, kept)
         self.end()
 
-    def test_who_looks_can_not_act(self) -> None:
+    def test_the_page_to_look_at_shows_events_but_has_no_means_to_act(self) -> None:
+        """It has only the buttons to freeze the picture and to show it on the whole screen."""
         self.begin()
         self.address = self.looks
         self.open()
@@ -353,7 +369,8 @@ class Live(InRoom):
         self.sees("fault 1 2 true")
         self.end()
 
-    def test_back_to_when_idle(self) -> None:
+    def test_the_page_lets_steps_be_closed_again_when_no_student_acts(self) -> None:
+        """With `when-idle` a step is closed if no move has been asked for in the last 0.3 seconds."""
         self.begin()
         self.close_by("by-hand")
         self.close_by("when-idle", "0.3")
@@ -362,7 +379,8 @@ class Live(InRoom):
         self.sees("close")
         self.end()
 
-    def test_what_the_head_of_each_answer_says(self) -> None:
+    def test_the_headers_of_each_answer_forbid_caching_and_allow_only_the_page_s_own_style_and_script(self) -> None:
+        """The content policy has the hashes of the style and the script that the answer contains."""
         self.begin()
         parts = urlsplit(self.address)
         for path, status in ((parts.path, 200), (urlsplit(self.looks).path, 200), ("/", 404)):
@@ -382,7 +400,7 @@ class Live(InRoom):
             self.assertEqual(len(hashes), 2 if status == 200 else 0)
         self.end()
 
-    def test_titles_are_the_lab_s_name_and_the_day(self) -> None:
+    def test_the_page_and_the_page_of_the_ended_run_are_titled_with_the_lab_s_name_and_the_day(self) -> None:
         self.begin()
         day = self.going.folder.name[:10]
         self.assertEqual(self.driver.title, f"cycle, {day}")
