@@ -31,18 +31,18 @@ class Alone(unittest.TestCase):
     returns the nodes that the house may play."""
 
     def setUp(self) -> None:
-        """Makes the house the second owner of each node of the cycle. `told` gets the lines that a house prints."""
+        """Makes the house the second owner of each node of the cycle. `printed` gets the lines that a house prints."""
         lab = read(CYCLE)
         lab.students[HOUSE] = "key"
         for node in lab.nodes:
             node.owners.append(HOUSE)
         self.lab = lab
-        self.told: list[str] = []
+        self.printed: list[str] = []
 
     def house(self, seconds: float | None) -> House:
         """Returns a house that plays each node for which the class has waited for `seconds` seconds, or only nodes of
         students named by `play` if `seconds` is None. A first student has come already. Port 1 isn't used."""
-        house = House(self.lab, 1, seconds, self.told.append)
+        house = House(self.lab, 1, seconds, self.printed.append)
         house.student_came = True
         return house
 
@@ -62,7 +62,7 @@ class Alone(unittest.TestCase):
 
     def test_no_time_is_counted_before_a_first_student_has_come(self) -> None:
         """Until then the house only plays nodes of students named by `play`."""
-        house = House(self.lab, 1, 20, self.told.append)
+        house = House(self.lab, 1, 20, self.printed.append)
         self.assertEqual((house.due([1, 2], 100), house.due([1, 2], 200)), ([], []))
         self.assertTrue(house.told().endswith("; the house begins when the first student has said hello"))
         house.play("gus")
@@ -75,7 +75,7 @@ class Alone(unittest.TestCase):
 
     def test_the_house_plays_for_a_named_student_at_once_until_it_is_stopped(self) -> None:
         """Names of nobody with a node, and of the house itself, are refused."""
-        house = House(self.lab, 1, None, self.told.append)
+        house = House(self.lab, 1, None, self.printed.append)
         gus = self.lab.nodes_of("gus")
         self.assertEqual(house.play("gus"), f"the house now plays for gus, at nodes {', '.join(map(str, gus))}")
         self.assertEqual(house.due([1, 2, 3, 4, 5, 6, 7], 0), gus)
@@ -103,13 +103,13 @@ class Standing(InRoom):
     `house` is the name of the player."""
 
     def setUp(self) -> None:
-        """Makes the lab and the slips by `./class new --stand-in`. `told` is the output."""
+        """Makes the lab and the slips by `./class new --stand-in`. `output` is what the command prints."""
         super().setUp()
         self.list = self.file("names.csv", NAMES)
         self.made = self.room / "maths.toml"
         done = words("new", self.made, "--students", self.list, "--nodes", "8", "--start", "random", "--seed", "3", "--stand-in")
         self.assertEqual((done.returncode, done.stderr), (0, ""))
-        self.told = done.stdout
+        self.output = done.stdout
         self.lab: Lab = read(self.made)
 
     def bot(self, going: Going, name: str) -> None:
@@ -143,7 +143,7 @@ class Standing(InRoom):
         checked = words("check", self.made)
         self.assertEqual((checked.returncode, checked.stdout.count("warning")), (0, 0), checked.stdout)
         self.assertEqual(checked.stdout.splitlines()[0], "ok: 8 nodes, 8 links, 4 students and the house")
-        self.assertIn("toml: 8 nodes, 8 links, 4 students and the house; slips for printing: ", self.told)
+        self.assertIn("toml: 8 nodes, 8 links, 4 students and the house; slips for printing: ", self.output)
 
     def test_the_house_plays_for_absent_students_and_its_moves_are_in_nobody_else_s_marks(self) -> None:
         """Two of the four students are absent. After the network is stable, `shake` sets its registers to random
