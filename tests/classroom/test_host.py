@@ -44,7 +44,7 @@ class Hosted(Cycle):
                 self.assertEqual(refused.word, "busy")
                 time.sleep(0.01)
 
-    def desk(self, going: Going) -> int:
+    def desk_port(self, going: Going) -> int:
         """Returns the desk's port."""
         return next(int(found[1]) for line in going.lines if (found := re.match(r"desk at port (\d+), ", line)))
 
@@ -92,7 +92,7 @@ class Hosted(Cycle):
         """A second connection to the desk gets `busy`. At the students' port the teacher closes a step."""
         going = self.begin(4, "--close", "by-hand")
         with self.assertRaises(Refused) as refused:
-            Client(self.desk(going), *TEACHER)
+            Client(self.desk_port(going), *TEACHER)
         self.assertEqual(refused.exception.word, "busy")
         with Client(going.port, *TEACHER) as program, Client(going.port, "gus", KEYS["gus"]) as gus:
             gus.move(gus.look(4))
@@ -111,7 +111,7 @@ class Hosted(Cycle):
             gus.move(gus.look(4))
             going.process.kill()
             going.process.wait()
-            teacher = self.let_in(self.desk(going), *TEACHER)
+            teacher = self.let_in(self.desk_port(going), *TEACHER)
             self.assertEqual(teacher.close().moved, (4,))
             self.assertEqual(gus.look(4).at, 1)
             teacher.bye()

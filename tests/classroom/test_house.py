@@ -74,7 +74,7 @@ class Alone(unittest.TestCase):
         self.assertFalse(house.waits())
 
     def test_the_house_plays_for_a_named_student_at_once_until_it_is_stopped(self) -> None:
-        """Names of nobody with a node, and of the house itself, are refused."""
+        """`play` refuses a name that no student with a node has, and the name of the house itself."""
         house = House(self.lab, 1, None, self.printed.append)
         gus = self.lab.nodes_of("gus")
         self.assertEqual(house.play("gus"), f"the house now plays for gus, at nodes {', '.join(map(str, gus))}")
@@ -238,7 +238,7 @@ class Standing(InRoom):
         self.greet(going)
         going.type("play gus-roy\nshake all 2")
         going.until("^stable (again )?after ")
-        for each in Path("/proc").iterdir():  # Another process may end meanwhile, or may not be read.
+        for each in Path("/proc").iterdir():  # A process may end meanwhile, or its files can't be read.
             for name in ("cmdline", "environ"):
                 try:
                     self.assertNotIn(key, (each / name).read_bytes() if each.name.isdecimal() else b"")

@@ -62,12 +62,14 @@ class Shapes(unittest.TestCase):
                            ("grid:8x8", "grid"), ("grid:2x9", "grid"), ("random:12:16", "general"), ("random:15:80", "ellipse")):
             for seed in range(4):
                 self.assertEqual(self.shape(word, seed=seed)[0], kind, (word, seed))
+        # The last argument of `shape_of` is the width of the field, divided by its height.
         nearly = [link for link in network("grid:4x3")[1] if link != (6, 7)]
         self.assertEqual(shape_of(list(range(1, 13)), nearly, 1.7).kind, "general")
         self.assertEqual(shape_of([1, 2, 3, 4, 5, 6], [(1, 2), (2, 3), (1, 3), (4, 5), (5, 6), (4, 6)], 1.7).kind, "general")
         self.assertEqual(len(lay_out([7], []).points), 1)
 
     def test_a_grid_s_rows_are_lines_in_order(self) -> None:
+        """With seed 0 the nodes are numbered row by row."""
         for word in ("grid:4x3", "grid:8x8", "grid:3x5"):
             width = int(word[5])  # the digit after `grid:`
             for seed in (0, 5):

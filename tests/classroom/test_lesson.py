@@ -143,7 +143,7 @@ class Lesson(InRoom):
         self.assertIsNone(terminal.process.poll())
         record = Record.read(folder)
         assert record is not None
-        self.assertTrue(record.left)
+        self.assertTrue(record.left)  # It says that the terminal was closed.
         going = Going(self, None, "attach", folder)
         self.assertEqual(terminal.process.wait(LIMIT), 4)
         for name in self.lab.students:  # Students who had nothing to do get a privileged node.

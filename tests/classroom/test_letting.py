@@ -43,7 +43,7 @@ class Doors(InRoom):
         assert kept is not None
         return kept
 
-    def comes(self) -> Client:
+    def connect(self) -> Client:
         """Connects through the door as Ben, again and again until that succeeds. Returns the connection."""
         end = time.monotonic() + LIMIT
         while True:
@@ -53,7 +53,7 @@ class Doors(InRoom):
                 self.assertLess(time.monotonic(), end)
                 time.sleep(0.1)
 
-    def grants(self, client: Client) -> int:
+    def ask_for_move(self, client: Client) -> int:
         """Asks for the enabled move of Ben's first node. Returns the number of events after that, or 0 if no rule is
         enabled or a move is chosen already."""
         look = client.look(self.slip.nodes[0])
@@ -63,8 +63,8 @@ class Doors(InRoom):
         """If the server is killed, the run and the process of the door end."""
         going = self.begin()
         address = going.until("^page for the projector, from other machines https://")
-        with self.comes() as client:
-            self.grants(client)
+        with self.connect() as client:
+            self.ask_for_move(client)
             record = Record.read(going.folder)
             assert record is not None
             os.kill(record.server.number, signal.SIGKILL)
@@ -75,8 +75,8 @@ class Doors(InRoom):
             Client.of(self.slip)
         again = Going(self, None, "run", "--resume", going.folder)
         self.assertEqual(again.until("^page for the projector, from other machines "), address)
-        with self.comes() as client:
-            self.grants(client)
+        with self.connect() as client:
+            self.ask_for_move(client)
             client.see(self.slip.nodes[0])
         self.assertNotEqual(self.door(again).process, door)
         self.assertEqual(again.ended(), 0, again.lines)
@@ -88,13 +88,13 @@ class Doors(InRoom):
         assert record is not None
         going.process.kill()
         going.process.wait()
-        with self.comes() as client:  # The server and the door continue.
-            self.grants(client)
+        with self.connect() as client:  # The server and the door continue.
+            self.ask_for_move(client)
         server = record.server
         os.kill(server.number, signal.SIGKILL)
         wait_until(lambda: not server.lives())
         again = Going(self, None, "run", "--resume", going.folder)
-        with self.comes() as client:
+        with self.connect() as client:
             self.assertEqual(client.look(self.slip.nodes[0]).node, self.slip.nodes[0])
         self.assertEqual(self.door(again).port, self.port)
         self.assertEqual(again.ended(), 0, again.lines)
@@ -123,7 +123,7 @@ class Doors(InRoom):
         self.slip = Slip.read(self.room / "maths-slips/ben.slip")
         going = self.begin("--certificate", str(own))
         self.assertIn(f"the door is open at port {self.port}; its certificate is {own}, with the SHA-256 fingerprint {self.slip.fingerprint}", going.lines)
-        with self.comes() as client:
+        with self.connect() as client:
             client.look(self.slip.nodes[0])
         self.assertEqual(going.ended(), 0, going.lines)
         self.assertEqual(words("run", self.lab, "--into", self.room / "runs", "--door", str(self.port), "--certificate", self.lab).returncode, 4)

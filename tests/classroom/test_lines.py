@@ -26,7 +26,8 @@ class Lines(unittest.TestCase):
         self.assertGreater(len(kept), 1000)
 
     def test_the_table_has_known_lines_from_each_kind_of_source(self) -> None:
-        """Otherwise the sources might be searched in a wrong way."""
+        """If the search in the sources missed them, the table would lack them too, and the first test would still
+        pass."""
         kept = TABLE.read_text(encoding="utf-8").splitlines()
         for line in (
             "classroom/run/desk: students without a granted move so far: {}", "classroom/run/several: ALARM {} is down: {}",

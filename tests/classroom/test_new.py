@@ -34,6 +34,7 @@ class Names(unittest.TestCase):
     """Names in a class list, and in the lab. `names.all_of` returns the people by their names in the lab."""
 
     def test_names_in_all_scripts_get_different_names_of_the_form_that_a_lab_allows(self) -> None:
+        """Each name is in the list twice."""
         made = names.all_of(map(Person, [*SCRIPTS, *SCRIPTS]))
         self.assertEqual(len(made), 2 * len(SCRIPTS))
         for name in made:

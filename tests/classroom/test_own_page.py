@@ -90,7 +90,8 @@ class Reasons(unittest.TestCase):
 
 
 class Practised(InRoom):
-    """The pages that `practise` and `grade` make. The bot FAULTY asks for marriages with any neighbour."""
+    """The pages that `practise` and `grade` make. With the argument `marries-anyone`, the bot FAULTY asks for a
+    marriage with its first neighbour whenever any rule is enabled."""
 
     def test_the_page_of_practise_has_the_denied_move_with_its_reason(self) -> None:
         done = words("practise", f"python3 {FAULTY} marries-anyone", "--family", "path", "--nodes", "4", "--node", "1,2,3,4",
@@ -158,7 +159,7 @@ class Read(Played):
 class OfARun(Cycle):
     """The pages that a run makes for its students."""
 
-    def test_each_student_who_sent_something_has_a_page_with_only_the_own_lines_and_no_key(self) -> None:
+    def test_each_student_who_sent_something_has_a_page_with_only_this_student_s_lines_and_no_key(self) -> None:
         """The second move of gus is denied, so his page has the part of the guard that failed."""
         going = Going(self, CYCLE, "--close", "by-hand")
         with Raw(going.port, "gus") as gus, Raw(going.port, "jonas") as jonas:

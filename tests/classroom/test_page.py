@@ -72,7 +72,7 @@ class Live(InRoom):
 
     def sees(self, event: str) -> Shown:
         """Waits until `event`, in the words of the journal, is the newest event on the page. Returns the contents of
-        the page: the values of the drawing, those of its nodes, and the line about the event."""
+        the page: the values of the drawing, those of the nodes 1, 2 and so on, and the line about the event."""
         told = in_words(Event(0, 0, tuple(event.split(" "))))
         until(self.driver, lambda driver: shown(driver)[2].partition(": ")[2] == told)
         return shown(self.driver)
@@ -106,7 +106,7 @@ class Live(InRoom):
         return client
 
     def test_the_page_shows_students_moves_and_the_teacher_closes_sets_links_cuts_and_releases_on_it(self) -> None:
-        """The lines of the journal are those of the page's acts."""
+        """The journal has the same events."""
         self.begin()
         self.assertEqual(shown(self.driver)[0], {"place": "0", "number": "0", "privileged": "3", "pairs": "0"})
         gus, ines, jonas = map(self.student, ("gus", "ines", "jonas"))
@@ -141,7 +141,7 @@ class Live(InRoom):
         self.assertEqual(kinds[-1], "release 5")
 
     def test_registers_can_be_set_by_keys_alone(self) -> None:
-        """The second node of the drawing is given the focus by a script, and everything else is done by keys."""
+        """A script only gives the focus to node 2. The first time, its panel is opened and closed again."""
         self.begin()
         self.driver.execute_script("document.querySelector('#drawing .node[data-node=\"2\"]').focus()")
         press(self.driver, Keys.ENTER)
