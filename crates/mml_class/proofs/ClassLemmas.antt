@@ -7,10 +7,10 @@ use Rattle.mml_ids.specs.inside.WordsLemmas.{has_empty}
 use Rattle.mml_lab.specs.{declared.who.Who.Who, Labs.LabValue}
 use Rattle.mml_board.specs.declared.event.Event.{Event}
 use Rattle.mml_tally.specs.{declared.ask.Ask.Ask, declared.record_text.Findings.Findings, Lacking.lacks}
-use Rattle.mml_record.specs.{declared.kept_entry.Entry.Entry, Losses.are_paused_for, Losses.are_cut, Certified.IsRecordOf, Asks.asks_in, Verdicts.ComesTo, Verdicts.IsFirstBad}
+use Rattle.mml_record.specs.{declared.kept_entry.Entry.Entry, Losses.are_paused_for, Losses.are_cut, Halts.outlived, Certified.IsRecordOf, Asks.asks_in, Verdicts.ComesTo, Verdicts.IsFirstBad}
 use Rattle.mml_class.specs.{declared.class_record.ClassRecord.ClassRecord, declared.class_record.ClassFault.ClassFault, declared.granting.Misgranted.Misgranted, Begun.begun_in, Granting.IsFound}
 use Rattle.mml_record.specs.Entries.{record_text, sessions_in, lines_in, are_whole}
-use Rattle.mml_class.specs.Classes.{counted, AreRecordsOf, ComeTo, all_asks, IsClassRecord, IsClassRefused}
+use Rattle.mml_class.specs.Classes.{counted, AreRecordsOf, AreNotOutlived, IsOutlivedText, ComeTo, all_asks, IsClassRecord, IsClassRefused}
 use Rattle.mml_class.specs.inside.Seats.{no_findings, IsTogether, AddsSeat, IsSeatRefused, AreReadSoFar}
 use Rattle.mml_lab.specs.declared.who.Who.TheVariants as who
 use Rattle.mml_class.specs.declared.class_record.ClassFault.TheVariants as fault
@@ -85,11 +85,16 @@ module _ (lab : LabValue) (l : List Event) (texts : ℕ → List ℕ) where
     λ known. together.4 known ∙ either _ _ _ _ (before.4 known) (own.4 known) ∙ sym (any_push (λ xs. are_paused_for lab.roster None xs known) ess es),
   )
 
+  lasting_more : (ess : List (List Entry)) (es : List Entry) → AreNotOutlived lab (length l) ess → outlived lab (length l) None es ≡ None
+      → AreNotOutlived lab (length l) (ess ++ es ∷ [])
+  lasting_more [] es h none = (none, tt)
+  lasting_more (x ∷ xs) es h none = (h.0, lasting_more xs es h.1 none)
+
   pub first_seat : (with_asks : Bool) (f : Findings) (places : List ℕ) (asks : List Ask) → f ≡ no_findings → places ≡ [] → asks ≡ []
       → AreReadSoFar lab l with_asks texts 0 f places asks
   first_seat with_asks f places asks nothing none no_asks =
       let comes = subst (λ (g : Findings). ComeTo lab.roster g []) (sym nothing) (refl, refl, refl, refl, none_lacked) in
-      record { entries = []; seats = refl; records = none; comes = comes; asked = λ wanted. no_asks }
+      record { entries = []; seats = refl; records = none; lasting = tt; comes = comes; asked = λ wanted. no_asks }
 
   pub next_seat : (with_asks : Bool) (n number : ℕ) (f f' : Findings) (places places' : List ℕ) (asks asks' : List Ask) → number ≡ n + 1
       → AreReadSoFar lab l with_asks texts n f places asks → AddsSeat lab l number with_asks (texts number) places places' asks asks' f f'
@@ -101,11 +106,12 @@ module _ (lab : LabValue) (l : List Event) (texts : ℕ → List ℕ) where
         seats = omega (arith, length-append so.entries (read.0 ∷ []), so.seats);
         records = subst (λ (ps : List ℕ). AreRecordsOf lab l texts 1 (so.entries ++ read.0 ∷ []) ps) (sym read.5)
             (records_more 1 so.entries read.0 places read.1 so.records read.2 (subst (λ (k : ℕ). texts k ≡ record_text k read.0) here read.3));
+        lasting = lasting_more so.entries read.0 so.lasting read.7;
         comes = come_more so.entries read.0 f add.found f' so.comes read.4 add.together;
         asked = λ wanted. read.6 wanted ∙ ap (λ (xs : List Ask). xs ++ asks_in lab.roster read.0) (so.asked wanted) ∙ sym (asks_push so.entries read.0);
       }
 
-  -- if the text of a seat is no record, or couldn't be read, the texts are no record of a class for this reason
+  -- if the text of a seat doesn't pass, or couldn't be read, the texts are no record of a class for this reason
   pub bad_seat : (with_asks : Bool) (start : List ℕ) (n number : ℕ) (f : Findings) (places : List ℕ) (asks : List Ask) (why : ClassFault) → number ≡ n + 1
       → number ≤ lab.sessions → AreReadSoFar lab l with_asks texts n f places asks → IsSeatRefused lab l number (texts number) why
       → IsClassRefused lab l start texts why
@@ -115,7 +121,17 @@ module _ (lab : LabValue) (l : List Event) (texts : ℕ → List ℕ) where
     before = omega (arith, refused.0, is, so.seats);
     few = omega (arith, refused.0, few);
     records = so.records;
+    lasting = so.lasting;
     bad = subst (λ (k : ℕ). IsFirstBad lab l k (texts k) bad) (sym refused.0) refused.1;
+  }
+  bad_seat with_asks start n number f places asks (fault.Outlived seat q) is few so refused = record {
+    entries = so.entries;
+    places = places;
+    before = omega (arith, refused.0, is, so.seats);
+    few = omega (arith, refused.0, few);
+    records = so.records;
+    lasting = so.lasting;
+    outlives = subst (λ (k : ℕ). IsOutlivedText lab l k (texts k) q) (sym refused.0) refused.1;
   }
   bad_seat with_asks start n number f places asks (fault.Places amiss) is few so refused = absurd refused
   bad_seat with_asks start n number f places asks (fault.Unread why) is few so refused = tt
@@ -130,6 +146,7 @@ module _ (lab : LabValue) (l : List Event) (texts : ℕ → List ℕ) where
         places = places;
         seats = so.seats ∙ all;
         records = so.records;
+        lasting = so.lasting;
         comes = so.comes;
         granted = found.0;
         once = λ whole. found.1 (so.comes.2 ∙ whole);
@@ -142,4 +159,4 @@ module _ (lab : LabValue) (l : List Event) (texts : ℕ → List ℕ) where
   misgranted with_asks start n begun f places seen asks r amiss all begins so same some finds =
       let found = found_so begun (length l) f.whole seen places r (Some amiss) same some finds in
       let whole = subst (λ (b : Bool). IsFound begun (length l) b places (Some amiss)) so.comes.2 found in
-      record { begun = begun; entries = so.entries; places = places; starts = begins; seats = so.seats ∙ all; records = so.records; found = whole }
+      record { begun = begun; entries = so.entries; places = places; starts = begins; seats = so.seats ∙ all; records = so.records; lasting = so.lasting; found = whole }

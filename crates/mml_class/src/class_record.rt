@@ -48,6 +48,9 @@ pub struct ClassRecord {
 pub enum ClassFault {
     /// The text of this seat isn't a record, because of this entry, which is its first bad one.
     Entry { seat: u8, bad: BadEntry },
+    /// The text of this seat is a record, but a reply in it refuses with `journal` after `seen` events, and more events
+    /// of the same server follow. This is the first such reply.
+    Outlived { seat: u8, seen: u64 },
     /// The texts don't grant each event of the record exactly once. The value is the first fault.
     Places(Misgranted),
     /// A text couldn't be read.
@@ -66,8 +69,9 @@ impl From<SeatFault> for ClassFault {
 }
 
 /// Checks that the texts of all seats are the record of a class with this list of events, which must be legal. First
-/// reads how many events came before the record, and then the text of each seat. At last checks that only events of the
-/// record are granted, none of them twice, and each of them if the texts leave nothing out. Returns the first fault
+/// reads how many events came before the record, and then the text of each seat. In each text checks that no events
+/// follow a refusal `journal`, unless the class was resumed between. At last checks that only events of the record are
+/// granted, none of them twice, and each of them if the texts leave nothing out. Returns the first fault
 /// that is found. If `with_asks` is set, also returns what each line asked; each text is then read into memory as a
 /// whole.
 pub fn read_class<R: Read + Drop, S: Seats<R>>(
@@ -159,7 +163,8 @@ fn stated_begun(text: &[u8]) -> Result<u64, SeatFault>
 
 // Checks the record of the seat with this number. Adds its summary to `findings`, appends the places that it grants to
 // `granted`, and, if `with_asks` is set, appends what its lines asked to `asks`. Returns `Entry` with the record's
-// first bad entry, or `Unread` with the reason why it can't be read.
+// first bad entry, `Outlived` if events follow a refusal `journal` in it, or `Unread` with the reason why it can't be
+// read.
 fn read_seat<R: Read + Drop, S: Seats<R>>(
     alloc: Global,
     lab: &Lab,
@@ -185,6 +190,7 @@ fn read_seat<R: Read + Drop, S: Seats<R>>(
             *findings = sum;
             Ok(())
         }
+        Verdict::Outlived(seen) => Err(ClassFault::Outlived { seat: number, seen }),
         Verdict::Refused(bad) => Err(ClassFault::Entry { seat: number, bad }),
     }
 }
@@ -236,6 +242,7 @@ fn read_asked(
             read_asks(alloc, lab, events, number, text, asks)?;
             Ok(Verdict::Passed(found))
         }
+        Verdict::Outlived(seen) => Ok(Verdict::Outlived(seen)),
         Verdict::Refused(bad) => Ok(Verdict::Refused(bad)),
     }
 }

@@ -15,7 +15,7 @@ use Rattle.mml_program.specs.declared.fault.Fault.TheVariants as program
 use Rattle.mml_host_program.specs.declared.{judging.class_error.ClassError.ClassError, fault.Fault.Fault, judging.record_refusal.RecordRefusal.RecordRefusal}
 use Rattle.mml_host_program.specs.declared.judging.class_error.ClassError.TheVariants as error
 use Rattle.mml_host_program.specs.declared.fault.Fault.TheVariants as fault
-use Rattle.mml_host_program.specs.Refusals.{IsOfEntry, IsOfPlace}
+use Rattle.mml_host_program.specs.Refusals.{IsOfEntry, IsOfOutlived, IsOfPlace}
 
 -- ---- a class that is served
 
@@ -51,6 +51,7 @@ IsRefusal P _ = ⊥
 -- the error for texts that are no record of a class, or can't be read
 abbrev pub IsOfRecord : ClassFault → Fault → Type 0
 IsOfRecord (class.Entry seat bad) f = IsRefusal (IsOfEntry seat bad) f
+IsOfRecord (class.Outlived seat seen) f = IsRefusal (IsOfOutlived seat seen) f
 IsOfRecord (class.Places amiss) f = IsRefusal (IsOfPlace amiss) f
 IsOfRecord (class.Unread seat.Read) f = f ≡ fault.ReadRecord
 IsOfRecord (class.Unread seat.Memory) f = f ≡ fault.Common program.Memory

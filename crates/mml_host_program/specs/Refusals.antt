@@ -35,7 +35,12 @@ IsOfEntry seat bad (refusal.Entry s line words) =
     (s ≡ seat) × (line ≡ bad.line) × (words.now ≡ words_of bad.why) × (place_told bad.why bad.place ≡ None)
 IsOfEntry seat bad (refusal.Place s line words place) =
     (s ≡ seat) × (line ≡ bad.line) × (words.now ≡ words_of bad.why) × (place_told bad.why bad.place ≡ Some place)
-IsOfEntry seat bad (refusal.Granted place words) = ⊥
+IsOfEntry seat bad _ = ⊥
+
+-- the refusal names this seat, and the number of events at a refusal `journal` that more events follow
+abbrev pub IsOfOutlived : ℕ → ℕ → RecordRefusal → Type 0
+IsOfOutlived seat seen (refusal.Outlived s n) = (s ≡ seat) × (n ≡ seen)
+IsOfOutlived seat seen _ = ⊥
 
 -- the refusal names this place, and what is wrong with its event
 abbrev pub IsOfPlace : Misgranted → RecordRefusal → Type 0

@@ -1,12 +1,15 @@
--- After the refusal `journal`, a record grants nothing until an entry says that anything may be missing.
+-- After the refusal `journal`, a record grants nothing until an entry says that anything may be missing. If no refusal
+-- in the record is outlived, no other seat was granted anything either.
 use Rattle.std.proofs.lemmas.Bool.{false≢true, Decides.nat_tests}
-use Rattle.std.proofs.Common.{◌≡◌, ℕ, Bool, true, false, ◌||◌, nat_lt, List, [], ◌∷◌, ◌++◌, sym, ap, ◌∙◌, Option, None, arith}
+use Rattle.std.proofs.Common.{◌≡◌, ℕ, Bool, true, false, ◌||◌, nat_lt, List, [], ◌∷◌, ◌++◌, length, sym, ap, ◌∙◌, Option, None, arith}
 use Rattle.mml_lab.specs.{declared.who.Who.Who, Labs.LabValue}
 use Rattle.mml_board.specs.declared.event.Event.{Event}
 use Rattle.mml_codec.specs.{declared.reply.Reply.Reply, Replies.place_in, Replies.reply_line}
 use Rattle.mml_session.specs.Turns.{is_bye, places_in, halts_in}
 use Rattle.mml_record.specs.{declared.kept_entry.Entry.Entry, declared.stage.Stage.Stage, Losses.are_cut}
-use Rattle.mml_record.specs.Certified.{phase_after, stage_at, stage_after, may_grant, is_journal, seen_after, GoesOn}
+use Rattle.mml_record.specs.Certified.{phase_after, stage_at, stage_after, may_grant, is_journal, seen_after, GoesOn, first_stage}
+use Rattle.mml_record.specs.Halts.{outlived}
+use Rattle.mml_record.proofs.{FallLemmas.never_fall, OutlivedLemmas.first_of_life, OutlivedLemmas.none_at_end, OutlivedLemmas.none_at_cut, OutlivedLemmas.falls_to, OutlivedLemmas.said_within}
 use Rattle.mml_record.proofs.RecordLemmas.{journal_line}
 use Rattle.mml_codec.specs.declared.reply.Refused.TheVariants as refused
 use Rattle.mml_codec.specs.declared.reply.Reply.TheVariants as replies
@@ -69,3 +72,23 @@ module _ (lab : LabValue) (l : List Event) where
       (h.0, h.1, front_grants known (stage_at phases.Paused stage.is_halted) q es back p line ps uncut h.2)
   front_grants known stage least (entry.Resumed q missed ∷ es) back p line ps uncut h =
       (h.0, h.1, h.2, h.3, front_grants known (stage_at phases.Resuming stage.is_halted) q es back p line ps uncut h.4)
+
+  -- if no refusal of the record is outlived, no events follow one up to the end of the server's life
+  pub ends_with : (front back : List Entry) (p : ℕ) (line ps : List ℕ) → GoesOn lab l None first_stage 0 (front ++ entry.Said p line journal ∷ back) ps
+      → outlived lab (length l) None (front ++ entry.Said p line journal ∷ back) ≡ None → are_cut back ≡ false → p ≡ length l
+  ends_with front back p line ps h none uncut =
+      let falls = never_fall lab l None first_stage 0 (front ++ entry.Said p line journal ∷ back) ps h in
+      let first = first_of_life lab (length l) 0 front back None p line journal tt falls named none in
+      let most = none_at_end lab (length l) first.0 back uncut first.2 in
+      let within = said_within lab l None first_stage 0 front back p line journal ps h in
+      omega (arith, first.1, most, within)
+
+  pub cut_with : (front mid rest : List Entry) (p q : ℕ) (line ps : List ℕ)
+      → GoesOn lab l None first_stage 0 (front ++ entry.Said p line journal ∷ (mid ++ entry.Unrecorded q ∷ rest)) ps
+      → outlived lab (length l) None (front ++ entry.Said p line journal ∷ (mid ++ entry.Unrecorded q ∷ rest)) ≡ None → are_cut mid ≡ false → q ≡ p
+  cut_with front mid rest p q line ps h none uncut =
+      let falls = never_fall lab l None first_stage 0 (front ++ entry.Said p line journal ∷ (mid ++ entry.Unrecorded q ∷ rest)) ps h in
+      let first = first_of_life lab (length l) 0 front (mid ++ entry.Unrecorded q ∷ rest) None p line journal tt falls named none in
+      let most = none_at_cut lab (length l) first.0 mid rest q uncut first.2 in
+      let least = falls_to p mid rest (entry.Unrecorded q) first.3 in
+      omega (arith, first.1, most, least)

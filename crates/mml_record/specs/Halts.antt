@@ -1,6 +1,6 @@
 -- The refusals `journal` in a record, and the events that follow them. A life of a server is the time from its start to
--- its end; a class that is resumed has a new one. After a refusal `journal` a server grants no event for the rest of its
--- life, in any of its seats. An entry which says that anything may be missing is written when a new life begins.
+-- its end; a class that is resumed has a new one. After a refusal `journal` a server grants no event for the rest of
+-- its life, in any of its seats. When a new life begins, an entry which says that anything may be missing is written.
 use Rattle.std.specs.Prelude.{ℕ, nat_lt, Bool, true, false, List, [], ◌∷◌, if◌then◌else◌, Option, None, Some}
 use Rattle.mml_lab.specs.Labs.{LabValue}
 use Rattle.mml_record.specs.{declared.kept_entry.Entry.Entry, Certified.is_journal}
@@ -23,10 +23,10 @@ abbrev pub outlived_at : Option ℕ → ℕ → Option ℕ
 outlived_at None n = None
 outlived_at (Some q) n = if nat_lt q n then Some q else None
 
--- How many events had been seen at the first refusal `journal` that more events of the same life follow; none if no such
--- refusal is followed by any. `at` is the number at the first refusal of the life that the entries go on in, if the
--- entries before them have one, and n is the number of all events of the journal. A life has the events up to the next
--- entry which says that anything may be missing, and the last life has all
+-- How many events had been seen at the first refusal `journal` that more events of the same life follow; none if no
+-- such refusal is followed by any. `at` is the number at the first refusal of the life that the entries go on in, if
+-- the entries before them have one, and n is the number of all events of the journal. A life has at least the events up
+-- to the next entry which says that anything may be missing, or all events if there is none
 abbrev pub outlived : LabValue → ℕ → Option ℕ → List Entry → Option ℕ
 outlived lab n at [] = outlived_at at n
 outlived lab n at (entry.Said p line out ∷ es) = outlived lab n (first_halt at p (is_journal lab out)) es

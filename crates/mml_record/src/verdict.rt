@@ -9,6 +9,10 @@ use mml_tally::Findings;
 pub enum Verdict {
     /// The text is a record, with this summary.
     Passed(Findings),
+    /// The text is a record, but more events of the journal follow a reply that refuses with `journal`, before the
+    /// class was resumed. The value is how many events had been seen at the first such refusal. No server grants events
+    /// after it, in any seat.
+    Outlived(u64),
     /// The text isn't a record, because of this entry.
     Refused(BadEntry),
 }
@@ -48,8 +52,8 @@ pub enum Why {
     NoPause,
     /// The reply grants an event as the rules do there, but the journal's next event is another one.
     OtherEvent,
-    /// The reply grants the journal's next event, but an earlier entry of the seat is the refusal `journal`, and no entry
-    /// since then says that anything may be missing. A server grants nothing after such a refusal.
+    /// The reply grants the journal's next event, but an earlier entry of the seat is the refusal `journal`, and no
+    /// entry since then says that anything may be missing. A server grants nothing after such a refusal.
     Halted,
     /// The rules have another reply there, or one that shows a view, or the line is longer than a request may be.
     OtherReply,

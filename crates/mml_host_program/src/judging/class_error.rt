@@ -57,6 +57,7 @@ fn record_fault(why: ClassFault) -> Fault
 {
     match why {
         ClassFault::Entry { seat, bad } => Fault::Record(RecordRefusal::of(seat, bad)),
+        ClassFault::Outlived { seat, seen } => Fault::Record(RecordRefusal::Outlived(seat, seen)),
         ClassFault::Places(amiss) => Fault::Record(RecordRefusal::of_places(amiss)),
         ClassFault::Unread(SeatFault::Read) => Fault::ReadRecord,
         ClassFault::Unread(SeatFault::Memory) => Fault::Common(ProgramFault::Memory),

@@ -17,6 +17,9 @@ pub enum RecordRefusal {
     /// The entry of this seat at this line doesn't match the journal at this place.
     #[error("seat {0}, line {1}: not the {2} at place {3}")]
     Place(u8, u64, &'static str, u64),
+    /// A reply of this seat refuses with `journal` after this many events, but more events of the same server follow.
+    #[error("seat {0}: refused with journal after {1} events, but more events follow")]
+    Outlived(u8, u64),
     /// The event at this place isn't granted exactly once.
     #[error("place {0}: granted {1}")]
     Granted(u64, &'static str),
