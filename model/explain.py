@@ -106,8 +106,7 @@ def explanations(lab: Lab, script: bytes) -> list[str]:
         text = explained(run.world, asked) if asked is not None else ""
         if '"deny"' in run.answer(*read) and text and asked is not None:
             found.append(f"{number} {asked.node} {text}")
-    world = run.world
-    return found + [f"now {i} {right_line(world, i)}" for i in world.nodes() if world.enabled(i) and i not in world.chosen]
+    return found + [f"now {i} {right_line(run.world, i)}" for i in run.world.nodes() if run.world.enabled(i) and i not in run.world.chosen]
 
 
 def main(words: list[str]) -> int:

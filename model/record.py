@@ -79,7 +79,9 @@ class Seat:
         self.lab, self.events, self.number, self.record = lab, events, number, record
         self.world = lab.opening()  # after the events that had been seen
         self.known: str | None = None  # who is known in the session
-        self.stage, self.is_halted = FRESH, False  # is_halted: a line was refused with `journal` since the last mark `!`
+        self.stage = FRESH
+        # The numbers of events at the lines refused with `journal` since the last mark `!`, and at those that more events followed.
+        self.halts, self.outlived = list[int](), list[int]()
 
     def entry(self, text: bytes, at: int) -> Entry | str:
         """Returns the entry that begins at the byte `at` of the text, or as a string the reason why there is none."""
@@ -91,8 +93,7 @@ class Seat:
         # The text breaks off within the entry if its first line has no newline, or is one with `>` and the next line has none.
         line, newline, rest = text[at:].partition(b"\n")
         asked = ASKED.match(line)
-        is_asked = asked is not None and self.is_stamp(asked)
-        return "torn" if not newline or is_asked and b"\n" not in rest else "not an entry"
+        return "torn" if not newline or asked and self.is_stamp(asked) and b"\n" not in rest else "not an entry"
 
     def is_stamp(self, found: re.Match[bytes]) -> bool:
         """Returns whether the parts of an entry's line have the seat's number, and a number of events that fits into 64 bits."""
@@ -112,13 +113,14 @@ class Seat:
             return "goes ahead"
         while self.world.place < entry.seen:
             self.advance()
+        self.outlived += [halt for halt in self.halts[:1] if halt < entry.seen]
         # The session ended, and the next one begins: nobody is known.
         if entry.mark == b".":
             self.known, self.stage = None, OPEN
             self.record.sessions += 1
         # Anything may be missing up to the session's end.
         elif entry.mark == b"!":
-            self.known, self.stage, self.is_halted, self.record.is_cut = None, CUT, False, True
+            self.known, self.stage, self.halts, self.record.is_cut = None, CUT, [], True
         # Recording pauses. If an account is known, its lines aren't recorded from here on.
         elif entry.mark == b"-":
             self.stage = PAUSED
@@ -165,7 +167,7 @@ class Seat:
         refusals = [NO_MEMORY] if found.event is None else [NO_MEMORY, NO_JOURNAL]
         if entry.reply in refusals and len(entry.line) <= LONGEST_REQUEST:
             self.record.said.append(said)
-            self.is_halted = self.is_halted or entry.reply == NO_JOURNAL
+            self.halts += [place] if entry.reply == NO_JOURNAL else []
             return None
         # An event that the line grants must be the next one of the journal.
         event = found.event and [Event(place + 1, self.world.number, str(self.known), found.event)]
@@ -176,7 +178,7 @@ class Seat:
         if not is_reply or len(entry.line) > LONGEST_REQUEST:
             return f"not the reply of the rules at place {place}"
         if found.event is not None:
-            if self.is_halted:
+            if self.halts:
                 return "granted after the refusal journal"
             self.record.granted.append(place + 1)
             apply(self.world, found.event)
@@ -185,7 +187,7 @@ class Seat:
         return None
 
     def read(self, text: bytes) -> None:
-        """Checks all entries in the text of the seat's record. Raises `Fault` with the line of the first impossible entry."""
+        """Checks the text of the seat's record. Raises `Fault` with the line of the first impossible entry, or if events follow a refusal `journal`."""
         at = 0
         while at < len(text):
             entry = self.entry(text, at)
@@ -193,6 +195,9 @@ class Seat:
             if isinstance(entry, str) or why:
                 raise Fault(f"verify: seat {self.number}, line {1 + text.count(NEWLINE, 0, at)}: {why}", 3)
             at = entry.end
+        self.outlived += [halt for halt in self.halts[:1] if halt < len(self.events)]
+        if self.outlived:
+            raise Fault(f"verify: seat {self.number}: refused with journal after {self.outlived[0]} events, but more events follow", 3)
 
 
 def check_places(record: Record, events: int) -> None:
@@ -200,10 +205,8 @@ def check_places(record: Record, events: int) -> None:
     and a place after its beginning, up to `events`, is granted by no reply. The journal has `events` events."""
     seen: set[int] = set()
     for place in record.granted:
-        if place <= record.begun:
-            raise Fault(f"verify: place {place}: granted before the record began", 3)
-        if place in seen:
-            raise Fault(f"verify: place {place}: granted twice", 3)
+        if place <= record.begun or place in seen:
+            raise Fault(f"verify: place {place}: granted {'before the record began' if place <= record.begun else 'twice'}", 3)
         seen.add(place)
     for place in range(record.begun + 1, events + 1):
         if record.is_whole() and place not in seen:
@@ -224,6 +227,5 @@ def read_record(lab: Lab, events: list[Event], folder: Path) -> Record:
 
 def verified(lab: Lab, record: Record, events: list[Event]) -> str:
     """Returns the output of `verify` for a record that passes."""
-    end = "" if record.is_whole() else ", not whole"
-    first = f"ok: {record.sessions} sessions, {len(record.said)} lines, {len(events)} events{end}"
+    first = f"ok: {record.sessions} sessions, {len(record.said)} lines, {len(events)} events{'' if record.is_whole() else ', not whole'}"
     return f"{first}\n{' '.join(record.whole(lab))}\nbegun after {record.begun} events\n"

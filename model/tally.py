@@ -162,8 +162,7 @@ def tally(lab: Lab, world: World, events: list[Event], record: Record | None) ->
     if record is not None:
         lines += lines_asked(lab, record.said)
         lines.append(["record", record.sessions, len(record.said), "whole" if record.is_whole() else "cut"])
-    changes = [count.words[word] for word in CHANGES]
-    run = [world.place, world.number, "stable" if world.stable() else "unstable", count.words["close"], *changes]
+    run = [world.place, world.number, "stable" if world.stable() else "unstable", count.words["close"], *(count.words[word] for word in CHANGES)]
     lines += [bounds(world), ["run", *run, count.moves, count.moves_since, count.closes_since]]
     if record is not None:
         lines.append([*record.whole(lab)])

@@ -194,16 +194,34 @@ def halted(lab: Lab, run: Recording) -> list[tuple[str, dict[int, bytes], str]]:
     greeted = hello.replace(b"1 0 ", b"1 1 ")
     refused = "seat 1, line %d: granted after the refusal journal"
     cut = f"ok: 3 sessions, {run.lines + 2} lines, 2 events, not whole\n{whole_line(lab, cut=True)}"
+    # The later event is granted in another seat, or in none.
+    outlived, lost = "seat 1: refused with journal after %d events, but more events follow", b"1 1 .\n"
+    twice = cut.replace(f"{run.lines + 2} lines", f"{run.lines + 3} lines")
     found = [
         ("granted after journal", first + halt + rest + end, refused % 7),
         ("granted after journal, in the next session", first + halt + b"1 1 .\n" + greeted + rest + end, refused % 10),
         ("granted after journal, after a pause", first + halt + b"1 1 -\n1 1 + 3\n1 1 .\n" + greeted + rest + end, refused % 12),
         ("granted after journal and a cut", first + halt + b"1 1 !\n1 1 .\n" + greeted + rest + end, cut),
         ("granted before journal", first + rest + again + end, run.told().replace(f"{run.lines} lines", f"{run.lines + 1} lines")),
+        ("events follow journal", first + halt + lost, outlived % 1),
+        ("events follow journal, before a cut", first + halt + b"1 1 .\n1 2 !\n1 2 .\n", outlived % 1),
+        ("events follow journal, after a cut", first + b"1 1 !\n1 1 .\n" + greeted + halt + lost, outlived % 1),
+        ("events follow journal twice", first + halt + halt + b"1 2 !\n1 2 .\n" + hello.replace(b"1 0 ", b"1 2 ") + again + end, outlived % 1),
+        ("events follow the later of two refusals", first + halt + b"1 1 !\n1 1 .\n" + greeted + halt + b"1 1 .\n1 2 !\n1 2 .\n",
+         outlived % 1),
+        ("journal twice, and no events follow", first + halt + b"1 1 !\n1 1 .\n" + greeted + rest + again + end, twice),
+        ("a bad entry after journal", first + halt + lost + b"1 1 ?\n", "seat 1, line 8: not an entry"),
         ("another event after journal", first + halt + replaced(rest, b'"p":2,"m":false', b'"p":2,"m":true') + end,
          "seat 1, line 7: not the journal's event at place 2"),
     ]
-    return [(what, {1: text, 2: run.texts[2]}, line) for what, text, line in found]
+    rows = [(what, {1: text, 2: run.texts[2]}, line) for what, text, line in found]
+    other = {2: run.texts[2], 3: in_seat(1, 3, greeted + rest + end)}
+    resumed = cut.replace("ok: 3 ", "ok: 4 ")
+    return [
+        *rows,
+        ("granted in another seat after journal", {1: first + halt + lost, **other}, outlived % 1),
+        ("granted in another seat after journal and a cut", {1: first + halt + lost + b"1 1 !\n1 1 .\n", **other}, resumed),
+    ]
 
 
 def without_a_node(room: Path, lab: str) -> int:

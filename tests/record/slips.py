@@ -87,6 +87,11 @@ def is_denied(it: Told) -> bool:
     return it.found is not None and b'"deny":' in it.entry.reply
 
 
+def has_event(it: Told) -> bool:
+    """Returns whether the line of an entry was granted as an event."""
+    return it.found is not None and it.found.event is not None
+
+
 def replied(reply: bytes, is_granted: bool) -> Callable[[Drawn, Told], Iterator[Hurt]]:
     """Returns a function that yields seats in which a grant, or a denial, is recorded as this refusal."""
     def hurts(drawn: Drawn, it: Told) -> Iterator[Hurt]:
@@ -143,13 +148,29 @@ def earlier(drawn: Drawn, it: Told) -> Iterator[Hurt]:
 def after_halt(drawn: Drawn, it: Told) -> Iterator[Hurt]:
     """Yields a seat in which the grant before this one is recorded as the refusal `journal`, after which a server grants
     nothing."""
-    granted = [other for other in (*drawn.before(it), it) if other.found is not None and other.found.event is not None]
+    granted = [other for other in (*drawn.before(it), it) if has_event(other)]
     if len(granted) > 1 and granted[-1] is it:
         last, whole = granted[-2], drawn.run.texts[it.seat]
         text = stamped(it.seat, last.entry.seen, last.entry.line, NO_JOURNAL)
         number = 1 + whole.count(b"\n", 0, it.start)
         yield Hurt(it.seat, whole[: last.start] + text + whole[last.entry.end :],
                    f"verify: seat {it.seat}, line {number}: granted after the refusal journal")
+
+
+def before_others(drawn: Drawn, it: Told) -> Iterator[Hurt]:
+    """Yields a seat in which, after its last grant, a fault by the teacher is recorded as refused with `journal`, though
+    other seats are granted events later."""
+    lab, seen = drawn.run.lab, it.entry.seen
+    rest = [other for other in drawn.told if other.seat == it.seat and other.start >= it.start]
+    if it.known == lab.teacher and it.found is not None and seen < len(drawn.events) and not any(has_event(other) for other in rest):
+        seat = Seat(lab, drawn.events, it.seat, Record())
+        while seat.world.place < seen:
+            seat.advance()
+        line = json.dumps({"do": "fault", "node": min(seat.world.links), "p": None, "m": False}).encode()
+        if answer(lab, seat.world, it.known, line).event is not None:
+            whole = drawn.run.texts[it.seat]
+            yield Hurt(it.seat, whole[: it.start] + stamped(it.seat, seen, line, NO_JOURNAL) + whole[it.start :],
+                       f"verify: seat {it.seat}: refused with journal after {seen} events, but more events follow")
 
 
 KINDS: dict[str, Callable[[Drawn, Told], Iterator[Hurt]]] = {
@@ -160,6 +181,7 @@ KINDS: dict[str, Callable[[Drawn, Told], Iterator[Hurt]]] = {
     "an event as another": of_other_event,
     "an earlier entry": earlier,
     "a grant after a halted journal": after_halt,
+    "a grant in another seat after a halted journal": before_others,
 }
 
 

@@ -44,8 +44,19 @@ record 3 22 whole
 """
 WHOLE = "whole tess ana ben\n"
 REFUSED = "refused ana 0 0 0\nrefused ben 0 0 0\ndenials ana 1 1 1 0 1 1 1\ndenials ben 0 0 1 1 0 1 0\n"
-# A move of ana's own node, which no clause denies. It is refused only if the journal can't be written.
+# A move of ana's own node, which no clause denies.
 MORE = b'1 1 > {"do":"move","node":1,"rule":"seduction","at":0}\n1 1 < %s\n'
+# A session in which ben asks for a move after the run's two events. No clause denies it, and it is refused only if the
+# journal can't be written.
+HALTED = b"""\
+1 1 > {"do":"hello","key":"b-key","name":"ben"}
+1 1 < {"ok":"hello","who":"ben"}
+1 2 > {"do":"move","node":3,"rule":"marriage","with":2,"at":1}
+1 2 < {"refuse":"journal"}
+1 2 > {"do":"move","node":3,"rule":"marriage","with":2,"at":1}
+1 2 < {"refuse":"journal"}
+1 2 .
+"""
 GUARD = b'{"clause":4,"deny":"guard","text":"the guard of this rule does not hold"}'
 # In a lab of one event all later moves and closes are refused, if no clause denies them.
 FULL = (
@@ -138,8 +149,9 @@ def by_hand(room: Path, document: str) -> int:
         ("no memory for a line that is denied", text.replace(GUARD, b'{"refuse":"memory"}'),
          wanted.replace("denied ana 3 1 1 1 1", "denied ana 3 1 1 0 1").replace("refused ana 0 0 0", "refused ana 0 1 0")
          .replace("denials ana 1 1 1 0 1 1 1", "denials ana 1 1 1 0 1 1 0")),
-        ("a halted journal", text.replace(end, MORE % b'{"refuse":"journal"}' + MORE % b'{"refuse":"journal"}' + end),
-         wanted.replace("record 3 22", "record 3 24").replace("refused ana 0 0 0", "refused ana 2 0 0")),
+        ("a halted journal", text + HALTED, wanted.replace("record 3 22", "record 4 25").replace("refused ben 0 0 0", "refused ben 2 0 0")),
+        ("a halted journal with a later event", text.replace(end, MORE % b'{"refuse":"journal"}' + end),
+         "verify: seat 1: refused with journal after 1 events, but more events follow"),
         ("no memory for a move", text.replace(end, MORE % b'{"refuse":"memory"}' + end),
          wanted.replace("record 3 22", "record 3 23").replace("refused ana 0 0 0", "refused ana 0 1 0")),
         ("a full lab that isn't full", text.replace(end, MORE % b'{"refuse":"full"}' + end), "verify: seat 1, line 19: not the reply of the rules at place 1"),
