@@ -1,6 +1,10 @@
-"""A host as its user runs it, connections to it, and the replies of the rules to the same lines.
+"""A host (the server of a class) as its user runs it, connections to it, and the replies of the rules to the same
+lines.
 
-MML_HOST can name another host than the one that is built here.
+A host has two ports: students connect to one of them, and the teacher to the other, the desk. A connection that the
+host serves has a *seat*. If no seat is free, the host answers `busy` and closes the connection. A `Caller` is one
+connection, and a `Talk` notes what is said on several connections, to compare it with a script of the same lines. The
+environment variable MML_HOST can name another host than the one that is built here.
 """
 import os
 import re
@@ -49,7 +53,8 @@ class Host:
         self, *words: object, word: str = "host", before: Sequence[str] = (),
         variables: Optional[Mapping[str, str]] = None,
     ) -> None:
-        """`word` is `host` or `resume`, `before` are words before the call, and `variables` are added to its
+        """Starts the host with the arguments `words`, and waits for its first line or its end. `word` is its command,
+        `host` or `resume`. `before` is a command that is put before the call, and `variables` are added to its
         environment."""
         self.process = subprocess.Popen(
             [*before, HOST, word, *map(str, words)], stdin=subprocess.DEVNULL, stdout=subprocess.PIPE,
@@ -70,7 +75,7 @@ class Host:
         self.process.communicate()
 
     def killed(self) -> Ended:
-        """Kills the host. Returns its output after the first line."""
+        """Kills the host. Returns its status, and its output after the first line."""
         self.process.kill()
         out, error = self.process.communicate()
         return Ended(self.process.returncode, out, error)
@@ -80,8 +85,8 @@ class Host:
         return self.process.poll() is None
 
     def end(self, seconds: float = LIMIT) -> Ended:
-        """Waits at most `seconds` seconds until the host ends by itself. Returns its status and its output after the
-        first line."""
+        """Waits until the host ends by itself. Returns its status, and its output after the first line. Fails if this
+        takes more than `seconds` seconds."""
         try:
             out, error = self.process.communicate(timeout=seconds)
         except subprocess.TimeoutExpired:
@@ -89,8 +94,9 @@ class Host:
         return Ended(self.process.returncode, out, error)
 
     def dismissed(self, teacher: "Caller", seconds: float = LIMIT) -> Ended:
-        """Says bye on the teacher's connection at the desk, and waits at most `seconds` seconds for the end of the
-        host. Returns its status, and its output after the first line."""
+        """Says bye on the teacher's connection at the desk, which ends the class, and waits for the end of the host.
+        Returns the host's status, and its output after the first line. Fails if the bye isn't answered, or if the host
+        doesn't end within `seconds` seconds."""
         if (teacher.ask(BYE), teacher.line()) != (BID, b""):
             fail("host: another reply to the teacher's bye at the desk, or none")
         return self.end(seconds)
@@ -134,7 +140,7 @@ class Caller:
             pass
 
     def line(self) -> bytes:
-        """Returns the next line, or nothing if the host has hung up."""
+        """Returns the next line, or no bytes if the host has hung up. Fails if neither happens within a time limit."""
         try:
             line = self.replies.readline()
         except ConnectionError:
@@ -144,7 +150,7 @@ class Caller:
         return line if line.endswith(b"\n") else b""
 
     def ask(self, line: bytes) -> bytes:
-        """Returns the reply to a line."""
+        """Sends a line, and returns its reply, or no bytes if the host has hung up."""
         self.send(line)
         return self.line()
 
@@ -175,8 +181,8 @@ def called(port: int, source: str = "127.0.0.1") -> Caller:
 
 
 def let_in(port: int, line: bytes) -> tuple[Caller, bytes]:
-    """Returns a connection to a port that has a seat, and the reply to its first line `line`. Connects again after
-    `busy`. Fails after a time limit."""
+    """Connects to a port with `line` as the first line, and again as long as there is no seat (the reply is `busy` or
+    is missing). Returns the connection that got a seat, and the reply to `line`. Fails after a time limit."""
     end = time.monotonic() + LIMIT
     while time.monotonic() < end:
         caller = called(port)
@@ -190,16 +196,17 @@ def let_in(port: int, line: bytes) -> tuple[Caller, bytes]:
 
 class Talk:
     """A sequence of lines on connections that come and go, with their replies. A script of the same lines gives
-    the expected replies and the expected journal."""
+    the expected replies and the expected journal. Each connection has a number in this script. When a connection has
+    ended, a later one gets its number."""
 
     def __init__(self, lab: Path, sessions: int, room: Path) -> None:
         """Begins without a line. The script of the lines will run with this lab with `sessions` sessions, in the folder
         `room`."""
         self.lab, self.room = lab, room
-        self.free = list(range(1, sessions + 1))
-        self.numbers: dict[object, int] = {}
+        self.free = list(range(1, sessions + 1))  # the numbers that no open connection has
+        self.numbers: dict[object, int] = {}  # the number of each open connection
         self.script: list[bytes] = []
-        self.found: list[Optional[bytes]] = []
+        self.found: list[Optional[bytes]] = []  # for each line of the script its reply, or None if it isn't compared
 
     def heard(self, who: object, line: bytes, reply: Optional[bytes]) -> None:
         """Notes a line of the connection `who` and its reply, or None if nobody has read the reply."""
@@ -210,24 +217,27 @@ class Talk:
         self.found.append(None if reply is None else number + reply)
 
     def ask(self, caller: Caller, line: bytes) -> bytes:
-        """Sends a line, and notes its reply."""
+        """Sends a line on a connection, and returns its reply. Notes both."""
         reply = caller.ask(line)
         self.heard(caller, line, reply)
         return reply
 
     def comes(self, port: int, line: bytes) -> Caller:
-        """Returns a connection that has a seat after its first line."""
+        """Connects to a port with `line` as the first line, until there is a seat. Notes the line and its reply, and
+        returns the connection."""
         caller, reply = let_in(port, line)
         self.heard(caller, line, reply)
         return caller
 
     def gone(self, who: object) -> None:
         """Notes that the connection `who` has ended without a bye."""
+        # In a script only a bye ends a connection. The reply to this bye isn't compared.
         self.heard(who, BYE, None)
         self.free.append(self.numbers.pop(who))
 
     def leaves(self, caller: Caller) -> None:
-        """Says bye on a connection, and waits for its end."""
+        """Says bye on a connection, and closes it. Fails if the host doesn't answer the bye, or doesn't hang up
+        then."""
         if self.ask(caller, BYE) != BID or caller.line():
             fail("host: a connection goes on after its bye")
         caller.close()
@@ -238,8 +248,8 @@ class Talk:
         return sum(b'"place":' in reply for reply in self.found if reply)
 
     def check(self, journal: Path) -> None:
-        """Checks that the replies are those of the rules, and that the journal is the expected one and passes the
-        audit."""
+        """Runs a script of all noted lines. Checks that the noted replies are those to the script, and that the file
+        `journal` has the script's journal, which passes the audit."""
         script, plain = self.room / "plain.script", self.room / "plain.journal"
         script.write_bytes(b"".join(self.script))
         plain.unlink(missing_ok=True)
@@ -264,7 +274,8 @@ class Bot:
     """A separate process that sends lines, and waits in the middle of one to be killed."""
 
     def __init__(self, talk: Talk, port: int, lines: Sequence[bytes]) -> None:
-        """Starts the process, which sends these lines to a port, the last one without its end. Notes them in `talk`."""
+        """Starts the process, which sends these lines to a port and then half a line. Notes the lines and their replies
+        in `talk`."""
         words = [line.decode().rstrip("\n") for line in lines]
         self.process = subprocess.Popen(
             [sys.executable, "-c", BOT, str(port), *words], stdin=subprocess.DEVNULL, stdout=subprocess.PIPE

@@ -7,5 +7,6 @@ LIMITS = {
     "seat-written": (1_072_693_248, "bytes"), "seat-read": (1_073_741_824, "bytes"),
     "greeting": (10, "seconds"), "desk-greeting": (5, "seconds"), "next-line": (600, "seconds"), "write": (10, "seconds"),
 }
+# The numbers alone, and the text that `mml limits` prints.
 MOST = {name: most for name, (most, _) in LIMITS.items()}
 TEXT = "".join(f"{name} {most} {unit}\n" for name, (most, unit) in LIMITS.items())

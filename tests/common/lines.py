@@ -72,9 +72,9 @@ BYE = line_of(do="bye")
 BID = line_of(ok="bye")
 CLOSE = line_of(do="close")
 REPORT = line_of(do="report")
-# The key of somebody else.
+# A hello with a wrong key.
 WRONG = line_of(do="hello", key="a-kez", name="ana")
 UNKNOWN = denial_of("unknown")
 MALFORMED = refusal_of("malformed")
-# Why a host ends a connection.
+# The last lines on connections that a host closes. Each says why.
 BUSY, LATE, LONG, OVER = (refusal_of(word) for word in ("busy", "late", "long", "over"))

@@ -22,7 +22,7 @@ HERE = Path(__file__).resolve().parent
 TOP = HERE.parent.parent
 PROGRAM = Path(os.environ.get("MML_PROGRAM") or TOP / "crates/mml_host/out/mml_host")
 LIMIT = 300.0
-# Replies to lines without an effect, whatever was asked.
+# The refusals that any line may get if memory runs out or the journal can't be written. Such a line has no effect.
 REFUSED = (refusal_of("memory"), refusal_of("journal"))
 
 
@@ -33,8 +33,8 @@ def fail(why: str) -> NoReturn:
 
 
 def built(source: str, room: Path) -> Path:
-    """Builds the library of a C source in the folder `room`, and returns its path. The source is named by its path
-    below the tests' folder."""
+    """Builds the library of a C source in the folder `room`, and returns its path. `source` is the path below the
+    tests' folder. Fails if there is no toolchain on the search path, or the source doesn't compile."""
     rt = shutil.which("rt")
     if rt is None:
         fail("no rt on the path, so no clang")
@@ -58,11 +58,12 @@ class Preloaded:
 
     def variables(self, told: Mapping[str, str]) -> dict[str, str]:
         """Returns the environment of a run with the library and these variables, and resets the library's counts."""
-        self.file.write_bytes(bytes(16))
+        self.file.write_bytes(bytes(16))  # two numbers of eight bytes
         return {"LD_PRELOAD": str(self.library), self.variable: str(self.file), **told}
 
     def counts(self) -> tuple[int, int]:
-        """Returns the number of calls in the last run, and the number of failed ones."""
+        """Returns the two numbers that the library has written in the last run. The comment at the head of its source
+        says what they are. Mostly they are the number of calls, and the number of those that failed."""
         made, failed = struct.unpack("=QQ", self.file.read_bytes())
         return made, failed
 
@@ -99,8 +100,8 @@ class Story:
         return b"".join(line for index, line in enumerate(self.lines) if index not in without)
 
     def plain(self, without: frozenset[int]) -> tuple[list[bytes], bytes]:
-        """Runs the script without the lines with these numbers. Returns the replies, with an empty one in place of each
-        missing line's, and the journal."""
+        """Runs the script without the lines with these numbers, unless this was done before. Returns the replies, with
+        an empty one in place of each missing line's, and the journal."""
         if without not in self.known:
             script, journal = self.room / "plain.script", self.room / "plain.journal"
             script.write_bytes(self.script(without))
@@ -159,10 +160,12 @@ def held_port() -> socket.socket:
 
 
 class Server:
-    """The program as it serves a lab, with or without a library. `before` are words before the call."""
+    """The program as it serves a lab (the command `serve`), with or without a library. It ends by itself after its last
+    connection."""
 
     def __init__(self, words: Callable[[int], list[str]], variables: Mapping[str, str], before: Sequence[str] = ()) -> None:
-        """Starts the server. `words` returns its arguments for a port, and `before` are words before the call."""
+        """Starts the server, and waits for its first line or its end. `words` returns its arguments for a port,
+        `variables` is its environment, and `before` is a command that is put before the call."""
         # Nobody else can take the port while it is held. Otherwise a second try might be necessary, and a library would
         # count its calls in addition to those of the first.
         self.held = held_port()

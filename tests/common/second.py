@@ -8,6 +8,8 @@ from model import Ended, ended
 from tests.common.hosting import HOST
 from tests.common.preload import LIMIT, PROGRAM, fail
 
+# The commands for which the tests call the program HOST. For all others they call PROGRAM. Both are the same program,
+# unless environment variables name others.
 OF_HOST = ("verify", "tally")
 
 
@@ -55,8 +57,9 @@ def agreed_script(what: str, lab: Path, script: Path, journal: Path) -> Ended:
 
 
 def said(line: str) -> Ended:
-    """Returns the result of a call that prints this line: either about a lab, journal or record that passes, or an
-    error."""
+    """Returns the result of a call that prints this line and nothing else. A line that begins with `ok: ` is the
+    output, with status 0. Any other line is an error, whose status is 2 if the error is about a lab, and otherwise
+    3."""
     text = f"{line}\n".encode()
     if line.startswith("ok: "):
         return Ended(0, text, b"")

@@ -21,8 +21,9 @@ def tried(test: Test) -> float:
 
 
 def try_all(of: str, tests: Sequence[Test]) -> None:
-    """Runs these tests side by side. If the command line has arguments, runs only the tests whose names contain one of
-    them. Prints a line that begins with the text `of`, with the number of the tests and their times."""
+    """Runs these tests, four at a time. If the command line has arguments, runs only the tests whose names contain one
+    of them. Prints a line that begins with the text `of`, with the number of the tests and their times. Fails if the
+    program isn't built."""
     if not HOST.is_file():
         fail("the program isn't built")
     chosen = [test for test in tests if not sys.argv[1:] or any(word in test.__name__ for word in sys.argv[1:])]

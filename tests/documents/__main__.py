@@ -189,6 +189,8 @@ def is_run(page: str, mark: str | None, lines: list[str], texts: dict[str, str],
     if not commands:
         return all(line in data for line in lines)
     pages = texts["tests/pages/pages"]
+    # The first case in this script that does nothing and has a comment. It lists the commands that the script doesn't
+    # run. So another test has to run them.
     found = re.search(r"^ *(\S.*)\) ;; #", pages, re.MULTILINE)
     passed_over = found[1].replace('"', "").replace("*", "").split(" | ") if found else []
     skipped = [start for line in commands for start in passed_over if line.startswith(start)]

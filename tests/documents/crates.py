@@ -56,7 +56,7 @@ class Group:
 
 
 def groups(text: str) -> list[Group]:
-    """Returns the groups in `crates.txt`."""
+    """Returns the groups in the text of `crates.txt`. Leaves out comments before which no group begins with a crate."""
     found: list[Group] = []
     for line in text.splitlines():
         provided = re.fullmatch(r"# Provides (\w+) of (\w+)\.", line)

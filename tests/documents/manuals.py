@@ -19,7 +19,7 @@ TOP = Path(__file__).resolve().parents[2]
 FOLDER = TOP / "operate"
 IN_A_CLONE = "build"  # a subcommand that no release has
 LINE = re.compile(r"  \./mml ?(.*?) {2,}(.*)")
-OF_ITSELF = "-h, --help"
+OF_ITSELF = "-h, --help"  # the option that `argparse` adds to each command
 
 
 def plain(text: str) -> str:
@@ -84,7 +84,8 @@ def term(action: argparse.Action) -> str:
 
 
 def word(name: str) -> Iterator[str]:
-    """Yields the lines of the page class(1) about a subcommand: what it does, its options, and an example."""
+    """Yields the lines of the page class(1) about a subcommand: what it does, its arguments and options, and an
+    example."""
     yield from (f'.SS "class {plain(name)}"', plain(EACH[name][0][0].upper() + EACH[name][0][1:]) + ".")
     for action in choices(parser(name))[name]._actions:
         if ", ".join(action.option_strings) != OF_ITSELF and action.help != argparse.SUPPRESS:

@@ -1,7 +1,7 @@
 """The numbers, statuses and limits that the pages promise, each compared with its source.
 
-Each text that `promises` yields has to be on its page. Times are those of `tools.check.parts`, by which `./check`
-prints its own; a page may round them.
+Each text that one of the functions from `releases` to `times` yields has to be on its page. Times are those of
+`tools.check.parts`, from which `./check` computes how long it will take. A page may round them.
 """
 from __future__ import annotations
 
@@ -16,7 +16,6 @@ from classroom.run.run import CLOSING
 from classroom.setup import keys
 from classroom.setup.slips import FIRST_PORT
 from classroom.setup.word_list import WORDS as KEY_WORDS
-from classroom.words import parser
 from tests.common import limits
 from tools.build.__main__ import progress_of
 from tools.build.crates import needed
@@ -28,7 +27,7 @@ SECURITY, LAB, JOURNAL, PROTOCOL = "SECURITY.md", "docs/LAB.md", "docs/JOURNAL.m
 WORDS = "none one two three four five six seven eight nine ten eleven twelve".split()
 # The words for a time on a page, and the range of minutes for which they may be used.
 ROUNDED = {"five minutes": (4, 7), "ten minutes": (7, 13), "half an hour or more": (25, 60), "an hour": (45, 75)}
-PROCESSORS = 4
+PROCESSORS = 4  # the times on the pages are for this number of processors
 
 
 def text(path: str) -> str:
@@ -43,12 +42,6 @@ def only(pattern: str, path: str) -> str:
     if len(found) != 1:
         raise ValueError(f"{path} has {len(found)} times {pattern}")
     return str(found[0])
-
-
-def default(word: str, option: str) -> str:
-    """Returns the default value of an option of a subcommand of `./class`, as a text."""
-    needed = {"run": ["run", "lab"], "new": ["new", "lab", "--students", "names"]}
-    return str(getattr(parser(word).parse_args(needed[word]), option))
 
 
 def releases() -> Iterator[tuple[str, str]]:
@@ -131,7 +124,8 @@ def guesses() -> Iterator[tuple[str, str]]:
 
 
 def times() -> Iterator[tuple[str, tuple[str, ...]]]:
-    """Yields for each time of a check or a build its page and the texts of which the page has to contain one."""
+    """Yields for each time of a check or a build its page and the texts of which the page has to contain one. These
+    texts differ in the words for the time (ROUNDED)."""
     proofs, quick = minutes_of([[PROOFS, wrong_beside()], QUICK], PROCESSORS)
     build = progress_of(needed(["mml_host"]), PROCESSORS).left(0.0) / 60
     for command, minutes in (("| `./check` | proves, builds and tests everything | {} |", proofs + quick),

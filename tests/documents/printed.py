@@ -17,7 +17,8 @@ TOP = Path(__file__).resolve().parents[2]
 PAGES = ("*.md", "docs/*.md", "course/*.md", "course/*/*.md")
 FENCE = re.compile(r"^```.*?^```$", re.MULTILINE | re.DOTALL)
 RUN = r"(runs|grades)/\d{4}-\d\d-\d\dT\d{4}-"
-CONVERSATION = "python3 client.py "  # Its lines are typed too: the pages' test has them.
+# Below this command a page also shows the lines that are typed. `converses` in tests/pages/pages checks them instead.
+CONVERSATION = "python3 client.py "
 
 
 def shown(text: str) -> Iterator[tuple[str, list[str]]]:
@@ -31,6 +32,8 @@ def shown(text: str) -> Iterator[tuple[str, list[str]]]:
 
 def pattern(lines: list[str]) -> str:
     """Returns the regular expression that matches an output if a page shows it by these lines."""
+    # Control characters stand for the parts that may differ, since `re.escape` has to leave those parts unchanged.
+    # "\0" stands for a line `...`. "\1" and "\2" enclose the word before a time, which is `runs` or `grades`.
     text = "".join(f"{line}\n" for line in lines)
     whole = re.sub(r"(?m)^\.\.\.\n", "\0", text)
     found = re.sub(RUN, lambda folder: f"\1{folder[1]}\2", whole)

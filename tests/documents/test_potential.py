@@ -11,8 +11,9 @@ from model.world import World
 
 TOP = Path(__file__).resolve().parents[2]
 PAGE = (TOP / "docs/SELF-STABILISATION.md").read_text(encoding="utf-8")
-LAB, SHOWN = TOP / "examples/five.toml", TOP / "examples/five-run.out"  # the output, which tests/program compares with the program's
-HIGHEST = 5
+# The lab of the page's example, and the output of its script, which tests/program compares with the program's.
+LAB, SHOWN = TOP / "examples/five.toml", TOP / "examples/five-run.out"
+HIGHEST = 5  # the highest node of this lab
 
 
 def rows(first: str) -> list[list[str]]:
@@ -23,7 +24,7 @@ def rows(first: str) -> list[list[str]]:
 
 
 def own_part(world: World, i: int) -> int:
-    """Returns the part that node i itself has in the potential, by the page's first table."""
+    """Returns the own part of node i in the potential (docs/SELF-STABILISATION.md), by the page's first table."""
     married, _, down = (row[1:] for row in rows("Own part of i"))
     unmarried = rows("Own part of i")[1][1:]
     column = 0 if world.m[i] else 1
@@ -34,8 +35,7 @@ def own_part(world: World, i: int) -> int:
 
 
 def link_part(world: World, i: int, j: int) -> int:
-    """Returns the part that the link from node i to the higher node j has in the potential, by the page's second
-    table."""
+    """Returns the part that node i has in the potential for its higher neighbour j, by the page's second table."""
     both, deceived, waits, settled, rest = (int(row[1]) for row in rows("Part of i for a higher neighbour j"))
     if world.p[i] == j:
         return both if world.p[j] == i else deceived if world.m[j] and not world.married(j) else waits
@@ -56,9 +56,10 @@ def configurations() -> list[World]:
 
 
 class ByHand(unittest.TestCase):
-    """The table of five nodes."""
+    """The page's table of the five nodes. The columns of a row are the configuration, the pointers, the nodes at which
+    m is true, the parts of the nodes 1 to 5, their sum, and the moves in the next step."""
 
-    def test_each_row_is_that_of_the_registers(self) -> None:
+    def test_each_row_has_the_registers_and_parts_of_its_configuration(self) -> None:
         table, worlds = rows("Configuration"), configurations()
         self.assertEqual(len(table), len(worlds))
         for row, world in zip(table, worlds):
@@ -70,7 +71,9 @@ class ByHand(unittest.TestCase):
                 parts = [own_part(world, i)] + [link_part(world, i, j) for j in world.near(i) if j > i]
                 self.assertEqual(row[2 + i], " + ".join(map(str, parts)), f"node {i} of {row}")
 
-    def test_sums_fall_by_the_moves(self) -> None:
+    def test_each_sum_falls_by_at_least_the_number_of_moves(self) -> None:
+        """Also checks that the numbers of moves are those in the output, and that the page's text names the falls and
+        the number of all moves."""
         table = rows("Configuration")
         sums = [int(row[8]) for row in table]
         for row, total in zip(table, sums):

@@ -2,12 +2,12 @@
 
     python3 -m tests.faults
 
-Each use of the program is run several times. In the first run the first call of a kind has an effect, in the next one
-the second call, and so on, until a run has no such call. The call fails, is interrupted by a signal, does nothing, or
-transfers only one byte. The output, the status and the error line are those of `docs/LAB.md`. An interrupted call
-changes nothing. A call without memory is reported as out of memory, except for a write of the journal. The replies
-before the failure are those of a plain run, and so is the journal, whose complete lines pass the audit. A server that
-is ended by a signal leaves the same.
+A *use* of the program is a command with its arguments and its input. Each use is run several times. In the first run
+the first call of a kind has an effect, in the next one the second call, and so on, until a run has no such call. The
+call fails, is interrupted by a signal, does nothing, or transfers only one byte. The output, the status and the error
+line are those of `docs/LAB.md`. An interrupted call changes nothing. A call without memory is reported as out of
+memory, except for a write of the journal. The replies before the failure are those of a plain run, and so is the
+journal, whose complete lines pass the audit. A server that is ended by a signal leaves the same.
 """
 import signal
 from collections.abc import Callable
@@ -17,7 +17,7 @@ from pathlib import Path
 from tests.common.preload import TOP, Ended, Preloaded, Server, Story, built_in, fail, good, in_room, play, run
 from tests.faults.halted import halted
 
-MOST = 1000
+MOST = 1000  # more calls of one kind than any run makes
 EINTR, EIO, EAGAIN, ENOMEM, EACCES, EMFILE, ENOSPC = 4, 5, 11, 12, 13, 24, 28
 
 
@@ -56,7 +56,8 @@ OPENS = [Kind("open", ENOMEM)]
 ACCEPTS = [Kind("accept", EMFILE), Kind("accept", ENOMEM)]
 THREADS = [Kind("thread", EAGAIN)]
 
-# A function that runs one use of the program with an effect on the nth call, and returns an error text, or an empty text.
+# A function that runs one use of the program with an effect on the nth call. It returns what is wrong with the run, or
+# an empty text.
 Use = Callable[[Kind, int, dict[str, str]], str]
 
 
@@ -74,12 +75,12 @@ def unwritten(kind: Kind, ended: Ended, out: bytes) -> str:
     """Returns what is wrong with the end of a run in which a write of the output `out` had the effect `kind`, or an
     empty text."""
     if ended.out == out or not out.startswith(ended.out):
-        return f"no front of what is written plainly: {ended.out!r}"
+        return f"not a proper prefix of the output without an effect: {ended.out!r}"
     return wrong(ended, kind.fault("write fault", ended.out))
 
 
 class Reads:
-    """The reads of a use in their order: each file is read until it has no more bytes."""
+    """The number of reads of the lab's file. Each use reads this file first, until it has no more bytes."""
 
     def __init__(self, library: Preloaded, lab: Path) -> None:
         """Counts the reads of a lab's file, by a run with the library."""
@@ -102,6 +103,7 @@ def shown(words: list[str], then: str, reads: Reads) -> Use:
         if kind.is_harmless:
             return wrong(ended, Ended(0, out, b""))
         if kind.of == "open":
+            # The program first opens `/dev/null` for each of the three standard streams, in case it is closed.
             return wrong(ended, kind.fault("write fault" if nth <= 3 else f"read fault: {then}"))
         if kind.of == "read":
             return wrong(ended, kind.fault(reads.fault(nth, then)))
@@ -119,7 +121,7 @@ def journal_fault(story: Story, ended: Ended, journal: bytes, nth: int) -> str:
         ("" if (ended.status, ended.error) == (4, b"journal fault\n") else f"another end: {ended}")
         or ("" if len(replies) == len(story.lines) else "a line without a reply")
         or story.expects(replies, frozenset())
-        or ("" if sum(granted) == nth - 1 else "an event after a put that failed, or a lost one")
+        or ("" if sum(granted) == nth - 1 else "an event after a write that failed, or a lost one")
         or ("" if journal == story.journal_of(replies, frozenset()) else "another journal")
     )
 
@@ -150,7 +152,7 @@ def scripted(story: Story, room: Path, reads: Reads) -> Use:
     words = ["script", str(story.lab), str(script), str(journal)]
     replies, kept = story.plain(frozenset())
     out = b"".join(replies)
-    puts = kept.count(b"\n")
+    lines = kept.count(b"\n")  # each line of the journal is a write, and they all come before those of the output
 
     def use(kind: Kind, nth: int, variables: dict[str, str]) -> str:
         """Runs the script with this effect on the nth call, which `variables` ask the library for. Returns what is
@@ -167,7 +169,7 @@ def scripted(story: Story, room: Path, reads: Reads) -> Use:
             return wrong(ended, kind.fault("read fault: lab"))
         if kind.of == "read":
             return cut_off(story, ended, found, kind.fault("read fault: script"))
-        if nth <= puts:
+        if nth <= lines:
             return journal_fault(story, ended, found, nth)
         return unwritten(kind, ended, out) or ("" if found == kept else "another journal")
 
@@ -197,13 +199,13 @@ class Talk:
     """The replies that two clients got, and the end of their server."""
 
     replies: list[bytes]
-    unasked: frozenset[int]
+    unasked: frozenset[int]  # the numbers of the lines without a reply
     ended: Ended
     journal: bytes
 
 
 class Served:
-    """Two clients of a server with a journal."""
+    """The use of the program that serves two clients and writes a journal."""
 
     def __init__(self, story: Story, room: Path, library: Preloaded) -> None:
         """Runs the server once without an effect, to learn its writes. The clients send the lines of `story`, `room` is
@@ -339,6 +341,7 @@ def stopped(story: Story, room: Path) -> str:
     journal = room / "stopped.journal"
     for number in (signal.SIGTERM, signal.SIGINT):
         words = ["serve", str(story.lab)]
+        # Three connections are one more than the story has, so the server doesn't end by itself.
         server = Server(lambda port: [*words, str(port), "3", str(journal)], {})
         replies, unasked = play(story, server.port)
         server.process.send_signal(number)
@@ -355,12 +358,14 @@ def stopped(story: Story, room: Path) -> str:
 
 
 def work(room: Path) -> str:
-    """Tries all uses of the program, with each kind of failure. Returns lines about the number of runs."""
+    """Tries all uses of the program, with each kind of failure. Returns a line with the number of calls that had an
+    effect."""
     library = Preloaded("faults/fail.c", room, "FAIL_COUNTS")
     lab = built_in(room)
     journal = TOP / "examples/whole-run.journal"
     lines = (TOP / "examples/whole-run.script").read_bytes().splitlines(keepends=True)
     story = Story(lab, b"".join(lines), room)
+    # The lines of ana and of the teacher alone, for a server of two connections. The teacher's is the second one.
     pair = Story(lab, b"".join(line.replace(b"4 ", b"2 ", 1) for line in lines if line[:1] in b"14"), room)
     reads = Reads(library, lab)
     uses: list[tuple[str, Use, list[Kind]]] = [

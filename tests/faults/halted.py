@@ -1,4 +1,5 @@
-"""Journals that fail during a run, with the expected replies written by hand."""
+"""Runs in which a write to the journal fails, with the expected replies written by hand. From then on the journal is
+*halted*: no further event is granted, but views and denials are answered as before."""
 from pathlib import Path
 
 from tests.common.preload import Client, Ended, Preloaded, Server, Story, fail, play, run
@@ -43,7 +44,7 @@ def scripted(lab: Path, room: Path, library: Preloaded) -> None:
     journal.unlink(missing_ok=True)
     ended = run(["script", str(lab), str(script), str(journal)], b"", failing(library, "write", 2, EIO))
     if (ended.status, ended.out, ended.error) != (END.status, REPLIES, END.error) or journal.read_bytes() != JOURNAL:
-        fail(f"a script whose second put fails: {ended}")
+        fail(f"a script whose second write to the journal fails: {ended}")
 
 
 def served(lab: Path, room: Path, library: Preloaded) -> None:
@@ -56,16 +57,17 @@ def served(lab: Path, room: Path, library: Preloaded) -> None:
     replies, _ = play(Story(lab, SCRIPT, room), server.port)
     ended = server.end()
     if ended != END or b"".join(replies) != REPLIES or journal.read_bytes() != JOURNAL:
-        fail(f"a server whose second put fails: {ended}, {replies}")
+        fail(f"a server whose second write to the journal fails: {ended}, {replies}")
 
 
 def unaccepted(lab: Path, library: Preloaded) -> None:
-    """Checks a server whose journal takes nothing, and a connection that can't be accepted: the one before is
+    """Checks a server whose journal takes nothing, and which can't accept its second connection: the first one is
     served to its end."""
     words = ["serve", str(lab)]
     server = Server(lambda port: [*words, str(port), "2", "/dev/full"], failing(library, "accept", 2, EMFILE))
     client = Client(server.port)
     lines, wanted = (text.splitlines(keepends=True) for text in (SCRIPT, REPLIES))
+    # Ana's hello and her move. The move gets the reply that the second move gets above: its event can't be written.
     replies = [client.ask(lines[at][2:]) for at in (0, 3)]
     client.close()
     ended = server.end()
