@@ -1,4 +1,8 @@
-"""Plays classes on a host, as a user runs it. The classes' connections come and go.
+"""Plays classes on a host (the server of a class), as a user runs it. The classes' connections come and go.
+
+The classes are those of the built-in lab. Ana, Ben and Cyd are its students, and Tess is its teacher. Students connect
+to one port, and the teacher to the other, the desk. A connection that is served has a seat. A `Talk` notes the lines of
+several connections, and compares their replies with those of a script.
 
     python3 -m tests.host [WORD..]
 
@@ -16,8 +20,9 @@ from tests.common.lines import BID, BUSY, BYE, CLOSE, LATE, NODES, OVER, REPORT,
 from tests.common.preload import Ended, fail, good
 from tests.common.side_by_side import Test, try_all
 
+# How a host ends that can't listen at a port, and how one ends whose class had no event.
 NOT_LISTENING = Ended(4, b"", b"host: cannot listen\n")
-NONE = Ended(0, b"done: 0 events, configuration 0\n", b"")
+NO_EVENTS = Ended(0, b"done: 0 events, configuration 0\n", b"")
 
 
 def move(at: int, node: int, rule: str) -> bytes:
@@ -25,22 +30,22 @@ def move(at: int, node: int, rule: str) -> bytes:
     return line_of(at=at, do="move", node=node, rule=rule)
 
 
-def acts(talk: Talk, student: Caller, teacher: Caller, turn: int) -> None:
-    """Sends a move of ana's, its close, and a fault that makes the move possible again: three events. `turn` says
-    how often this was done before."""
+def plays_a_move(talk: Talk, student: Caller, teacher: Caller, turn: int) -> None:
+    """Sends a move of ana's node, its close, a look, and a fault that makes the move possible again. These are three
+    events, which lead to the next two configurations. `turn` says how often this was done before in the class."""
     talk.ask(student, move(2 * turn, 1, "seduction"))
     talk.ask(teacher, CLOSE)
     talk.ask(student, look("ana"))
     talk.ask(teacher, fault_at(1))
 
 
-def goes_on(talk: Talk, student: Caller, teacher: Caller, turn: int) -> None:
-    """Sends a hundred requests that only look, and then `acts`."""
+def looks_and_plays(talk: Talk, student: Caller, teacher: Caller, turn: int) -> None:
+    """Sends a hundred looks and reports, and then the requests of `plays_a_move`, to which `turn` is passed."""
     for _ in range(50):
         talk.ask(student, look("ana"))
         talk.ask(teacher, REPORT)
         time.sleep(0.002)
-    acts(talk, student, teacher, turn)
+    plays_a_move(talk, student, teacher, turn)
 
 
 def one_after_another(room: Path) -> None:
@@ -54,10 +59,11 @@ def one_after_another(room: Path) -> None:
             name = list(NODES)[turn % 3]
             caller = talk.comes(host.port, hello(name))
             see = line_of(do="see", node=turn % 4)
+            # The last three lines aren't granted: no such request, a second hello, and a request of the teacher's.
             for line in (look(name), see, line_of(do="dance"), hello("ben"), REPORT):
                 talk.ask(caller, line)
             if name == "ana":
-                acts(talk, caller, teacher, turn // 3)
+                plays_a_move(talk, caller, teacher, turn // 3)
             if turn % 4 == 0:
                 talk.leaves(caller)
                 continue
@@ -73,19 +79,19 @@ def one_after_another(room: Path) -> None:
 
 
 def through_one_seat(room: Path) -> None:
-    """With one seat, a client that sees the end of its connection and connects again isn't answered `busy`, except
-    rarely on a slow machine. The seat is free within half a second."""
-    lab, told = lab_of(room, 2), 0
+    """If there is one seat for students, a client that sees the end of its connection and connects again gets the seat.
+    A newcomer waits half a second for a seat. So only a slow machine may answer `busy`, five times of 200 at most."""
+    lab, busy = lab_of(room, 2), 0
     with Host(lab, 0, 0) as host:
         for _ in range(200):
             caller = Caller(host.port)
             if caller.ask(hello("ana")) == BUSY:
-                told += 1
+                busy += 1
             elif (caller.ask(BYE), caller.line()) != (BID, b""):
                 fail("host: a connection goes on after its bye")
             caller.close()
-    if told > 5:
-        fail(f"host: after the end of the connection before {told} of 200 are answered `busy`")
+    if busy > 5:
+        fail(f"host: after the end of the connection before {busy} of 200 are answered `busy`")
 
 
 def killed_in_a_line(room: Path) -> None:
@@ -112,11 +118,12 @@ def killed_in_a_line(room: Path) -> None:
     talk.check(journal)
 
 
-def knocks(port: int, count: int) -> None:
-    """Opens and closes `count` connections to a port."""
+def connects_often(port: int, count: int) -> None:
+    """Opens and closes `count` connections to a port. Repeats those that fail."""
     made = 0
     while made < count:
         try:
+            # Each connection occupies a port of its source address for a while, so there are a hundred addresses.
             Caller(port, f"127.0.0.{2 + made % 100}").close()
             made += 1
         except OSError:
@@ -124,8 +131,9 @@ def knocks(port: int, count: int) -> None:
 
 
 def connect_and_close(room: Path) -> None:
-    """A loop of connections that are closed at once leaves the class running, and uses no more memory, threads or
-    files. The first rounds don't count, because threads keep some memory."""
+    """While thousands of connections are opened and closed at once, the class goes on. Afterwards the host has as many
+    threads and open files as before. Its memory grows at first, because threads keep some. In one of the first 27
+    rounds of 2000 connections it has to grow by no more than a fiftieth."""
     lab, journal = lab_of(room, 4, 100_000), room / "journal"
     with Host(lab, 0, 0, journal) as host:
         talk = Talk(lab, 4, room)
@@ -133,11 +141,12 @@ def connect_and_close(room: Path) -> None:
         threads, files = host.threads(), host.files()
         turns, held = 0, [0, host.kilobytes()]
         while (held[-1] - held[-2]) * 50 > held[-1] and len(held) < 30:
-            loop = threading.Thread(target=knocks, args=[host.port, 2000])
+            loop = threading.Thread(target=connects_often, args=[host.port, 2000])
             loop.start()
-            most = turns + 10  # A slow machine's loop takes longer, and a script has a megabyte at most.
+            # A slow machine needs longer for these connections. All lines have to fit into a script of one megabyte.
+            most = turns + 10
             while loop.is_alive() and turns < most:
-                goes_on(talk, student, teacher, turns)
+                looks_and_plays(talk, student, teacher, turns)
                 turns += 1
             loop.join()
             host.settles(threads, files, "after 2000 connections")
@@ -153,8 +162,8 @@ def connect_and_close(room: Path) -> None:
 
 
 def ends_after(caller: Caller, begun: float, piece: bytes, every: float, left: list[bytes]) -> float:
-    """Sends a piece every `every` seconds until the connection ends, at most ten times. Returns the seconds from
-    `begun` until then, and appends the received lines to `left`."""
+    """Sends a piece every `every` seconds until the host ends the connection. Returns the seconds from the time `begun`
+    until then, and appends the received lines to `left`. Fails after ten pieces."""
     sent, found = 0, b""
     while True:
         caller.socket.settimeout(every)
@@ -196,6 +205,7 @@ def deadlines(room: Path) -> None:
             wait.start()
         for wait in waits:
             wait.join()
+        # A second less than the time limits, since the connections are slightly older or younger than `begun` says.
         least = [4 if port == host.desk else 9 for port, _ in kept]
         if sorted(times) != [*range(len(kept))] or any(times[at] < least[at] for at in times):
             fail(f"host: connections without a greeting are ended after {times} seconds")
@@ -204,12 +214,13 @@ def deadlines(room: Path) -> None:
         # A client that has greeted may be silent for longer than the time limit of a hello.
         if early.ask(BYE) != BID:
             fail("host: who is silent after a greeting is ended too")
-        if host.dismissed(let_in(host.desk, hello("tess"))[0]) != NONE:
+        if host.dismissed(let_in(host.desk, hello("tess"))[0]) != NO_EVENTS:
             fail("host: another end after silent connections")
 
 
 def told_busy(port: int) -> None:
-    """Checks that a new connection, and one that sends a request, is answered `busy` and closed."""
+    """Checks that new connections to a full port are answered `busy` and closed, whether they send nothing, a hello or
+    a bye."""
     for line in (b"", hello("ana"), BYE):
         caller = Caller(port)
         if line:
@@ -237,12 +248,12 @@ def says_busy(room: Path) -> None:
         if reply != greeted("cyd") or not ben.ask(look("ben")).startswith(b'{"at":0'):
             fail("host: a seat that was left isn't given to the next")
         told_busy(host.port)
-        if host.dismissed(tess) != NONE or (ben.line(), ben.line(), cyd.line()) != (OVER, b"", OVER):
+        if host.dismissed(tess) != NO_EVENTS or (ben.line(), ben.line(), cyd.line()) != (OVER, b"", OVER):
             fail("host: another end of a full host")
     alone = lab_of(room, 1)
     with Host(alone, 0, 0) as host:
         told_busy(host.port)
-        if host.dismissed(let_in(host.desk, hello("tess"))[0]) != NONE:
+        if host.dismissed(let_in(host.desk, hello("tess"))[0]) != NO_EVENTS:
             fail("host: another end of a host for the desk alone")
 
 
@@ -266,8 +277,8 @@ def two_of_one_name(room: Path) -> None:
 
 
 def raced(room: Path) -> None:
-    """Two moves and a close are sent at the same time, over and over. Each event is reported once, and the journal
-    is legal."""
+    """Two students' moves and a close are sent at the same time, two hundred times. Each event of the journal is in one
+    reply, and the journal passes the audit. Every twenty turns the students connect again."""
     lab, journal = lab_of(room, 3, 10_000), room / "journal"
     told: list[bytes] = []
     with Host(lab, 0, 0, journal) as host:
@@ -275,11 +286,12 @@ def raced(room: Path) -> None:
         for turn in range(200):
             if turn % 20 == 0:
                 ana, ben = (let_in(host.port, hello(name))[0] for name in ("ana", "ben"))
-            at = int(ana.ask(look("ana"))[6:].split(b",", 1)[0])
+            at = int(ana.ask(look("ana"))[6:].split(b",", 1)[0])  # the number after `{"at":`
             three = [(ana, move(at, 1, "seduction")), (ben, move(at, 2, "seduction")), (tess, CLOSE)]
             for caller, line in three[turn % 3:] + three[:turn % 3]:
                 caller.send(line)
             told += [caller.line() for caller, _ in three]
+            # The close applies what is left of the moves. The faults make both moves possible again.
             told.append(tess.ask(CLOSE))
             told += [tess.ask(fault_at(node)) for node in (1, 2)]
             if turn % 20 == 19:
@@ -288,6 +300,7 @@ def raced(room: Path) -> None:
         ended = host.dismissed(tess)
     places = sorted(int(place) for reply in told for place in re.findall(rb'"place":(\d+)', reply))
     events = len(journal.read_bytes().splitlines())
+    # In each turn at least one move, one close and the two faults are granted.
     if places != list(range(1, events + 1)) or events < 4 * 200:
         fail(f"host: {len(places)} events of {events} are reported, or not each once")
     number = audit(lab, journal, events).split(b"configuration ")[1].split(b",")[0]
@@ -335,8 +348,8 @@ def byes_that_end_nothing(room: Path) -> None:
 
 
 def asks_on(port: int, name: str, asked: threading.Semaphore, wrong: list[str]) -> None:
-    """Sends looks and moves as the student `name` without end, until the host hangs up. Releases `asked` after each,
-    and appends what is wrong to `wrong`."""
+    """Sends looks and moves as the student `name` until the class is over or the host hangs up. Releases `asked` after
+    each look and move. Appends a text to `wrong` for each reply that a seduction can't have."""
     caller, _ = let_in(port, hello(name))
     at = 0
     while True:
@@ -346,14 +359,26 @@ def asks_on(port: int, name: str, asked: threading.Semaphore, wrong: list[str]) 
         if reply in (b"", OVER):
             return
         if b'"stale"' in reply:
-            at = int(reply[6:reply.index(b",")])
+            at = int(reply[6:reply.index(b",")])  # the present configuration, which the denial names
         elif not reply.startswith((b'{"at":%d,"node":' % at, b'{"clause":3,', b'{"clause":4,')):
             wrong.append(f"{name} is answered {reply!r}")
         asked.release()
 
 
+def sends_until_full(caller: Caller, line: bytes) -> None:
+    """Sends a line again and again without reading replies, until the host accepts no more bytes, or after 64 MB."""
+    caller.socket.setblocking(False)
+    sent = 0
+    while sent < 64 << 20:
+        try:
+            sent += caller.socket.send(line * 1000)
+        except BlockingIOError:
+            break
+
+
 def ended_while_asked(room: Path) -> None:
-    """The teacher's bye ends the host at once, while students ask, are silent, are within a line, or don't read."""
+    """The teacher's bye ends the host within eight seconds, while students ask, are silent, are within a line, or don't
+    read. Those who are silent or within a line are answered `over`, and nobody can connect afterwards."""
     lab, journal = lab_of(room, 16), room / "journal"
     with Host(lab, 0, 0, journal) as host:
         teacher, _ = let_in(host.desk, hello("tess"))
@@ -363,22 +388,16 @@ def ended_while_asked(room: Path) -> None:
             student.start()
         silent, half, deaf = (let_in(host.port, hello("cyd"))[0] for _ in range(3))
         half.send(b'{"do":')
-        deaf.socket.setblocking(False)
-        sent = 0
-        while sent < 64 << 20:
-            try:
-                sent += deaf.socket.send(look("cyd") * 1000)
-            except BlockingIOError:
-                break
+        sends_until_full(deaf, look("cyd"))
         for _ in range(20):
             for _ in range(20):
                 asked.acquire()
             teacher.ask(CLOSE)
             teacher.ask(fault_at(1))
-        said, looks = [teacher.ask(BYE), teacher.line()], 0
-        while host.runs() and looks < 160:
+        said, polls = [teacher.ask(BYE), teacher.line()], 0
+        while host.runs() and polls < 160:
             time.sleep(0.05)
-            looks += 1
+            polls += 1
         ended = host.end()
         for student in students:
             student.join()
@@ -397,12 +416,13 @@ def ended_while_asked(room: Path) -> None:
     number = told.split(b"configuration ")[1].split(b",")[0]
     if ended != Ended(0, b"done: %d events, configuration %s\n" % (events, number), b"") or events < 21:
         fail(f"host: another end while students ask: {ended}, {events} events")
-    if looks == 160:
+    if polls == 160:
         fail("host: its end while students ask takes more than eight seconds")
 
 
 def ports(room: Path) -> None:
-    """If a port is taken, or both ports are the same, nothing is served, and the journal is unchanged."""
+    """If a port is taken, or both ports are the same, nothing is served, and the journal is unchanged. If a running
+    host uses the journal, a second host is refused."""
     lab, journal, kept = lab_of(room, 4), room / "journal", b"1 0 close\n"
     with socket.create_server(("127.0.0.1", 0)) as taken, socket.create_server(("127.0.0.1", 0)) as free:
         used, port = taken.getsockname()[1], free.getsockname()[1]
@@ -418,7 +438,7 @@ def ports(room: Path) -> None:
                     fail(f"host: at the ports {one} and {two} it ends with {ended}")
                 left = [file.read_bytes() for file in room.glob("journal*")]
                 if left != ([before] if before else []):
-                    fail("host: where a port can't be had the journal isn't as it was")
+                    fail("host: if it can't listen at a port, the journal isn't as it was")
     # If two hosts use one journal, the second changes nothing.
     with Host(lab, 0, 0, journal) as first:
         student, _ = let_in(first.port, hello("ana"))
@@ -429,18 +449,19 @@ def ports(room: Path) -> None:
         if first.dismissed(let_in(first.desk, hello("tess"))[0]).status != 0:
             fail("host: another end of the first of two on one journal")
     if (room / "journal.~1~").read_bytes() != kept:
-        fail("host: what stood in the journal isn't kept")
+        fail("host: the older content of the journal isn't kept")
     audit(lab, journal, 1)
 
 
 def listeners(port: int) -> set[str]:
     """Returns the addresses of the listeners on a port, as the system spells them."""
+    # In a row of these tables the second word is the local address and port, and the fourth one is 0A for a listener.
     rows = [line.split() for name in ("tcp", "tcp6") for line in Path(f"/proc/net/{name}").read_text(encoding="ascii").splitlines()[1:]]
     return {address for row in rows for address, _, number in [row[1].partition(":")] if row[3] == "0A" and int(number, 16) == port}
 
 
 def own_address() -> str:
-    """Returns an address of this machine by which it would reach others."""
+    """Returns the address that this machine would use to reach others, or 127.0.0.2 if it has no way to others."""
     with socket.socket(socket.AF_INET, socket.SOCK_DGRAM) as it:
         try:
             it.connect(("192.0.2.1", 9))  # For a datagram socket this only chooses the address; nothing is sent.
@@ -454,7 +475,7 @@ def on_this_machine(room: Path) -> None:
     """A host listens only on the loopback address, and can't be reached by another one."""
     with Host(lab_of(room, 4), 0, 0) as host:
         for port in (host.port, host.desk):
-            if (found := listeners(port)) != {"0100007F"}:
+            if (found := listeners(port)) != {"0100007F"}:  # 127.0.0.1, the lowest byte first
                 fail(f"host: it listens at {found}")
             for address in ("127.0.0.2", own_address()):
                 try:
@@ -462,22 +483,23 @@ def on_this_machine(room: Path) -> None:
                 except OSError:
                     continue
                 fail(f"host: it is reached by {address}")
-        if host.dismissed(let_in(host.desk, hello("tess"))[0]) != NONE:
+        if host.dismissed(let_in(host.desk, hello("tess"))[0]) != NO_EVENTS:
             fail("host: another end of a host that others wanted to reach")
 
 
 def one_device(room: Path) -> None:
-    """A device may be the journal and the output at the same time."""
+    """A device, here /dev/null, may be the journal and standard error at the same time."""
     lab = lab_of(room, 4)
     with Host(lab, 0, 0, "/dev/null", before=["bash", "-c", 'exec "$@" 2> /dev/null', "bash"]) as host:
         if not host.listens:
             fail(f"host: with journal and errors in one device it ends with {host.end()}")
-        if host.dismissed(let_in(host.desk, hello("tess"))[0]) != NONE:
+        if host.dismissed(let_in(host.desk, hello("tess"))[0]) != NO_EVENTS:
             fail("host: another end with journal and errors in one device")
 
 
 def few_descriptors(room: Path) -> None:
-    """With a limit of 24 or 12 open files, thirty clients at once are all served in the end."""
+    """If the host may open only 24 or 12 files, thirty clients that connect at once are all served in the end, although
+    at first further connections occupy all its files."""
     for descriptors in (24, 12):
         lab, journal = lab_of(room, 16), room / f"{descriptors}.journal"
         limited = ["bash", "-c", f'ulimit -n {descriptors} && exec "$@"', "bash"]
@@ -511,13 +533,13 @@ def few_descriptors(room: Path) -> None:
             wanted = [(*rules[at:at + 3], b"") for at in range(0, 9, 3)] * 10
             if sorted(served) != sorted(wanted):
                 fail(f"host: of thirty clients over {descriptors} files {len(served)} are served, or otherwise")
-            if host.dismissed(teacher) != NONE:
+            if host.dismissed(teacher) != NO_EVENTS:
                 fail(f"host: another end over {descriptors} files")
         audit(lab, journal, 0)
 
 
 def words(room: Path) -> None:
-    """Arguments, labs and files that a host refuses."""
+    """A host that gets wrong arguments, a lab or a file that it can't use, ends with the error and status for them."""
     lab = lab_of(room, 4)
     bad = room / "bad.toml"
     bad.write_text(lab.read_text(encoding="utf-8").replace('owner = "ana"', 'owner = "ann"'), encoding="utf-8")

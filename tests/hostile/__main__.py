@@ -25,17 +25,18 @@ from tests.common.hosting import HOST, Host, let_in
 from tests.common.lines import BID, BYE, LONG, MALFORMED, denial_of, hello, line_of
 from tests.common.preload import LIMIT, Client, Ended, Server, Story, built_in, fail, in_room
 
-SECONDS = 20.0
-SILENCE = 61.0
-QUIET = 300.0
-UNREAD = 10.0
+SECONDS = 20.0  # how long the hostile clients act, unless the command line says otherwise
+SILENCE = 61.0  # seconds for which a client of another server is silent
+QUIET = 300.0  # the most seconds between the two halves of a line, less than the ten minutes of a host
+UNREAD = 10.0  # seconds after which a host ends a connection that takes no reply
 OVER_HOST = "host" in sys.argv[1:]
-MOST_LINES = 18_000
-PAUSE = 0.001
+MOST_LINES = 18_000  # lines of the honest clients, whose script has to fit into a megabyte
+PAUSE = 0.001  # seconds between two lines of an honest client
+# A request that every hostile client may send, since the node doesn't exist, and the replies to it.
 SEE = line_of(do="see", node=99)
 NOT_GREETED = denial_of("not-greeted")
 HIDDEN = denial_of("hidden")
-# A host closes connections that don't greet.
+# A host closes connections that don't greet, so the hostile clients of a host say hello first.
 DENIED = HIDDEN if OVER_HOST else NOT_GREETED
 Program = Server | Host
 # A hostile client is a function of a port, the time when it ends, and a source of random numbers. It returns what is
@@ -44,8 +45,8 @@ Hostile = Callable[[int, float, random.Random], str]
 
 
 def opened(port: int) -> socket.socket:
-    """Returns a connection to a port that sends each piece at once. If the server is a host, the connection has
-    greeted."""
+    """Connects to a port, and says hello if the server is a host. Returns the connection, which sends the bytes of each
+    call at once."""
     it = let_in(port, hello("cyd"))[0].socket if OVER_HOST else socket.create_connection(("127.0.0.1", port), LIMIT)
     it.setsockopt(socket.IPPROTO_TCP, socket.TCP_NODELAY, 1)
     return it
@@ -81,7 +82,7 @@ def long_line(port: int, until: float, draw: random.Random) -> str:
     `long`."""
     with opened(port) as it:
         begin(it, until, draw)
-        it.sendall(b" " * (4097 - len(SEE) + 1) + SEE)
+        it.sendall(b" " * (4097 - len(SEE) + 1) + SEE)  # 4097 bytes before the newline, which SEE has
         try:
             with it.makefile("rb") as replies:
                 return "" if replies.read() == (LONG if OVER_HOST else b"") else "a line that is too long was answered"
@@ -107,7 +108,7 @@ def half_line(port: int, until: float, draw: random.Random) -> str:
 
 
 def byte_by_byte(port: int, until: float, draw: random.Random) -> str:
-    """Sends requests one byte at a time."""
+    """Sends requests one byte at a time, and checks that each is answered correctly."""
     with opened(port) as it, it.makefile("rb") as replies:
         while time.monotonic() < until:
             for at in range(len(SEE)):
@@ -119,7 +120,8 @@ def byte_by_byte(port: int, until: float, draw: random.Random) -> str:
 
 
 def reset(port: int, until: float, draw: random.Random) -> str:
-    """Sends requests without reading their replies, and resets the connection."""
+    """Sends requests without reading their replies, and resets the connection, so that the server's next read or write
+    fails."""
     with opened(port) as it:
         begin(it, until, draw)
         it.sendall(SEE * draw.randrange(1, 200))
@@ -159,7 +161,7 @@ def flood(port: int, until: float, draw: random.Random) -> str:
 
 
 def gone(port: int, until: float, draw: random.Random) -> str:
-    """Opens a connection, and sends no line at all."""
+    """Opens a connection, sends nothing, and closes it after a random part of the time until `until`."""
     with socket.create_connection(("127.0.0.1", port), LIMIT):
         time.sleep(max(0.0, until - time.monotonic()) * draw.uniform(0.3, 0.6))
     return ""
@@ -176,7 +178,8 @@ ALL: list[Hostile] = [noise, long_line, half_line, byte_by_byte, reset, flood, g
 
 
 def honest_lines() -> bytes:
-    """Returns the lines of two honest clients in turn: views and denials, and now and then a move and its close."""
+    """Returns a script of two honest clients, a student and the teacher: views and denied requests, and now and then a
+    move, its close, and a fault that makes the move possible again."""
     lines = ['1 {"do":"hello","key":"a-key","name":"ana"}', '2 {"do":"hello","key":"chalk","name":"tess"}']
     number = 0
     while len(lines) < MOST_LINES:
@@ -243,7 +246,8 @@ class Honest:
 
 
 def serving(lab: Path, connections: int) -> Program:
-    """Starts a server for this number of connections, or a host."""
+    """Starts a server for this number of connections, or a host, which has no such number. Fails if it doesn't
+    listen."""
     server: Program
     if OVER_HOST:
         server = Host(lab, 0, 0)
@@ -255,13 +259,14 @@ def serving(lab: Path, connections: int) -> Program:
 
 
 def served(story: Story, connections: int) -> tuple[Program, Honest]:
-    """Starts a server, and its honest clients."""
+    """Starts a server for this number of connections (a host has no such number), and its honest clients. Returns
+    both."""
     server = serving(story.lab, connections)
     return server, Honest(story, server)
 
 
 def ended(honest: Honest, server: Program) -> None:
-    """Checks that the server ends with the events of the honest clients alone."""
+    """Closes the honest clients. Checks that the server ends well, and has had no other events than theirs."""
     events = sum(b'"place":' in reply for reply in honest.wanted[:honest.at])
     end = honest.end(server)
     if end.status != 0 or end.error or not end.out.startswith(b"done: %d events, " % events):
@@ -269,7 +274,7 @@ def ended(honest: Honest, server: Program) -> None:
 
 
 def answered(futures: list[Future[str]]) -> None:
-    """Checks that no hostile client has returned a fault."""
+    """Waits until all hostile clients have ended. Fails if one of them has returned a text about an error."""
     for future in futures:
         if future.result():
             fail(f"hostile: {future.result()}")
