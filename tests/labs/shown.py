@@ -12,8 +12,8 @@ from typing import Any
 from tests.common.preload import Ended, fail, run
 from tests.labs.rows import Row
 
-Look = dict[str, Any]
-PART = 100
+Look = dict[str, Any]  # the reply to a look
+PART = 100  # the number of people whose looks are in one script, which has to fit into a megabyte
 
 
 def hello(name: str, key: str) -> str:
@@ -51,8 +51,8 @@ class Shown:
         return words[1::2]
 
     def replies(self, people: Sequence[tuple[str, str]], nodes: list[int], sessions: int) -> list[dict[str, Any]]:
-        """Returns the replies to all looks of these people. Also checks that the last connection is answered, and
-        that one more is refused by the script."""
+        """Returns the replies to all lines of `looks` for these people. Also checks that the lab has this number of
+        sessions: a line on the last connection is answered, and a line on one more is a bad line of the script."""
         lines = looks(people, nodes)
         last = f'{sessions} {{"do":"bye"}}\n{sessions + 1} {{"do":"bye"}}\n'
         self.script.write_text("".join(lines) + last, encoding="utf-8")
@@ -63,25 +63,26 @@ class Shown:
         return [json.loads(line.split(b" ", 1)[1]) for line in found.out.splitlines()[:-1]]
 
     def all_replies(self, students: int, nodes: list[int], sessions: int) -> list[dict[str, Any]]:
-        """Returns the replies to all looks of the teacher and the students, by scripts that aren't too large."""
+        """Returns the replies to all lines of `looks` for the teacher and this number of students. Runs a script for
+        each PART of these people, since a script may have a megabyte at most."""
         people = [self.row.teacher, *self.row.students[:students]]
         replies = []
         for start in range(0, len(people), PART):
             replies += self.replies(people[start : start + PART], nodes, sessions)
         return replies
 
-    def takes(self, node: int, events: int) -> Ended:
+    def audit_of_faults(self, node: int, events: int) -> Ended:
         """Returns the result of the audit of a journal with `events` faults at a node."""
         lines = (f"{place} {place - 1} fault {node} - false\n" for place in range(1, events + 1))
         self.journal.write_text("".join(lines), encoding="ascii")
         return run(["audit", str(self.lab), str(self.journal)], b"", {})
 
     def limit(self, node: int, events: int) -> None:
-        """Checks that `events` events are allowed, and that one more isn't."""
-        found = self.takes(node, events)
+        """Checks that the lab allows `events` events, which are faults at a node, and not one more."""
+        found = self.audit_of_faults(node, events)
         if not found.out.startswith(b"ok: %d events, configuration %d, " % (events, events)):
             self.fail(f"fewer events than {events}: {found.error!r}")
-        if self.takes(node, events + 1).error != b"audit: line %d: over the limit of events\n" % (events + 1):
+        if self.audit_of_faults(node, events + 1).error != b"audit: line %d: over the limit of events\n" % (events + 1):
             self.fail(f"more events than {events}")
 
 
@@ -93,8 +94,8 @@ def mark(look: Look, node: int) -> str:
 
 
 def text_of(nodes: list[int], students: list[str], replies: list[dict[str, Any]]) -> str:
-    """Returns the text about all nodes that the replies show."""
-    width = len(nodes) + 2
+    """Returns the text about all nodes, as the module's docstring says. `replies` are those of `all_replies`."""
+    width = len(nodes) + 2  # replies to each person: to the hello, the looks and the bye
     seen = [replies[start + 1 : start + 1 + len(nodes)] for start in range(0, width * (len(students) + 1), width)]
     text = ""
     for at, look in enumerate(seen[0]):
@@ -105,7 +106,7 @@ def text_of(nodes: list[int], students: list[str], replies: list[dict[str, Any]]
 
 
 def compare(row: Row, room: Path) -> None:
-    """Checks that the program shows the lab of a row as expected."""
+    """Checks that the program reads from a row's document the lab that `row.shows` describes."""
     shown = Shown(row, room)
     head, *parts = row.shows.split("; ")
     events, sessions = (int(word) for word in head.split()[:2])

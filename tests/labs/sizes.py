@@ -1,9 +1,11 @@
-"""Labs at their limits and beyond, which are too large to write by hand."""
+"""Labs at their limits and beyond, which are too large to write by hand. They are computed here as rows, which have the
+same form as those of the tables."""
 from collections.abc import Iterable
 
 from tests.common.limits import MOST as LIMIT
 from tests.labs.rows import Row
 
+# The limits, and the first lines of labs.
 NAME, KEY, SESSIONS = LIMIT["name"], LIMIT["key"], LIMIT["sessions"]
 HEAD = f"""sessions = {SESSIONS}
 teacher = {{ name = "tess", key = "chalk" }}
@@ -58,7 +60,8 @@ def loose() -> Row:
 
 
 def lengths() -> list[Row]:
-    """Returns rows with names, keys and sessions on both sides of their limits."""
+    """Returns rows of labs of one node. In each row the length of the teacher's name, the length of the teacher's key,
+    or the number of sessions is allowed, or is just outside its limits."""
     bad, sessions = "lab: principal 0: bad name or key", "lab: sessions is out of its limits"
     wanted = [
         (1, 1, 1, ""), (NAME, KEY, SESSIONS, ""), (NAME + 1, KEY, SESSIONS, bad), (NAME, KEY + 1, SESSIONS, bad), (0, KEY, SESSIONS, bad),

@@ -3,7 +3,7 @@
     python3 -m tests.memory           all of it
     python3 -m tests.memory uses      the program alone
     python3 -m tests.memory hosts     the commands that judge a class or answer a script
-    python3 -m tests.memory classes   its words `host` and `resume` alone
+    python3 -m tests.memory classes   the commands `host` and `resume` alone
     python3 -m tests.memory tests     the tests inside the crates alone
 
 Each use is run several times. In the first run the first request for memory is refused, in the next one the second
@@ -25,7 +25,7 @@ from tests.memory.refusing import OUT_OF_MEMORY, Tried, Use, done_line, memories
 
 
 def fault_and_replies(story: Story, ended: Ended) -> tuple[str, list[bytes]]:
-    """Returns what is wrong with the end of a script, or an empty text, and its replies."""
+    """Returns what is wrong with the end and the replies of a story's script, or an empty text, and the replies."""
     replies = ended.out.splitlines(keepends=True)
     if ended.status != 0 or ended.error:
         return "another end", replies
@@ -69,9 +69,10 @@ def fault_of_end(ended: Ended, replies: list[bytes], audited: bytes) -> str:
     return "" if ended in (wanted, OUT_OF_MEMORY) else "another end"
 
 
-def first_unanswered_late(story: Story, unasked: frozenset[int]) -> str:
-    """Returns a text about a connection that was closed after the reply to its first line, or an empty text. `unasked`
-    has the numbers of the lines without a reply."""
+def closed_after_a_reply(story: Story, unasked: frozenset[int]) -> str:
+    """Returns a text about a connection that was closed after one of its lines was answered, or an empty text. Without
+    memory the server may only close a connection before its first reply. `unasked` has the numbers of the lines without
+    a reply."""
     begun = set()
     for at, line in enumerate(story.lines):
         number = line.split(b" ", 1)[0]
@@ -96,7 +97,7 @@ def served(story: Story, room: Path) -> Use:
         ended = server.end()
         kept = journal.read_bytes()
         fault = (
-            first_unanswered_late(story, unasked)
+            closed_after_a_reply(story, unasked)
             or story.expects(replies, unasked)
             or fault_of_end(ended, replies, story.audit(kept))
             or ("" if kept == story.journal_of(replies, unasked) else "another journal")
@@ -107,7 +108,8 @@ def served(story: Story, room: Path) -> Use:
 
 
 def refused_tests(library: Preloaded) -> str:
-    """Runs the tests of refusals again with the library. Each of them checks that it met refusals."""
+    """Runs the crates' tests named `refusals_..` again, with the library. Each of them checks that it met refusals.
+    Returns a line with their number. Fails if a test fails, or if there is none."""
     count = 0
     for program in sorted(TOP.glob("crates/*/out/*_tests")):
         listed = subprocess.run([program, "--list"], capture_output=True, env=dict[str, str](), timeout=LIMIT, check=True)
@@ -132,6 +134,7 @@ def refused_uses(library: Preloaded, room: Path) -> str:
     lines = (TOP / "examples/whole-run.script").read_bytes().splitlines(keepends=True)
     story, once = Story(lab, b"".join(line + line for line in lines), room), Story(lab, b"".join(lines), room)
     two = [line for line in lines if line[:1] in b"14"]
+    # The lines of ana and of the teacher, each twice, for a server of two connections. The teacher's is the second one.
     pair = Story(lab, b"".join(line.replace(b"4 ", b"2 ", 1) * 2 for line in two), room)
     uses = {
         "no words": scripted(story, room, ""),

@@ -20,7 +20,8 @@ from tests.common.lines import BID, BUSY, BYE, CLOSE, OVER, REPORT, fault_at, he
 from tests.common.preload import Ended, Preloaded, fail, good
 from tests.memory.refusing import OUT_OF_MEMORY, done_line
 
-# The lines of the teacher at the desk, and those of a student at the other port.
+# The persons of a class, by the numbers of their connections in a script: the teacher is at the desk, and a student at
+# the other port.
 TEACHER, STUDENT = b"1 ", b"2 "
 ASKED = [
     (TEACHER, hello("tess")), (STUDENT, hello("ana")), (STUDENT, look("ana")), (TEACHER, fault_at(1)), (STUDENT, seduction(1)), (TEACHER, REPORT),
@@ -58,8 +59,8 @@ class Outcome:
     ended: Ended
     counts: tuple[int, int]
     fault: str
-    lacks: int = 0  # lines that were answered by `memory`, or whose connection had no session
-    is_desk_alone: bool = False
+    lacks: int = 0  # how often a line was answered by `memory` or `busy`, or its connection was closed
+    is_desk_alone: bool = False  # whether the students' port wasn't served
 
     @property
     def is_refused(self) -> bool:
@@ -78,19 +79,21 @@ class Play:
         self.replies: list[bytes] = []
         self.callers: dict[bytes, Caller] = {}
         self.lacks = 0
+        # Whether the class is over, the students' port isn't served, or a connection ended after its hello was granted.
         self.is_over = self.is_desk_alone = self.is_lost = False
 
     def answered(self, who: bytes, caller: Caller, line: bytes) -> Optional[bytes]:
         """Returns the reply to a line on the connection of the person `who`. Returns no bytes if the connection is
         closed, and None if the students' port isn't served."""
         caller.send(line)
+        # A student's hello is the first line at the students' port. If it is answered, the port is served.
         if line == hello("ana") and not select.select([caller.socket], [], [], PATIENCE)[0]:
             return None
         return caller.line()
 
     def ask(self, who: bytes, line: bytes) -> str:
-        """Sends a line of the person `who`, and sends it again if it isn't answered. Returns what is wrong, or an empty
-        text."""
+        """Sends a line of the person `who`, connects first if necessary, and sends the line again if it gets no reply
+        of the rules. Does nothing once the class is over. Returns what is wrong, or an empty text."""
         for _ in range(TRIES):
             if self.is_over or (who == STUDENT and self.is_desk_alone):
                 return ""
@@ -138,7 +141,7 @@ class Play:
 
 
 class Class:
-    """Runs of a command of the host, each in its own folder."""
+    """The runs of the command `host` or `resume`, each in its own folder, in which the same lines are sent."""
 
     def __init__(self, word: str, lab: Path, asked: Sequence[tuple[bytes, bytes]], begun: Begun) -> None:
         """`word` is the command of the host, `asked` has the lines, each after its person, and `begun` is the state to
@@ -201,8 +204,9 @@ class Class:
 
 
 def fault_of_all(outcomes: Sequence[Outcome]) -> str:
-    """Returns what is wrong with all runs of a class together, or an empty text. `docs/DECISIONS.md` explains why some
-    runs end with `too few threads`, and why one or two runs serve only the desk."""
+    """Returns what is wrong with all runs of a class together, or an empty text. `outcomes` are in the order of the
+    requests that were refused. `docs/DECISIONS.md` explains why some runs end with `too few threads`, and why one or
+    two runs serve only the desk."""
     few = [at for at, it in enumerate(outcomes) if it.ended == FEW_THREADS]
     if few and few[-1] - few[0] >= len(few):
         return "the runs that end with `too few threads` aren't those of consecutive requests"

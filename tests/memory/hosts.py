@@ -1,5 +1,5 @@
-"""Uses of commands without enough memory: verdicts on a journal and a record, and a script that is answered line by
-line."""
+"""Uses of further commands to which memory is refused: `verify` and `tally`, which read a journal and a record, and
+`answer`, which answers a script line by line."""
 from pathlib import Path
 
 from tests.common.hosting import HOST, Caller, Host, lab_of, let_in
@@ -28,8 +28,9 @@ def play(story: Story, host: Host) -> None:
 
 
 def host_uses(room: Path) -> dict[str, Use]:
-    """Returns the uses of these commands, by their names."""
+    """Runs a class without refusals, and returns the uses of these commands with its files, by their names."""
     lab = lab_of(room, 4)
+    # Each line is sent twice, so that a refused line is asked again.
     story = Story(lab, b"".join((number + line) * 2 for number, line in SAID), room)
     journal, record = room / "kept.journal", room / "kept record"
     with Host(lab, 0, 0, journal, record) as host:
@@ -48,7 +49,7 @@ def host_uses(room: Path) -> dict[str, Use]:
 def answered(story: Story) -> Use:
     """Returns the use of a script that the program answers line by line."""
     def use(variables: dict[str, str]) -> Tried:
-        """Runs the script with refusals. Returns its end and what is wrong."""
+        """Runs the script with refusals. Returns its end, what is wrong, and the number of replies `memory`."""
         ended = run(["answer", str(story.lab)], story.script(), variables, HOST)
         replies = ended.out.splitlines(keepends=True)
         if ended == OUT_OF_MEMORY:

@@ -1,4 +1,5 @@
-"""Runs of a use in which each request for memory is refused in turn, and each one from there on."""
+"""Runs of a use of the program in which one request for memory is refused, each in turn, and runs in which all requests
+from that one on are refused. A *use* is a command with its arguments and its input."""
 from collections.abc import Callable
 from dataclasses import dataclass
 from pathlib import Path
@@ -6,7 +7,7 @@ from pathlib import Path
 from tests.common.preload import PROGRAM, Ended, Preloaded, fail, good, run
 
 OUT_OF_MEMORY = Ended(5, b"", b"out of memory\n")
-MOST = 5000
+MOST = 5000  # more requests for memory than any run makes
 
 
 @dataclass(frozen=True)
@@ -14,10 +15,11 @@ class Tried:
     """The end of a run with refusals, and what is wrong with it."""
 
     ended: Ended
-    fault: str
-    memories: int
+    fault: str  # a text about what is wrong, or an empty text
+    memories: int  # the number of replies `{"refuse":"memory"}`
 
 
+# A function that runs one use with the library that refuses memory, and with these environment variables.
 Use = Callable[[dict[str, str]], Tried]
 
 
@@ -32,7 +34,8 @@ def done_line(audited: bytes) -> bytes:
 
 
 def whole(words: list[str], given: bytes = b"", program: Path = PROGRAM) -> Use:
-    """Returns a use that prints the same as a run of these arguments without refusals, or nothing."""
+    """Returns the use with these arguments and this input. Each run has to print the same as a run without refusals, or
+    only the error `out of memory`."""
     wanted = good(words, given, program)
 
     def use(variables: dict[str, str]) -> Tried:
@@ -45,9 +48,10 @@ def whole(words: list[str], given: bytes = b"", program: Path = PROGRAM) -> Use:
 
 
 def refuse_all(name: str, use: Use, library: Preloaded) -> str:
-    """Runs a use with each request for memory refused in turn, and with all from it on. Returns a line with the number
-    of refusals."""
+    """Runs a use with each request for memory refused in turn, and then with all requests refused from each one on.
+    Fails if something is wrong with a run. Returns a line with the number of refusals."""
     met, told = 0, 0
+    # If one request is refused, it may be the reason for one reply `memory` at most.
     for variable, at_most in (("REFUSE", 1), ("REFUSE_FROM", MOST)):
         for nth in range(1, MOST):
             tried = use(library.variables({variable: str(nth)}))
