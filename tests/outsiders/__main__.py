@@ -1,9 +1,13 @@
-"""Plays outsiders without a key against a host, and takes resources of the system away from the host.
+"""Plays outsiders (clients without a key) against a host, and takes resources of the system away from the host.
 
     python3 -m tests.outsiders [WORD..]
 
 With arguments, only the tests whose names contain one of them are run. The tests run side by side, because most of them
 wait.
+
+A host has a port for students, and a port for the teacher, the desk. A connection that is served has a *seat*. A lab of
+N sessions has N - 1 seats for students, and one at the desk. Until its hello is granted, a connection is a *stranger*,
+who has to leave its seat if others need it. A *newcomer* is a connection that needs a seat.
 """
 import os
 import socket
@@ -22,26 +26,27 @@ from tests.common.preload import LIMIT, PROGRAM, TOP, Ended, Preloaded, Server, 
 from tests.common.side_by_side import Test, try_all
 from tests.outsiders import byes, contested, crowded, edges, parting, segments, strangers
 
-NONE = Ended(0, b"done: 0 events, configuration 0\n", b"")
+NO_EVENTS = Ended(0, b"done: 0 events, configuration 0\n", b"")
 FAULT = Ended(4, b"", b"journal fault\n")
-EAGAIN = 11
+EAGAIN = 11  # the error of a thread that can't be started
 LINE_TIME = 600.0  # the seconds in which a line of a student has to arrive
 PAUSE = 5.0  # the seconds between two pieces of a student's lines
 LAST_LINE = 2  # the index of the last whole line among these pieces
 LOOKS = 4  # threads that a host starts before it listens, to check that it can
 MOVE = seduction(0)
-FREE = ["setpriv", "--reuid", "65534", "--regid", "65534", "--clear-groups"] if os.geteuid() == 0 else []
+# Words before a command that runs it as the user nobody, since limits on threads don't hold for root.
+NOBODY = ["setpriv", "--reuid", "65534", "--regid", "65534", "--clear-groups"] if os.geteuid() == 0 else []
 
 
-def ends(host: Host, teacher: Caller, wanted: Ended = NONE) -> None:
-    """Checks that the teacher's bye ends a host as expected."""
+def ends(host: Host, teacher: Caller, wanted: Ended = NO_EVENTS) -> None:
+    """Checks that the teacher's bye ends a host with the status and output in `wanted`. Standard error may differ."""
     ended = host.dismissed(teacher)
     if (ended.status, ended.out) != (wanted.status, wanted.out):
         fail(f"outsiders: a host ends with {ended}")
 
 
 def ended_soon(words: list[str | Path]) -> Ended:
-    """Runs a command that ends by itself soon. Returns its status and output."""
+    """Runs a command, which has to end by itself within a minute. Returns its status and output."""
     try:
         done = subprocess.run(words, stdin=subprocess.DEVNULL, capture_output=True, timeout=60, check=False)
     except subprocess.TimeoutExpired:
@@ -54,6 +59,8 @@ def refused_threads(room: Path) -> None:
     the teacher's bye ends the class."""
     library = Preloaded("faults/fail.c", room, "FAIL_COUNTS")
     lab = lab_of(room, 5)
+    # After the threads of the start and the one of the students' port, the next three threads are those of the teacher
+    # and of the first two students. Only a student can't be served without a thread.
     for at in range(LOOKS + 2, LOOKS + 5):
         variables = library.variables({"FAIL": "thread", "FAIL_AT": str(at), "FAIL_WITH": str(EAGAIN)})
         with Host(lab, 0, 0, variables=variables) as host:
@@ -95,7 +102,8 @@ def asks_after_the_bye(room: Path) -> None:
 
 
 def few(room: Path) -> None:
-    """A host with too low limits on threads or files prints that, and makes nothing. The same holds for `resume`."""
+    """If the system lets a host open too few files or start too few threads, the host prints an error, ends, and makes
+    no file. So does `resume`."""
     lab, folder, program = lab_of(room, 4), room / "made", room / "host"
     folder.mkdir()
     program.write_bytes(HOST.read_bytes())
@@ -103,11 +111,13 @@ def few(room: Path) -> None:
     for begins in (True, False):
         if not begins:
             journal.touch()
+        # Everybody may use the files, so that only the limits keep the user nobody from running the host.
         for path, mode in ((room, 0o755), (lab, 0o644), (folder, 0o777), (program, 0o755), (journal, 0o666)):
             if path.exists():
                 path.chmod(mode)
         for limit, line in (("nofile=7", b"files may be open"), ("nproc=1", b"threads may be started")):
-            words: list[str | Path] = [*FREE, "prlimit", f"--{limit}", program, "host" if begins else "resume", lab, "0", "0", journal]
+            word = "host" if begins else "resume"
+            words: list[str | Path] = [*NOBODY, "prlimit", f"--{limit}", program, word, lab, "0", "0", journal]
             if (said := ended_soon(words)) != Ended(5, b"", b"host: too few " + line + b"\n"):
                 fail(f"outsiders: with {limit} a host says {said}")
             if [*folder.iterdir()] != ([] if begins else [journal]):
@@ -115,8 +125,8 @@ def few(room: Path) -> None:
 
 
 def comes_again(room: Path) -> None:
-    """A client that closes and connects again at once isn't answered `busy`, at either port, except rarely on a
-    slow machine."""
+    """A client that closes its connection and connects again at once gets the only seat, at either port. Only a slow
+    machine may answer `busy`, thirty times of 300 at most."""
     lab, told = lab_of(room, 2), 0
     with Host(lab, 0, 0) as host:
         for port, name in [(host.desk, "tess"), (host.port, "ana")] * 150:
@@ -131,7 +141,8 @@ def comes_again(room: Path) -> None:
 
 
 def a_web_form(room: Path) -> None:
-    """A browser's POST gets one reply, and none of its body's lines takes effect."""
+    """The first line of a browser's POST is answered as malformed, and ends the connection. So the hello and the bye in
+    its body have no effect."""
     lab = lab_of(room, 4)
     with Host(lab, 0, 0) as host:
         for port in (host.port, host.desk):
@@ -149,7 +160,8 @@ def a_web_form(room: Path) -> None:
 
 
 def words_at_the_end(room: Path) -> None:
-    """The host sends the reason after a line that is too long, and at the class's end."""
+    """The host sends the reason before it closes a connection: `long` after a line that is too long, and `over` at the
+    end of the class."""
     lab = lab_of(room, 4)
     with Host(lab, 0, 0) as host:
         for first in (b"", hello("ana")):
@@ -167,7 +179,7 @@ def words_at_the_end(room: Path) -> None:
 
 
 def three_hellos(room: Path) -> None:
-    """The third failed hello ends a connection."""
+    """The third hello with a wrong key ends a connection. After two of them, a right one is granted."""
     lab = lab_of(room, 4)
     with Host(lab, 0, 0) as host:
         for port in (host.port, host.desk):
@@ -202,7 +214,7 @@ def comes(port: int, line: bytes, taken: list[float]) -> Caller:
     return caller
 
 
-def alone(host: Host) -> float:
+def longest_alone(host: Host) -> float:
     """Returns the longest of the times that five honest hellos take without outsiders, in seconds."""
     taken: list[float] = []
     for _ in range(5):
@@ -211,14 +223,14 @@ def alone(host: Host) -> float:
 
 
 def waits_little(taken: list[float], quiet: float, most: float = 2.0) -> None:
-    """Checks that more than half of the times in `taken` are at most `most` seconds plus 20 times `quiet`, the time
-    without outsiders. So the limit is higher on a slow machine."""
+    """Checks that the median of the times in `taken` is at most `most` seconds plus 20 times `quiet`, the time without
+    outsiders. So the limit is higher on a slow machine."""
     if sorted(taken)[len(taken) // 2] > most + 20 * quiet:
         fail(f"outsiders: honest clients wait for a seat: {taken} seconds, alone {quiet}")
 
 
-def until_set(stop: threading.Event, act: Callable[[], None]) -> list[threading.Thread]:
-    """Starts threads that call a function again and again until `stop` is set. Returns the threads."""
+def repeating(stop: threading.Event, act: Callable[[], None]) -> list[threading.Thread]:
+    """Starts a thread that calls a function again and again until `stop` is set. Returns a list with this thread."""
     def work() -> None:
         """Calls the function until `stop` is set. Waits a moment after each `OSError`."""
         while not stop.is_set():
@@ -236,7 +248,7 @@ def silent_ones(room: Path) -> None:
     """Fifteen connections that send `{}`, and forty silent ones a second at both ports, keep nobody out."""
     lab = lab_of(room, 16)
     with Host(lab, 0, 0) as host:
-        quiet = alone(host)
+        quiet = longest_alone(host)
         held = [Caller(host.port) for _ in range(15)] + [Caller(host.desk)]
         for caller in held:
             caller.send(b"{}\n")
@@ -251,7 +263,7 @@ def silent_ones(room: Path) -> None:
             kept.append(socket.create_connection(("127.0.0.1", port), LIMIT))
             time.sleep(0.05)
 
-        threads = [*until_set(stop, lambda: knock(host.port)), *until_set(stop, lambda: knock(host.port))]
+        threads = [*repeating(stop, lambda: knock(host.port)), *repeating(stop, lambda: knock(host.port))]
         for _ in range(15):
             caller = comes(host.port, hello("ben"), taken)
             caller.ask(BYE)
@@ -269,8 +281,8 @@ def silent_ones(room: Path) -> None:
 
 
 def a_third(room: Path) -> None:
-    """Connections without a hello get a third of the seats at the students' port, and one at the desk. If another such
-    connection comes, it gets the seat of the first of them."""
+    """Strangers get at most a third of the fifteen seats at the students' port, and the one at the desk. If there are
+    so many, the next stranger gets the seat of the one that came first."""
     lab = lab_of(room, 16)
     with Host(lab, 0, 0) as host:
         for port, share in ((host.port, 5), (host.desk, 1)):
@@ -294,8 +306,8 @@ def a_third(room: Path) -> None:
 
 
 def told_busy(port: int, count: int) -> float:
-    """Opens `count` connections to a full port at the same time. Returns the seconds until all of them are answered
-    `busy`."""
+    """Opens `count` connections to a full port at the same time, and says hello on each. Checks that all of them are
+    answered `busy` and closed. Returns the seconds until then."""
     begun = time.monotonic()
     callers = [Caller(port) for _ in range(count)]
     for caller in callers:
@@ -306,7 +318,8 @@ def told_busy(port: int, count: int) -> float:
 
 
 def nobody_behind(room: Path) -> None:
-    """Twelve simultaneous connections to a full port wait for a seat together, and not one after another."""
+    """Twelve simultaneous connections to a full port wait for a seat together, and not one after another. A newcomer
+    waits half a second before it is answered `busy`. Twelve of them wait less than six times as long as one."""
     lab = lab_of(room, 3)
     with Host(lab, 0, 0) as host:
         held = [let_in(host.port, hello(name))[0] for name in ("ana", "ben")]
@@ -337,7 +350,8 @@ def guesses(host: Host, quiet: float) -> tuple[int, int, float]:
     begun = time.monotonic()
     threads: list[threading.Thread] = []
     for count in (5, 15, 29):
-        threads += [thread for at in range(len(threads), count) for thread in until_set(stop, lambda at=at: guess(at))]  # type: ignore[misc]
+        for at in range(len(threads), count):
+            threads += repeating(stop, lambda at=at: guess(at))  # type: ignore[misc]
         for port, name in ((host.port, "ana"), (host.desk, "tess")):
             taken: list[float] = []
             for _ in range(20):
@@ -359,20 +373,22 @@ def guessed_keys(room: Path) -> None:
     connections without a denial is at most a quarter of the number of denials. A line on the host's standard error
     reports the guesses."""
     with Host(lab_of(room, 16), 0, 0) as host:
-        denied, others, seconds = guesses(host, alone(host))
+        denied, others, seconds = guesses(host, longest_alone(host))
         if denied / seconds > 100 or denied < 100:
             fail(f"outsiders: {denied} keys are guessed in {seconds} seconds")
         if others * 4 > denied:
             fail(f"outsiders: {others} who guess aren't answered that they are wrong, and {denied} are")
         ended = host.dismissed(let_in(host.desk, hello("tess"))[0])
-        if ended.out != NONE.out or b"hellos had no right key" not in ended.error:
+        if ended.out != NO_EVENTS.out or b"hellos had no right key" not in ended.error:
             fail(f"outsiders: nobody hears of guesses: {ended}")
 
 
 def one_of_many(room: Path) -> None:
-    """If a name has more than four seats and none is free, its last one goes to a newcomer. Four are kept."""
+    """If a name has more than four seats and none is free, a newcomer gets the seat of the name's latest connection. If
+    each name has at most four, the newcomer is answered `busy`."""
     lab = lab_of(room, 7)
     with Host(lab, 0, 0) as host:
+        # All six seats are ana's. Then ben and cyd get the seats of her last two connections.
         many = [let_in(host.port, hello("ana"))[0] for _ in range(6)]
         ben, cyd = (comes(host.port, hello(name), []) for name in ("ben", "cyd"))
         if [caller.line() for caller in many[4:]] != [BUSY] * 2:
@@ -399,8 +415,9 @@ def queues(host: Host, caller: Caller) -> str:
 
 
 def never_reads(room: Path) -> None:
-    """A client that reads none of its replies is disconnected about ten seconds after the host's queues for it last
-    changed: not sooner than five seconds after that, and within 500 polls of the queues."""
+    """A client that reads none of its replies is disconnected about ten seconds after the last change of the queues of
+    bytes at the host's end of the connection. This may be neither sooner than five seconds after that change, nor later
+    than 500 polls of the queues."""
     lab = lab_of(room, 4)
     with Host(lab, 0, 0) as host:
         deaf = let_in(host.port, hello("ana"))[0]
@@ -428,14 +445,14 @@ def never_reads(room: Path) -> None:
 
 
 def next_wait(library: Preloaded, caller: Caller, piece: bytes) -> float:
-    """Sends a piece on a connection, and returns the timeout of the host's next read. If the piece is a line, waits for
-    its reply first."""
+    """Sends a piece on a connection, and returns for how many seconds the host's next read may wait (0 if there is no
+    limit). `library` records the reads. If the piece is a line, its reply must be granted, and is waited for first."""
     before, end = library.counts()[0], time.monotonic() + LIMIT
     caller.send(piece)
     if piece.endswith(b"\n") and b'"ok"' not in (said := caller.line()):
         fail(f"outsiders: {piece!r} is answered {said!r}")
     while True:
-        count, wait = library.counts()
+        count, wait = library.counts()  # the number of reads, and the milliseconds for which the last one may wait
         # Ignores reads that began before the hello was granted, which wait for at most ten seconds.
         if count > before and not 0 < wait <= 10_000:
             return wait / 1000
@@ -471,8 +488,8 @@ def a_line_has_ten_minutes(room: Path) -> None:
 
 
 def journals(room: Path) -> None:
-    """A journal can't be the output or a pipe without a reader. Only its owner can read a journal, unless its mode says
-    otherwise, and a journal that replaces another has the same mode."""
+    """A host refuses a journal that is its own output or standard error, or a pipe without a reader. Only its owner can
+    read a new journal. A journal that takes the place of an older one has the older one's mode."""
     lab, journal = lab_of(room, 4), room / "journal"
     for stream in ("", "2"):
         journal.unlink(missing_ok=True)
@@ -485,7 +502,7 @@ def journals(room: Path) -> None:
     if (said := ended_soon([HOST, "host", lab, "0", "0", room / "pipe"])) != FAULT:
         fail(f"outsiders: a host whose journal is a pipe that nobody reads ends with {said}")
     for mode in (0o600, 0o640, 0o604):
-        if mode != 0o600:
+        if mode != 0o600:  # The first journal is new, and gets this mode from the host.
             journal.chmod(mode)
         with Host(lab, 0, 0, journal) as host:
             student = let_in(host.port, hello("ana"))[0]
@@ -497,9 +514,10 @@ def journals(room: Path) -> None:
 
 
 def limits_of_files(room: Path) -> None:
-    """If the journal can't grow, events are refused and the host goes on, also when `./mml` starts it."""
+    """If the system's limit on file sizes is reached, the host refuses events, goes on with the class, and ends with
+    `journal fault`. The same holds if `./mml` starts it, and for a script that `./mml` runs."""
     lab = lab_of(room, 4)
-    # If a soft limit and a hard one differ, the soft one is what counts.
+    # The limit is 1024 bytes (`ulimit -f 1`). If a soft limit and a hard one differ, the soft one is what counts.
     for name, limit, start in (("program", "-f", 'exec "$@"'), ("soft", "-S -f", 'exec "$@"'), ("mml", "-f", 'shift && exec "$0" "$@"')):
         words = ["bash", "-c", f"ulimit {limit} 1 && {start}", str(TOP / "mml")]
         with Host(lab, 0, 0, room / f"{name}.journal", before=words) as host:
@@ -527,14 +545,14 @@ def limits_of_files(room: Path) -> None:
 
 
 def limited(kilobytes: int, limit: str = "-s") -> list[str]:
-    """Returns the words to put before a command, so that the program has this limit in kilobytes, by default on its
-    stack. The program's addresses are limited to 64 MB in total."""
+    """Returns the words to put before a command, so that the program runs with a limit on its stacks in kilobytes, and
+    has 64 MB of address space. `limit` is the option of `ulimit`: `-s`, or `-S -s` for a soft limit alone."""
     return ["bash", "-c", f'ulimit {limit} {kilobytes} && ulimit -v 65536 && exec "$@"', "bash"]
 
 
 def deepest(port: int, count: int) -> None:
-    """Sends lines at the limit of nesting on `count` connections at once, and checks that they are answered. Then sends
-    deeper ones, and checks that they are refused."""
+    """Sends lines whose values are nested as deep as allowed on `count` connections at once, and checks that they are
+    answered. Then sends deeper ones, and checks that they are refused."""
     arrays, objects = b"[" * 126 + b"]" * 126, b'{"a":' * 126 + b"0" + b"}" * 126
     deep = [look("ana").replace(b"}", b',"x":%s}' % nest) for nest in (arrays, objects, arrays.replace(b"[]", b"[[]]"), b"[" * 4000)]
     callers = [Caller(port) for _ in range(count)]
@@ -560,7 +578,7 @@ def small_stacks(room: Path) -> None:
     if not server.listens:
         fail(f"outsiders: over small stacks a server ends with {server.end()}")
     deepest(server.port, 16)
-    if server.end() != NONE:
+    if server.end() != NO_EVENTS:
         fail(f"outsiders: over small stacks a server ends with {server.end()}")
     script = room / "script"
     script.write_bytes(b"1 " + BYE)

@@ -1,10 +1,11 @@
-"""Two outsiders without a key attack a class with the bots of fourteen students, which connect and disconnect.
+"""Two outsiders, clients without a key, attack a class with the bots of fourteen students, which connect and
+disconnect.
 
     python3 -m tests.outsiders.bots [SECONDS]
 
 The class reaches a stable end while the outsiders are there. The output says how long honest clients wait for a seat
 and for a reply. These times are bounded by those without outsiders. Each action of an outsider is a function of the two
-ports.
+ports, that of the students and the desk.
 """
 import json
 import multiprocessing
@@ -22,8 +23,8 @@ from tests.common.lines import BUSY, BYE, CLOSE, LATE, REPORT, fault_at, hello, 
 from tests.common.preload import LIMIT, fail, in_room
 from tests.resume.players import asked
 
-SECONDS = 30.0
-QUIET = 5.0
+SECONDS = 30.0  # seconds for which the outsiders act while the class plays, unless the command line says otherwise
+QUIET = 5.0  # seconds for which the class plays without outsiders before that
 STUDENTS = 14
 WAIT = 2.0  # seconds that an honest client may wait
 SLOWER = 20  # the most that an honest client may wait, as a multiple of its wait without outsiders
@@ -39,12 +40,14 @@ def lab_of_bots(room: Path) -> Path:
     for node in range(1, STUDENTS + 1):
         rows += [f'[[student]]\nname = "s-{node}"\nkey = "key-{node}"', f'[[node]]\nid = {node}\nowner = "s-{node}"']
     lab = room / "bots.toml"
+    # In TOML the keys of the file come before its tables, which begin with a bracket.
     lab.write_text("\n".join(sorted(rows, key=lambda row: row[0] == "[")) + "\n", encoding="utf-8")
     return lab
 
 
 def knocks(ports: tuple[int, int]) -> None:
-    """Opens silent connections one after another, and keeps them as long as the host allows."""
+    """Opens silent connections one after another, at both ports, and keeps the last two hundred open. Ends only by an
+    `OSError`."""
     kept: list[socket.socket] = []
     for turn in range(10**9):
         kept.append(socket.create_connection(("127.0.0.1", ports[turn % 2]), LIMIT))
@@ -54,14 +57,14 @@ def knocks(ports: tuple[int, int]) -> None:
 
 
 def guesses(ports: tuple[int, int]) -> None:
-    """Guesses one key after another until the connection is ended."""
+    """Sends ten hellos with a wrong key on a connection, and reads until the host ends it."""
     with socket.create_connection(("127.0.0.1", ports[0]), LIMIT) as it, it.makefile("rb") as replies:
         it.sendall(GUESS * 10)
         replies.read()
 
 
 def holds(ports: tuple[int, int]) -> None:
-    """Holds a seat by sending lines other than a hello."""
+    """Holds a seat by sending lines other than a hello, one every half second, until the host ends the connection."""
     with socket.create_connection(("127.0.0.1", ports[0]), LIMIT) as it, it.makefile("rb") as replies:
         it.sendall(b"{}\n")
         while replies.readline() not in (b"", BUSY, LATE):
@@ -70,7 +73,8 @@ def holds(ports: tuple[int, int]) -> None:
 
 
 def stays(ports: tuple[int, int]) -> None:
-    """Opens connections that are ended at their first line, and doesn't close them."""
+    """Opens connections one after another, at both ports, and sends a line for which the host ends each of them. Keeps
+    its own ends of the last two hundred open. Ends only by an `OSError`."""
     kept: list[socket.socket] = []
     for turn in range(10**9):
         kept.append(socket.create_connection(("127.0.0.1", ports[turn % 2]), LIMIT))
@@ -92,7 +96,7 @@ def outsider(ports: tuple[int, int]) -> None:
 
     for act in (knocks, stays, guesses, guesses, holds, holds):
         threading.Thread(target=without_end, args=[act], daemon=True).start()
-    time.sleep(1e6)
+    time.sleep(1e6)  # Until the test kills this process.
 
 
 @dataclass
@@ -110,10 +114,11 @@ class Waits:
 
 
 class Honest:
-    """A client with a key that connects and leaves."""
+    """A connection of a client with a key."""
 
     def __init__(self, port: int, line: bytes, waits: Waits) -> None:
-        """`line` is its hello. Appends the seconds that it waits to `waits`."""
+        """Connects to a port with the hello `line`, again and again until it is granted. Appends the seconds that this
+        took to `waits`. Fails after a time limit."""
         self.port, self.line, self.waits = port, line, waits
         found = waits.desk if line == hello("tess") else waits.seats
         begun = time.monotonic()
@@ -125,7 +130,7 @@ class Honest:
         found.append(time.monotonic() - begun)
 
     def greets(self) -> bytes:
-        """Connects and says hello. Returns the reply."""
+        """Connects and says hello. Returns the reply. Closes the connection if the hello isn't granted."""
         self.caller = Caller(self.port)
         said = self.caller.ask(self.line)
         if b'"ok"' not in said:
@@ -133,8 +138,8 @@ class Honest:
         return said
 
     def ask(self, line: bytes) -> dict[str, object]:
-        """Sends a line, and returns the values of its reply. Appends the seconds to the waiting times. Fails if the
-        line is refused."""
+        """Sends a line, and returns the values of its reply. Appends the seconds that it took to the waiting times.
+        Fails if there is no reply, or it is a refusal."""
         begun = time.monotonic()
         reply = self.caller.ask(line)
         self.waits.replies.append(time.monotonic() - begun)
@@ -146,7 +151,7 @@ class Honest:
 
 @dataclass
 class Class:
-    """A class with bots, and the waiting times of its clients at the moment."""
+    """A class with bots, and the waiting times of its clients. `work` replaces `waits` when the outsiders come."""
 
     host: Host
     waits: Waits = field(default_factory=Waits)
@@ -189,8 +194,8 @@ class Class:
 
 
 def bounded(waits: Waits, quiet: Waits) -> None:
-    """Checks that almost no honest client waits longer than allowed, or on a slow machine than a multiple of `quiet`,
-    the waiting times without outsiders."""
+    """Checks that of each kind of waiting times at most a tenth are longer than WAIT plus SLOWER times the longest one
+    in `quiet`, the times without outsiders. So the limit is higher on a slow machine."""
     for of, found in vars(waits).items():
         most = WAIT + SLOWER * max(vars(quiet)[of])
         late = sum(each > most for each in found)

@@ -13,8 +13,8 @@ from tests.common.preload import Preloaded, fail
 
 SOON = 60.0  # seconds that a host may need to end on a slow machine
 BETWEEN = 0.005  # seconds between two parts of a piece, so that the host reads each by itself
-SIDE_BY_SIDE = 4
-SHORT = 80  # bytes of replies that are cut at each byte
+SIDE_BY_SIDE = 4  # the number of hosts at the same time
+SHORT = 80  # if replies have fewer bytes, they are cut at each byte
 
 
 @dataclass(frozen=True)
@@ -94,13 +94,15 @@ def ends_all(lab: Path, piece: Piece, parts: list[bytes], variables: Mapping[str
 
 
 def cut_at(library: Preloaded, at: int, is_each: bool) -> dict[str, str]:
-    """Returns the environment of a host whose reply to a bye is written in two pieces, of which the first has `at`
-    bytes. If `is_each` is set, the reply is written byte by byte."""
+    """Returns the environment of a host that writes its reply to a bye, with the replies before it, in two pieces. The
+    first piece has `at` bytes. If `is_each` is set, all further bytes are written one by one. If `at` is 0, nothing is
+    cut."""
     return library.variables({"CUT": str(at), **({"CUT_EACH": "1"} if is_each else {})})
 
 
 def byes_in_parts(room: Path) -> None:
-    """Each line before a bye is sent in one piece with it, and in two pieces cut at each byte."""
+    """The bye ends the class whether the lines before it are sent in one piece with it, or all are sent in two pieces,
+    cut at each byte."""
     lab = lab_of(room, 5)
     for piece in PIECES:
         ends_all(lab, piece, [piece.whole], {}, "in one piece", True)
@@ -111,11 +113,12 @@ def byes_in_parts(room: Path) -> None:
 
 
 def byes_written_in_parts(room: Path) -> None:
-    """The reply to a bye and to the lines before it is written in two pieces, cut at each byte, or byte by byte."""
+    """The bye ends the class also if its reply, with the replies to the lines before it, is written in two pieces, cut
+    at each byte, or byte by byte."""
     lab, library = lab_of(room, 5), Preloaded("outsiders/cut.c", room, "CUT_COUNTS")
     for piece in PIECES:
         ends_all(lab, piece, [piece.whole], cut_at(library, 0, False), "in one piece")
-        size = library.counts()[0]
+        size = library.counts()[0]  # the bytes of the replies, which the host has written at once
         # Of long replies the bytes around the bye's own are enough.
         first = 1 if size < SHORT else size - len(BID) - 3
         for at, is_each in [(1, True), *((at, False) for at in range(first, size))]:

@@ -24,9 +24,9 @@ from tests.common.lines import BYE, NODES, WRONG, hello, line_of, look
 from tests.common.preload import LIMIT, PROGRAM, TOP, fail
 
 SECONDS = 3600.0
-ROUND = 60.0
+ROUND = 60.0  # seconds after which all clients leave for a moment
 COMING = 12  # the number of clients at a time
-PAUSE = 0.02
+PAUSE = 0.02  # seconds between two actions of a client
 MORE = 6144  # kilobytes that the events of an hour may add
 FORM = b"POST / HTTP/1.1\r\nContent-Type: text/plain\r\n\r\n"
 
@@ -47,7 +47,8 @@ class Held:
         return cls(len(list((root / "task").iterdir())), len(list((root / "fd").iterdir())), size)
 
     def is_as(self, first: "Held") -> bool:
-        """Returns whether a process has the same as before, except for the memory of a few events."""
+        """Returns whether this is the same number of threads and descriptors as `first`, and hardly more memory. The
+        memory may have grown by a tenth and by MORE."""
         return (self.threads, self.files) == (first.threads, first.files) and self.kilobytes <= first.kilobytes * 1.1 + MORE
 
     def __str__(self) -> str:
@@ -56,7 +57,7 @@ class Held:
 
 
 def waited(find: Callable[[], object]) -> None:
-    """Waits until a function returns a true value. Fails after a time limit."""
+    """Waits until a function returns a true value, which shows that the class has begun. Fails after a time limit."""
     end = time.monotonic() + LIMIT
     while not find():
         if time.monotonic() > end:
@@ -83,7 +84,7 @@ class Class:
         self.host, self.port, self.desk = record.server.number, record.port, record.desk
 
     def address(self) -> tuple[str, ...]:
-        """Returns the port and the path of the page, which the class prints."""
+        """Returns the port and the path of the page, which the class prints, or an empty tuple before that."""
         told = re.search(r"page for the projector http://127\.0\.0\.1:(\d+)(/[^/\s]+/)", "".join(self.printed))
         return told.groups() if told else ()
 
@@ -96,12 +97,14 @@ class Class:
     def end(self) -> None:
         """Ends the class, and checks that it ends well."""
         self.type("end")
+        # The status 5 means that the run is done, with warnings.
         if self.process.wait(LIMIT) not in (0, 5):
             fail(f"churn: the class ends with {self.process.returncode}: {self.printed[-5:]}")
 
 
 class Comings:
-    """The actions of clients. Each makes random choices, which `draw` determines."""
+    """The actions of clients that come to the class, by random choices. Each method in `kinds` is one action. Its
+    argument `draw` is the source of the random numbers."""
 
     def __init__(self, it: Class) -> None:
         """The clients come to the ports and the page of the class `it`."""
@@ -111,7 +114,7 @@ class Comings:
                       self.is_slow_at_page, self.knocks_at_desk]
 
     def asks(self, draw: random.Random) -> None:
-        """Greets, looks and says bye, or closes without it."""
+        """Connects as a student, looks some times, and says bye or closes the connection without it."""
         name = draw.choice([*NODES])
         caller, _ = let_in(self.port, hello(name))
         for _ in range(draw.randrange(20)):
@@ -121,13 +124,14 @@ class Comings:
         caller.close()
 
     def resets(self, draw: random.Random) -> None:
-        """Resets a connection while replies are unread or within a line."""
+        """Connects as a student, sends looks and a part of one, and resets the connection before it has read the
+        replies."""
         caller, _ = let_in(self.port, hello("cyd"))
         caller.send(look("cyd") * draw.randrange(50) + look("cyd")[:draw.randrange(20)])
         caller.reset()
 
     def plays(self, draw: random.Random) -> None:
-        """Asks for the enabled move of a student's node."""
+        """Connects as a student, asks for the enabled move of the student's node, if there is one, and leaves."""
         name = draw.choice([*NODES])
         caller, _ = let_in(self.port, hello(name))
         seen = json.loads(caller.ask(look(name)) or b"{}")
@@ -139,20 +143,21 @@ class Comings:
         caller.close()
 
     def is_no_one(self, draw: random.Random) -> None:
-        """Connects without a key, with bytes that no client sends, or with too many."""
+        """Connects without a key: sends wrong hellos, a web form, lines that are no requests, a line that is too long,
+        or a part of a line. Then reads one line and closes."""
         caller = Caller(self.port)
         caller.send(draw.choice([WRONG * 3, FORM + hello("tess"), b"{}\n" * 5, b" " * 5000, b'{"do":']))
         caller.line()
         caller.close()
 
     def knocks(self, draw: random.Random) -> None:
-        """Connects and sends nothing."""
+        """Connects, sends nothing, and closes at once or after half a second."""
         caller = Caller(self.port)
         time.sleep(draw.choice([0, 0.5]))
         caller.close()
 
     def knocks_at_desk(self, draw: random.Random) -> None:
-        """Connects to the desk while the teacher is there."""
+        """Connects to the desk while the teacher is there, reads one line and closes."""
         caller = Caller(self.desk)
         caller.send(draw.choice([b"", hello("ana"), WRONG]))
         caller.line()
@@ -171,21 +176,22 @@ class Comings:
                 pass
 
     def hears_news(self, draw: random.Random) -> None:
-        """Requests the page's events for a moment, and reads them or not."""
+        """Requests the page's stream of events, reads its beginning or nothing, and closes after a moment."""
         with self.asked("events") as it:
             if draw.random() < 0.7:
                 it.recv(65536)
             time.sleep(draw.random())
 
     def is_slow_at_page(self, draw: random.Random) -> None:
-        """Begins a request to the page, and closes or sends nothing more."""
+        """Sends a part of a request to the page. Then closes the connection, or waits for the server to end it."""
         with socket.create_connection(("127.0.0.1", self.page), LIMIT) as it:
             it.sendall(b"GET /"[:draw.randrange(6)])
             if draw.random() < 0.2:
                 it.recv(1)
 
     def until(self, end: float, seed: int) -> None:
-        """Runs one action after another until that time. The seed determines which."""
+        """Runs one action after another until the time `end`. The seed determines which. Ignores `OSError`, because a
+        connection may be ended at any time."""
         draw = random.Random(seed)
         while time.monotonic() < end:
             try:
@@ -197,8 +203,9 @@ class Comings:
 
 
 def comes_to_rest(of: Callable[[], Held], first: Held | None) -> Held:
-    """Waits until a process has what it had `first`, thirty seconds at most, and returns what it has. Without `first`,
-    waits until its number of threads stays the same."""
+    """Returns what a process has once its clients have left. If `first` is given, waits until the process has the same
+    again, thirty seconds at most. Otherwise waits fifteen seconds, and then until the number of threads is the same
+    twice."""
     end = time.monotonic() + 30
     while True:
         time.sleep(1)
@@ -210,7 +217,8 @@ def comes_to_rest(of: Callable[[], Held], first: Held | None) -> Held:
 
 
 def churn(room: Path, seconds: float) -> None:
-    """Runs clients for `seconds` seconds, and prints after each minute what the processes have."""
+    """Runs clients for `seconds` seconds, and prints after each minute what the host and `./class run` have. Fails if
+    it is more at the end than after the first minute."""
     it = Class(room)
     comings = Comings(it)
     first: tuple[Held, Held] | None = None

@@ -1,4 +1,5 @@
-"""The last seats of a port whose other seats have students after their hello."""
+"""The last seats of a port whose other seats have students after their hello. A *stranger* is a connection whose hello
+isn't granted yet. It has to leave its seat if a newcomer needs it."""
 import select
 import time
 from pathlib import Path
@@ -21,8 +22,8 @@ def students(host: Host) -> list[tuple[str, Caller]]:
     return [(name, let_in(host.port, hello(name))[0]) for name in NODES for _ in range(OWN)]
 
 
-def want_all(host: Host, seated: list[tuple[str, Caller]]) -> None:
-    """Checks that the students still have their seats, and that the teacher's bye ends the host."""
+def ends_with_all_seated(host: Host, seated: list[tuple[str, Caller]]) -> None:
+    """Checks that all connections in `seated` still have their seats, and that the teacher's bye ends the host well."""
     for name in NODES:
         if len(alive([caller for owner, caller in seated if owner == name], name)) != OWN:
             fail(f"outsiders: beside strangers on the last seat {name} loses one")
@@ -31,7 +32,7 @@ def want_all(host: Host, seated: list[tuple[str, Caller]]) -> None:
 
 def the_last_seat(room: Path) -> None:
     """A stranger on the last free seat has to leave for a client with a key, although strangers have less than a
-    third of the seats."""
+    third of the seats. The client is the teacher, who may say hello at the students' port too."""
     with Host(lab_of(room, SEATS + 1), 0, 0) as host:
         seated = students(host)
         for line in (b"", b'{"do":"hel', b"{}\n", WRONG):
@@ -48,11 +49,12 @@ def the_last_seat(room: Path) -> None:
                 fail("outsiders: who has got the last seat loses it")
             newcomer.close()
             stranger.close()
-        want_all(host, seated)
+        ends_with_all_seated(host, seated)
 
 
 def a_hello_first(room: Path) -> None:
-    """Among those who wait for a seat, one that has sent a hello gets it, even if another line came first."""
+    """If several clients wait for a seat, one that has sent a hello gets it, although another one came before it and
+    has sent another line."""
     with Host(lab_of(room, 3), 0, 0, variables=slowed(room)) as host:
         teacher = let_in(host.desk, hello("tess"))[0]
         ana, ben = (let_in(host.port, hello(name))[0] for name in ("ana", "ben"))
@@ -75,13 +77,14 @@ def a_hello_first(room: Path) -> None:
 
 
 def a_flooded_seat(room: Path) -> None:
-    """A client with a key gets the last seat, although many outsiders want it."""
+    """A client with a key, here the teacher, gets the last seat in time, although a thousand outsiders come each
+    second."""
     with Host(lab_of(room, SEATS + 1), 0, 0) as host:
         seated = students(host)
         quiet = max(greeted_within(host.port, "tess", SETTLED) for _ in range(HELLOS))
         with Outsiders("all", RATE, [host.port]):
             nine_in_ten(host.port, "tess", SLOWER * WAIT + AGAIN * quiet, "mixed")
-        want_all(host, seated)
+        ends_with_all_seated(host, seated)
 
 
 TESTS: list[Test] = [the_last_seat, a_hello_first, a_flooded_seat]

@@ -1,4 +1,5 @@
-"""Hellos beside crowds of outsiders, and the number of seats that a name keeps."""
+"""Hellos beside crowds of outsiders, that is, of clients without a key that come at a constant rate (`Outsiders`). One
+test is about the number of seats that a name keeps beside other students."""
 import socket
 import time
 from pathlib import Path
@@ -43,7 +44,8 @@ def greeted_within(port: int, name: str, most: float) -> float:
 
 
 def nine_in_ten(port: int, name: str, most: float, beside: str) -> None:
-    """Checks that nine of ten hellos are granted within `most` seconds. `beside` names the crowd, for the error."""
+    """Checks that at least nine of ten hellos of the person `name` are granted within `most` seconds. `beside` names
+    the crowd, for the error."""
     late: list[float] = []
     for _ in range(HELLOS):
         taken = greeted_within(port, name, most)
@@ -54,8 +56,8 @@ def nine_in_ten(port: int, name: str, most: float, beside: str) -> None:
 
 
 def flooded(kind: str, room: Path) -> None:
-    """Sends outsiders of a kind to the students' port, and then to the desk, and checks that honest hellos are
-    granted."""
+    """Lets outsiders of a kind come to the students' port, and then to the desk. Checks that beside them nine of ten
+    hellos with a key are granted in time. The limit depends on the time that a hello takes without outsiders."""
     with Host(lab_of(room, 16), 0, 0) as host:
         for port, name in ((host.port, "ana"), (host.desk, "tess")):
             quiet = max(greeted_within(port, name, SETTLED) for _ in range(HELLOS))
@@ -92,7 +94,8 @@ def alive(callers: list[Caller], name: str) -> list[Caller]:
 
 
 def four_of_a_name(room: Path) -> None:
-    """A name that has all seats keeps four of them when others come."""
+    """A name that has all fifteen seats loses seats to other students who come, one after another, until it has four
+    left. It keeps these four."""
     with Host(lab_of(room, 16), 0, 0) as host:
         callers = [let_in(host.port, hello("ana"))[0] for _ in range(15)]
         with Outsiders("names", NAMED, [host.port]):

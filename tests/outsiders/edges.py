@@ -10,10 +10,10 @@ from tests.common.preload import Ended, Preloaded, fail
 from tests.common.side_by_side import Test
 
 MOST = 4096  # the most bytes of a line without its newline
-NONE = b"done: 0 events, configuration 0\n"
+NO_EVENTS = b"done: 0 events, configuration 0\n"
 TOLD = (30, 300)  # the numbers of wrong guesses at which the host prints their number
 TELLING = 20.0  # seconds that the host may need to print that on a slow machine
-SECONDS = 3.0
+SECONDS = 3.0  # seconds for which the tries to accept a connection are counted
 # The seconds between a failed `accept` and the next one: SHORT while somebody waits for a seat, and otherwise PAUSE.
 SHORT, PAUSE = 0.005, 0.1
 
@@ -44,12 +44,12 @@ def longest_lines(room: Path) -> None:
                 fail(f"outsiders: a line of {MOST + 1} bytes reads {found}")
             caller.close()
         ended = host.dismissed(let_in(host.desk, hello("tess"))[0])
-        if ended != Ended(0, NONE, b"") or (found := (ana.line(), ana.line())) != (OVER, b""):
+        if ended != Ended(0, NO_EVENTS, b"") or (found := (ana.line(), ana.line())) != (OVER, b""):
             fail(f"outsiders: who sent lines of {MOST} bytes reads {found} at the end, which is {ended}")
 
 
 def guess(host: Host, count: int) -> None:
-    """Guesses a key `count` times, three times per connection."""
+    """Sends `count` hellos with a wrong key, at most three on a connection, and checks that each is denied."""
     while count > 0:
         caller, reply = let_in(host.port, WRONG)
         said = [reply] + [caller.ask(WRONG) for _ in range(min(count, 3) - 1)]
@@ -60,7 +60,8 @@ def guess(host: Host, count: int) -> None:
 
 
 def told_guesses(room: Path) -> None:
-    """A host reports guesses when there are thirty, and then at each tenfold number."""
+    """A host prints the number of wrong hellos on standard error when there are thirty, and then at each tenfold
+    number."""
     with Host(lab_of(room, 4), 0, 0) as host:
         assert host.process.stderr is not None
         made = 0
@@ -73,7 +74,7 @@ def told_guesses(room: Path) -> None:
             said = host.process.stderr.readline() if is_told else b""
             if said != b"host: %d hellos had no right key: somebody may be guessing\n" % count:
                 fail(f"outsiders: after {count} guesses a host says {said!r}")
-        if (ended := host.dismissed(let_in(host.desk, hello("tess"))[0])) != Ended(0, NONE, b""):
+        if (ended := host.dismissed(let_in(host.desk, hello("tess"))[0])) != Ended(0, NO_EVENTS, b""):
             fail(f"outsiders: after {made} guesses a host ends with {ended}")
 
 
@@ -93,6 +94,8 @@ def no_busy_loop(room: Path) -> None:
     library = Preloaded("faults/fail.c", room, "FAIL_COUNTS")
     with Host(lab_of(room, 2), 0, 0, variables=library.variables({"FAIL": "accept"})) as host:
         teacher, ana = let_in(host.desk, hello("tess"))[0], let_in(host.port, hello("ana"))[0]
+        # From here on the host can open no further file.
+        # From here on the host can open no further file.
         resource.prlimit(host.process.pid, resource.RLIMIT_NOFILE, (host.files(), 4096))
         kept = [called(host.port) for _ in range(3)]
         waits_between(host, library, PAUSE, "with no descriptor left")
@@ -106,7 +109,7 @@ def no_busy_loop(room: Path) -> None:
         tries, seconds = library.counts()[0] - before, time.monotonic() - begun
         if not 0 < tries < 2 * seconds / SHORT + 20:
             fail(f"outsiders: while somebody waits for a seat a host accepts {tries} times in {seconds:.1f} seconds")
-        if b'"ok":"look"' not in ana.ask(look("ana")) or host.dismissed(teacher) != Ended(0, NONE, b""):
+        if b'"ok":"look"' not in ana.ask(look("ana")) or host.dismissed(teacher) != Ended(0, NO_EVENTS, b""):
             fail("outsiders: another end after accepts that failed")
 
 

@@ -1,4 +1,4 @@
-"""Outsiders who come at a constant rate.
+"""Outsiders (clients without a key) who come at a constant rate.
 
     python3 -B -m tests.outsiders.load KIND RATE SECONDS PORT..
 
@@ -24,6 +24,7 @@ from types import TracebackType
 
 from tests.common.lines import hello
 
+# For each kind, what its outsiders send: each of them sends one of these pieces.
 PIECES = {"idle": [b""], "closing": [b""], "half": [b'{"do":"hel'], "braces": [b"{}\n"], "names": [hello("ben"), hello("cyd")]}
 ALL = ("idle", "closing", "half", "braces")
 STAY = 2.0  # seconds for which an outsider stays, if it doesn't close at once
@@ -72,7 +73,7 @@ class Load:
             self.close(each)
 
     def come(self, now: float) -> None:
-        """Opens one more connection."""
+        """Begins to open one more connection. Its kind, port and source address depend on how many came before it."""
         number = self.counts["come"]
         self.counts["come"] += 1
         kind, piece = self.kinds[number // len(self.ports) % len(self.kinds)]
@@ -92,7 +93,8 @@ class Load:
         self.selector.register(it, selectors.EVENT_WRITE, outsider)
 
     def turn(self, outsider: Outsider) -> None:
-        """Sends the piece of an outsider that is connected, or closes its connection."""
+        """Acts for an outsider whose connection is open now: sends its piece, or closes the connection if it closes at
+        once."""
         self.selector.unregister(outsider.socket)
         self.counts["let in"] += 1
         if outsider.closes:
@@ -114,7 +116,8 @@ class Outsiders:
     """A load in its own process, which runs until the `with` block ends."""
 
     def __init__(self, kind: str, rate: int, ports: list[int], seconds: float = 3600.0) -> None:
-        """`rate` is the number of outsiders a second."""
+        """Starts the process, and waits until the outsiders begin to come. `kind` is what they do, `rate` is their
+        number a second, and they come to `ports` in turn."""
         words = [kind, str(rate), str(seconds), *map(str, ports)]
         self.process = subprocess.Popen([sys.executable, "-B", "-m", "tests.outsiders.load", *words], cwd=TOP,
                                         stdin=subprocess.PIPE, stdout=subprocess.PIPE, text=True)

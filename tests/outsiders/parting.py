@@ -1,5 +1,6 @@
-"""The lines for clients that wait for a seat or have left one, and their order. The hosts' clock is slowed down,
-so that some milliseconds are visible on a slow machine too."""
+"""The lines that a host sends to clients that wait for a seat or had to leave one, and their order. The hosts' clock is
+slowed down, so that some milliseconds are visible on a slow machine too. After a wrong hello a host waits before it
+denies it, 12 milliseconds after its last denial."""
 import select
 import time
 from pathlib import Path
@@ -9,7 +10,7 @@ from tests.common.lines import BUSY, BYE, OVER, UNKNOWN, WRONG, hello, look
 from tests.common.preload import LIMIT, Ended, built, fail
 from tests.common.side_by_side import Test
 
-NONE = Ended(0, b"done: 0 events, configuration 0\n", b"")
+NO_EVENTS = Ended(0, b"done: 0 events, configuration 0\n", b"")
 SLOW = 100  # how many times slower the clock is: 1.2 seconds lie between two denials
 GUESSES = 8  # the number of connections that guess a key, each of which takes the seat of the one before it
 
@@ -30,7 +31,7 @@ def taken(host: Host, files: int, more: int) -> None:
 
 def ended(host: Host, teacher: Caller) -> None:
     """Checks that the teacher's bye ends a host well."""
-    if (found := host.dismissed(teacher)) != NONE:
+    if (found := host.dismissed(teacher)) != NO_EVENTS:
         fail(f"outsiders: with a slow clock a host ends with {found}")
 
 

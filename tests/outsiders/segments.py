@@ -11,7 +11,7 @@ from tests.common.preload import fail
 
 SOON = 60.0  # seconds that a host may need to end on a slow machine
 BETWEEN = 0.002  # seconds between two parts, so that the host reads most parts separately
-SIDE_BY_SIDE = 4
+SIDE_BY_SIDE = 4  # the number of hosts at the same time
 MALFORMED_LINE = b'{"do":"look","node":}\n'
 STUDENTS = [look("ana"), WRONG, hello("ana"), look("ana"), hello("ben"), seduction(0), MALFORMED_LINE, seduction(0), REPORT, BYE]
 TEACHERS = [REPORT, hello("tess"), REPORT, fault_at(2), CLOSE, line_of(do="see", node=1), line_of(a=1, b=3, do="link"), BYE]
@@ -21,7 +21,7 @@ Split = Callable[[list[bytes]], list[bytes]]
 
 @dataclass(frozen=True)
 class Way:
-    """A name, and a way to split the bytes of lines into parts."""
+    """A way to split the bytes of lines into parts, with its name for errors."""
 
     name: str
     split: Split
@@ -83,7 +83,8 @@ def replies_by(lab: Path, split: Split | None) -> tuple[list[bytes], list[bytes]
 
 
 def lines_in_segments(room: Path) -> None:
-    """Sends lines byte by byte, several at once, and cut at and beside the end of each line."""
+    """The replies of a host are the same whether lines are sent one by one, byte by byte, several at once, or in two
+    parts that are cut at the end of a line or a byte beside it."""
     lab = lab_of(room, 5)
     wanted = replies_by(lab, None)
     for lines, replies in ((STUDENTS, wanted[0]), (TEACHERS, wanted[1])):

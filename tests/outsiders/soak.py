@@ -33,10 +33,10 @@ from tests.outsiders.load import Outsiders
 SECONDS = {"class": 600.0, "host": 3600.0}
 RATE = 1000
 DAEMONS = ("synchronous", "central", "random:0.5")
-STUDENTS, COMING = 15, 3
+STUDENTS, COMING = 15, 3  # the number of bots, and how many of them connect and disconnect
 SHAKE = 10.0  # seconds after which the class is disturbed again
 LOOKS = 30  # the number of looks of a bot that comes and goes
-ROUND = 60.0
+ROUND = 60.0  # seconds after which a host's figures are printed
 WARM = 20.0  # seconds of load before a host's first figures
 REST = 15.0  # seconds that the load's last connections may need to end
 
@@ -54,7 +54,7 @@ class Waits:
 
 
 def waits_line(name: str, found: list[float]) -> str:
-    """Returns the line about waiting times."""
+    """Returns the line about the waiting times `found` for what `name` says."""
     each = sorted(found)
     if not each:
         return f"no waits for {name}"
@@ -86,6 +86,7 @@ class Class:
             env={**os.environ, "MML_HOST": str(HOST), "MML_PROGRAM": str(PROGRAM)},
         )
         self.lines: list[str] = []
+        # Whether the class may end now, and the connections that were ended before that, with the errors.
         self.is_ending, self.cut = False, list[str]()
         threading.Thread(target=self.read, daemon=True).start()
         self.until(lambda: any(line.startswith("commands: ") for line in self.lines))
@@ -98,7 +99,7 @@ class Class:
             self.lines.append(line.rstrip("\n"))
 
     def until(self, find: Callable[[], bool]) -> None:
-        """Waits until a function returns true. Fails after a time limit."""
+        """Waits until a function returns true. Fails after a time limit, or if the class has ended."""
         end = time.monotonic() + LIMIT
         while not find():
             if time.monotonic() > end or self.process.poll() is not None:
@@ -106,7 +107,7 @@ class Class:
             time.sleep(0.1)
 
     def type(self, line: str) -> None:
-        """Types a line."""
+        """Types a line at the class's desk."""
         assert self.process.stdin is not None
         self.process.stdin.write(line + "\n")
         self.process.stdin.flush()
@@ -118,8 +119,8 @@ class Class:
         return subprocess.Popen([sys.executable, TOP / "examples/bot.py", slip], stdout=subprocess.DEVNULL, stderr=subprocess.PIPE, text=True)
 
     def comes_and_goes(self, node: int) -> None:
-        """Runs the program of the student of a node, which plays for a moment, says bye, and comes again, until the
-        class is over."""
+        """Acts as a bot of the student of a node that plays for a moment, says bye, and connects again, until the class
+        is over. Notes in `cut` if its connection is ended before that."""
         with contextlib.suppress(Over):
             while self.process.poll() is None:
                 me = self.greeted(node)
@@ -149,7 +150,8 @@ class Class:
                     raise Over("the class has ended") from None
 
     def plays(self, me: Client, node: int) -> None:
-        """Looks at the node once, and asks for the enabled move."""
+        """Looks at the node once, and asks for the enabled move if there is one. Notes how long the reply to the look
+        took. Ignores a denial of the move."""
         begun = time.monotonic()
         seen = me.look(node)
         self.waits.replies.append(time.monotonic() - begun)
@@ -158,7 +160,8 @@ class Class:
                 me.move(seen)
 
     def plays_on(self, seconds: float, rate: int) -> str:
-        """Plays for so long beside two outsiders, and then to a stable end. Returns a line about it."""
+        """Runs the class with its bots for so many seconds beside two outsiders, and then until it is stable. Returns a
+        line about it. Fails if the class or a bot ends with an error, or a connection was ended after its hello."""
         bots = [self.bot(node) for node in range(COMING + 1, STUDENTS + 1)]
         coming = [threading.Thread(target=self.comes_and_goes, args=[node]) for node in range(1, COMING + 1)]
         for each in coming:
@@ -172,14 +175,14 @@ class Class:
             self.type("shake 1")
             self.until(lambda: any("; stable, " in line for line in self.lines[before:]))
             self.is_ending = True
-            self.type("end\nend")
+            self.type("end\nend")  # The class asks for a second `end` if it isn't stable any more.
             statuses = [bot.wait(LIMIT) for bot in bots]
             for each in coming:
                 each.join()
         status = self.process.wait(LIMIT)
         steps = sum(line.startswith("configuration ") for line in self.lines)
         errors = "".join(bot.stderr.read() for bot in bots if bot.stderr)
-        if status not in (0, 5) or any(statuses):
+        if status not in (0, 5) or any(statuses):  # The status 5 means that the run is done, with warnings.
             fail(f"soak: the class ends with {status}, its bots with {statuses} {errors}: {self.lines[-8:]}")
         if self.cut:
             fail(f"soak: cut off after a hello: {self.cut}")
@@ -200,7 +203,8 @@ def beside_a_host(room: Path, seconds: float, rate: int) -> None:
     lab, journal, waits = lab_of(room, 16, 100_000), room / "journal", Waits()
     with Host(lab, 0, 0, journal, room / "record") as host:
         def load(for_so_long: float) -> None:
-            """Runs two outsiders and a client with a key for so long."""
+            """Runs two outsiders for so many seconds. Beside them a client with a key connects each second. Then waits
+            until the last connections have ended."""
             with Outsiders("all", rate, [host.port, host.desk]), Outsiders("all", rate, [host.port, host.desk]):
                 end = time.monotonic() + for_so_long
                 while time.monotonic() < end:
@@ -225,13 +229,14 @@ def beside_a_host(room: Path, seconds: float, rate: int) -> None:
         last = Held.of(host.process.pid)
         ended = host.dismissed(let_in(host.desk, hello("tess"))[0])
     audit(lab, journal, 0)
+    # The status is 4 if entries of the record couldn't be written, because its file had reached its limit.
     if not last.is_as(first) or ended.status not in (0, 4):
         fail(f"soak: a host holds {last}, first {first}, and ends with {ended}")
     print(f"host: first {first}, last {last}; {waits}; it ends with {ended.status}")
 
 
 def main() -> None:
-    """Runs the part that the arguments name."""
+    """Runs outsiders beside a class or beside a host, as the arguments say."""
     what, *numbers = sys.argv[1:] or ["class"]
     seconds = float(numbers[0]) if numbers else SECONDS[what]
     rate = int(numbers[1]) if numbers[1:] else RATE

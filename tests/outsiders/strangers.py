@@ -1,4 +1,5 @@
-"""At the desk everybody except the teacher is a stranger."""
+"""At the desk everybody except the teacher is a stranger, also a student after the hello. A stranger has to leave when
+another client comes, and after five seconds in any case."""
 import time
 from pathlib import Path
 
