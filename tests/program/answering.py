@@ -1,4 +1,5 @@
-"""Scripts that the program answers as their lines come, and how it ends.
+"""Tests of the command `answer`, which answers the lines of a script on standard input as they come: the replies, and
+how the command ends.
 
     python3 -B -m tests.program.answering
 """
@@ -12,7 +13,7 @@ from tests.common.preload import LIMIT, TOP, Ended, built_in, fail, in_room
 from tests.program.lines import ROWS
 
 HELLO = b'1 {"do":"hello","name":"tess","key":"chalk"}\n'
-FAULTS = 5000
+FAULTS = 5000  # the limit of events of a lab that reaches it
 
 
 def scripts(room: Path) -> list[tuple[Path, Path]]:
@@ -35,6 +36,7 @@ def line_by_line(room: Path) -> int:
         asked = script.read_bytes().splitlines(keepends=True)
         program = subprocess.Popen([HOST, "answer", lab], stdin=subprocess.PIPE, stdout=subprocess.PIPE, stderr=subprocess.PIPE)
         assert program.stdin is not None and program.stdout is not None and program.stderr is not None
+        # If a reply doesn't come, the program is killed, so that the read ends.
         late = threading.Timer(LIMIT, program.kill)
         late.daemon = True
         late.start()
@@ -50,13 +52,15 @@ def line_by_line(room: Path) -> int:
             lines += 1
         out, error = program.communicate()
         late.cancel()
+        # A script with fewer replies than lines has a bad line, at which the program ends with an error.
         if (program.returncode, out, error) != (0, b"", b"") and len(wanted) == len(asked):
             fail(f"{script.name}: it ends with {program.returncode}, {out!r}, {error!r}")
     return lines
 
 
 def answered(words: list[str], given: bytes) -> Ended:
-    """Runs a command with a script on its standard input. Returns its status and output."""
+    """Runs the program with these arguments and the script `given` on its standard input. Returns its status and
+    output."""
     done = subprocess.run([HOST, *words], input=given, capture_output=True, timeout=LIMIT, check=False)
     return Ended(done.returncode, done.stdout, done.stderr)
 

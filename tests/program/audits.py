@@ -11,7 +11,7 @@ from tests.common.preload import TOP, Ended, built_in, fail, in_room
 from tests.common.second import agreed, said
 
 JOURNAL = (TOP / "examples/whole-run.journal").read_bytes()
-OTHERS = b" \n0123a-"
+OTHERS = b" \n0123a-"  # each byte of the journal is replaced by each of these
 ANA, BEN, CYD = "1 0 grant ana 1 seduction\n", "2 0 grant ben 2 seduction\n", "1 0 grant cyd 3 marriage 2\n"
 
 # Journals of the built-in lab, each with the audit's verdict: its first bad line, or that it passes.
@@ -62,7 +62,7 @@ links = [[1, 2], [2, 3], [3, 4], [4, 5], [5, 6], [6, 1]]
 teacher = { name = "tess", key = "chalk" }
 student = [{ name = "ana", key = "a-key" }]
 """ + "".join(f'[[node]]\nid = {node}\nowner = "ana"\n' for node in range(1, 7))
-GONE_ON = [(ANA + "2 0 close\n", "ok: 2 events, configuration 1, not stable")]
+RESUMED = [(ANA + "2 0 close\n", "ok: 2 events, configuration 1, not stable")]
 
 
 class Auditor:
@@ -93,9 +93,9 @@ class Auditor:
             self.wants(text.encode(), line)
 
 
-def fronts(auditor: Auditor) -> None:
-    """Audits each prefix of the journal: complete lines pass, and an incomplete line is named. The tenth line
-    makes the run stable."""
+def prefixes(auditor: Auditor) -> None:
+    """Audits each prefix of the journal. A prefix of complete lines passes, and otherwise the error names the
+    incomplete line. After the tenth line the run is stable."""
     for end in range(len(JOURNAL) + 1):
         front = JOURNAL[:end]
         *lines, torn = front.split(b"\n")
@@ -108,7 +108,8 @@ def fronts(auditor: Auditor) -> None:
 
 
 def replaced(auditor: Auditor) -> None:
-    """Audits the journal with each byte replaced by others. The journal passes only with the original byte."""
+    """Audits the journal with each byte replaced by each one of OTHERS. It passes only if both bytes are the same, so
+    as often as a byte of the journal is in OTHERS."""
     before = auditor.passed
     for at in range(len(JOURNAL)):
         for other in OTHERS:
@@ -134,13 +135,13 @@ def work(room: Path) -> str:
     """Runs all audits. Returns a line with their number."""
     lab, cycle = built_in(room), room / "cycle.toml"
     cycle.write_text(CYCLE, encoding="ascii")
-    auditor, shared, gone_on = Auditor(room, lab), Auditor(room, shared_lab(room, lab)), Auditor(room, cycle)
+    auditor, shared, resumed = Auditor(room, lab), Auditor(room, shared_lab(room, lab)), Auditor(room, cycle)
     auditor.all_of(ROWS)
     shared.all_of(SHARED)
-    gone_on.all_of(GONE_ON)
-    fronts(auditor)
+    resumed.all_of(RESUMED)
+    prefixes(auditor)
     replaced(auditor)
-    return f"{auditor.calls + shared.calls + gone_on.calls} audits of right, torn and hurt journals say what is wanted"
+    return f"{auditor.calls + shared.calls + resumed.calls} audits of right, torn and hurt journals say what is wanted"
 
 
 if __name__ == "__main__":

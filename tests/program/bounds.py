@@ -1,4 +1,5 @@
-"""Runs that take as many moves, and as many rounds, as the laws say that some run takes.
+"""Runs that reach the bounds on moves and on rounds (the bound on moves may be missed by one). A *round* ends as soon
+as each node has moved or wasn't privileged at some moment of it.
 
     python3 -B -m tests.program bounds
 
@@ -18,6 +19,7 @@ from tests.common.hosting import HOST
 from tests.common.preload import LIMIT, fail
 from tests.common.second import agreed
 
+# The numbers of nodes of the networks with the most moves, and of those with the most rounds.
 MOVES = (4, 5, 6, 7, 12, 41, 64, 101, 200)
 ROUNDS = (2, 3, 4, 5, 6, 7, 40, 101, 200)
 # A node with the words of its move.
@@ -48,12 +50,13 @@ def lab(room: Path, links: list[tuple[int, int]], nodes: list[tuple[int, int | N
     return file
 
 
-def phases(size: int, are_low: range) -> Iterator[Step]:
-    """Yields the steps of one couple after another, in a network of this size. The low nodes seduce the highest free
-    node, which marries the lowest, and the other low nodes leave."""
+def phases(size: int, low: range) -> Iterator[Step]:
+    """Yields the steps in which one couple after another marries, in a network of this size. For each couple, those of
+    the nodes in `low` that aren't married yet seduce the highest free node. This node marries the lowest of them, the
+    couple applies Update, and the others abandon the node."""
     for first in range(1, size // 2 + 1):
         last = size + 1 - first
-        suitors = [node for node in are_low if first <= node < last]
+        suitors = [node for node in low if first <= node < last]
         yield [(node, SEDUCTION) for node in suitors]
         yield [(last, marriage(first))]
         yield [(first, UPDATE), (last, UPDATE)]
@@ -135,8 +138,8 @@ def counted(file: Path, steps: list[Step]) -> Counted:
 
 
 def moves(room: Path, size: int) -> int:
-    """Checks a run on the network in which two nodes are linked if their sum is more than the size. The run has the
-    greatest possible number of moves, or one less. Returns the number of moves."""
+    """Checks a run on the network in which two nodes are linked if their sum is more than `size`, the number of nodes.
+    The run has as many moves as the bound, or one less if the size is odd. Returns the number of moves."""
     half = size // 2
     pointers = {node: size + 1 - node for node in range(1, half + 1)}
     pointers |= {node: node + 1 for node in range(half + 1, size)} | {size: 2}
@@ -150,8 +153,9 @@ def moves(room: Path, size: int) -> int:
 
 
 def rounds(room: Path, size: int) -> int:
-    """Checks a run on two halves, which are linked if the sum is more than the size. In each step all privileged
-    nodes move. Returns the number of rounds."""
+    """Checks a run on the network in which a node of the lower half and one of the upper half are linked if their sum
+    is more than `size`, the number of nodes. In each step all privileged nodes move. The run has as many rounds as the
+    bound. Returns their number."""
     low = range(1, (size + 1) // 2 + 1)
     links = [(node, high) for node in low for high in range(low.stop, size + 1) if node + high > size]
     nodes: list[tuple[int, int | None]] = [(node, None) for node in range(1, size + 1)]

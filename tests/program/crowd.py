@@ -22,7 +22,7 @@ SEEDS = range(1, 5)
 NODES = 64
 TURNS = 250
 HELLOS = {"ana": ("ana", "a-key"), "ben": ("ben", "b-key"), "tess": ("tess", "chalk")}
-Heard = list[tuple[bytes, bytes]]
+Heard = list[tuple[bytes, bytes]]  # the lines of a client with their replies
 
 
 def lab_text() -> str:
@@ -60,10 +60,11 @@ class Player:
         return replies[-1]
 
     def moves(self, rng: Random, first: int) -> None:
-        """Asks for random moves of its nodes by its last looks, after views of them. `first` is the lowest of its
-        nodes."""
+        """Sends TURNS times three requests at once: a move, a request to see a random node, and a look at one of its
+        nodes. The move is the one that the look before it showed as enabled, or one that is denied. `first` is the
+        lowest of its nodes."""
         half = NODES // 2
-        move = line_of(do="see", node=0)
+        move = line_of(do="see", node=0)  # Before the first look there is no move to ask for.
         for _ in range(TURNS):
             node = first + rng.randrange(half)
             look = json.loads(self.ask([move, line_of(do="see", node=rng.randrange(NODES + 2)), line_of(do="look", node=node)]))
@@ -72,8 +73,8 @@ class Player:
             move = line_of(**asked, **({"with": suitors[0] if suitors else 0} if asked["rule"] == "marriage" else {}))
 
     def closes(self, rng: Random, others: list[threading.Thread]) -> None:
-        """Closes steps until the others have ended, with a fault and a report now and then, and looks at all nodes
-        at the end."""
+        """Closes steps as the teacher until the threads `others` have ended, with a fault and a report now and then. At
+        the end closes the last step, and asks for a report and to see all nodes."""
         while any(other.is_alive() for other in others):
             lines = [line_of(do="close")] * rng.randrange(1, 4)
             if rng.randrange(8) == 0:
@@ -86,7 +87,7 @@ class Player:
 
 
 class Replay:
-    """The plain model after a prefix of a journal."""
+    """The plain model after a prefix of a journal, which grows event by event."""
 
     def __init__(self, lab: Lab, journal: bytes) -> None:
         """Begins before the first event of a journal of a lab."""
@@ -102,9 +103,9 @@ class Replay:
         apply(self.world, self.events[self.world.place].asked)
         return True
 
-    def tells(self, line: bytes, reply: bytes) -> bool:
-        """Returns whether the model gives this reply to a line at the present prefix. A granted event must be the next
-        one of the journal."""
+    def gives(self, line: bytes, reply: bytes) -> bool:
+        """Returns whether the model gives this reply to a line after the present prefix. If the line is granted an
+        event, this has to be the journal's next one, and is applied."""
         found = answer(self.lab, self.world, self.known, line[:-1])
         if found.reply.encode() + b"\n" != reply:
             return False
@@ -122,9 +123,10 @@ class Replay:
         return event_line(self.world, event.who, event.asked)
 
     def meets(self, heard: Heard) -> str:
-        """Returns the first reply that the model never gives, or an empty text."""
+        """Replays the lines of one client. Each reply has to be the model's after the present prefix or a longer one.
+        Returns a text about the first reply that isn't, or an empty text."""
         for line, reply in heard:
-            while not self.tells(line, reply):
+            while not self.gives(line, reply):
                 if not self.step():
                     return f"{reply!r} to {line!r}"
         return ""

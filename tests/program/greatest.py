@@ -49,7 +49,7 @@ def report(has_suitors: bool) -> str:
 
 @dataclass
 class Tale:
-    """A script, its expected replies, and its expected journal."""
+    """A script, its expected replies, and its expected journal, each as a list of lines."""
 
     script: list[str] = field(default_factory=list)
     replies: list[str] = field(default_factory=list)

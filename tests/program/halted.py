@@ -1,4 +1,5 @@
-"""A journal whose file is limited to each number of bytes in turn.
+"""Scripts whose journal may have at most N bytes, for each number N up to the size of the whole journal. When a line
+doesn't fit, the journal is *halted*: each further event is refused.
 
     python3 -B -m tests.program.halted
 
@@ -78,7 +79,8 @@ class Limited:
 
 
 def hellos_and_events(script: bytes, replies: bytes) -> tuple[list[bytes], list[bytes]]:
-    """Returns the lines of a script that are hellos or granted acts, and their replies."""
+    """Returns the lines of a script that are hellos or granted events, and their replies. `replies` are those to all
+    its lines."""
     pairs = list(zip(script.splitlines(keepends=True), replies.splitlines(keepends=True)))
     acts = [(line, reply) for line, reply in pairs if b'"place":' in reply or b'"hello"' in reply]
     return [line for line, _ in acts], [reply for _, reply in acts]
@@ -94,7 +96,7 @@ def fault_of(ended: Ended, most: int, replies: list[bytes]) -> str:
     of the whole run."""
     if most >= len(JOURNAL):
         return "" if ended == Ended(0, b"".join(replies), b"") else "it doesn't end well"
-    granted = 4 + JOURNAL[:most].count(b"\n")
+    granted = 4 + JOURNAL[:most].count(b"\n")  # four hellos, and the events whose lines fit
     found = ended.out.splitlines(keepends=True)
     if (ended.status, ended.error) != (4, b"journal fault\n"):
         return "another status or error line"
@@ -117,7 +119,7 @@ def work(room: Path) -> str:
         ended, journal = limited.run(b"".join(acts), most)
         fault = fault_of(ended, most, replies) or ("" if journal == JOURNAL[:most] else f"another journal {journal!r}")
         if fault:
-            fail(f"where {most} bytes of the journal are taken: {fault}: {ended}")
+            fail(f"if {most} bytes of the journal are taken: {fault}: {ended}")
     return f"{len(JOURNAL) + 2} journals that were cut off have each byte that was taken, and no event after it"
 
 

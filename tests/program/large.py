@@ -15,7 +15,7 @@ from tests.common.preload import LIMIT, Server, Story, fail, good, in_room
 from tests.program.greatest import EVENTS, greatest
 
 NODES = 256
-PART = 1000
+PART = 1000  # requests that are sent at once
 HELLO = '{"do":"hello","key":"chalk","name":"tess"}\n'
 WELCOME = '{"ok":"hello","who":"tess"}\n'
 CUT, FULL = '{"a":1,"b":2,"do":"cut"}\n', '{"refuse":"full"}\n'

@@ -1,4 +1,5 @@
-"""The limits that the program prints are those of the requirement, and so is each copy of one that stands elsewhere.
+"""The limits that the program prints are those of `tests.common.limits`. So is each copy of a limit elsewhere: in
+`classroom`, in the model, in the schemas and in `bench`.
 
     python3 -B -m tests.program.limits
 """
@@ -33,14 +34,15 @@ def text_of(path: str) -> str:
 
 
 def number_in(path: str, pattern: str) -> int:
-    """Returns the number that a pattern with one group finds in a file of the repository."""
+    """Returns the number that a pattern with one group finds in a file of the repository. Fails unless the pattern
+    matches exactly once."""
     found = re.findall(pattern, text_of(path), re.MULTILINE)
     if len(found) != 1:
         fail(f"{path} has {len(found)} times {pattern}")
     return int(found[0])
 
 
-def of_the_kit() -> Iterator[Copy]:
+def of_clients_and_schemas() -> Iterator[Copy]:
     """Yields the copies of limits in a student's client, in the door and in the schemas, which call no program."""
     yield "classroom.client.MOST", client.MOST, MOST["line"]
     yield "classroom.client.GREETING", client.GREETING, MOST["greeting"]
@@ -70,7 +72,7 @@ def of_the_model() -> Iterator[Copy]:
     yield "MAX_LINE in bench/typed", number_in("bench/typed/src/serving.rs", r"^const MAX_LINE: usize = (\d+);$"), MOST["line"]
 
 
-def want_below() -> None:
+def check_what_has_to_fit() -> None:
     """Fails if something that has to fit into a limit is larger: the scripts that `class` makes, and the tasks of the
     service."""
     for name, most in (("classroom.core.answering.MOST_SCRIPT", answering.MOST_SCRIPT), ("classroom.pages.replay.SCRIPT_LIMIT", replay.SCRIPT_LIMIT)):
@@ -82,7 +84,7 @@ def want_below() -> None:
         fail(f"TasksMax={tasks} is too few for a lab of {MOST['sessions']} sessions, which needs {needed}")
 
 
-def want_no_literal() -> None:
+def check_launcher() -> None:
     """Fails if the launcher, which reads limits from the program, has one of them as a number."""
     literals = set(map(int, re.findall(r"\b\d+\b", text_of("mml")))) & {most for most in MOST.values() if most >= LEAST_LITERAL}
     if literals:
@@ -90,19 +92,20 @@ def want_no_literal() -> None:
 
 
 def work(_room: Path) -> str:
-    """Compares each copy of a limit with the requirement. Returns a line with the number of copies."""
+    """Compares the output of the command `limits`, and each copy of a limit, with `tests.common.limits`. Returns a line
+    with the numbers of both."""
     found = run(["limits"], b"", {}, HOST)
     if found != Ended(0, TEXT.encode(), b""):
         fail(f"limits: {found}")
     refused = run(["limits", "all"], b"", {}, HOST)
     if refused != Ended(1, b"", b"command line: not understood\n"):
         fail(f"limits all: {refused}")
-    copies = [*of_the_kit(), *of_the_model()]
+    copies = [*of_clients_and_schemas(), *of_the_model()]
     for name, is_there, wanted in copies:
         if is_there != wanted:
             fail(f"{name} is {is_there}, and not {wanted}")
-    want_below()
-    want_no_literal()
+    check_what_has_to_fit()
+    check_launcher()
     return f"limits: {len(LIMITS)} lines, and {len(copies)} copies of their numbers"
 
 

@@ -80,7 +80,7 @@ def wants(room: Path, lab: Path, rows: list[tuple[str, str, int | None]]) -> Non
             fail(f"another end of {text[:100]!r}: {found}")
 
 
-# Members of requests, and keys, values and bytes that are put beside and into them.
+# What random lines consist of: members of requests, and keys, values and bytes that are put beside and into them.
 REQUESTS = [
     '"do":"see","node":2',
     '"do":"look","node":18446744073709551615',
@@ -109,8 +109,8 @@ VALUES = [
     '{"a":["\\ud800"]}', "[" * 126 + "]" * 126, "[" * 127 + "]" * 127,
 ]
 HURTS = b'{}[]":,\\ \t0-.eEn\x00\x1f\x7f\xc3\xff'
-LINES = 4000
-PART = 40
+LINES = 4000  # the number of random lines
+PART = 40  # the number of random lines in a script
 
 
 def others(rng: Random) -> str:

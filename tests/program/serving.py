@@ -1,5 +1,5 @@
-"""Serves clients that come at the same time, race, disappear or end within a line. The expected replies are
-written by hand.
+"""Tests of the command `serve` with clients that come at the same time, race, disappear or end within a line. The
+expected replies are written by hand.
 
     python3 -B -m tests.program.serving
 """
@@ -11,11 +11,11 @@ from tests.common.lines import BID, BYE, CLOSE, closed, denial_of, fault_at, gre
 from tests.common.limits import MOST
 from tests.common.preload import LIMIT, TOP, Client, Ended, Server, built_in, fail, in_room
 
-ROUNDS = 300
+ROUNDS = 300  # the number of races for a move, and of races for a close
 
 
 def lab_of(room: Path, old: str, new: str) -> Path:
-    """Writes the built-in lab with the text `old` replaced, and returns its path."""
+    """Writes the built-in lab with the text `new` instead of `old`, and returns its path."""
     lab = room / "changed.toml"
     lab.write_text(built_in(room).read_text(encoding="utf-8").replace(old, new, 1), encoding="utf-8")
     return lab
@@ -65,14 +65,15 @@ def in_a_line(room: Path) -> None:
 
 
 def gone(room: Path) -> None:
-    """A client that disappears before its reply leaves its event, and another client is served to its end."""
+    """If a client closes its connection before it reads the reply to its move, the move is still made. Another client
+    is served to its end."""
     server = serving(built_in(room), 2)
     with opened(server) as client:
         client.sendall(hello("ana") + seduction(0))
     teacher = Client(server.port)
     if teacher.ask(hello("tess")) != greeted("tess"):
         fail("serving: another reply beside a client that is gone")
-    while (reply := teacher.ask(CLOSE)) == denial_of("empty"):
+    while (reply := teacher.ask(CLOSE)) == denial_of("empty"):  # until the server has granted the move
         time.sleep(0.01)
     if reply != closed(1, 2, 1):
         fail(f"serving: the move of a client that is gone doesn't stand: {reply!r}")
@@ -81,7 +82,8 @@ def gone(room: Path) -> None:
 
 
 def many(room: Path) -> None:
-    """The greatest number of connections with one name are within a line at the same time, and each is answered correctly."""
+    """As many connections as a server may have send the beginning of a line at the same time. When each of them sends
+    the rest, it is answered correctly. All of them use the same name."""
     server = serving(lab_of(room, "sessions = 4", f"sessions = {MOST['sessions']}"), MOST["sessions"])
     lines, replies = (
         b"".join(line[2:] for line in (TOP / f"examples/first-look.{end}").read_bytes().splitlines(keepends=True))
@@ -119,10 +121,11 @@ def won(one: Client, two: Client, line: bytes, granted: bytes, denied: bytes) ->
 
 
 def races(room: Path) -> None:
-    """Of two owners, one is granted a node's move, and the journal names that one. Of two closes, one applies it."""
+    """If both owners of a node ask for its move at the same time, one of them is granted the move, and the journal
+    names this one. If the teacher closes the step on two connections at the same time, one of them is granted."""
     journal = room / "raced.journal"
     lab = lab_of(room, 'owner = "ana"', 'owners = ["ana", "ben"]')
-    server = serving(lab_of_more(lab), 4, str(journal))
+    server = serving(with_more_events(lab), 4, str(journal))
     clients = [Client(server.port) for _ in range(4)]
     for client, name in zip(clients, ("ana", "ben", "tess", "tess")):
         client.ask(hello(name))
@@ -145,8 +148,8 @@ def races(room: Path) -> None:
         fail("serving: another journal of races")
 
 
-def lab_of_more(lab: Path) -> Path:
-    """Writes a lab with a higher limit of events, and returns its path."""
+def with_more_events(lab: Path) -> Path:
+    """Rewrites the file of a lab with a higher limit of events, and returns its path."""
     lab.write_text(lab.read_text(encoding="utf-8").replace("events = 100\n", "events = 10000\n"), encoding="utf-8")
     return lab
 

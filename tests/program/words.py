@@ -1,4 +1,5 @@
-"""Calls the program with unknown arguments and unreadable files, and counts its writes.
+"""Calls the program with arguments that it doesn't understand and with files that it can't read. Also checks how many
+writes an output consists of.
 
     python3 -B -m tests.program.words
 """
@@ -138,7 +139,7 @@ TAKEN = [
 
 
 def called(line: str, folder: Path) -> Ended:
-    """Runs the command line in a text in a folder. Returns its status and output."""
+    """Runs the program in a folder with the words of a line as its arguments. Returns its status and output."""
     words: list[str | Path] = [PROGRAM.resolve(), *line.split(" ")]
     done = subprocess.run(
         words, stdin=subprocess.DEVNULL, capture_output=True, cwd=folder, timeout=LIMIT, check=False
@@ -154,7 +155,8 @@ def wants(line: str, folder: Path, wanted: Ended) -> None:
 
 
 def words_of(folder: Path) -> int:
-    """Checks command lines that aren't understood, and some that are. Returns their number."""
+    """Makes the files in a folder, and checks the command lines that aren't understood, and those in TAKEN. Returns
+    their number."""
     for name in ("a", "check", "help", "version", "7000"):
         shutil.copy(built_in(folder), folder / name)
     (folder / "b").write_text('1 {"do":"bye"}\n', encoding="ascii")
