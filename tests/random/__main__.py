@@ -24,17 +24,18 @@ from tests.random.labs import drawn_lab
 from tests.random.meshes import mesh, mesh_script
 from tests.random.scripts import drawn_script
 
-SEEDS = range(1, 501)
-LINES = 80
-HURTS = 3
-WORLDS = range(1, 301)
-MESHES = (64, 256)
-EVENTS = 1000
+SEEDS = range(1, 501)  # of the random labs with a random script
+LINES = 80  # of each of these scripts
+HURTS = 3  # the number of changed journals of a run that are audited
+WORLDS = range(1, 301)  # the seeds of the runs under four daemons
+MESHES = (64, 256)  # the numbers of nodes of the large meshes
+EVENTS = 1000  # of a run in a mesh
 REPLACEMENTS = b" 03-eA\n\xff"
 GRANTS = ("move", "close", "fault", "link", "cut", "release")
 WORDS = [*DENIALS, *GRANTS, "hello", "bye", "see", "look", "report", "malformed", "full"]
 # The least number of reports with pairs, and of those with open links.
 REPORTS = 300
+# The word of a reply, and the lists of a report that aren't empty.
 TOLD = re.compile(rb'"(?:ok|deny|refuse)":"([a-z-]+)"')
 LISTED = re.compile(rb'"(open|pairs)":\[\[')
 
@@ -48,14 +49,16 @@ def hurt(rng: Random, journal: bytes) -> bytes:
 
 
 def audit_hurt(rng: Random, files: Files) -> None:
-    """Audits the journal of a run as it is, and with one byte changed, by both programs."""
+    """Audits the journal of a run as it is, and with one byte changed, by the program and by the model. Fails if they
+    differ."""
     journal = files.journal.read_bytes()
     for text in [journal] + [hurt(rng, journal) for _ in range(HURTS if journal else 0)]:
         files.audited(text)
 
 
 def compare(room: Path, seed: int) -> Counter[bytes]:
-    """Plays and audits the run of a seed by both programs. Returns a count of the words in its replies."""
+    """Plays and audits the run of a seed by the program and by the model. Fails if they differ. Returns how often each
+    word occurs in the replies, and how many reports have pairs or open links."""
     rng = Random(seed)
     document = drawn_lab(rng)
     script = drawn_script(rng, read_lab(document.encode()), LINES)
@@ -66,7 +69,8 @@ def compare(room: Path, seed: int) -> Counter[bytes]:
 
 
 def scripts(room: Path) -> None:
-    """Runs all random scripts, and checks that each word of a reply occurs."""
+    """Compares all random scripts. Checks that each word of WORDS occurs in a reply, and that enough reports have
+    pairs, and open links."""
     told: Counter[bytes] = Counter()
     for seed in SEEDS:
         told += compare(room, seed)
@@ -78,7 +82,8 @@ def scripts(room: Path) -> None:
 
 
 def runs_to_an_end(room: Path, worlds: range) -> str:
-    """Runs random worlds to a stable end. Nine of ten runs must have a move. Returns a line about them."""
+    """Runs random worlds under each daemon to a stable end. In nine of ten runs there has to be a step, and one in
+    twenty has to have a network with more than n²/4 links. Returns a line about them."""
     moving, dense = 0, 0
     for seed in worlds:
         for daemon in ends.DAEMONS:

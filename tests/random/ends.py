@@ -67,7 +67,7 @@ def drawn_lab(rng: Random, count: int) -> str:
 
 @dataclass
 class Course:
-    """The script of a run, the links and nodes of its network, and the number of its rounds."""
+    """The script of a run, the numbers of nodes and links of its network, and the number of its rounds."""
 
     script: str
     nodes: int
@@ -87,13 +87,13 @@ class Course:
         replies = [json.loads(line.split(" ", 1)[1]) for line in text.splitlines()]
         last = replies[-1]
         if not last["stable"] or last["privileged"] or last["open"]:
-            return "it doesn't end in a maximal matching where no node is privileged"
+            return "it doesn't end in a maximal matching in which no node is privileged"
         if 2 * len(last["pairs"]) + len(last["free"]) != self.nodes:
             return "its end has another number of nodes"
         if self.moves(replies) > 3 * self.nodes + 2 * min(self.links, self.nodes * self.nodes // 4):
             return "it takes more moves than three for each node and two for each link, of which a quarter of n² counts at the most"
         if self.rounds > 2 * self.nodes - self.nodes % 2:
-            return "it takes more rounds than two for each node, one less where their number is odd"
+            return "it takes more rounds than two for each node, or one less if their number is odd"
         return ""
 
 
@@ -144,7 +144,8 @@ def moves_of(world: World) -> dict[int, list[Move]]:
 
 
 def course(rng: Random, document: str, daemon: Daemon) -> Course:
-    """Returns a run of the lab with this text, under a daemon."""
+    """Returns a run of the lab with this text, under a daemon. The number of steps is limited to one more than the
+    bound on moves, so that this function ends in any case."""
     lab = read_lab(document.encode())
     runner = Runner(rng, lab, daemon)
     links = sum(len(near) for near in lab.world.links.values()) // 2

@@ -33,8 +33,9 @@ def written(rng: Random, value: Any) -> str:
 
 
 def spelled(rng: Random, request: dict[str, Any]) -> bytes:
-    """Returns the line of a request whose object has its keys in any order, spaces, escapes, unknown keys and doubled
-    keys."""
+    """Returns a line for a request. In one of six cases each, the keys have another order and an unknown one is added,
+    or some letters are escaped, or a key is doubled. The line may also have spaces. The request stays the same, since
+    the last value of a doubled key counts."""
     items = [[json.dumps(key), json.dumps(value)] for key, value in request.items()]
     kind = rng.randrange(6)
     if kind == 0:
@@ -59,7 +60,8 @@ def hurt(rng: Random, line: bytes) -> bytes:
 
 
 def odd(rng: Random, request: dict[str, Any]) -> bytes:
-    """Returns a line that isn't a request, or looks like one that isn't."""
+    """Returns a line that is malformed or looks so: one of ODD_LINES, or a request with a changed byte, without one of
+    its keys, or with an odd value for this key."""
     kind = rng.randrange(4)
     if kind == 0:
         return rng.choice(ODD_LINES)

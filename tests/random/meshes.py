@@ -26,7 +26,8 @@ def mesh(count: int) -> str:
 
 
 class Meshing:
-    """A builder of a script."""
+    """A builder of a script of random events in a mesh. It applies each line to the model, and asks only for events
+    that the model grants."""
 
     def __init__(self, rng: Random, lab: Lab) -> None:
         """`rng` makes all random choices."""

@@ -17,7 +17,7 @@ NAMELESS = [{"do": "close"}, {"do": "report"}, {"do": "bye"}]
 
 
 class Drawing:
-    """A builder of a script."""
+    """A builder of a random script. It applies each line to the model, so that later lines fit the world after it."""
 
     def __init__(self, rng: Random, lab: Lab) -> None:
         """`rng` makes all random choices."""

@@ -19,10 +19,10 @@ from model.world import Move, World
 from tests.common.preload import TOP, fail
 
 TESTS = TOP / "crates/mml_tests_model/src"
-CYCLES = (64, 256)
-DRAWS = 5000
-EVENTS = 1000
-ROW = 80
+CYCLES = (64, 256)  # the numbers of nodes of the cycles
+DRAWS = 5000  # requests that are drawn on each cycle
+EVENTS = 1000  # the least number of them that has to be legal
+ROW = 80  # characters of a table in a line of source
 REPLACEMENTS = b" 03-eA\n\xff"
 PEOPLE = """events = 100
 sessions = 1
@@ -52,7 +52,8 @@ class Numbers:
 
 
 def drawn(numbers: Numbers, world: World, index: int) -> tuple[str, Request]:
-    """Returns the next request in a world and who sends it. Most requests aren't legal."""
+    """Returns the next request in a world, and who sends it. Most requests aren't legal. The crate `mml_tests_model`
+    draws the same requests from the same numbers, so this function and the crate's must agree."""
     count = len(world.links)
     at = (index // 8 + numbers.below(8)) % count
     i, j = at + 1, (at + count - 2 + numbers.below(6)) % count + 1
@@ -84,6 +85,7 @@ def refused_before(count: int) -> str:
         text += chr(ord("a") + min(refused, 25))
         refused = 0
         apply(world, asked)
+    # The nine kinds are the four rules, close, release, fault, link and cut.
     if len(text) < EVENTS or len(words) != 9:
         fail(f"on a cycle of {count} nodes {len(text)} events of these kinds are drawn: {words}")
     return text

@@ -51,7 +51,8 @@ def files(name: str, packages: dict[str, dict[str, str]]) -> list[str]:
 
 
 def main() -> None:
-    """Prints the files."""
+    """Prints the paths of the files on standard output, and the names of the packages on standard error. Exits with an
+    error if a package isn't installed."""
     packages = installed()
     base = [name for name, it in packages.items() if it.get("Essential") == "yes" or it.get("Priority") == "required"]
     wanted = sys.argv[1:] or base

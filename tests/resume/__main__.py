@@ -1,4 +1,4 @@
-"""Kills hosts and resumes their journals, as a user does.
+"""Kills hosts (servers of classes) and resumes their classes from the journals, as a user does.
 
     python3 -m tests.resume [WORD..]
 
@@ -25,11 +25,12 @@ OTHER = Ended(2, b"", b"resume: another lab\n")
 FAULT = Ended(4, b"", b"journal fault\n")
 BREAK = fault_at(1)
 SEDUCES = seduction(0)
-# The first two lines of a journal of the built-in lab, and the longest line that may be the third.
-FIRST = b"1 0 grant ana 1 seduction\n2 0 close\n"
+# The first line of a journal of the built-in lab, its first two lines, and a third line without its end.
+ONE = b"1 0 grant ana 1 seduction\n"
+FIRST = ONE + b"2 0 close\n"
 THIRD = b"3 1 grant ben 2 marriage 1"
-LONGEST = 101
-PACE = 0.1  # seconds
+LONGEST = 101  # the most bytes after the last newline that `resume` takes for the beginning of a line
+PACE = 0.1  # seconds that the class in `slowness` took on the machine for which the times of kills were chosen
 KILLS = 80  # the number of kills of hosts alone; tests/classroom/test_resume.py kills `run`, and both, ten times each
 
 
@@ -39,13 +40,14 @@ def kept(journal: Path) -> dict[str, bytes]:
 
 
 def resumed(host: Host) -> bytes:
-    """Returns the line in which a host reports from which place it continues."""
+    """Reads the host's second line of output, and returns it. In this line the host says at which place, configuration
+    and number of chosen moves the class goes on."""
     assert host.process.stdout is not None
     return host.process.stdout.readline()
 
 
 def place_of(line: bytes) -> int:
-    """Returns the place in the line in which a host reports from which place it continues."""
+    """Returns the place in a line that `resumed` has returned: the number of events that the class already has."""
     if not line.startswith(b"resumed at place "):
         fail(f"resume: another line after that on the ports: {line!r}")
     return int(line[17:line.index(b",")])
@@ -64,8 +66,9 @@ def refused(lab: Path, journal: Path, wanted: Ended, why: str, before: Sequence[
 
 
 def goes_on(lab: Path, journal: Path, line: bytes, error: bytes, why: str) -> None:
-    """Checks that a class continues from its journal with this line and this standard error, and ends as it began.
-    `why` names the situation, for the error."""
+    """Resumes a class from its journal, and ends it at once. Checks that the host prints the line `line` for `resumed`
+    and `error` on standard error, and that its last line has the same place and configuration as `line`. `why` names
+    the situation, for the error."""
     with Host(lab, 0, 0, journal, word="resume") as host:
         said = resumed(host) if host.listens else b""
         ended = host.dismissed(let_in(host.desk, hello("tess"))[0]) if host.listens else host.end()
@@ -75,15 +78,14 @@ def goes_on(lab: Path, journal: Path, line: bytes, error: bytes, why: str) -> No
 
 
 def killed_at(host: Host, seconds: float) -> threading.Timer:
-    """Starts a timer that kills a host."""
+    """Starts a timer that kills a host after so many seconds. Returns the timer."""
     timer = threading.Timer(seconds, host.process.kill)
     timer.start()
     return timer
 
 
 def slowness(lab: Path, room: Path) -> float:
-    """Returns how much longer a class with three steps takes here than on the machine for which the times of kills
-    were chosen."""
+    """Plays a class with three steps. Returns how many times as long as PACE this takes here, but at least 1."""
     begun = time.monotonic()
     with Host(lab, 0, 0, room / "pace.journal") as host:
         players = Players(1)
@@ -95,7 +97,8 @@ def slowness(lab: Path, room: Path) -> float:
 
 
 def kills(room: Path) -> None:
-    """A host that is killed at random times continues each time with all events in replies, to a stable end."""
+    """A host is killed at random times, and resumed each time. Each time it goes on with at least all events whose
+    replies were read. At last the class is played to a stable end."""
     lab, journal = lab_of(room, 4, 100_000), room / "journal"
     players, pace = Players(47), slowness(lab, room)
     for turn in range(KILLS):
@@ -119,7 +122,8 @@ def kills(room: Path) -> None:
 
 
 def power_cuts(room: Path) -> None:
-    """Events in replies are in the journal after a power cut. Without the sync they aren't."""
+    """If the power fails, only what was synced is left of the journal. This is all events whose replies were read. In a
+    second class the syncs do nothing, and then events are lost. So the test would notice if the host didn't sync."""
     library = Preloaded("resume/power.c", room, "POWER_COUNTS")
     lab, lost = lab_of(room, 4, 100_000), 0
     pace = slowness(lab, room)
@@ -133,6 +137,7 @@ def power_cuts(room: Path) -> None:
                 timer = killed_at(host, pace * players.random.uniform(0.1, 0.5))
                 players.play_on(host)
                 timer.join()
+            # A power cut is simulated: the journal is cut to the bytes that were synced.
             durable, syncs = library.counts()
             os.truncate(journal, durable)
             there = journal.read_bytes().count(b"\n")
@@ -156,7 +161,7 @@ def failed_sync(room: Path) -> None:
     refusal = refusal_of("journal")
     if b'"place":1' not in said[0] or said[1:] != (refusal, refusal) or ended != FAULT:
         fail(f"resume: where a sync fails: {said} and {ended}")
-    if journal.read_bytes() != FIRST[:26]:
+    if journal.read_bytes() != ONE:
         fail("resume: a line that wasn't synced isn't taken back")
     goes_on(lab, journal, b"resumed at place 1, configuration 0, 1 chosen\n", b"", "after a sync that failed")
 
@@ -192,7 +197,8 @@ def folders_that_fail(room: Path) -> None:
 
 
 def told_until_halted(ana: Caller, tess: Caller) -> int:
-    """Repeats a move, its step and a fault until the journal halts. Returns the number of events in replies."""
+    """Repeats a move, its close and a fault, on the connections of ana and the teacher, until the journal is halted and
+    such a fault is refused. Returns the number of granted events."""
     told = 0
     for turn in range(200):
         move = seduction(2 * turn)
@@ -204,7 +210,8 @@ def told_until_halted(ana: Caller, tess: Caller) -> int:
 
 
 def one_more(lab: Path, journal: Path) -> tuple[int, bytes, Ended]:
-    """Resumes a class for one event. Returns the place from which it continued, the reply, and the end."""
+    """Resumes a class for one event, a fault, and ends it. Returns the place at which it went on, the reply to the
+    fault, and the end of the host."""
     with Host(lab, 0, 0, journal, word="resume") as host:
         place = place_of(resumed(host))
         tess = let_in(host.desk, hello("tess"))[0]
@@ -212,7 +219,8 @@ def one_more(lab: Path, journal: Path) -> tuple[int, bytes, Ended]:
 
 
 def full_disk(room: Path) -> None:
-    """If a file can't take another complete line, the class halts, and can be resumed when there is room."""
+    """If the journal's file can't take another complete line, further events are refused. The class can be resumed when
+    there is room. The disk is simulated by a limit of 1024 bytes on the size of files."""
     lab, journal = lab_of(room, 4), room / "journal"
     limited = ["bash", "-c", 'trap "" XFSZ && ulimit -f 1 && exec "$@"', "bash"]
     with Host(lab, 0, 0, journal, before=limited) as host:
@@ -232,8 +240,9 @@ def full_disk(room: Path) -> None:
 
 
 def in_mid_line(room: Path) -> None:
-    """A full disk of two pages has the beginning of a line. The class is resumed from the complete lines on
-    another disk. Only root can mount the disk, and it is mounted for the host alone."""
+    """On a full disk of two pages the journal ends with the beginning of a line. The class is resumed from a copy of
+    the journal on another disk: the incomplete line is removed, and the complete ones stay. Only root can mount the
+    disk, so the test does nothing for other users. The disk is mounted for the host alone."""
     if os.geteuid() != 0:
         return
     lab, disk, journal = lab_of(room, 4), room / "disk", room / "journal"
@@ -258,7 +267,9 @@ def in_mid_line(room: Path) -> None:
 
 
 def torn_tails(room: Path) -> None:
-    """An incomplete line of each length is removed and saved. More than a line's length is refused."""
+    """If a journal ends with an incomplete line, of whatever length, `resume` removes it, and keeps a copy of the whole
+    file with the same mode. A journal with an error in another place, or with too many bytes after its last newline, is
+    refused."""
     lab, journal = lab_of(room, 4), room / "journal"
     tails = [THIRD[:length] for length in range(len(THIRD) + 1)] + [b"x" * LONGEST]
     for tail in tails:
@@ -281,8 +292,9 @@ def torn_tails(room: Path) -> None:
         fail("resume: a file was kept under the name of another one")
     for content, line in [
         (FIRST + b"x" * (LONGEST + 1), b"audit: line 3: torn\n"), (b"x" * (LONGEST + 1), b"audit: line 1: torn\n"),
-        (FIRST[:26] + b"2 0 clos\n", b"audit: line 2: not an event\n"), (b"1 0 close\n2", b"audit: line 1: illegal, empty\n"),
-        (FIRST[26:], b"audit: line 1: wrong place or configuration\n"), (FIRST[:26] + b"\n" + b"2", b"audit: line 2: not an event\n"),
+        (ONE + b"2 0 clos\n", b"audit: line 2: not an event\n"), (b"1 0 close\n2", b"audit: line 1: illegal, empty\n"),
+        (b"2 0 close\n", b"audit: line 1: wrong place or configuration\n"),
+        (ONE + b"\n" + b"2", b"audit: line 2: not an event\n"),
     ]:
         journal.write_bytes(content)
         refused(lab, journal, Ended(3, b"", NO_COPY + line), f"a journal {content!r}")
@@ -349,7 +361,7 @@ def numbers_of_both(room: Path) -> None:
         ended = host.dismissed(let_in(host.desk, hello("tess"))[0]) if host.listens else host.end()
     copy = lab.read_bytes()
     if ended.status != 0 or kept(journal) != {
-        "journal": b"", "journal.lab": copy, "journal.~3~": FIRST[:26], "journal.~3~.lab": copy, **others,
+        "journal": b"", "journal.lab": copy, "journal.~3~": ONE, "journal.~3~.lab": copy, **others,
     }:
         fail(f"resume: beside names that are taken a host ends with {ended}, and there are {sorted(kept(journal))}")
 
@@ -365,7 +377,7 @@ def copies_are_kept(room: Path) -> None:
         with Host(lab, 0, 0, journal) as host:
             let_in(host.port, hello("ana"))[0].ask(SEDUCES)
             host.killed()
-    line = FIRST[:26]
+    line = ONE
     wanted = {"journal": line, "journal.lab": contents[2]}
     wanted |= {"journal.~1~": line, "journal.~1~.lab": contents[0], "journal.~2~": line, "journal.~2~.lab": contents[1]}
     if kept(journal) != wanted:
@@ -381,9 +393,10 @@ def copies_are_kept(room: Path) -> None:
 
 
 def asks_again(room: Path) -> None:
-    """A client that asks again for an event that was granted before gets the denial `chosen` or `stale`."""
+    """If a client asks again for a move that was granted before the host was killed, it gets the denial `chosen`, or
+    `stale` once the step is closed. It has to say hello again first."""
     lab, journal = lab_of(room, 4), room / "journal"
-    journal.write_bytes(FIRST[:26])
+    journal.write_bytes(ONE)
     with Host(lab, 0, 0, journal, word="resume") as host:
         line = resumed(host)
         ana, tess = called(host.port), called(host.desk)
@@ -400,7 +413,7 @@ def asks_again(room: Path) -> None:
 
 
 def held(room: Path) -> None:
-    """Nobody can resume a journal while a host uses it, and only one host can resume it."""
+    """`resume` refuses a journal that a running host uses, whether this host began the class or resumed it."""
     lab, journal = lab_of(room, 4), room / "journal"
     with Host(lab, 0, 0, journal) as host:
         ana, tess = let_in(host.port, hello("ana"))[0], let_in(host.desk, hello("tess"))[0]

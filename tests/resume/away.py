@@ -1,5 +1,5 @@
-"""A journal's file is removed, moved, replaced or changed while its class is running. Each way to do so is a function
-of the journal's path."""
+"""A journal's file is removed, moved, replaced or changed while its class is running. The host notices that within a
+second or two, and grants nothing more. Each way to change the file is a function of the journal's path."""
 import os
 import select
 import shutil
@@ -56,18 +56,20 @@ def longer(journal: Path) -> None:
         it.write(b"3 1 close\n")
 
 
+# Each way, with the line about it on the host's standard error.
 WAYS: list[tuple[Callable[[Path], None], bytes]] = [
     (removed, GONE), (moved, GONE), (replaced, GONE), (with_folder, GONE), (cut, CHANGED), (emptied, CHANGED), (longer, CHANGED),
 ]
 
 
 def name_of(way: Callable[[Path], None]) -> str:
-    """Returns the name of a way to change the file."""
+    """Returns a text for errors that names a way to change the file."""
     return f"a journal that is {way.__name__}"
 
 
 def refused_soon(ana: Caller, tess: Caller, way: str) -> int:
-    """Causes faults until one is refused. Returns the number of granted events. `way` names the failure of the journal,
+    """Causes faults until one is refused, which has to happen within a time limit. Checks that then a close isn't
+    granted, and that a look is answered. Returns the number of granted faults. `way` names the change of the journal,
     for an error."""
     end, events = time.monotonic() + NOTICED, 0
     while (said := tess.ask(fault_at(2))) != REFUSED:
@@ -75,6 +77,7 @@ def refused_soon(ana: Caller, tess: Caller, way: str) -> int:
             fail(f"resume: {way}: a fault is answered {said!r}")
         events += 1
         time.sleep(0.05)
+    # If no node is chosen, a close is denied, and not refused.
     if tess.ask(CLOSE) != REFUSED and b'"deny":"empty"' not in tess.ask(CLOSE):
         fail(f"resume: {way}: a step is closed after a fault was refused")
     if b'"ok":"look"' not in ana.ask(b'{"do":"look","node":1}\n'):
@@ -83,8 +86,8 @@ def refused_soon(ana: Caller, tess: Caller, way: str) -> int:
 
 
 def taken_away(room: Path) -> None:
-    """Within a second or two nothing more is granted. Standard error has the reason, and the status is that of a
-    journal's fault."""
+    """After each change of the file, the host soon grants nothing more. Its standard error has the reason, and its
+    status is that of the error `journal fault`. If the file was moved, it passes the audit, with all granted events."""
     lab = lab_of(room, 4)
     for way, line in WAYS:
         folder = room / "class"
@@ -106,7 +109,8 @@ def taken_away(room: Path) -> None:
 
 
 def taken_away_in_silence(room: Path) -> None:
-    """The host notices a change even if nobody sends a request. The host's output and status are the same."""
+    """The host notices a change of the file even if nobody sends a request. It prints the reason at once. Then it
+    refuses each event, and its status is the same as above."""
     lab, journal = lab_of(room, 4), room / "journal"
     for way, line in ((removed, GONE), (emptied, CHANGED)):
         with Host(lab, 0, 0, journal) as host:
@@ -134,7 +138,7 @@ def link_touch_and_read(journal: Path) -> None:
 
 
 def left_alone(room: Path) -> None:
-    """A second link to a journal, a change of its mode and times, or a read has no effect."""
+    """A host goes on if its journal gets a second link, another mode or other times, or is read, thirty times."""
     lab, journal = lab_of(room, 4), room / "journal"
     with Host(lab, 0, 0, journal) as host:
         ana, tess = let_in(host.port, hello("ana"))[0], let_in(host.desk, hello("tess"))[0]
@@ -158,10 +162,10 @@ def gone_after_a_resume(room: Path) -> None:
     with Host(lab, 0, 0, journal, word="resume") as host:
         ana, tess = let_in(host.port, hello("ana"))[0], let_in(host.desk, hello("tess"))[0]
         if b'"place":2' not in tess.ask(CLOSE):
-            fail("resume: where a torn line was taken off nothing is granted")
+            fail("resume: after a torn line was taken off nothing is granted")
         time.sleep(3)  # The journal is checked several times.
         if b'"place":3' not in tess.ask(fault_at(1)):
-            fail("resume: where a torn line was taken off nothing is granted after a while")
+            fail("resume: after a torn line was taken off nothing is granted after a while")
         moved(journal)
         events = 3 + refused_soon(ana, tess, "a journal that is moved after a resume")
         ended = host.dismissed(tess)

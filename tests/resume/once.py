@@ -1,4 +1,4 @@
-"""What `resume` does only once: it reads the lab's file, reads the journal, and audits the journal."""
+"""Tests that `resume` opens each file only once, and audits the journal before it makes or changes a record."""
 from pathlib import Path
 
 from tests.common.hosting import Host, lab_of, let_in
@@ -10,7 +10,7 @@ LONG = 102  # bytes after the last newline that are too many for a line that bro
 
 
 def played(lab: Path, journal: Path, record: Path) -> None:
-    """Plays a class with one event, and kills its host."""
+    """Plays a class with one event, and kills its host. Leaves the journal and the record of this class."""
     with Host(lab, 0, 0, journal, record) as host:
         if b'"place":1' not in let_in(host.port, hello("ana"))[0].ask(seduction(0)):
             fail("resume: the class before a resume has no event")
@@ -24,7 +24,7 @@ def files_are_read_once(room: Path) -> None:
     variables = {"LD_PRELOAD": str(built("resume/opens.c", room)), "OPENED": str(log)}
     with Host(lab, 0, 0, journal, record, word="resume", variables=variables) as host:
         if not host.listens:
-            fail(f"resume: where opened files are noted it ends with {host.end()}")
+            fail(f"resume: while opened files are noted it ends with {host.end()}")
         opened = log.read_text(encoding="utf-8").splitlines()
     for path in (lab, room / "journal.lab", record / "lab", journal):
         if (count := opened.count(str(path))) != 1:

@@ -1,4 +1,4 @@
-"""Three students and a teacher who play on a host, and connect again after each of its ends."""
+"""Three students and a teacher who play on a host, and connect again when its class is resumed after a kill."""
 import json
 import random
 from typing import Any, Optional
@@ -10,11 +10,11 @@ TEACHER = "tess"
 
 
 class Gone(Exception):
-    """The host has hung up."""
+    """Raised if the host has hung up, or accepts no connection."""
 
 
 class Players:
-    """A class, and the greatest place in a reply so far."""
+    """The connections of all persons. `told` is the greatest place of an event in a reply so far."""
 
     def __init__(self, seed: int) -> None:
         """`seed` determines the random choices."""
@@ -43,7 +43,8 @@ class Players:
             self.ask(name, hello(name))
 
     def step(self) -> bool:
-        """Asks for all enabled moves, and closes the step. Returns whether the class is stable."""
+        """Looks at each student's node, asks for the enabled move unless one is chosen already, and closes the step.
+        Returns whether the network is stable then. Raises `Gone` if the host has hung up."""
         for name, node in NODES.items():
             seen = self.ask(name, look(name))
             if seen["rule"] is not None and seen["chosen"] is None:
@@ -52,12 +53,13 @@ class Players:
         return bool(self.ask(TEACHER, REPORT)["stable"])
 
     def disturb(self) -> None:
-        """Sets the registers of a node as the teacher."""
+        """Causes a fault at a random node as the teacher. Raises `Gone` if the host has hung up."""
         node = self.random.choice([*NODES.values()])
         self.ask(TEACHER, fault_at(node, self.random.choice([True, False])))
 
     def play_on(self, host: Host) -> None:
-        """Plays until the host is gone."""
+        """Plays, and causes a fault whenever the network is stable, until the host is gone. Then closes all
+        connections."""
         try:
             self.come(host)
             while True:
@@ -68,7 +70,7 @@ class Players:
         self.leave()
 
     def play_out(self, host: Host) -> Caller:
-        """Plays until no node is privileged. Returns the teacher's connection."""
+        """Connects, and plays until no node is privileged. Returns the teacher's connection."""
         self.come(host)
         while not self.step():
             pass

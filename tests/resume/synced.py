@@ -8,7 +8,7 @@ from tests.common.lines import BID, BYE, CLOSE, hello, look, seduction
 from tests.common.preload import Ended, Preloaded, built, fail
 
 SOON = 60.0  # seconds until a record is synced on a slow machine
-EAGAIN = 11
+EAGAIN = 11  # the error of a thread that can't be started
 LOOKS = 4  # threads that a host starts before it listens, to check that it can
 MOVE = seduction(0)
 DONE = Ended(0, b"done: 2 events, configuration 1\n", b"")
@@ -35,12 +35,13 @@ class Changes:
         return found
 
     def none_left(self, when: str) -> None:
-        """Checks that all changes are synced."""
+        """Checks that all changes are synced. `when` names the moment, for the error."""
         if left := self.unsynced():
             fail(f"resume: {when} a host hasn't synced {sorted(left)}")
 
     def none_left_soon(self, when: str) -> None:
-        """Checks that all changes are synced after a while, without further requests."""
+        """Checks that all changes are synced within a time limit, without further requests. `when` names the moment,
+        for the error."""
         end = time.monotonic() + SOON
         while self.unsynced() and time.monotonic() < end:
             time.sleep(0.1)
@@ -48,18 +49,19 @@ class Changes:
 
 
 def plays(host: Host, changes: Changes, journal: Path) -> tuple[Caller, Caller]:
-    """Plays a move and its step, and checks that each is synced when its reply comes. Returns both connections."""
+    """Connects as ana and as the teacher, and plays a move and its close. Checks that each event is synced in the
+    journal when its reply comes. Returns both connections."""
     ana, tess = let_in(host.port, hello("ana"))[0], let_in(host.desk, hello("tess"))[0]
     for who, line in ((ana, MOVE), (tess, CLOSE)):
         if b'"place":' not in who.ask(line):
-            fail("resume: where changes are kept nothing is granted")
+            fail("resume: while changes are noted nothing is granted")
         if str(journal) in changes.unsynced():
             fail("resume: an event is answered whose line isn't synced")
     return ana, tess
 
 
 def leaves(host: Host, ana: Caller, tess: Caller) -> Ended:
-    """Sends the last lines of the class on both connections. Returns the host's end."""
+    """Sends a look and a bye of ana's, and the teacher's bye, which ends the class. Returns the host's end."""
     ana.ask(look("ana"))
     if (ana.ask(BYE), ana.line()) != (BID, b""):
         fail("resume: another reply to a student's bye")
@@ -67,8 +69,8 @@ def leaves(host: Host, ana: Caller, tess: Caller) -> Ended:
 
 
 def all_is_synced(room: Path) -> None:
-    """When a host listens, the names and contents of all files that it made are synced, also beside older files.
-    Entries of the record are synced after a while, and everything at the end."""
+    """When a host listens, the names and contents of all files that it made are synced. The host syncs new entries of
+    the record after a while, and everything at its end. The same holds if it finds the files of an older class."""
     changes, lab, folder = Changes(room), lab_of(room, 4), room / "class"
     folder.mkdir()
     journal, record = folder / "journal", folder / "record"
@@ -77,16 +79,16 @@ def all_is_synced(room: Path) -> None:
             changes.none_left(f"when it listens {when}")
             ana, tess = plays(host, changes, journal)
             if not changes.log.read_text(encoding="utf-8").count(f"changed {record}/"):
-                fail("resume: nothing is recorded where changes are kept")
+                fail("resume: while changes are noted nothing is recorded")
             changes.none_left_soon(f"a while after what was said {when}")
             if leaves(host, ana, tess) != DONE:
-                fail(f"resume: another end {when}, where changes are kept")
+                fail(f"resume: another end {when}, while changes are noted")
         changes.none_left(f"at its end {when}")
 
 
 def last_words_are_synced(room: Path) -> None:
-    """The last lines are synced at the end, before the next regular sync. The host's clock is slowed down for
-    that."""
+    """The last entries of a class are synced when the host ends, although the next regular sync isn't due yet. It isn't
+    due because the host's clock runs a thousand times slower."""
     changes, slow, lab, folder = Changes(room), built("outsiders/slow.c", room), lab_of(room, 4), room / "class"
     folder.mkdir()
     journal = folder / "journal"
@@ -111,21 +113,22 @@ def resumes_are_synced(room: Path) -> None:
             it.write(torn)
     with Host(lab, 0, 0, journal, record, word="resume", variables=changes.variables()) as host:
         if not host.listens:
-            fail(f"resume: where changes are kept it ends with {host.end()}")
+            fail(f"resume: while changes are noted it ends with {host.end()}")
         assert host.process.stdout is not None
         host.process.stdout.readline()
         changes.none_left("when it goes on")
         kept = changes.log.read_text(encoding="utf-8").splitlines()
         if any(f"changed {path}" not in kept for path in (journal, record / "1.record", record / "4.record")):
-            fail(f"resume: what is torn isn't taken off where changes are kept: {kept}")
+            fail(f"resume: while changes are noted what is torn isn't taken off: {kept}")
         ended = leaves(host, *plays(host, changes, journal))
     if (ended.status, ended.out) != (DONE.status, DONE.out):
-        fail(f"resume: when a class goes on and changes are kept it ends with {ended}")
+        fail(f"resume: while changes are noted a class that goes on ends with {ended}")
     changes.none_left("at the end of a class that went on")
 
 
 def synced_without_threads(room: Path) -> None:
-    """If the thread for syncing a record can't be made, it is synced at the end."""
+    """If the thread that watches the journal or the one that syncs the record can't be started, the class goes on. At
+    its end everything is synced."""
     changes, threads, lab = Changes(room), Preloaded("faults/fail.c", room, "FAIL_COUNTS"), lab_of(room, 4)
     for at in (LOOKS + 1, LOOKS + 2):  # the thread that watches the journal, and the one that syncs the record
         folder = room / str(at)

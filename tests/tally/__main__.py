@@ -30,10 +30,12 @@ teacher = { name = "tess", key = "chalk" }
 student = [{ name = "ana", key = "a-key" }, { name = "ben", key = "b-key" }]
 node = [{ id = 1, owner = "ana" }, { id = 2, owners = ["ana", "ben"] }, { id = 3, owner = "ben" }]
 """
+# Parts of the lines that `tally` prints, which docs/JOURNAL.md explains: four counts of moves that are 0, all counts of
+# a student without a move, and the bounds for two networks.
 NOTHING = "0 0 0 0"
 IDLE = f"{NOTHING} {NOTHING} 0 - - 0"
-PATH = "bounds 13 5 26\n"  # the bounds for 3 nodes with two links
-LESS = "bounds 11 5 22\n"  # and with one link
+PATH = "bounds 13 5 26\n"  # 3 nodes with two links
+LESS = "bounds 11 5 22\n"  # 3 nodes with one link
 # A name, the written journal, and the lines that have to be printed.
 CASES = (
     ("nothing", "", f"student ana {IDLE}\nstudent ben {IDLE}\nnode 2 ana {NOTHING} ben {NOTHING}\n{PATH}run 0 0 unstable 0 0 0 0 0 0 0\nrounds 0\n"),
@@ -56,6 +58,7 @@ CASES = (
     ("two moves of one student in a close", "1 0 grant ana 1 seduction\n2 0 grant ana 2 seduction\n3 0 close\n",
      f"student ana 0 0 2 0 0 0 2 0 1 1 2 1\nstudent ben {IDLE}\nnode 2 ana 0 0 1 0 ben {NOTHING}\n{PATH}run 3 1 unstable 1 0 0 0 2 2 1\nrounds 1\n"),
 )
+# The tally of examples/whole-run.journal.
 WHOLE = """student ana 0 0 1 1 0 0 1 1 2 1 9 0
 student ben 1 0 1 0 1 0 1 0 2 2 6 0
 student cyd 1 1 0 0 1 1 0 0 2 4 7 0
@@ -63,6 +66,7 @@ bounds 13 5 26
 run 10 4 stable 4 0 0 0 6 6 4
 rounds 4
 """
+# Journals that don't pass the audit, with its error.
 REFUSED = (
     ("1 0 grant ana 1 seduction", "audit: line 1: torn"),
     ("1 0 grant ben 1 seduction\n", "audit: line 1: illegal, not-owner"),
@@ -71,7 +75,8 @@ REFUSED = (
 
 
 def by_hand(room: Path) -> int:
-    """Checks the journals that are written by hand. Returns their number."""
+    """Checks the tallies of the journals that are written by hand, and of the one in `examples/`. Returns the number of
+    journals."""
     lab, journal = room / "lab.toml", room / "journal"
     lab.write_text(LAB, encoding="ascii")
     wanted = [(text, Ended(0, tally.encode(), b"")) for _, text, tally in CASES] + [(text, said(line)) for text, line in REFUSED]
@@ -87,7 +92,8 @@ def by_hand(room: Path) -> int:
 
 
 def drawn(room: Path, seed: int) -> bool:
-    """Checks the tally of a random journal by the program and the model. Returns whether the journal has an event."""
+    """Checks that the program and the model print the same tally of a random journal, and that `classroom` reads the
+    same numbers from it. Returns whether the journal has an event."""
     rng = Random(seed)
     document = drawn_lab(rng)
     model = read_lab(document.encode())
@@ -102,7 +108,8 @@ def drawn(room: Path, seed: int) -> bool:
 
 
 def test(room: Path) -> str:
-    """Runs the checks by hand, and the random ones. Returns a line about them."""
+    """Checks the runs by hand, and the random ones. Fails if too few of the random ones have an event or the counts of
+    a kind. Returns a line about them."""
     count = int(sys.argv[1]) if len(sys.argv) > 1 else JOURNALS
     hands = by_hand(room)
     some = sum(drawn(room, seed) for seed in range(1, count + 1))

@@ -13,7 +13,7 @@ from tests.random.labs import drawn_lab
 from tests.record.drawn import drawn_run
 from tests.record.recording import Recording
 
-COUNTED = ("denied", "refused", "denials")
+COUNTED = ("denied", "refused", "denials")  # the first words of the lines that count what students got from a record
 # What is said in the seats one after the other, with the number of the clause that denies it in the comment.
 TALK = (
     (1, b'{"do":"hello","key":"a-key","name":"ana"}'),
@@ -80,6 +80,8 @@ asked 2 ana 0 0 2 0 ben 0 0 1 0
 record 3 15 whole
 """
 REFUSED_FULL = "refused ana 0 0 2\nrefused ben 0 0 1\ndenials ana 0 0 1 1 0 0 0\ndenials ben 0 0 0 0 0 0 1\n"
+# Two lines of a record: a request, and a reply that denies it. The groups are the text up to the reply, the number of
+# events that the connection had seen, and the reply.
 DENIED_IN = re.compile(rb"(\d+ (\d+) > [^\n]*\n\d+ \d+ < )(\{\"(?:at\":\d+,\"|)clause\"[^\n]*)\n")
 
 
@@ -124,7 +126,8 @@ def recorded(document: str, talk: Iterable[tuple[int, bytes]]) -> Recording:
 
 
 def full(room: Path, document: str) -> int:
-    """Checks the tally of a run whose lab has had all its events. Returns the number of checks."""
+    """Checks the tally of a run in which the lab's only event has happened, so that further events are refused. Returns
+    the number of checks."""
     document = document.replace("events = 100", "events = 1")
     files = Files(room, document, recorded(document, FULL))
     wanted = Ended(0, with_record(files.bare(), TOLD_FULL, REFUSED_FULL).encode(), b"")
@@ -134,8 +137,8 @@ def full(room: Path, document: str) -> int:
 
 
 def by_hand(room: Path, document: str) -> int:
-    """Checks the tally of the run by hand, also with memory refusals, cut off, and changed. Returns the number of
-    checks."""
+    """Checks the tally of the run TALK, and of the same run with changes in the record of ana's seat, such as refusals
+    for memory, a pause, or a wrong reply. Returns the number of checks."""
     run = recorded(document, TALK)
     files = Files(room, document, run)
     wanted = with_record(files.bare(), TOLD, REFUSED)
@@ -175,11 +178,11 @@ def by_hand(room: Path, document: str) -> int:
             fail(f"{name}: {found}")
     first.unlink()
     if files.told("a seat without a file") != Ended(4, b"", b"read fault: record\n"):
-        fail("a seat without a file is told")
+        fail("the record of a seat without a file is read")
     first.write_bytes(text)
     files.journal.write_bytes(run.journal[:-1])
     if files.told("a torn journal") != said("audit: line 2: torn"):
-        fail("a torn journal is told")
+        fail("a torn journal has a tally")
     return len(changed) + 2 + full(room, document)
 
 

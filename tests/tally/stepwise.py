@@ -58,8 +58,8 @@ class Run:
         self.recovery = Recovery(privileged(self.world))
 
     def step(self) -> None:
-        """Grants moves at some of the privileged nodes, drops one of them now and then, and closes or changes
-        something."""
+        """Grants moves at some of the privileged nodes, and takes one of them back now and then. Then closes the step,
+        or makes a change if no move is chosen, and sometimes instead of a close. Does less if the run is full."""
         free = sorted(privileged(self.world))
         share = self.rng.choice((0.2, 0.6, 1.0))
         for node in [node for node in free if self.rng.random() < share] or free[:1]:
@@ -89,7 +89,8 @@ def changed(rng: Random, world: World) -> Request:
 
 
 def drawn(room: Path, seed: int) -> int:
-    """Checks the rounds of a random run. Returns how many rounds ended in it."""
+    """Checks that the program, the model and `classroom` count the same rounds in a random run. Returns how many rounds
+    ended in the whole run."""
     rng = Random(f"stepwise {seed}")
     document = drawn_lab(rng)
     run = Run(rng, read_lab(document.encode()))
@@ -109,7 +110,8 @@ def drawn(room: Path, seed: int) -> int:
 
 
 def tried(room: Path, count: int) -> int:
-    """Checks the rounds of `count` random runs. Returns how many rounds ended in them."""
+    """Checks the rounds of `count` random runs, a third of which must have two rounds or more. Returns how many rounds
+    ended in all of them."""
     rounds = [drawn(room, seed) for seed in range(1, count + 1)]
     if 3 * sum(ended > 1 for ended in rounds) < count:
         fail("fewer than a third of the drawn runs have two rounds")
