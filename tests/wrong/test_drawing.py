@@ -1,5 +1,6 @@
-"""Random plants: the bodies of a crate, the changes of a line, and the calls of the prover, for which a script
-stands in."""
+"""Tests of random plants (`tools/plant`). A *plant* is a bug that the tool puts into the body of a function: a small
+change of one line. The prover has to refuse it. Tested are finding the bodies, changing a line, drawing plants, and
+asking the prover about them. Functions stand in for the prover and the compiler."""
 from __future__ import annotations
 
 import random
@@ -20,6 +21,7 @@ from tools.wrong.checks import Running
 from tools.wrong.libraries import Tree
 from tools.wrong.outputs import Told
 
+# A file with three bodies that can be changed: `count`, the first `is_over`, and `kind_of`.
 SOURCE = """use crate::other::Thing;
 
 /// Which it is.
@@ -71,7 +73,8 @@ fn counts() {
 class Bodies(unittest.TestCase):
     """Finding the bodies of functions."""
 
-    def test_each_body(self) -> None:
+    def test_bodies_are_found_without_contracts_and_tests(self) -> None:
+        """A method of a trait without a body, and a function with `#[test]`, have no body that may be changed."""
         lines = SOURCE.splitlines()
         found = {body.function: [line.strip() for line in lines[body.first : body.end]] for body in bodies_of_file("src/a/thing.rt", lines)}
         self.assertEqual(found, {
@@ -80,7 +83,8 @@ class Bodies(unittest.TestCase):
             "a::thing::kind_of": ["// is it the first?", "if first < second { Kind::First } else { Kind::Second }"],
         })
 
-    def test_names(self) -> None:
+    def test_a_function_has_the_name_that_the_prover_uses(self) -> None:
+        """This name has the module, and the type followed by the trait."""
         self.assertEqual([module_of(file) for file in ("src/lib.rt", "src/main.rt", "src/a.rt", "src/a/b.rt")], ["", "", "a::", "a::b::"])
         self.assertEqual([type_of(what) for what in ("Hall<S>", "Engine for Local<S>", "Read for &mut Lines<Vec<u8>>", "a::Write for b::Sink")],
                          ["Hall", "LocalEngine", "LinesRead", "SinkWrite"])
@@ -89,7 +93,7 @@ class Bodies(unittest.TestCase):
 class Changes(unittest.TestCase):
     """The results of a small change to a line."""
 
-    def test_each_kind(self) -> None:
+    def test_a_line_is_changed_in_each_way_outside_of_texts_and_comments(self) -> None:
         kinds = {"Kind": ["First", "Second"]}
         for line, wanted in (
             ("    a < b && c", ["    a <= b && c", "    a < b || c"]),
@@ -108,14 +112,15 @@ class Changes(unittest.TestCase):
             with self.subTest(line):
                 self.assertEqual(changes_of(line, kinds), wanted)
 
-    def test_plain_variants(self) -> None:
+    def test_only_variants_without_values_are_found(self) -> None:
         self.assertEqual(variants_of(SOURCE), {"Kind": ["First", "Second"]})
 
 
 class Drawing(unittest.TestCase):
-    """A tree with one crate."""
+    """Drawing plants in a tree with the crate `low`, and asking the prover about them."""
 
     def setUp(self) -> None:
+        """Makes the tree, whose crate has the file `src/thing.rt` with the text SOURCE."""
         room = tempfile.TemporaryDirectory()
         self.addCleanup(room.cleanup)
         self.tree = Tree(Path(room.name), Path(room.name) / "kit", {"low": []})
@@ -124,6 +129,8 @@ class Drawing(unittest.TestCase):
         source.write_text(SOURCE, encoding="utf-8")
 
     def test_the_same_seed_draws_the_same(self) -> None:
+        """Also checks that each list has the plants of one function, that all three functions can be drawn, and that
+        different seeds draw different changes."""
         first, again = (draw(self.tree, ["low"], 2, 5) for _ in range(2))
         self.assertEqual(first, again)
         self.assertEqual([len({plant.function for plant in plants}) for plants in first], [1, 1])
@@ -149,7 +156,8 @@ class Drawing(unittest.TestCase):
         self.assertEqual(drawing.candidates(no, lines, {}), [])
         self.assertEqual(len(drawing.candidates(other, lines, {})), 3)
 
-    def test_who_is_no_program(self) -> None:
+    def test_a_plant_is_blamed_for_an_error_in_its_function(self) -> None:
+        """If the errors are in no function with a plant, all plants are blamed."""
         plants = [plants[0] for plants in drawing.drawn_in("low", self.tree.folder("low"), random.Random(3))]
         bodies = bodies_of(self.tree.folder("low"))
         for plant in plants:
@@ -159,8 +167,9 @@ class Drawing(unittest.TestCase):
         self.assertEqual(culprits(plants, bodies, ["error: something"]), plants)
 
     def verdicts(self, drawn: list[list[Plant]], bad: list[Plant], *told: Told) -> dict[str, tuple[Plant, str]]:
-        """Returns the verdict on one plant of each function, by its function. The plants in `bad` don't compile, and
-        the prover's outputs are these, check by check."""
+        """Asks about the plants `drawn`, a list for each function. Returns the plant of each function on which there is
+        a verdict, and the verdict, by the function's name. The plants in `bad` don't compile. `told` are the outputs of
+        the prover, one for each of its checks."""
         def look(_: Tree, __: str, texts: dict[str, str], ___: Running) -> str:
             """Returns a compiler's error if the texts have one of the plants in `bad`, or an empty text."""
             tried = [pair.new for plant in bad for pair in plant.edit.pairs if texts["src/thing.rt"].count(pair.new) != SOURCE.count(pair.new)]
@@ -169,7 +178,7 @@ class Drawing(unittest.TestCase):
         with mock.patch.object(drawing, "look", look), mock.patch.object(drawing, "proved", side_effect=told):
             return {plant.function: (plant, verdict) for plant, verdict in asked(self.tree, "low", drawn, "", Running())}
 
-    def test_verdicts(self) -> None:
+    def test_a_plant_does_not_compile_or_is_refused_or_let_through_or_undecided(self) -> None:
         plants = [plants[0] for plants in draw(self.tree, ["low"], 3, 1)]
         drawn = [[plant] for plant in plants]
         bad, refused, let_through = (plant.function for plant in plants)
@@ -190,6 +199,8 @@ class Drawing(unittest.TestCase):
         drawn, both = draw(self.tree, ["low", "high"], 99, 1), threading.Barrier(2, timeout=60)
 
         def answers(_: Tree, crate: str, plants: list[list[Plant]], __: str, ___: Running) -> list[tuple[Plant, str]]:
+            """Returns for each function of a crate its first plant, with the crate's name as the verdict. The answers
+            about `low` come last."""
             both.wait()  # raises if the crates are asked one after another
             if crate == "low":
                 time.sleep(0.2)

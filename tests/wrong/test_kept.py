@@ -1,5 +1,6 @@
-"""The rounds of wrong bodies that aren't tried again: which changes make the tool try a round again, and which results
-it keeps.
+"""Tests of what `tools/wrong` keeps. A *round* is a group of wrong bodies that one check of the prover tries. If all
+its bodies are refused, the tool keeps a file whose name is a hash of everything that the check reads, the *name* of the
+round. A later run doesn't try a round with a kept name again.
 
     python3 -B -m unittest tests.wrong.test_kept      a few seconds; needs neither the toolchain nor a library
 """
@@ -44,14 +45,14 @@ UNREAD = [it for it in FILES if it not in READ]
 
 
 def write(top: Path, path: str, text: str) -> None:
-    """Writes a file below the folder, and makes its folder."""
+    """Writes a file below the folder `top`, and makes its folder."""
     (top / path).parent.mkdir(parents=True, exist_ok=True)
     (top / path).write_text(text, encoding="utf-8")
 
 
 @contextmanager
 def tree() -> Iterator[Tree]:
-    """Makes a repository of four crates and a toolchain in a folder of their own."""
+    """Makes a temporary folder with a repository of four crates and a toolchain, and yields its tree."""
     with tempfile.TemporaryDirectory() as room:
         for path, text in FILES.items():
             write(Path(room), path, text)
@@ -73,8 +74,8 @@ def name_in(made: Tree) -> str:
 class Names(unittest.TestCase):
     """The name of a round changes exactly if the result of the round can change."""
 
-    def test_each_file_that_is_read(self) -> None:
-        """Each file that a check reads is in the name."""
+    def test_a_change_of_a_file_that_the_check_reads_changes_the_name(self) -> None:
+        """The changes of `src/lib.rt` and of the edit are such that the edit can still be read."""
         for path in READ:
             with self.subTest(path), tree() as made:
                 before = name_in(made)
@@ -83,16 +84,15 @@ class Names(unittest.TestCase):
                 write(made.top, path, changed if path != "crates/above/src/lib.rt" else "one \n")
                 self.assertNotEqual(name_in(made), before)
 
-    def test_each_file_that_is_not_read(self) -> None:
-        """Other files aren't in the name."""
+    def test_a_change_of_another_file_does_not_change_the_name(self) -> None:
         for path in UNREAD:
             with self.subTest(path), tree() as made:
                 before = name_in(made)
                 write(made.top, path, "changed\n")
                 self.assertEqual(name_in(made), before)
 
-    def test_new_and_moved_files(self) -> None:
-        """A further file, and a text that moves from one file to another, make another name."""
+    def test_a_new_file_or_a_text_in_another_file_changes_the_name(self) -> None:
+        """At last a text moves from one file to another, so that all files together have the same text as before."""
         with tree() as made:
             before = name_in(made)
             write(made.top, "crates/above/proofs/More.antt", "")
@@ -102,15 +102,14 @@ class Names(unittest.TestCase):
             write(made.top, "crates/above/proofs/More.antt", "other\n")
             self.assertNotIn(name_in(made), (before, more))
 
-    def test_the_goal(self) -> None:
-        """An edit that has to be refused at another goal makes another name."""
+    def test_another_goal_of_an_edit_changes_the_name(self) -> None:
         with tree() as made:
             before = name_in(made)
             write(made.top, "crates/above/wrong/it.edit", EDIT.replace("returns", "ends"))
             self.assertNotEqual(name_in(made), before)
 
-    def test_this_tool(self) -> None:
-        """A change of the tool itself makes another name."""
+    def test_a_change_of_the_tool_changes_the_name(self) -> None:
+        """Here the folder with the tool's sources is replaced by an empty one."""
         with tree() as made, tempfile.TemporaryDirectory() as other:
             before = name_in(made)
             with patch.object(kept, "HERE", Path(other)):
@@ -118,44 +117,45 @@ class Names(unittest.TestCase):
 
 
 class Keeping(unittest.TestCase):
-    """Which results are kept, and what happens then."""
+    """Which results are kept, and that a round whose result is kept isn't tried again."""
 
     def try_twice(self, found: Judged, folder: Path | None) -> tuple[Tried, Tried]:
-        """Tries the crate `above` twice, with a check that has this result. Returns what both runs found."""
+        """Tries the crate `above` twice, keeping results in `folder`. A function stands in for the check, which is
+        judged as `found`. Returns the results of both runs."""
         ended = Ended(1, "", 1.0)
         with tree() as made, patch.object(trying, "try_round", return_value=ended), patch.object(trying, "judge", return_value=found):
             kept.hash_of.cache_clear()
             results = Results(kept=Kept(folder))
             return try_crate(made, "above", Running(), results), try_crate(made, "above", Running(), results)
 
-    def test_refused(self) -> None:
-        """A round that was refused isn't tried again, and its wrong bodies are counted."""
+    def test_a_round_that_was_refused_is_not_tried_again(self) -> None:
+        """Its wrong body is counted as refused in an earlier run. The folder for the results is made if necessary."""
         with tempfile.TemporaryDirectory() as room:
             first, second = self.try_twice(Judged(), Path(room) / "new/folder")
         self.assertEqual((first.checks, first.passed, first.known, first.failed), (1, 1, 0, 0))
         self.assertEqual((second.checks, second.passed, second.known, second.failed), (0, 1, 1, 0))
         self.assertEqual(second.line(with_times=False), "above: 1 wrong bodies refused, in 0 checks, 1 of them in an earlier run")
 
-    def test_failed(self) -> None:
-        """A round with a fault is tried again."""
+    def test_a_round_with_a_fault_is_tried_again(self) -> None:
         faults = (Judged(of_round=["an error of no goal"]), Judged(of_edit={"it.edit": ["f is still proved"]}))
         for found in faults:
             with self.subTest(found=found), tempfile.TemporaryDirectory() as room:
                 _, second = self.try_twice(found, Path(room))
                 self.assertEqual((second.checks, second.known), (1, 0))
 
-    def test_no_folder(self) -> None:
-        """Without a folder, or if it can't be made, each run tries everything."""
+    def test_without_a_folder_each_run_tries_everything(self) -> None:
+        """The same holds if the folder can't be made."""
         with tempfile.NamedTemporaryFile() as file:
             for folder in (None, Path(file.name) / "below"):
                 with self.subTest(folder=folder):
                     _, second = self.try_twice(Judged(), folder)
                     self.assertEqual((second.checks, second.passed, second.known), (1, 1, 0))
 
-    def test_changed_meanwhile(self) -> None:
-        """The result isn't kept if a file of the crate changed during the check."""
+    def test_a_result_is_not_kept_if_a_file_changed_during_the_check(self) -> None:
         with tree() as made, tempfile.TemporaryDirectory() as room:
             def change(*_: object) -> Ended:
+                """Changes a file of the crate, as somebody may do while a check runs. Returns the result of the
+                check."""
                 write(made.top, "crates/above/src/other.rt", "changed\n")
                 return Ended(1, "", 1.0)
 
@@ -163,8 +163,7 @@ class Keeping(unittest.TestCase):
                 tried = try_crate(made, "above", Running(), Results(kept=Kept(Path(room))))
             self.assertEqual((tried.passed, [*Path(room).iterdir()]), (1, []))
 
-    def test_oldest_are_removed(self) -> None:
-        """If there are too many results, the oldest are removed."""
+    def test_the_oldest_results_are_removed_if_there_are_too_many(self) -> None:
         with tempfile.TemporaryDirectory() as room, patch.object(kept, "MOST_FILES", 3):
             for number in range(5):
                 Kept(Path(room)).keep(f"name{number}")
@@ -172,8 +171,9 @@ class Keeping(unittest.TestCase):
             Kept(Path(room)).keep("name5")
             self.assertEqual(sorted(it.name for it in Path(room).iterdir()), ["name3", "name4", "name5"])
 
-    def test_folder_of_the_user(self) -> None:
-        """The folder is that of the environment, if it names an absolute path, and else one of the home folder."""
+    def test_the_folder_is_in_the_cache_of_the_user(self) -> None:
+        """This cache is the folder in the variable XDG_CACHE_HOME if it is an absolute path, and otherwise `.cache` in
+        the home folder."""
         for base, expected in (("/somewhere", Path("/somewhere")), ("", Path.home() / ".cache"), ("relative", Path.home() / ".cache")):
             with self.subTest(base=base), patch.dict(os.environ, {"XDG_CACHE_HOME": base}):
                 self.assertEqual(folder_of_user(), expected / "cenduwa/wrong")

@@ -1,4 +1,7 @@
-"""Passing the checked modules of a library on to the checks of its crate's wrong bodies.
+"""Tests that `tools/wrong` passes the checked modules of a crate's library on to the checks of the crate's wrong
+bodies. When the prover has checked a crate, the library has a file with the checked modules, and a list of them. The
+function `hand_on` writes each module as a file into the folder in which the prover saves modules. So a check needn't
+check these modules again.
 
     python3 -B -m unittest tests.wrong.test_saved      a minute of processor time; needs the toolchain and no library
 """
@@ -19,11 +22,13 @@ from tools.wrong.outputs import read_output
 from tools.wrong.saved import find_name, hand_on
 from tests.wrong.test_wrong import CRATE, THERE, TOP
 
+# The line in which the prover says how many modules it has loaded, and how many it has checked itself.
 LOADED = re.compile(rf"(?m)^crate {CRATE}: modules loaded=(\d+) checked=(\d+)$")
 
 
 def write_library(library: Path, modules: dict[str, bytes]) -> None:
-    """Writes a library with these modules, and the checksum of all at its end."""
+    """Writes the file and the list of a library with these modules. After them come the bytes of a checksum. Each line
+    of the list has a name, the offset of its bytes in the file, and their number."""
     held, lines = b"!<arch>\n", ""
     for name, text in (*modules.items(), ("sum/all", b"of all")):
         lines += json.dumps([name, len(held), len(text)]) + "\n"
@@ -34,21 +39,21 @@ def write_library(library: Path, modules: dict[str, bytes]) -> None:
 
 
 class HandingOn(unittest.TestCase):
-    """Libraries that are written by hand."""
+    """Libraries that the tests write."""
 
     def setUp(self) -> None:
+        """Names a library, and a folder for its modules, in a temporary folder. Neither of them exists yet."""
         room = tempfile.TemporaryDirectory()
         self.addCleanup(room.cleanup)
         self.library, self.to = Path(room.name) / "it.rlib", Path(room.name) / "kept/saved"
 
-    def test_each_module_is_a_file(self) -> None:
-        """Each module becomes a file with its own bytes. The checksum doesn't."""
+    def test_each_module_becomes_a_file_but_not_the_checksum(self) -> None:
         write_library(self.library, {"It": b"one", "It-proofs.f": b"\0two\n"})
         hand_on(self.library, self.to)
         self.assertEqual({it.name: it.read_bytes() for it in self.to.iterdir()}, {"It.oantt": b"one", "It-proofs.f.oantt": b"\0two\n"})
 
-    def test_what_a_check_left(self) -> None:
-        """A module that a check has saved is replaced by the library's. Modules that the library lacks stay."""
+    def test_a_module_that_a_check_has_saved_is_replaced_by_that_of_the_library(self) -> None:
+        """Modules that the library lacks stay."""
         write_library(self.library, {"It": b"one"})
         hand_on(self.library, self.to)
         (self.to / "It.oantt").write_bytes(b"two")
@@ -56,14 +61,12 @@ class HandingOn(unittest.TestCase):
         hand_on(self.library, self.to)
         self.assertEqual({it.name: it.read_bytes() for it in self.to.iterdir()}, {"It.oantt": b"one", "More.oantt": b"more"})
 
-    def test_a_library_without_modules(self) -> None:
-        """No file is written."""
+    def test_a_library_without_modules_leads_to_no_file(self) -> None:
         (self.library / "toolchain").mkdir(parents=True)
         hand_on(self.library, self.to)
         self.assertFalse(self.to.exists())
 
-    def test_another_form(self) -> None:
-        """If the list can't be read to its end, no file is written."""
+    def test_a_list_that_can_not_be_read_to_its_end_leads_to_no_file(self) -> None:
         for line in ("no list", '["It", 1]', '["It", "1", "2"]', "7", '["It", -1, 2]', '["It", 8, 1000]'):
             shutil.rmtree(self.library, ignore_errors=True)
             write_library(self.library, {"It": b"one"})
@@ -76,8 +79,10 @@ class HandingOn(unittest.TestCase):
 class TakingUp(unittest.TestCase):
     """The real prover, with a copy of the smallest crate that has wrong bodies."""
 
-    def test_what_is_handed_on_is_taken(self) -> None:
-        """A check uses the modules that the one before saved, and still refuses a wrong body."""
+    def test_a_check_loads_the_modules_of_the_library_and_still_refuses_a_wrong_body(self) -> None:
+        """The first check, of the unchanged crate, checks the modules and saves them. A library is made of what it
+        saved. The second check, of a wrong body, gets the modules of this library, and loads more of them than it
+        checks."""
         with tempfile.TemporaryDirectory() as room:
             top, folder = Path(room) / "top", Path(room) / "top/crates" / CRATE
             for part in ("src", "proofs"):
