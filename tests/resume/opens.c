@@ -1,6 +1,6 @@
-/* Preloaded before a program: keeps which files it opens.
+/* A library that is loaded before a program, and records which files the program opens.
 
-   OPENED=FILE has a line of FILE for each file that the program opens: its path, as the program gave it. */
+   With OPENED=FILE, FILE has a line for each file that the program opens: its path, as the program passes it. */
 
 #include "preload.h"
 
@@ -14,7 +14,7 @@ extern int snprintf(char *, size_t, const char *, ...);
 
 static int kept = -1;
 
-/* Keeps a line with this path, if a file for that is open; the program doesn't see that. */
+/* Appends a line with this path to the file, if there is one. Leaves errno unchanged. */
 static void keep(const char *path) {
     long (*next)(int, const void *, size_t) = dlsym(NEXT, "write");
     char line[ROOM];
@@ -24,7 +24,7 @@ static void keep(const char *path) {
     *__errno_location() = error;
 }
 
-/* A mode is given where the file may be made. */
+/* The caller passes a mode only if the call may make the file. */
 int open(const char *path, int flags, ...) {
     int (*next)(const char *, int, ...) = dlsym(NEXT, "open");
     unsigned mode = 0;
