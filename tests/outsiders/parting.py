@@ -36,8 +36,9 @@ def ended(host: Host, teacher: Caller) -> None:
 
 
 def guessing(host: Host) -> list[Caller]:
-    """Returns connections that all guess a key at once. The host has accepted them, and sent all but the first and
-    the last away before their denial was due."""
+    """Opens GUESSES connections, sends a hello with a wrong key on each, and returns them. Waits until the host has
+    accepted them. Each newcomer takes the seat of the one before it. So all but the first and the last have lost their
+    seats before the denials of their hellos are due."""
     files = host.files()
     callers = [Caller(host.port) for _ in range(GUESSES)]
     for caller in callers:

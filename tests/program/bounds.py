@@ -130,6 +130,7 @@ def counted(file: Path, steps: list[Step]) -> Counted:
         fail(f"{file.name}: the audit says another thing of its journal")
     tally = agreed(file.name, "tally", file, journal).out.decode()
     *_, bounds, run, rounds = (line.split() for line in tally.splitlines())
+    # The numbers of events, of closes and of applied moves in the line `run` of the tally.
     if [int(run[column]) for column in (1, 4, 8)] != [events, len(steps), found.moves]:
         fail(f"{file.name}: the tally has other numbers: {run}")
     if rounds != ["rounds", str(found.rounds)]:

@@ -162,6 +162,7 @@ def run_crowd(room: Path, seed: int) -> int:
     for player in players:
         replay = Replay(lab, kept.read_bytes())
         fault = replay.meets(player.heard)
+        # The teacher's last lines come after all events, so her replay ends with the whole journal.
         if fault or player.name == "tess" and replay.world.place != len(replay.events):
             fail(f"crowd {seed}: {player.name} is answered what no beginning of the list gives from there on: {fault}")
     told = sum(b'"place":' in reply for player in players for _, reply in player.heard)

@@ -98,7 +98,8 @@ def is_shaped(line: bytes) -> bool:
 
 
 def event_of(lab: Lab, line: bytes) -> str:
-    """Returns the event of a journal's line in Rust's debug form: a grant, a close or a fault."""
+    """Returns the event of a journal's line in Rust's debug form, after its place and configuration. The event has to
+    be a grant or a close. Returns `?` if the line has an event that isn't one of this lab, and `.` if it has none."""
     read = read_line(line, lab)
     if read is None:
         return "?" if is_shaped(line) else "."

@@ -72,7 +72,8 @@ def goes_on(lab: Path, journal: Path, line: bytes, error: bytes, why: str) -> No
     with Host(lab, 0, 0, journal, word="resume") as host:
         said = resumed(host) if host.listens else b""
         ended = host.dismissed(let_in(host.desk, hello("tess"))[0]) if host.listens else host.end()
-    wanted = Ended(0, b"done: %d events, configuration %s\n" % (place_of(line), line.split()[5][:-1]), error)
+    configuration = line.split()[5][:-1]  # the number after the word `configuration`, without its comma
+    wanted = Ended(0, b"done: %d events, configuration %s\n" % (place_of(line), configuration), error)
     if (said, ended) != (line, wanted):
         fail(f"resume: {why}: {said!r} and {ended}, not {line!r} and {wanted}")
 
@@ -115,6 +116,7 @@ def kills(room: Path) -> None:
         at = place_of(resumed(host))
         ended = host.dismissed(players.play_out(host))
     last = max(at, players.told)  # A host may have been killed between the last event and its reply.
+    # Of the last line, only the number of events is compared.
     if ended.status != 0 or ended.out != b"done: %d events, " % last + ended.out.split(b"events, ")[-1]:
         fail(f"resume: after {KILLS} kills it ends with {ended}, and place {last} was last")
     if b", stable" not in audit(lab, journal, last) or players.told < 50:

@@ -211,6 +211,8 @@ class Drawing(unittest.TestCase):
             self.assertEqual([*ask_all(self.tree, drawn)], [(plants[0], plants[0].crate) for plants in drawn])
 
     def test_a_plant_that_does_not_compile_gives_its_place_to_the_next(self) -> None:
+        """If no plant of a function compiles, the last one is returned. The function `look` in `verdicts` knows a bad
+        plant by its new line, so plants that remove a line aren't used here."""
         plants = next(plants for plants in draw(self.tree, ["low"], 3, 1) if len(plants) > 1 and all(plant.edit.pairs[0].new for plant in plants))
         name = plants[0].function
         told = Told(proved={name}, ending=(1, 1))
@@ -218,6 +220,7 @@ class Drawing(unittest.TestCase):
         self.assertEqual(self.verdicts([plants], plants), {name: (plants[-1], NO_PROGRAM)})
 
     def test_an_undecided_plant_gives_its_place_to_the_next(self) -> None:
+        """If the prover decides about no plant of a function, the first one that compiles is returned as undecided."""
         plants = next(plants for plants in draw(self.tree, ["low"], 3, 1) if len(plants) > 2 and all(plant.edit.pairs[0].new for plant in plants))[:3]
         name = plants[0].function
         decided, undecided = Told(open_goals={name: ["returns"]}, ending=(1, 0)), Told(ending=(1, 0))
@@ -227,6 +230,8 @@ class Drawing(unittest.TestCase):
         self.assertEqual(self.verdicts([plants], plants[1:], undecided), {name: (plants[0], UNDECIDED)})
 
     def test_a_function_that_calls_a_refused_one_is_asked_about_again(self) -> None:
+        """The first check has both plants. It refuses the one in the function below. About the function above it says
+        only that it depends on the one below."""
         drawn = [plants[:1] for plants in draw(self.tree, ["low"], 2, 1)]
         (above,), (below,) = drawn
         first = Told(open_goals={below.function: ["returns"]}, resting={above.function}, ending=(2, 0))
