@@ -1,1 +1,1 @@
-"""Tests of the words of `./class`, against the built program."""
+"""Tests of the commands of `./class` and of its pages. Most of them call the built program, and some need a browser."""

@@ -1,5 +1,5 @@
-"""The browser that all tests of a process share, and the contents of its page. `Shown` has the texts and attributes of
-a page by name."""
+"""The browser that all tests of a process share, and the contents of the page of a run. `Shown` has these contents: the
+`data-` attributes of the drawing, those of each node, and the line about the event."""
 from __future__ import annotations
 
 import atexit
@@ -151,8 +151,8 @@ def show_as(driver: Any, theme: str = "light", media: str = "") -> None:
 
 
 def settle(driver: Any) -> None:
-    """Waits until a page has drawn two frames in which no animation runs, so that all that observes its size has been
-    called."""
+    """Waits until no animation that ends is running, and then until the page has drawn two frames. By then the page's
+    functions that observe sizes have been called."""
     driver.execute_async_script(SETTLED)
 
 
@@ -168,7 +168,7 @@ class Played(unittest.TestCase):
     """Tests that open the pages of runs."""
 
     def setUp(self) -> None:
-        """Opens the browser."""
+        """Opens the browser if this process has none yet, and makes the test's folder."""
         self.driver: Any = browser()
         room = tempfile.TemporaryDirectory()
         self.addCleanup(room.cleanup)
@@ -189,7 +189,7 @@ class Played(unittest.TestCase):
         """Opens the file of a page, with a fragment after its address. Returns the seconds until the page shows its
         drawing."""
         start = time.monotonic()
-        self.driver.get("about:blank")
+        self.driver.get("about:blank")  # If only the fragment were new, the browser wouldn't load the page again.
         self.driver.get(page.as_uri() + fragment)
         until(self.driver, is_ready)
         return time.monotonic() - start

@@ -1,4 +1,6 @@
-"""Helpers of the tests: calls of `./class`, labs, and clients of running classes."""
+"""Helpers of the tests: calls of `./class`, labs, and clients of running classes. A *run* is a class from its start to
+its end. Its *desk* is the process that runs the teacher's commands and prints lines, and its *room* in a test is a
+folder."""
 from __future__ import annotations
 
 import fcntl
@@ -87,9 +89,10 @@ def state(task: Path) -> str:
 
 
 class InRoom(unittest.TestCase):
-    """A test with its own folder."""
+    """A test with its own folder, the room."""
 
     def setUp(self) -> None:
+        """Makes the test's folder, which is removed at the end."""
         room = tempfile.TemporaryDirectory()
         self.addCleanup(room.cleanup)
         self.room = Path(room.name)
@@ -102,12 +105,14 @@ class InRoom(unittest.TestCase):
 
 
 class Going:
-    """A running class, whose lines are read one by one."""
+    """A run whose commands the test types, and whose printed lines it reads one by one. `port` is the students' port,
+    `folder` is the run's folder, and `lines` has all lines that were read so far."""
 
     def __init__(self, test: InRoom, lab: Path | None, *more: str | Path, before: tuple[str, ...] = (), ready: str = "^commands: ",
                  **environment: str) -> None:
-        """`before` are words before the call: a program that makes the call. Without a lab, `more` are all
-        arguments. Reads up to a line that matches `ready`."""
+        """Starts `./class run` with this lab, a free port and the options `more`. Without a lab, `more` are all
+        arguments of `./class`. `before` is a command that gets this call as its last arguments, and `environment` is
+        added to the environment. Reads the printed lines up to one that matches `ready`."""
         self.lines: list[str] = []
         words: list[str | Path] = ["run", lab, "--into", test.room / "runs", "--port", str(a_port()), *more] if lab else [*more]
         self.process = subprocess.Popen(
@@ -122,7 +127,7 @@ class Going:
         self.until(ready)
 
     def until(self, pattern: str) -> str:
-        """Reads lines until one matches the pattern, and returns it. If the run ends before, fails."""
+        """Reads lines until one matches the pattern, and returns it. Raises an error if the run ends before."""
         for line in self.read():
             if re.search(pattern, line):
                 return line
@@ -136,7 +141,8 @@ class Going:
             left = [pattern for pattern in left if not re.search(pattern, line)]
 
     def read(self) -> Iterator[str]:
-        """Yields the next lines of the run's output. Kills a run that takes too long."""
+        """Yields the next lines of the run's output. Ends the run if the caller hasn't got its line after LIMIT
+        seconds."""
         assert self.process.stdout is not None
         late = threading.Timer(LIMIT, self.process.terminate)
         late.start()
@@ -154,12 +160,12 @@ class Going:
         self.process.stdin.flush()
 
     def ended(self) -> int:
-        """Ends the class by typing `end` twice. Returns the status."""
-        self.type("end\nend")
+        """Ends the run by a command, and returns its exit status."""
+        self.type("end\nend")  # If the network isn't stable, the desk asks for a second `end`.
         return self.ends()
 
     def ends(self) -> int:
-        """Reads all lines to the end. Returns the status."""
+        """Reads all lines until the run ends, without ending it. Returns its exit status."""
         for _ in self.read():
             pass
         return self.process.wait(LIMIT)
@@ -171,7 +177,7 @@ class Going:
         return int(children[0])
 
     def close(self) -> None:
-        """Ends all processes of the class that are left."""
+        """Ends the run if it is still going on, and closes its input and output."""
         if self.process.poll() is None:
             self.process.send_signal(signal.SIGTERM)
             self.process.communicate(timeout=LIMIT)
@@ -196,7 +202,8 @@ class Rows:
         self.bytes = bytes(str(self.answer.headers), "utf-8")
 
     def next(self) -> dict[str, Any]:
-        """Returns the values in the next line that isn't empty."""
+        """Reads lines until one has values, and returns these. A line without any shows only that the server is still
+        there."""
         while True:
             line = self.answer.readline()
             self.bytes += line
@@ -218,10 +225,11 @@ class Rows:
 
 
 class InTerminal:
-    """A run in its own terminal, read up to its commands. Without arguments, a run of the cycle whose steps are
-    closed by hand."""
+    """A run in its own terminal, a pseudo-terminal whose other end (`ours`) the test has."""
 
     def __init__(self, test: InRoom, *words: str | Path) -> None:
+        """Starts `./class` with these arguments, or without any a run of the cycle whose steps are closed by hand.
+        Reads the terminal up to the line with the commands."""
         self.ours, theirs = pty.openpty()
         given = words or ("run", CYCLE, "--into", test.room / "runs", "--close", "by-hand")
         self.process = subprocess.Popen(
@@ -233,7 +241,7 @@ class InTerminal:
         self.until(b"commands: ")
 
     def until(self, wanted: bytes) -> None:
-        """Reads the terminal until a text was printed."""
+        """Reads the terminal until a text was printed. Raises an error if nothing is printed for LIMIT seconds."""
         while wanted not in self.text:
             if not select.select([self.ours], [], [], LIMIT)[0]:
                 raise AssertionError(f"no {wanted!r} in {self.text!r}")
@@ -242,6 +250,7 @@ class InTerminal:
     def type(self, line: bytes, wanted: bytes) -> None:
         """Types a line when the line editor is ready, and reads until a text was printed."""
         end = time.monotonic() + LIMIT
+        # While the terminal itself edits lines (ICANON), the desk's line editor isn't reading yet.
         while termios.tcgetattr(self.ours)[3] & termios.ICANON:
             assert time.monotonic() < end, self.text
             time.sleep(0.01)
@@ -265,12 +274,13 @@ class Cycle(InRoom):
     def slip(self, port: int, name: str) -> Path:
         """Writes the slip of a student of the cycle with this port, and returns its path."""
         nodes = ",".join(map(str, read(CYCLE).nodes_of(name)))
-        made = self.room / f"{name}-{port}.slip"  # A client that got this object earlier may still read it.
+        # The slip isn't written again, since a client that was started with it earlier may be reading it.
+        made = self.room / f"{name}-{port}.slip"
         return made if made.exists() else self.file(made.name, f"port {port}\nname {name}\nkey {KEYS[name]}\nnodes {nodes}\n")
 
     def whole(self, folder: Path) -> int:
-        """Checks that the folder of an ended run has all files, and that nobody else can read them. Returns the number
-        of its events."""
+        """Checks that the folder of an ended run is complete: only its owner may open it, it has all files, and its
+        journal passes the audit. Returns the number of the run's events."""
         self.assertEqual(folder.stat().st_mode & 0o777, 0o700)
         for name in ("lab.toml", "journal", "audit.txt", "marks.txt", "marks.json", "run.html", "run.txt", "server.txt"):
             self.assertTrue((folder / name).is_file(), name)

@@ -23,7 +23,8 @@ SOURCES = (
     "crates/mml_host_program/src/judging/*.rt", "crates/mml_ports/src/*.rt", "crates/mml_recording/src/*.rt", "crates/mml_serving/src/*.rt",
 )
 NO_SOURCES = ("classroom/setup/word_list.py", "crates/mml_program/src/built_in.rt")
-NOT_LINES = ("add_argument", "add_parser", "compile", "fullmatch", "match", "search", "sub", "findall", "strftime")  # calls
+# The calls whose texts aren't such lines, but regular expressions, the help of options, and forms of dates.
+NOT_LINES = ("add_argument", "add_parser", "compile", "fullmatch", "match", "search", "sub", "findall", "strftime")
 WORDS = re.compile(r"[a-z]{2,}.* .*[a-z{]|[a-z{].* .*[a-z]{2,}")
 # The texts in sources of other languages, and the form of a value in such a text.
 COMMENTS = re.compile(r"^\s*(?://|/?\*|ghost |#\[(?!error)).*$|/\*.*?\*/", re.MULTILINE)
@@ -93,7 +94,8 @@ def texts_of(file: Path) -> Iterator[str]:
 
 
 def lines() -> list[str]:
-    """Returns a line of the table for each text: the source without its suffix, or with it if it isn't Python, and the text."""
+    """Returns the lines of the table in order. Each has the path of a source (without `.py` if it is Python) and a text
+    that looks like words of a person and not like markup or a style."""
     found = set()
     for file in {file for pattern in SOURCES for file in TOP.glob(pattern)}:
         name = file.relative_to(TOP).as_posix()

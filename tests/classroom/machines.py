@@ -41,7 +41,7 @@ def two() -> Iterator[tuple[Machine, Machine]]:
     try:
         for it in holders:
             assert it.stdout is not None
-            it.stdout.readline()  # The link's other end is in the machine's namespace already.
+            it.stdout.readline()  # This line comes from the shell, which is in its own namespace already.
         teachers, students = (Machine(it.pid) for it in holders)
         subprocess.run(["ip", "link", "add", "cable", "netns", str(teachers.process), "type", "veth", "peer", "name", "cable",
                         "netns", str(students.process)], check=True, capture_output=True)

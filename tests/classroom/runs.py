@@ -39,8 +39,8 @@ def lab_text(nodes: int, links: list[tuple[int, int]], events: int) -> str:
 
 
 def many_owners(room: Path, nodes: int) -> Path:
-    """Writes a lab with a cycle of `nodes` nodes, and returns its path. The nodes' owners have names with the same
-    initial or another one, and each third node has two owners."""
+    """Writes a lab with a cycle of `nodes` nodes, and returns its path. The owners are zoe and twelve students whose
+    names begin with the same letter. Each third node has two owners."""
     names = [f"student-{number}" for number in range(1, 13)] + ["zoe"]
     lab = room / f"owners-{nodes}.toml"
     rows = ["events = 9", "sessions = 2", "links = [" + ", ".join(f"[{a}, {a % nodes + 1}]" for a in range(1, nodes + 1)) + "]"]

@@ -29,9 +29,10 @@ def fits(value: Any, schema: Schema, top: Schema) -> bool:
         raise ValueError(f"keywords that aren't checked: {unknown}")
     if "$ref" in schema:
         return fits(value, top["$defs"][schema["$ref"].removeprefix("#/$defs/")], top)
+    # In Python a `bool` is an `int`, but in a schema a boolean is no integer.
     if "type" in schema and (not isinstance(value, KINDS[schema["type"]]) or isinstance(value, bool) != (schema["type"] == "boolean")):
         return False
-    if any(value != schema["const"] for _ in ["const"] if "const" in schema) or "enum" in schema and value not in schema["enum"]:
+    if "const" in schema and value != schema["const"] or "enum" in schema and value not in schema["enum"]:
         return False
     if "minimum" in schema and value < schema["minimum"] or "maximum" in schema and value > schema["maximum"]:
         return False

@@ -1,4 +1,5 @@
-"""A class of several networks whose desk reads typed lines, for tests."""
+"""A class of several networks, for tests. It has one desk, the process that runs the teacher's commands and prints
+lines. Each network has its own server, and a run of its own with a folder in that of the class."""
 from __future__ import annotations
 
 import json
@@ -19,10 +20,12 @@ NAMES = ("Zoë Müller", "José García", "Lukas Schmidt", "Lukas Schmidt", "Ana
 
 
 class GoingClass(Going):
-    """The desk of a running class, whose lines are read one by one."""
+    """A running class of several networks. The test types commands at its desk, and reads the printed lines one by
+    one."""
 
     def __init__(self, test: InRoom, *more: str | Path, **environment: str) -> None:
-        """Starts a class by these arguments of `./class`, and reads up to the line with the commands of its desk."""
+        """Starts a class by these arguments of `./class`, with `environment` added to the environment. Reads up to the
+        line with the commands of its desk."""
         self.lines: list[str] = []
         self.process = subprocess.Popen(
             [sys.executable, TOP / "class", *more, "--typed"], stdin=subprocess.PIPE, stdout=subprocess.PIPE,
@@ -50,12 +53,12 @@ class GoingClass(Going):
         return state_of(self.folder / name) or {}
 
     def marks(self, name: str) -> dict[str, int]:
-        """Returns the marks of the run of the network with this name, as its file `marks.json` has them."""
+        """Returns the values that `marks.json` has about the ended run of the network with this name."""
         run: dict[str, int] = json.loads((self.folder / name / "marks.json").read_text(encoding="utf-8"))["runs"][0]
         return run
 
     def end_servers(self) -> None:
-        """Ends the servers that are left, and the processes of their desks."""
+        """Kills the desk, the servers and the processes of the runs, as far as they haven't ended."""
         if self.process.poll() is None:
             self.process.kill()
         for folder in self.folder.iterdir() if hasattr(self, "folder") else ():
@@ -66,9 +69,10 @@ class GoingClass(Going):
 
 
 class Classes(InRoom):
-    """Tests with a class of eight students in two networks."""
+    """Tests with a class of eight students in two networks, maths-1 and maths-2."""
 
     def setUp(self) -> None:
+        """Makes the labs of both networks, whose nodes have random registers at the beginning."""
         super().setUp()
         students = self.file("names.txt", "\n".join(NAMES) + "\n")
         made = words("new", self.room / "maths.toml", "--students", students, "--groups", "2", "--start", "random", "--seed", "5")
@@ -80,7 +84,8 @@ class Classes(InRoom):
         return GoingClass(self, "run", *self.labs, "--into", self.room / "runs", "--port", str(a_port()), *more)
 
     def bot(self, desk: GoingClass, network: str, name: str) -> subprocess.Popen[bytes]:
-        """Starts the bot of a student in a network. Returns its process."""
+        """Starts the bot of a student in a network, with a slip that has the port of the running class. Returns its
+        process."""
         number = network.rpartition("-")[2]
         text = (self.room / f"maths-{number}-slips" / f"{name}.slip").read_text(encoding="utf-8")
         slip = self.file(f"{name}.{network}.slip", re.sub(r"(?m)^port \d+$", f"port {desk.record(network).port}", text))

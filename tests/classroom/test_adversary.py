@@ -1,4 +1,6 @@
-"""The adversary: its search changes nothing, and it makes runs longer."""
+"""The daemons that make runs long: the adversary, which searches ahead, and the schedule, a fixed order of moves. The
+search tries moves in a program of its own, its *bench*, and leaves the registers there as they were. A *worst* start is
+one from which runs are especially long."""
 from __future__ import annotations
 
 import random
@@ -24,16 +26,16 @@ def rows(daemon: str, family: str, nodes: int, seeds: range) -> list[Row]:
 
 
 class Search(unittest.TestCase):
-    """The search by itself."""
+    """The search by itself, without a run."""
 
     def over(self, made: labs.Lab) -> tuple[Adversary, list[int]]:
-        """Returns an adversary with a program for this network, and the privileged nodes."""
+        """Returns an adversary whose bench has this network with the registers of the lab, and the privileged nodes."""
         it = Adversary("test")
         self.addCleanup(it.close)
         report = it.bench_over(made).begin(made)
         return it, [node for node, _ in report["privileged"]]
 
-    def test_the_registers_are_as_they_were(self) -> None:
+    def test_trying_moves_leaves_the_registers_as_they_were(self) -> None:
         made = drawn(Setting("random:7:10", 7, Daemon("central"), "random"), 4)
         it, privileged = self.over(made)
         self.assertLess(2, len(privileged))
@@ -46,9 +48,11 @@ class Search(unittest.TestCase):
             it.value_of(bench, report, nodes, 3)
             self.assertEqual([(node.id, node.p, node.m) for node in bench.present().nodes], before)
             self.assertEqual(it.registers, {node: (p, m) for node, p, m in before})
-        self.assertTrue(bench.step(report, [privileged[0]], min))  # The move has the number of the last report.
+        # The search has set the number in `report` to that of the present configuration, so a move is granted.
+        self.assertTrue(bench.step(report, [privileged[0]], min))
 
-    def test_it_chooses_some_of_those_that_may_move_and_the_same_again(self) -> None:
+    def test_it_chooses_one_or_all_of_those_that_may_move_and_the_same_again(self) -> None:
+        """A node that isn't privileged is left out, also if it is among those to choose from."""
         made = drawn(Setting("complete", 5, Daemon("central"), "random"), 2)
         it, privileged = self.over(made)
         found = it.choose(made, privileged)
@@ -61,17 +65,19 @@ class Search(unittest.TestCase):
         self.assertNotEqual(it.choose(made, [*privileged, *others]), others[:1])
 
     def test_the_last_two_moves_are_not_made_at_once(self) -> None:
+        """Two nodes that point at each other can both update. These two moves are the last ones, so it doesn't matter
+        for their number whether they are made in one step. In this case the adversary chooses a single node."""
         made = network([labs.Node(1, [], 2, False), labs.Node(2, [], 1, False)], [(1, 2)])
         it, privileged = self.over(made)
         self.assertEqual(privileged, [1, 2])
         self.assertEqual(len(it.choose(made, [2, 1])), 1)
 
-    def test_a_program_after_another(self) -> None:
+    def test_a_new_bench_is_started_when_events_are_used_up_or_links_differ(self) -> None:
         made = drawn(Setting("path", 4, Daemon("central"), "random"), 1)
         it, privileged = self.over(made)
         first = it.bench
         self.assertIs(it.bench_over(made), first)
-        with unittest.mock.patch.object(adversary, "USED", -1):
+        with unittest.mock.patch.object(adversary, "USED", -1):  # Even a bench without events counts as used up.
             self.assertIsNot(it.bench_over(made), first)
         second = it.bench
         _, links = networks.family("cycle", 4, 0, random.Random(1))
@@ -84,8 +90,9 @@ class Search(unittest.TestCase):
 class Long(unittest.TestCase):
     """Complete runs."""
 
-    def test_the_schedule_takes_all_moves_and_rounds_that_are_proved(self) -> None:
-        """From the worst starts, it takes all moves on a crowd, and all rounds on halves."""
+    def test_the_schedule_reaches_the_proved_numbers_of_moves_and_rounds(self) -> None:
+        """From the worst start, a run in a network of the family `crowd` has as many moves as the proved bound allows,
+        and one in a network of the family `halves` as many rounds."""
         for nodes in range(4, 17, 2):
             for family in ("crowd", "halves"):
                 row, = (row for row, _ in runs(Setting(family, nodes, Daemon.of("schedule"), "worst"), [1]))
@@ -93,17 +100,17 @@ class Long(unittest.TestCase):
                 self.assertEqual((row.moves if family == "crowd" else row.rounds, row.stable),
                                  (most.moves if family == "crowd" else most.rounds, True), (family, nodes))
 
-    def test_the_adversary_takes_most_of_the_moves_that_are_proved(self) -> None:
-        """From the worst start it takes at least four fifths of the moves, and from other starts more than the
-        schedule in total."""
+    def test_the_adversary_makes_at_least_four_fifths_of_the_proved_number_of_moves(self) -> None:
+        """This holds for runs from the worst start. From random starts it makes in total at least as many moves as the
+        schedule."""
         for nodes in (4, 6, 8, 10):
             row, = (row for row, _ in runs(Setting("crowd", nodes, Daemon.of("adversary"), "worst"), [1]))
             self.assertGreaterEqual(row.moves, 0.8 * bounds.of(nodes, row.links).moves, nodes)
         schedule, search = (sum(row.moves for row in rows(daemon, "complete", 5, range(1, 9))) for daemon in ("schedule", "adversary"))
         self.assertGreaterEqual(search, schedule)
 
-    def test_runs_are_longer_than_by_a_central_daemon(self) -> None:
-        """The seeds are the same, so the networks and registers are too."""
+    def test_runs_have_over_five_percent_more_moves_than_under_a_central_daemon(self) -> None:
+        """Both daemons get the same seeds, and so the same networks and registers."""
         for family, nodes in (("complete", 5), ("cycle", 6)):
             central, worse = (rows(daemon, family, nodes, range(1, 9)) for daemon in ("central", "adversary"))
             self.assertTrue(all(row.stable and not row.exceeds_bounds() for row in worse))
@@ -111,6 +118,7 @@ class Long(unittest.TestCase):
             self.assertLess(sum(row.moves for row in central) * 1.05, sum(row.moves for row in worse), family)
 
     def test_a_run_is_the_same_again_and_its_script_has_nothing_of_the_search(self) -> None:
+        """A script is returned only for a run that exceeds a bound, so the test lets each run do that."""
         setting = Setting("path", 4, Daemon("adversary"), "random")
         self.assertEqual(rows("adversary", "path", 4, range(3, 5)), rows("adversary", "path", 4, range(3, 5)))
         with unittest.mock.patch.object(Row, "exceeds_bounds", lambda row: True):
@@ -118,7 +126,9 @@ class Long(unittest.TestCase):
         self.assertEqual(script.count(b'"do": "close"'), row.closes)
         self.assertEqual(script.count(b'"do": "see"'), 0)
 
-    def test_words_of_daemons(self) -> None:
+    def test_the_two_daemons_choose_by_a_search_and_the_schedule_by_rules_and_numbers(self) -> None:
+        """A close calls the search once each privileged node has a granted move, or none was granted for a second. The
+        schedule needs no network."""
         self.assertEqual(Daemon.of("adversary").spelled(), "adversary")
         chance, full = random.Random(1), Sight([1, 2], [2, 1], 0.0, 0.0)
         self.assertEqual(applied(Daemon("adversary"), full, chance, 1, lambda nodes: [nodes[0]]), [2])
@@ -128,7 +138,7 @@ class Long(unittest.TestCase):
             self.assertEqual(movers(Daemon(kind), [1, 2, 3], chance, lambda nodes: [nodes[-1]]), [3])
         rules = {1: "marriage", 2: "update", 3: "seduction", 4: "update", 5: "abandonment", 6: "marriage"}
         order, left = [], dict(rules)
-        while left:
+        while left:  # Each node moves once, in the order of the schedule.
             order.append(scheduled(left, [*left]))
             del left[order[-1]]
         self.assertEqual(order, [5, 2, 4, 3, 6, 1])
@@ -137,9 +147,10 @@ class Long(unittest.TestCase):
 
 
 class Everywhere(Cycle):
-    """The daemon as an argument of run, practise, grade and experiment."""
+    """The adversary in run, practise, grade and experiment."""
 
-    def test_a_run_comes_back_under_it(self) -> None:
+    def test_a_run_becomes_stable_under_the_adversary_also_after_a_break(self) -> None:
+        """The desk prints a line whenever the network is stable. The marks have the same lines."""
         going = Going(self, CYCLE, "--daemon", "by-hand")
         for name in KEYS:
             self.bot(going, name)
@@ -156,7 +167,7 @@ class Everywhere(Cycle):
         self.assertEqual(re.findall(r"(?m)^event \d+: (.*)$", text), told)
         self.assertEqual(words("mark", going.folder).stdout, text.replace(f"{CYCLE}", str(going.folder)))
 
-    def test_practise_and_experiment_and_grade_take_it(self) -> None:
+    def test_practise_experiment_and_grade_accept_the_adversary(self) -> None:
         done = words("practise", EXAMPLES / "bot.py", "--nodes", "5", "--daemon", "adversary", "--into", self.room / "runs")
         self.assertEqual(done.returncode, 0, done.stdout + done.stderr)
         self.assertRegex(done.stdout, "(?m)^the network is stable; pairs: ")
@@ -172,7 +183,7 @@ class Everywhere(Cycle):
         self.assertEqual(done.returncode, 0, done.stdout + done.stderr)
         self.assertIn("passed  bot.py: one, daemon adversary, seed 1;", done.stdout)
 
-    def test_where_it_can_not_search_the_class_goes_on(self) -> None:
+    def test_if_its_search_fails_steps_are_closed_by_another_daemon(self) -> None:
         report = unittest.mock.Mock(privileged=[(1, "update"), (2, "update")])
         desk = unittest.mock.Mock(closing=Daemon("adversary"), known=unittest.mock.Mock(news_came=0.0, report=report))
         desk.known.book.chosen = {1: ("ana", "update"), 2: ("ben", "update")}

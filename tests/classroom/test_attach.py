@@ -1,4 +1,5 @@
-"""`./class attach`: a class that outlives the `run` that started it, and its terminal."""
+"""`./class attach`: a class that continues after the process that ran its desk was killed, or after its terminal was
+closed. The server is a process of its own, and goes on."""
 from __future__ import annotations
 
 import json
@@ -19,8 +20,8 @@ class Attach(Cycle):
     """Runs of the cycle of `examples/`."""
 
     def killed(self, *more: str) -> Going:
-        """Starts a run with these options, and kills it after a move, a close and a fault. Returns the run, whose
-        server is still running."""
+        """Starts a run with these options, and kills the process of its desk after a move, a close and a fault. Returns
+        the run, whose server is still running."""
         going = Going(self, CYCLE, "--close", "by-hand", *more)
         server = going.server()
         self.addCleanup(self.end, server)
@@ -45,7 +46,8 @@ class Attach(Cycle):
         students = json.loads((folder / "marks.json").read_text(encoding="utf-8"))["runs"][0]["students"]
         return {name: sum(it["applied"].values()) for name, it in students.items()}
 
-    def test_a_run_that_was_killed_is_gone_on_with(self) -> None:
+    def test_attach_continues_a_run_whose_desk_was_killed(self) -> None:
+        """The events from before are counted, and their lines aren't printed again."""
         going = self.killed()
         again = Going(self, None, "attach", going.folder)
         self.assertEqual((again.port, again.folder), (going.port, going.folder))
@@ -62,7 +64,7 @@ class Attach(Cycle):
         for line in ("configuration 1: node 4 (gus): update", "configuration 2: fault", "configuration 3: node 1 (gus): update"):
             self.assertEqual(told.count(line), 1, line)
 
-    def test_a_page_shows_what_was_before(self) -> None:
+    def test_attach_serves_the_page_for_the_projector_again(self) -> None:
         going = self.killed("--page", "29500")
         again = Going(self, None, "attach", going.folder)
         self.assertRegex(again.until("^page for the projector "), "^page for the projector http://127.0.0.1:295")
@@ -70,14 +72,14 @@ class Attach(Cycle):
         again.until("^configuration 3: added the link between 1 and 3")
         self.assertEqual(again.ended(), 0, again.lines)
 
-    def test_a_second_run_offers_it(self) -> None:
+    def test_a_second_run_of_the_lab_is_refused_and_the_error_line_names_attach(self) -> None:
         going = self.killed()
         done = words("run", CYCLE, "--into", self.room / "runs")
         self.assertEqual(done.returncode, 1)
         self.assertEqual(done.stderr, f"class: a run of {CYCLE} is still going on, at port {going.port} and in the folder {going.folder}. "
                                       f"To control it, type: {CLASS} attach {going.folder} . To start another run beside it, add --beside\n")
 
-    def test_a_terminal_that_goes_away(self) -> None:
+    def test_a_run_continues_without_its_terminal_until_attach_takes_its_desk(self) -> None:
         terminal = InTerminal(self)
         terminal.type(b"fault 1 2 true\n", b" moves: 0 of at most 35;")
         os.close(terminal.ours)
@@ -91,7 +93,9 @@ class Attach(Cycle):
         self.assertEqual(again.ended(), 0, again.lines)
         self.assertEqual(self.whole(folder), 2)
 
-    def test_a_server_that_is_late_may_be_left(self) -> None:
+    def test_the_desk_can_stop_waiting_for_the_end_of_a_server_that_does_not_answer(self) -> None:
+        """The desk sends its bye to a stopped server, waits, and is ended by a command. The server ends when it runs
+        again, and then the run's marks can be printed."""
         going = Going(self, CYCLE, "--close", "by-hand")
         server = going.server()
         going.type("fault 1 2 true")
@@ -114,13 +118,13 @@ class Attach(Cycle):
                       words("mark", going.folder).stdout)
 
     def until_told(self, folder: Path, line: str) -> None:
-        """Waits until the file `run.txt` in the folder has a line."""
+        """Waits until the file `run.txt` in a run's folder, which has the printed lines, contains this line."""
         end = time.monotonic() + LIMIT
         while line not in (folder / "run.txt").read_text(encoding="utf-8"):
             self.assertLess(time.monotonic(), end)
             time.sleep(0.05)
 
-    def test_what_can_not_be_taken(self) -> None:
+    def test_attach_refuses_a_run_that_has_a_desk_or_has_ended_and_a_missing_folder(self) -> None:
         going = Going(self, CYCLE, "--close", "by-hand")
         done = words("attach", going.folder)
         self.assertEqual((done.returncode, done.stderr), (1, f"class: {going.folder}: another process (number {going.process.pid}) controls this run. "

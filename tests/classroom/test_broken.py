@@ -1,4 +1,6 @@
-"""Failures of a run: kills, full disks, closed terminals, missing seats, bots that race and guess."""
+"""Failures of a run: kills, full disks, changed journals, missing seats, bots that race and guess. A client takes a
+*seat*, one of the connections that the server serves at a time. `whole` checks that the folder of an ended run is
+complete."""
 from __future__ import annotations
 
 import json
@@ -25,18 +27,22 @@ from classroom.run import connected, ending
 from classroom.run.connected import Connected
 from tests.classroom.help import CLASS, CYCLE, EXAMPLES, KEYS, LIMIT, Cycle, Going
 
+# A command of a shell that mounts a small disk at $1, and then runs the other words.
 MOUNT = "mount -t tmpfs -o size=128k tmpfs \"$1\" && shift && exec \"$@\""
 
 
 class Broken(Cycle):
-    """Tests in which a run ends in some way and its folder is complete."""
+    """Runs that fail in some way, and runs whose clients do."""
 
     def lab(self, name: str, sessions: int) -> Path:
-        """Writes a lab of `examples/` with this number of seats."""
+        """Writes a copy of a lab of `examples/` in which `sessions`, the number of connections for the desk and the
+        clients, is this one. Returns its path."""
         text = (EXAMPLES / name).read_text(encoding="utf-8")
         return self.file(name, re.sub(r"(?m)^sessions = \d+", f"sessions = {sessions}", text))
 
-    def test_kills_of_the_server_at_ten_moments(self) -> None:
+    def test_a_run_whose_server_is_killed_keeps_each_event(self) -> None:
+        """The server is killed after none of nine events, after one, and so on. Each time the run ends with status 4,
+        and its folder has the events from before."""
         def typed(line: str, told: str) -> Callable[[Going], None]:
             """Returns a function that types a line at a run's desk, and waits for the printed configuration that
             matches `told`."""
@@ -65,7 +71,7 @@ class Broken(Cycle):
                 self.assertEqual(self.whole(going.folder), moment)
                 self.assertTrue(any(line.startswith("the server") for line in going.lines))
 
-    def test_a_kill_while_bots_ask(self) -> None:
+    def test_a_run_whose_server_is_killed_while_bots_play_keeps_at_least_the_printed_events(self) -> None:
         going = Going(self, CYCLE, "--close", "every:0.05")
         for name in KEYS:
             self.bot(going, name)
@@ -76,7 +82,8 @@ class Broken(Cycle):
         self.assertGreaterEqual(self.whole(going.folder), 3)
 
     def mounted(self) -> tuple[str, ...]:
-        """Returns the words to put before a call, so that the folder of runs is a small disk in it."""
+        """Returns the words to put before a call, so that the folder of runs is a small disk in it. Skips the test if
+        nothing can be mounted."""
         (self.room / "runs").mkdir()
         for way in (["unshare", "-m"], ["unshare", "-rm"]):
             words = (*way, "sh", "-c", MOUNT, "sh", str(self.room / "runs"))
@@ -86,7 +93,7 @@ class Broken(Cycle):
 
     def fill(self, folder: Path) -> None:
         """Fills the disk on which a folder is."""
-        for turn in range(3):  # The check for free space takes some space itself for a moment.
+        for turn in range(3):  # The run's check for free space writes some bytes itself, and removes them again.
             with (folder / f"filler{turn}").open("wb", buffering=0) as it:
                 try:
                     while True:
@@ -94,7 +101,8 @@ class Broken(Cycle):
                 except OSError:
                     time.sleep(0.01)
 
-    def test_a_full_disk(self) -> None:
+    def test_on_a_full_disk_nothing_is_granted_and_the_run_ends(self) -> None:
+        """A student's move and a command of the teacher are refused with `journal`, and no event happens."""
         going = Going(self, CYCLE, "--close", "by-hand", before=self.mounted())
         self.fill(Path(f"/proc/{going.process.pid}/root{going.folder}"))
         going.until("^the disk is full. Make room now: if a line of the journal can't be written, the server grants nothing more$")
@@ -110,8 +118,9 @@ class Broken(Cycle):
         self.assertTrue(any("No space left on device. The journal is" in line for line in going.lines), going.lines)
 
     @unittest.skipUnless(host(), "not tried: no host is built")
-    def test_a_limit_that_leaves_no_trace(self) -> None:
-        """No byte of the line is written, and nobody acts at the desk."""
+    def test_a_run_ends_when_its_journal_has_reached_the_limit_on_the_size_of_files(self) -> None:
+        """The limit is reached exactly at the end of a line, so no byte of the next line is written. The run ends
+        although nothing is typed at the desk."""
         going = Going(self, CYCLE, "--close", "by-hand")
         going.type("\n".join(["fault 1 2 true"] * 60))
         going.until("^configuration 60: ")
@@ -127,8 +136,8 @@ class Broken(Cycle):
         self.assertEqual(self.whole(going.folder), 60)
 
     def lost(self, act: Callable[[Path], object], status: int = 4) -> Going:
-        """Starts a run, makes three events, and calls `act` with its journal. Checks that the run ends with this
-        status, and returns it."""
+        """Starts a run, makes three events, and calls `act` with the path of its journal. Checks that the run ends with
+        this status, and returns it."""
         going = Going(self, CYCLE, "--close", "by-hand", "--beside")
         for number in range(1, 4):
             going.type("fault 1 2 true")
@@ -139,8 +148,8 @@ class Broken(Cycle):
         return going
 
     @unittest.skipUnless(host(), "not tried: no host is built")
-    def test_a_journal_that_is_removed_moved_or_replaced(self) -> None:
-        """Nobody asks for anything. The teacher is informed all the same, and nothing is lost."""
+    def test_a_run_ends_when_its_journal_is_removed_moved_or_replaced_and_saves_its_lines(self) -> None:
+        """It ends although no client sends a request. After the saved file is put back, the run can be resumed."""
         for act in (self.remove, self.move, self.replace):
             going = self.lost(act)
             told = "the journal's file was removed, moved or replaced. Wait for the line that says where its lines are saved, " \
@@ -171,7 +180,9 @@ class Broken(Cycle):
         other.replace(journal)
 
     @unittest.skipUnless(host(), "not tried: no host is built")
-    def test_a_journal_that_is_changed(self) -> None:
+    def test_a_run_ends_when_its_journal_is_shortened_or_lengthened(self) -> None:
+        """A journal of which only the first line (19 bytes) is left passes the audit. One with a close of a step
+        without moves doesn't, so that the status is 3."""
         def lengthen(journal: Path) -> None:
             """Appends a close to the journal."""
             with journal.open("ab") as it:
@@ -183,7 +194,7 @@ class Broken(Cycle):
             self.assertTrue(any(line.startswith("nothing more is granted: the journal's file was changed. Undo the change, and then ")
                                 for line in going.lines), going.lines)
 
-    def test_no_event_is_left(self) -> None:
+    def test_a_run_ends_when_all_events_that_its_lab_allows_are_used(self) -> None:
         lab = self.lab("cycle.toml", 8)
         lab.write_text(re.sub(r"(?m)^events = \d+", "events = 1", lab.read_text(encoding="utf-8")), encoding="utf-8")
         going = Going(self, lab, "--close", "every:0.1")
@@ -198,7 +209,8 @@ class Broken(Cycle):
         self.assertEqual(self.whole(going.folder), 1)
         self.assertEqual((going.folder / "journal").read_text(encoding="ascii"), "1 0 grant gus 4 update\n")
 
-    def test_a_folder_that_takes_nothing_more(self) -> None:
+    def test_finishing_a_run_fails_with_status_4_if_a_file_can_not_be_written(self) -> None:
+        """The file with the marks is a link to `/dev/full`, a device that is always full."""
         going = Going(self, CYCLE)
         going.type("end\nend")
         self.assertEqual(going.ends(), 0)
@@ -208,7 +220,7 @@ class Broken(Cycle):
         self.assertEqual(ending.finish(going.folder, lines.append), 4)
         self.assertRegex(lines[-1], "No space left on device. The journal is .*/journal$")
 
-    def test_nobody_reads_any_more(self) -> None:
+    def test_a_run_whose_printed_lines_nobody_reads_continues_to_its_end(self) -> None:
         going = Going(self, CYCLE, "--close", "by-hand")
         assert going.process.stdout is not None
         going.process.stdout.close()
@@ -218,7 +230,7 @@ class Broken(Cycle):
         self.assertEqual(self.whole(going.folder), 2)
         self.assertIn("added the link between 1 and 3", (going.folder / "run.txt").read_text(encoding="utf-8"))
 
-    def test_busy(self) -> None:
+    def test_a_client_that_is_answered_by_busy_raises_refused(self) -> None:
         with socket.create_server(("127.0.0.1", 0)) as full:
             def turn_away() -> None:
                 """Answers the next connection with `busy`."""
@@ -234,7 +246,9 @@ class Broken(Cycle):
             self.assertEqual(refused.exception.word, "busy")
             away.join()
 
-    def test_bots_come_back_if_their_seat_goes_to_a_newcomer(self) -> None:
+    def test_bots_connect_again_if_their_connection_is_ended_by_busy(self) -> None:
+        """The server ends a connection so if its seat goes to a newcomer. On the second connection the bots get `over`,
+        and end."""
         for bot in (EXAMPLES.parent / "student/bot.py", EXAMPLES / "bot.py"):
             with self.subTest(bot=bot.name), socket.create_server(("127.0.0.1", 0)) as port:
                 ends = [b'{"refuse":"busy"}\n', b'{"refuse":"over"}\n']
@@ -256,19 +270,21 @@ class Broken(Cycle):
                                       text=True, timeout=LIMIT, check=False)
                 self.assertEqual((said.returncode, said.stderr), (0, "bot.py: the run is over\n"))
 
-    def test_programs_of_the_examples_tell_their_words(self) -> None:
+    def test_example_programs_print_their_arguments_when_asked_for_help(self) -> None:
         for name in ("bot.py", "teacher.py"):
             said = subprocess.run([sys.executable, EXAMPLES / name, "--help"], capture_output=True, text=True, timeout=LIMIT, check=False)
             self.assertEqual((said.returncode, said.stdout), (1, ""))
             self.assertIn(f"{name} SLIP", said.stderr)
             self.assertNotIn("Traceback", said.stderr)
 
-    def test_all_places_are_taken(self) -> None:
+    def test_a_client_is_turned_away_while_bots_have_all_seats(self) -> None:
+        """The lab allows three connections: that of the desk and those of two bots."""
         going = Going(self, self.lab("cycle.toml", 3), "--close", "by-hand")
         gus = self.bot(going, "gus")
         going.until("^connected: gus$")
         self.bot(going, "hana")
-        going.until_each("^connected: hana$", "^all seats are taken")  # A connection without a hello is closed for a newcomer.
+        # Only then hana has greeted. Before, her connection could be closed for a newcomer.
+        going.until_each("^connected: hana$", "^all seats are taken")
         with self.assertRaises(Refused if host() else Closed):
             Client(going.port, "ines", KEYS["ines"])
         gus.kill()
@@ -276,7 +292,9 @@ class Broken(Cycle):
         self.assertEqual(going.ended(), 0, going.lines)
         self.whole(going.folder)
 
-    def test_who_is_connected(self) -> None:
+    def test_lines_about_connections_are_returned_once_for_each_that_begins_or_ends(self) -> None:
+        """The server at port 4711 has two seats, and the desk's own end is at port 7. A socket is given by its own
+        port, that of the other end, its state (`0A` if it listens, `01` in a connection), and its number."""
         listens = (4711, 0, "0A", "1")
         served = [(4711, port, "01", "2") for port in (5, 6, 7)]
         found = Connected(4711, 2, 7)
@@ -292,6 +310,8 @@ class Broken(Cycle):
         self.assertEqual(found.who(), "first, second (2 of 2 seats are taken)")
 
     def test_a_newcomer_whose_own_end_is_read_later_is_named(self) -> None:
+        """The system may list the server's end of a connection before the client's. The list is read a few times until
+        it has both. If it never has, the client counts as a program of another user."""
         listens, served = (4711, 0, "0A", "1"), (4711, 5, "01", "2")
         with socket.create_server(("127.0.0.1", 0)) as it:
             own = (5, 4711, "01", re.sub(r"\D", "", os.readlink(f"/proc/self/fd/{it.fileno()}")))
@@ -302,13 +322,16 @@ class Broken(Cycle):
         with unittest.mock.patch.object(connected, "rows", side_effect=[[listens, served]] * connected.READINGS):
             self.assertEqual(Connected(4711, 2, 7).news(), ["connected: a program of another user"])
 
-    def test_bots_that_race_and_guess(self) -> None:
+    def test_while_two_bots_of_each_student_play_and_a_client_guesses_no_move_is_granted_twice(self) -> None:
+        """The client guesses keys, and gets denials only. The run becomes stable, and the marks have no other people
+        than the students."""
         lab = self.lab("cycle.toml", 16)
         going = Going(self, lab, "--close", "when-idle:0.3", "--until", "stable")
         guesses: Counter[str] = Counter()
         guesser = threading.Thread(target=self.guess, args=[going.port, guesses])
         guesser.start()
-        while len(guesses) < 2 and guesser.is_alive():  # With many newcomers, this connection may be the first that is closed.
+        # The bots are started after both kinds of denials, since the guesser's connection may be closed for a newcomer.
+        while len(guesses) < 2 and guesser.is_alive():
             time.sleep(0.01)
         for name in (*KEYS, *KEYS):
             self.bot(going, name)
@@ -317,13 +340,15 @@ class Broken(Cycle):
         self.assertEqual(set(guesses), {"unknown", "not-greeted"})
         self.whole(going.folder)
         lines = (going.folder / "journal").read_text(encoding="ascii").splitlines()
+        # A line is `PLACE CONFIGURATION grant NAME NODE RULE`, and these are the configuration and the node.
         grants = Counter(tuple(line.split(" ")[1:5:3]) for line in lines if " grant " in line)
         self.assertEqual(set(grants.values()), {1})
         marks = json.loads((going.folder / "marks.json").read_text(encoding="utf-8"))["runs"][0]
         self.assertEqual(set(marks["students"]), set(KEYS))
 
     def guess(self, port: int, guesses: Counter[str]) -> None:
-        """Guesses the teacher's key, and sends requests without a hello."""
+        """Guesses the teacher's key two hundred times, each time with a request after the denied hello. Counts the
+        names of all denials in `guesses`. Returns earlier if its connection is closed."""
         with socket.create_connection(("127.0.0.1", port), timeout=LIMIT) as it, it.makefile("rb") as replies:
             for _ in range(200):
                 hello = {"do": "hello", "name": "tess", "key": secrets.token_hex(4)}

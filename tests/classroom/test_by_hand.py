@@ -1,4 +1,6 @@
-"""The page on which a student plays by hand, in a real browser and by its HTTP requests."""
+"""The page on which a student plays by hand, in a real browser and by its HTTP requests. The page has a *card* for each
+of the student's nodes, with a button for each rule and a large button for the move that can be made now. The page's own
+server connects to the class's server, and takes a *seat* there, when the student has entered name and key."""
 from __future__ import annotations
 
 import http.client
@@ -26,6 +28,7 @@ from tests.classroom.help import CYCLE, KEYS, LIMIT, Going, InRoom, Rows, a_port
 from tests.classroom.test_page import hashed
 from tests.classroom.test_shown import PHONE, WINDOWS, can_be_read, resize
 
+# Returns what the card of a node shows. The node's identifier is the argument.
 CARD = """
 const card = [...document.querySelectorAll('#nodes section')].find((it) => it.querySelector('.id').textContent === arguments[0]);
 const texts = (selector) => [...card.querySelectorAll(selector)].map((it) => it.textContent);
@@ -33,10 +36,12 @@ const holding = [...card.querySelectorAll('[data-holds="true"]')].map((it) => it
 return {p: texts('.p')[0], m: texts('.m-of')[0], near: texts('td'), holding, guards: texts('.guard'), acts: texts('.act'), idle: texts('.idle')[0],
         reply: texts('.reply')[0]};
 """
+# Returns the data attributes of each node in the picture.
 DRAWN = """
 return [...document.querySelectorAll('#drawing .node')].map((it) => ({...it.dataset}))
     .sort((a, b) => Number(a.node) - Number(b.node));
 """
+# Returns how many pixels of width the page needs.
 WIDE = """
 return [document.documentElement.scrollWidth, ...[...document.querySelectorAll('body *')].filter((it) => !it.closest('svg'))
     .map((it) => it.getBoundingClientRect().right)].reduce((a, b) => Math.max(a, b));
@@ -47,16 +52,17 @@ NOTHING = "nothing to do now: wait for the next step"
 
 
 class Playing(InRoom):
-    """Runs of the cycle of `examples/`. Gus plays on the page."""
+    """Runs of the cycle of `examples/`, in which gus owns the nodes 1 and 4 and plays on the page."""
 
     def setUp(self) -> None:
+        """Opens the browser, and lets it leave the page at the end of the test."""
         super().setUp()
         self.driver: Any = browser()
         self.addCleanup(self.driver.get, "about:blank")
 
     def begin(self, lab: Path = CYCLE, *more: str) -> None:
-        """Starts a run of a lab with these options, whose steps are closed by hand. Keeps the address of its page to
-        play."""
+        """Starts a run of a lab with these options, whose steps are closed by hand. Keeps the run in `going`, and the
+        address of its page to play in `address`."""
         self.going = Going(self, lab, "--close", "by-hand", "--play", str(a_port()), *more)
         self.address = self.going.until("^page for playing by hand http").removeprefix("page for playing by hand ")
 
@@ -66,29 +72,31 @@ class Playing(InRoom):
         self.driver.get(self.address + more)
 
     def come(self, name: str = "gus", key: str = "") -> None:
-        """Enters a name and a key on the page, by default the right one."""
+        """Types a name and a key on the page, by default the right one, and clicks the button to enter."""
         for field, text in (("name", name), ("key", key or KEYS[name])):
             element = self.driver.find_element("id", field)
             element.clear()
             element.send_keys(text)
         self.driver.find_element("id", "come").click()
 
-    def is_in(self) -> None:
+    def wait_until_in(self) -> None:
         """Waits until the page shows a node."""
         until(self.driver, lambda driver: driver.execute_script("return document.body.dataset.played === 'true'"))
 
-    def is_told(self, text: str) -> None:
-        """Waits until the page shows this text about its connection and lets the student enter again."""
+    def wait_until_out(self, text: str) -> None:
+        """Waits until the page shows this text about its connection, and a button by which the student can enter
+        again."""
         until(self.driver, lambda driver: text in driver.find_element("id", "connection").text)
         until(self.driver, lambda driver: driver.find_element("id", "come").is_displayed() and driver.find_element("id", "come").is_enabled())
 
     def card(self, node: int) -> dict[str, Any]:
-        """Returns what the page shows about a node, by name."""
+        """Returns what the page's card of a node shows: registers, neighbours, rules, buttons and the last reply."""
         found: dict[str, Any] = self.driver.execute_script(CARD, str(node))
         return found
 
     def click_rule(self, node: int, rule: str) -> bool:
-        """Presses the button of a rule at a node. Returns whether the page shows the node."""
+        """Presses the button of a rule on the card of a node, after opening its list of rules. Returns whether the page
+        has this card."""
         cards = self.driver.find_elements("css selector", "#nodes section")
         card = next((card for card in cards if card.find_element("class name", "id").text == str(node)), None)
         if card and card.find_element("tag name", "details").get_attribute("open") is None:
@@ -98,7 +106,7 @@ class Playing(InRoom):
         return card is not None
 
     def click_act(self, node: int) -> bool:
-        """Presses the large button of a node. Returns whether there is one."""
+        """Presses the large button of a node. Returns whether there is one, that is, whether a move can be made."""
         buttons = self.driver.find_elements("css selector", ".btn.act")
         button = next((button for button in buttons if button.text.startswith(f"Node {node}: ")), None)
         if button:
@@ -125,26 +133,27 @@ class Playing(InRoom):
         """Closes the step at the desk, and waits until the page shows the configuration with this number."""
         self.going.type("close")
         self.going.until(f"^configuration {number}: ")
-        self.shows(number)
+        self.wait_until_shown(number)
 
-    def shows(self, number: int) -> None:
+    def wait_until_shown(self, number: int) -> None:
         """Waits until the page shows the configuration with this number."""
         until(self.driver, lambda driver: driver.find_element("id", "number").text == str(number))
 
-    def seats(self, wanted: str) -> None:
-        """Waits until the command `who` at the desk prints this text."""
+    def wait_for_seats(self, wanted: str) -> None:
+        """Waits until the command `who` at the desk prints this text about the people who have seats."""
         end = time.monotonic() + LIMIT
         while wanted not in (told := self.who()):
             self.assertLess(time.monotonic(), end, told)
             time.sleep(0.2)
 
     def who(self) -> str:
-        """Returns the output of `who` at the desk."""
+        """Types `who` at the desk, and returns the line about the people who are connected."""
         self.going.type("who")
         return self.going.until(r"^connected: .* seats are taken\)")
 
     def compare(self, client: Client, nodes: list[int]) -> None:
-        """Checks that the page shows the server's replies about these nodes, in words and in the picture."""
+        """Checks that the cards and the picture show what the server replies to the looks of `client` at these nodes,
+        which are all nodes of the same student."""
         looks = {node: client.look(node) for node in nodes}
         drawn = {int(each["node"]): each for each in self.driver.execute_script(DRAWN)}
         self.assertEqual(drawn.keys(), {*nodes, *(near.node for look in looks.values() for near in look.near)})
@@ -165,11 +174,12 @@ class Playing(InRoom):
                 self.assertEqual((drawn[each.node]["p"], drawn[each.node]["m"]),
                                  ("" if each.p is None else str(each.p), str(each.m).lower()))
 
-    def test_moves_denials_and_steps(self) -> None:
+    def test_the_page_shows_replies_to_moves_and_the_state_after_each_change(self) -> None:
+        """Gus also has a program that is connected beside the page and gets the same replies."""
         self.begin()
         self.open()
         self.come()
-        self.is_in()
+        self.wait_until_in()
         gus = self.enter_beside("gus")
         self.compare(gus, [1, 4])
         self.assertEqual(self.driver.execute_script("return [...document.querySelectorAll('.beyond text')].map((it) => it.textContent)"), ["6"])
@@ -182,9 +192,10 @@ class Playing(InRoom):
         self.close(1)
         self.assertEqual((self.card(4)["m"], self.card(4)["idle"].partition(" is chosen")[1]), ("false", ""))
         self.compare(gus, [1, 4])
-        # A neighbour points at node 1, whose p becomes null: a marriage is asked with whom the page names.
+        # The nodes 2 and 7 are the neighbours of node 1, and 7 points at it. Node 1 asks to marry the neighbour that is
+        # chosen in a list on the page.
         self.going.type("fault 1 null false")
-        self.shows(2)
+        self.wait_until_shown(2)
         self.compare(gus, [1, 4])
         for partner, told in (("2", "denied, since the guard of marriage "), ("7", "granted, as event 4; ")):
             choice: Any = Select(self.driver.find_element("css selector", "#nodes section:first-child select"))
@@ -193,12 +204,12 @@ class Playing(InRoom):
         self.close(3)
         self.compare(gus, [1, 4])
         self.going.type("link 1 4")
-        self.shows(4)
+        self.wait_until_shown(4)
         self.compare(gus, [1, 4])
         gus.bye()
-        self.seats("gus, by hand (1 of 7 seats are taken)")
+        self.wait_for_seats("gus, by hand (1 of 7 seats are taken)")
         self.assertEqual(self.going.ended(), 0, self.going.lines)
-        self.is_told("the class is over")
+        self.wait_until_out("the class is over")
         marks = json.loads((self.going.folder / "marks.json").read_text(encoding="utf-8"))
         granted = {name: row["granted"] for name, row in marks["runs"][0]["students"].items()}
         self.assertEqual({name: sum(rules.values()) for name, rules in granted.items()}, {"gus": 2, "hana": 0, "ines": 0, "jonas": 0})
@@ -218,11 +229,11 @@ class Playing(InRoom):
                 for key in (*KEYS.values(), read(CYCLE).teacher[1]):
                     self.assertNotIn(key.encode(), file.read_bytes(), file)
 
-    def test_a_quiz_marks_no_rule(self) -> None:
+    def test_in_a_quiz_the_page_does_not_show_which_rules_can_be_applied(self) -> None:
         self.begin()
         self.open()
         self.come()
-        self.is_in()
+        self.wait_until_in()
         self.assertEqual((self.card(4)["holding"], self.card(4)["acts"]), (["update"], ["Node 4: update m"]))
         self.assertEqual(self.driver.find_element("id", "told").text, "1 of your 2 nodes can move")
         self.driver.find_element("id", "quiz").click()
@@ -234,45 +245,48 @@ class Playing(InRoom):
         self.driver.find_element("id", "quiz").click()
         until(self.driver, lambda _: self.card(4)["holding"] == ["update"])
 
-    def test_a_key_that_is_wrong_and_one_behind_the_address(self) -> None:
+    def test_only_a_student_with_the_right_key_takes_a_seat_and_only_while_the_page_is_open(self) -> None:
+        """A name and a key after the address, as on a slip, enter at once, and vanish from the address."""
         self.begin()
         self.open()
-        self.seats("nobody (0 of 7 seats are taken)")
+        self.wait_for_seats("nobody (0 of 7 seats are taken)")
         self.come("gus", "heron-32")
-        self.is_told("the hello was denied, since name and key do not match (clause 2, unknown)")
-        self.seats("nobody (0 of 7 seats are taken)")
+        self.wait_until_out("the hello was denied, since name and key do not match (clause 2, unknown)")
+        self.wait_for_seats("nobody (0 of 7 seats are taken)")
         self.come("tess", read(CYCLE).teacher[1])
-        self.is_told("tess has no node in this network")
+        self.wait_until_out("tess has no node in this network")
         self.come("gus")
-        self.is_in()
+        self.wait_until_in()
         self.open("#name=hana&key=swift-86")
-        self.is_in()
+        self.wait_until_in()
         self.assertEqual(self.driver.current_url, self.address)
-        self.seats("hana, by hand (1 of 7 seats are taken)")
+        self.wait_for_seats("hana, by hand (1 of 7 seats are taken)")
         self.assertEqual(self.driver.find_element("id", "who").text, "· hana")
         self.driver.find_element("id", "leave").click()
-        self.is_told("you clicked Leave")
-        self.seats("nobody (0 of 7 seats are taken)")
+        self.wait_until_out("you clicked Leave")
+        self.wait_for_seats("nobody (0 of 7 seats are taken)")
         self.come("hana")
-        self.is_in()
+        self.wait_until_in()
         self.driver.get("about:blank")
-        self.seats("nobody (0 of 7 seats are taken)")
+        self.wait_for_seats("nobody (0 of 7 seats are taken)")
         self.keeps_no_key()
 
-    def test_without_a_seat(self) -> None:
+    def test_a_student_is_turned_away_while_there_is_no_seat_and_can_enter_later(self) -> None:
+        """The lab allows two connections: that of the desk and one more."""
         small = self.file("small.toml", CYCLE.read_text(encoding="utf-8").replace("sessions = 8", "sessions = 2"))
         self.begin(small)
         other = self.enter_beside("hana")
         self.open()
         self.come()
-        self.is_told("busy: all seats are taken; try again later")
+        self.wait_until_out("busy: all seats are taken; try again later")
         other.bye()
-        self.seats("nobody (0 of 1 seats are taken)")
+        self.wait_for_seats("nobody (0 of 1 seats are taken)")
         self.come()
-        self.is_in()
+        self.wait_until_in()
         self.assertEqual(self.press(4, "update"), "step 0, update: granted, as event 1; the move is applied when the step closes")
 
-    def test_in_four_windows_and_both_themes(self) -> None:
+    def test_the_page_fits_windows_of_four_sizes_and_is_readable_in_both_themes(self) -> None:
+        """No part is wider than the window, and no button is too low for a finger (on a phone) or a mouse."""
         self.begin()
         self.addCleanup(resize, self.driver, None)
         self.addCleanup(show_as, self.driver)
@@ -281,7 +295,7 @@ class Playing(InRoom):
             self.open()
             self.assertLessEqual(self.driver.execute_script(WIDE), size[0])
             self.come()
-            self.is_in()
+            self.wait_until_in()
             self.press(4, "seduction")
             self.assertLessEqual(self.driver.execute_script(WIDE), size[0])
             high = self.driver.execute_script("return [...document.querySelectorAll('button')].filter((it) => it.offsetWidth)"
@@ -294,7 +308,7 @@ class Playing(InRoom):
 
 
 class Wire(InRoom):
-    """HTTP requests without a browser."""
+    """HTTP requests to the page's server without a browser."""
 
     def ask(self, hands: str, verb: str, path: str, body: object = None, **head: str) -> tuple[http.client.HTTPResponse, bytes]:
         """Sends a request to the page's server. `hands` is the address of the page to play, and `path` is below the
@@ -308,12 +322,12 @@ class Wire(InRoom):
         return answer, answer.read()
 
     def enter(self, address: str, name: str, key: str) -> Rows:
-        """Sends a hello to the page's server at an address. Returns the lines that the server sends from then on."""
+        """Sends a hello to the page's server at an address. Returns the answer, which gets a line after each change."""
         rows = Rows(address, name, key)
         self.addCleanup(rows.connection.close)
         return rows
 
-    def test_nothing_hidden_and_no_key_came_over_the_wire(self) -> None:
+    def test_the_page_receives_no_hidden_register_no_key_and_no_name_of_others(self) -> None:
         going = Going(self, CYCLE, "--close", "by-hand", "--play", str(a_port()))
         address = going.until("^page for playing by hand http").removeprefix("page for playing by hand ")
         _, page = self.ask(address, "GET", "/")
@@ -345,8 +359,10 @@ class Wire(InRoom):
             self.assertEqual(re.findall(rf"\b(?:{'|'.join(others)})\b".encode(), where), [])
         self.assertNotIn(token.encode(), page + replies)
 
-    def test_a_run_that_goes_on_serves_it_again(self) -> None:
-        with socket.create_server(("127.0.0.1", a_port())) as taken:  # The page moves to the next port, and stays there.
+    def test_a_resumed_run_serves_the_page_at_the_same_address(self) -> None:
+        """The port that the option names is taken at first, so the page gets the next free one, and has it again when
+        the run is resumed."""
+        with socket.create_server(("127.0.0.1", a_port())) as taken:
             going = Going(self, CYCLE, "--close", "by-hand", "--play", str(taken.getsockname()[1]))
             page = going.until("^page for playing by hand http").removeprefix("page for playing by hand ")
         rows = self.enter(page, "gus", KEYS["gus"])
@@ -359,7 +375,8 @@ class Wire(InRoom):
         rows = self.enter(page, "gus", KEYS["gus"])
         self.assertEqual((rows.next()["who"], rows.next()["at"]), ("gus", 0))
 
-    def test_heads_hosts_and_what_is_no_request(self) -> None:
+    def test_headers_protect_the_page_and_requests_of_a_wrong_host_or_form_are_refused(self) -> None:
+        """No such request takes a seat."""
         with served(self) as hands:
             parts = urlsplit(hands.address)
             answer, page = self.ask(hands.address, "GET", "/")
@@ -387,7 +404,7 @@ class Wire(InRoom):
                 self.assertEqual(self.ask(hands.address, verb, path, body)[0].status, status, (path, body))
             self.assertEqual(hands.seats, {})
 
-    def test_what_is_no_move_is_told_and_not_sent(self) -> None:
+    def test_a_move_of_a_wrong_form_is_answered_by_the_reason_and_not_sent(self) -> None:
         with served(self) as hands, Host(["late"]) as host:
             hands.show(host.port, print)
             rows = self.enter(hands.address, "gus", "a")
@@ -402,7 +419,8 @@ class Wire(InRoom):
                 self.assertEqual((answer.status, json.loads(told)["told"].startswith(why)), (400, True), told)
             self.assertEqual({json.loads(line)["do"] for line in host.lines}, {"hello", "look"})
 
-    def test_why_a_connection_ended(self) -> None:
+    def test_the_page_is_told_why_its_connection_to_the_server_ended(self) -> None:
+        """There is a reason for each last line of the server, for none, and for a server that isn't there."""
         words = {"late": "no hello was granted within ten seconds", "over": "the class is over",
                  "busy": "busy: all seats are taken", "long": "a line had more than 4096 bytes", "": "the server has closed the connection"}
         with served(self) as hands, Host(list(words)) as host:
@@ -416,18 +434,18 @@ class Wire(InRoom):
                 self.assertTrue(last["ended"].startswith(told), (word, last))
                 host.go.clear()
             self.assertEqual(hands.seats, {})
-        _, text = self.nobody(hands)
+        _, text = self.hello_without_server(hands)
         self.assertIn("no server at port", text)
 
-    def nobody(self, hands: PlayServer) -> tuple[int, str]:
-        """Sends a hello to the page's server while no server of a class listens. Returns the status of the answer and
-        its text."""
+    def hello_without_server(self, hands: PlayServer) -> tuple[int, str]:
+        """Sends a hello to another server of the page, for the same port as that of `hands`, where no server of a class
+        listens any more. Returns the status of the answer and its text."""
         with served(self) as other:
             other.show(hands.students, print)
             answer, told = self.ask(other.address, "POST", "/enter", {"name": "gus", "key": "a"})
             return answer.status, json.loads(told)["told"]
 
-    def test_a_run_that_leaves_tells_so(self) -> None:
+    def test_an_open_page_is_told_when_its_server_stops(self) -> None:
         with Host([]) as host, served(self) as hands:
             hands.show(host.port, print)
             rows = self.enter(hands.address, "gus", "a")
@@ -437,10 +455,12 @@ class Wire(InRoom):
 
 
 class Host:
-    """A stand-in for a class's server. This stand-in ends a connection when the event `go` is set or a bye comes."""
+    """A stand-in for a class's server. It ends a connection at the next line after the event `go` is set, or at a
+    bye. `lines` has all lines that came."""
 
     def __init__(self, ends: list[str]) -> None:
-        """`ends` has the word of the last line on each connection in turn, or an empty text for none."""
+        """Listens at a free port. `ends` has the word of the last line on each connection in turn, or an empty text for
+        a connection that ends without such a line."""
         self.ends, self.go, self.lines = ends, threading.Event(), list[bytes]()
         self.listener = socket.create_server(("127.0.0.1", 0))
         self.port: int = self.listener.getsockname()[1]
@@ -455,7 +475,8 @@ class Host:
         self.listener.close()
 
     def serve(self) -> None:
-        """Serves one connection after another until the listener is closed."""
+        """Serves one connection after another, one for each word in `ends` and one more, or until the listener is
+        closed."""
         for word in [*self.ends, "over"]:
             try:
                 its, _ = self.listener.accept()
@@ -480,9 +501,9 @@ class Host:
 
 @contextmanager
 def served(test: unittest.TestCase) -> Iterator[PlayServer]:
-    """Yields the server of the page for the cycle, without a server of the class."""
+    """Yields the server of the page for the cycle, without a server of the class. Stops it at the end."""
     hands = open_play_page(a_port(), "cycle", read(CYCLE))
-    hands.show(1, print)
+    hands.show(1, print)  # At port 1 no server listens.
     try:
         yield hands
     finally:

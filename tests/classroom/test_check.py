@@ -1,4 +1,5 @@
-"""`./class check`: labs that the program refuses, and every warning."""
+"""`./class check`: labs that the program refuses, and every warning. A person's *key* is the secret in the lab, and the
+keys of a *table* in the lab's file are those of TOML."""
 from __future__ import annotations
 
 import math
@@ -17,6 +18,7 @@ def table(head: str, *lines: str) -> str:
     return "\n".join(("", head, *lines, ""))
 
 
+# A lab without an error or a reason for a warning.
 GOOD = "".join((
     "events = 1000\nsessions = 4\nlinks = [[11, 12], [12, 17]]\n",
     table("[teacher]", 'name = "tess"', 'key = "0f3b5a7c9d1e2f48a6b8c0d2e4f61357"'),
@@ -26,6 +28,7 @@ GOOD = "".join((
     table("[[node]]", "id = 12", 'owner = "ana"'),
     table("[[node]]", "id = 17", 'owner = "jonas"'),
 ))
+# An old and a new text: node 12 gets a second owner.
 PAIR = ('id = 12\nowner = "ana"', 'id = 12\nowners = ["ana", "jonas"]')
 
 
@@ -33,8 +36,8 @@ class Check(InRoom):
     """A correct lab, with one change in each test."""
 
     def says(self, status: int, *wanted: str, change: tuple[str, str] = ("", ""), text: str = GOOD) -> str:
-        """Checks the status of `./class check`, and that it prints these lines. The lab is `text` with `change`, an old
-        text and a new one."""
+        """Checks the exit status of `./class check`, and that its output contains the texts `wanted`. The lab is `text`
+        with `change`, an old text and a new one. Returns the output."""
         self.assertTrue(change[0] in text)
         done = words("check", self.file("lab.toml", text.replace(*change, 1) if change[0] else text))
         self.assertEqual(done.returncode, status, done.stdout + done.stderr)
@@ -43,13 +46,13 @@ class Check(InRoom):
         return done.stdout
 
     def warns(self, *wanted: str, change: tuple[str, str]) -> None:
-        """Checks that `./class check` prints these warnings and no others. The lab is correct except for `change`."""
+        """Checks that `./class check` accepts the lab GOOD with `change`, and prints these warnings and no others."""
         self.assertEqual(self.says(5, *wanted, change=change).count("warning: "), len(wanted))
 
-    def test_nothing_to_say(self) -> None:
+    def test_a_good_lab_gets_no_warning(self) -> None:
         self.assertEqual(self.says(0), "ok: 3 nodes, 2 links, 2 students\n")
 
-    def test_refused(self) -> None:
+    def test_for_a_refused_lab_the_error_its_line_and_a_suggestion_are_printed(self) -> None:
         self.says(2, "lab: node 2: no such owner", 'line 27 (the node with identifier 17): owner = "jo"',
                   change=('id = 17\nowner = "jonas"', 'id = 17\nowner = "jo"'))
         self.says(2, "lab: node.owner is missing", "line 27: onwer isn't known here. Did you mean owner?",
@@ -73,10 +76,10 @@ class Check(InRoom):
         for error in ("lab: no nodes", "lab: link 1: a loop", "lab: events is missing"):
             self.assertEqual(hint_of(error), "", error)
 
-    def test_can_not_be_read(self) -> None:
+    def test_a_missing_file_has_status_4(self) -> None:
         self.assertEqual(words("check", self.room / "none.toml").returncode, 4)
 
-    def test_keys_of_the_format(self) -> None:
+    def test_keys_of_a_table_that_the_format_does_not_have_are_named_with_a_suggestion(self) -> None:
         self.warns("line 3: link isn't known here, so it is ignored. Did you mean links?", "node 11 has no neighbour",
                    "node 12 has no neighbour", "node 17 has no neighbour", "the network isn't connected: it has 3 parts",
                    "no node is privileged at the beginning", change=("links =", "link ="))
@@ -84,14 +87,16 @@ class Check(InRoom):
                    change=('61357"\n\n[[student]]\nname = "ana"', '61357"\nlinks = []\n\n[[student]]\nname = "ana"'))
         self.warns("line 20: colour isn't known here, so it is ignored", change=('owner = "ana"', 'owner = "ana"\ncolour = "red"'))
 
-    def test_keys(self) -> None:
+    def test_a_person_s_key_is_named_if_it_is_public_or_easy_to_guess(self) -> None:
         self.warns("the key of ana is that of an example lab", change=("1f3b5a7c9d1e2f48a6b8c0d2e4f61357", "a-key"))
         self.warns("the key of ana is easy to guess: it has at most 43 bits, and guessing it takes at most",
                    change=("1f3b5a7c9d1e2f48a6b8c0d2e4f61357", "abcdefghij"))
         self.assertLess(bits("a" * 60), 64)
         self.assertGreater(bits("0f3b5a7c9d1e2f48a6b8c0d2e4f61357"), 100)
 
-    def test_keys_of_words(self) -> None:
+    def test_a_key_of_words_is_easy_to_guess_if_it_has_less_than_new_draws(self) -> None:
+        """`./class new` draws three words of a list and two digits. A key with at least three words of the list counts
+        as drawn, and any other key needs more bits."""
         drawn = "amber-lilac-tonic-42"
         self.assertAlmostEqual(bits(drawn), 36 + math.log2(100))
         cases = ((drawn, ""), ("ant-ant-ant-11", ""), ("amber-lilac-tonic-gravel", ""),
@@ -104,7 +109,9 @@ class Check(InRoom):
             warned = [line.partition(". Write")[0] for line in key_warnings(lab)]
             self.assertEqual(warned, [f"the key of ana is easy to guess: it has at most {warning}"] if warning else [], key)
 
-    def test_letters_of_no_kind(self) -> None:
+    def test_a_key_with_a_letter_of_no_kind_counts_as_drawn_from_128_more_letters(self) -> None:
+        """The kinds are lower case, upper case, digits and punctuation, all in ASCII. But no key counts as drawn from
+        more letters than twice the number of the different ones in it."""
         for key, least in (("äöüßéèêàâçñøåæœłżźčš", 100), ("шифр из восьми слов", 80), ("äÄ1!" * 8, 95),
                            ("horse battery staple", 80)):
             self.assertGreater(bits(key), least, key)
@@ -119,33 +126,33 @@ class Check(InRoom):
             self.assertEqual([line.partition(". Write")[0] for line in key_warnings(lab)], told)
         self.assertGreater(bits("abcdefghijklmnopqrstuvwxyzä"), bits("abcdefghijklmnopqrstuvwxyza"))
 
-    def test_network(self) -> None:
+    def test_students_without_a_node_and_nodes_without_a_neighbour_are_named(self) -> None:
         self.warns("the student ana has no node", change=('id = 11\nowner = "ana"\n\n[[node]]\nid = 12\nowner = "ana"',
                                                            'id = 11\nowner = "jonas"\n\n[[node]]\nid = 12\nowner = "jonas"'))
         self.warns("node 17 has no neighbour", "the network isn't connected: it has 2 parts", change=(", [12, 17]", ""))
 
-    def test_pairs(self) -> None:
+    def test_nodes_with_two_owners_are_named_but_no_more_than_eight(self) -> None:
         self.warns("warning: two students own node 12: the one with the quicker program gets most of the moves there",
                    change=PAIR)
         students = self.file("students", "Ana\nBen\nCyd\n")
         self.assertEqual(words("new", self.room / "pairs.toml", "--students", students, "--pairs", "--nodes", "10").returncode, 0)
         self.assertIn("two students own nodes 1, 2, 3, 4, 5, 6, 7, 8, ...: ", words("check", self.room / "pairs.toml").stdout)
 
-    def test_limits(self) -> None:
+    def test_too_few_sessions_or_events_are_named_with_the_number_that_is_enough(self) -> None:
         self.warns("`sessions` is 2, so the 2 students and the teacher can't all be connected at once. Raise `sessions` to 3",
                    change=("sessions = 4", "sessions = 2"))
         self.warns("`events` is 25, which may be too few: the class may need 13 moves and as many closed steps. Raise `events` to 26",
                    change=("events = 1000", "events = 25"))
         self.says(0, change=("events = 1000", "events = 26"))
 
-    def test_more_people_than_any_lab_has_sessions(self) -> None:
+    def test_for_more_people_than_any_lab_has_sessions_several_labs_are_suggested(self) -> None:
         most = MOST["sessions"]
         for students, rest in ((most - 1, f"Raise `sessions` to {most}\n"),
                                (most, f"No lab can have more than {most}: make several labs by ./class new --groups\n")):
             more = "".join(table("[[student]]", f'name = "s{number}"', f'key = "{number:032x}"') for number in range(students - 2))
             self.says(5, f"warning: `sessions` is 4, so the {students} students and the teacher can't all be connected at once. {rest}", text=GOOD + more)
 
-    def test_the_largest_lab_has_events_enough(self) -> None:
+    def test_a_complete_network_of_256_nodes_needs_67072_events_which_a_lab_may_have(self) -> None:
         self.assertLessEqual(67072, MOST["events"])
         for events, is_few in ((67071, True), (67072, False)):
             lab = self.room / f"{events}.toml"
@@ -155,11 +162,12 @@ class Check(InRoom):
             found = "`events` is 67071, which may be too few: the class may need 33536 moves and as many closed steps" in words("check", lab).stdout
             self.assertEqual(found, is_few)
 
-    def test_stable_start(self) -> None:
+    def test_a_lab_that_is_stable_at_the_beginning_gets_a_warning(self) -> None:
         married = GOOD.replace("id = 11", "id = 11\np = 12\nm = true").replace("id = 12", "id = 12\np = 11\nm = true", 1)
         self.says(5, "no node is privileged at the beginning", text=married)
 
-    def test_examples(self) -> None:
+    def test_example_labs_get_warnings_but_none_about_unknown_keys_or_seats(self) -> None:
+        """They have a status for warnings, since their keys are public."""
         for lab in sorted(EXAMPLES.glob("*.toml")):
             done = words("check", lab)
             self.assertEqual(done.returncode, 5)
@@ -175,12 +183,12 @@ class Tables(unittest.TestCase):
         return list(unknown_keys("\n".join(lines) + "\n"))
 
     def check_hints(self, *lines: str) -> None:
-        """Checks that there are exactly two hints: about the key `note` in the first line, and about the one in
-        the last."""
+        """Checks that these lines and a line with the unknown key `sesions` after them have exactly two hints: about
+        the key `note` in the first line, and about `sesions`."""
         below = len(lines) + 1
         self.assertEqual(self.hints(*lines, "sesions = 4"), [(1, "note", "node"), (below, "sesions", "sessions")])
 
-    def test_an_unknown_table_in_braces(self) -> None:
+    def test_an_unknown_table_in_braces_gets_a_hint_and_keys_in_it_get_none(self) -> None:
         for value in ("{ a = 1 }", "{a=1}", "{}", "{ a = 1 } # more", "{ a = { b = [1, 2] } }",
                       "[{ a = 1 }, { b = 2 }]", "[ { a = 1 } ]", "[]", "[1, 2]", '"{"', '{ a = "}" }', "['[']",
                       '{ a = "\\"{" }'):
@@ -189,7 +197,7 @@ class Tables(unittest.TestCase):
         self.check_hints("note = [{ a = 1 },", "  { sesions = 2 }]")
         self.check_hints("note = [{ a = [", "  1 ] }, {", "  sesions = 2 }]")
 
-    def test_an_unknown_table_may_be_meant_for_another(self) -> None:
+    def test_a_hint_about_an_unknown_table_or_key_names_the_most_similar_one(self) -> None:
         self.assertEqual(self.hints("nodes = [{ id = 1 }]", "links = []"), [(1, "nodes", "node")])
         self.assertEqual(self.hints("[[nodes]]", "id = 1"), [(1, "[nodes]", "node")])
         self.assertEqual(self.hints("[[student]]", "note = { name = 1 }", "nam = 'a'"),
@@ -197,7 +205,7 @@ class Tables(unittest.TestCase):
         self.assertEqual(self.hints("[[student]]", "node = [{ idd = 1 }]", "kei = 'a'"),
                          [(2, "node", ABOVE), (3, "kei", "key")])
 
-    def test_known_tables_in_braces(self) -> None:
+    def test_known_tables_in_braces_are_found_with_the_lines_of_their_keys(self) -> None:
         ana, ben = "{ name = 'ana', key = '{' }", '{ name = "ben", key = "]" }'
         shapes: tuple[tuple[tuple[str, ...], int], ...] = (
             ((f"student = [{ana},", f"  {ben}]"), 1), ((f"student = [ {ana},", ben, "]"), 1),
@@ -210,19 +218,19 @@ class Tables(unittest.TestCase):
             self.assertEqual(found[1:], [("student", at, {"name": at, "key": at}) for at in (first, first + 1)], lines)
             self.assertEqual(self.hints(*lines, "sesions = 4"), [(len(lines) + 1, "sesions", "sessions")], lines)
 
-    def test_keys_of_known_tables_in_braces(self) -> None:
+    def test_unknown_keys_in_known_tables_in_braces_get_hints(self) -> None:
         self.assertEqual(self.hints("teacher = { nam = 'tess', key = 'k' }", "sesions = 4"),
                          [(2, "sesions", "sessions"), (1, "nam", "name")])
         self.assertEqual(self.hints("teacher = { name = 'tess', more = { keys = 1 } }"), [(1, "more", None)])
         self.assertEqual(self.hints("node = [{ id = 1, onwer = 'ana' }, { idd = 2 }]"),
                          [(1, "onwer", "owner"), (1, "idd", "id")])
 
-    def test_what_stands_below_a_known_table(self) -> None:
-        """A line with a table in braces whose key is quoted, dotted or missing gets no hint, but the line after it does."""
+    def test_a_table_in_braces_with_a_strange_key_gets_no_hint_but_the_next_line_does(self) -> None:
+        """The key of such a table is quoted, dotted or missing."""
         for line in ('"note" = { idd = 1 }', "note.more = { idd = 1 }", "note.more = [{ idd = 1 },", "{ idd = 1 }"):
             self.assertEqual(self.hints("node = [{ id = 1 }]", line, "sesions = 4"), [(3, "sesions", "sessions")], line)
 
-    def test_which_table_has_an_index(self) -> None:
+    def test_a_table_is_found_by_its_name_and_its_index_among_those_of_this_name(self) -> None:
         text = """student = [{ name = 'ana', note = { a = 1 } },
             { name = 'ben' }]
             node = [
@@ -238,7 +246,7 @@ class Tables(unittest.TestCase):
             found = [table_at(text, name, index) for index in range(len(lines) + 1)]
             self.assertEqual([it and it.line for it in found], [*lines, None])
 
-    def test_a_bracket_that_is_not_closed(self) -> None:
+    def test_a_bracket_that_is_not_closed_hides_no_key_after_it(self) -> None:
         self.assertEqual(self.hints("links = [[1, 2], [2, 3]", "sesions = 4"), [(2, "sesions", "sessions")])
         self.assertEqual(self.hints("student = [{ name = 'ana' },", "sesions = 4"), [(2, "sesions", "sessions")])
         self.assertEqual(self.hints("teacher = {", "  nam = 'tess',", "[[node]]", "i = 1"),

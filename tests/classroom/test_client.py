@@ -1,4 +1,5 @@
-"""`client.py` as a module: errors before a line is sent, the state after bye, and the schemas of lines."""
+"""`client.py` as a module, as a program and as a package: lines that it doesn't send, its errors, and the schemas of
+requests and replies. The client of a student's program sends *lines* to the server, each a request in JSON."""
 from __future__ import annotations
 
 import base64
@@ -117,17 +118,18 @@ HURT = (
      "the line isn't JSON: JSON has no number NaN"),
 )
 
-HINT = "; --help prints what to type"  # after wrong words
-# Wrong lines that a schema can't exclude.
+HINT = "; --help prints what to type"  # the end of an error line about the command line
+# The reasons for which the server refuses a line although it fits the schema.
 BEYOND = ("the line isn't UTF-8", "the line begins with a byte order mark", "a text has only half", "values are nested",
           "a number is too large", "out of range")
 
 
 class Server:
-    """A listener that answers each line by the next one of these replies."""
+    """A stand-in for a class's server. It serves a single connection, and `lines` has the lines that came."""
 
     def __init__(self, test: unittest.TestCase, *replies: bytes) -> None:
-        """Listens at a free port, and answers the lines of one connection by these replies in turn."""
+        """Listens at a free port, and answers the lines of one connection by these replies in turn. Then it closes the
+        connection."""
         self.lines: list[bytes] = []
         self.listener = socket.create_server(("127.0.0.1", 0))
         self.listener.settimeout(LIMIT)
@@ -136,7 +138,7 @@ class Server:
         threading.Thread(target=self.answer, args=(replies,), daemon=True).start()
 
     def answer(self, replies: tuple[bytes, ...]) -> None:
-        """Answers one connection."""
+        """Waits for a connection, and answers its first lines by these replies."""
         its, _ = self.listener.accept()
         with its, its.makefile("rb") as lines:
             for reply in replies:
@@ -145,7 +147,8 @@ class Server:
 
 
 def scripts() -> Iterator[tuple[bytes, dict[str, object]]]:
-    """Yields each line of the stored scripts with the values of its reply."""
+    """Yields each request in the scripts of `examples/` and `tests/scripts/`, with the values of its reply. In these
+    files, the number of a connection is before each request and reply."""
     for folder in ("tests/scripts", "examples"):
         for script in sorted((TOP / folder).glob("*.script")):
             for line, reply in zip(script.read_bytes().split(b"\n"), script.with_suffix(".out").read_bytes().splitlines()):
@@ -155,7 +158,7 @@ def scripts() -> Iterator[tuple[bytes, dict[str, object]]]:
 class Hurt(unittest.TestCase):
     """Lines that aren't requests."""
 
-    def test_each_line_is_told_how_to_mend_it(self) -> None:
+    def test_for_each_wrong_line_of_beginners_the_client_says_how_to_mend_it(self) -> None:
         self.assertEqual(len(HURT), 47)
         for line, told in HURT:
             self.assertEqual(wrong(line), told, line)
@@ -165,6 +168,7 @@ class Before(unittest.TestCase):
     """Errors that the client finds before it sends."""
 
     def test_a_line_that_is_no_request_isnt_sent(self) -> None:
+        """Nor is a move for a look that shows no rule, or a marriage if no neighbour points at the node."""
         server = Server(self, b'{"ok":"hello","who":"gus"}', b'{"ok":"bye"}')
         me = Client(server.port, "gus", "k")
         rows: tuple[tuple[dict[str, object], str], ...] = (
@@ -191,18 +195,20 @@ class Before(unittest.TestCase):
                 with self.assertRaisesRegex(Closed, "this connection has ended: make another Client"):
                     me.look(4)
 
-    def test_who_greets_asks_again_when_the_server_is_out_of_memory(self) -> None:
-        """The first hello and one after a lost connection are asked again. Any other refusal is raised."""
+    def test_a_hello_that_is_refused_as_memory_or_busy_is_sent_again(self) -> None:
+        """This holds for the first hello of a client and for one after a lost connection. Any other refusal is
+        raised."""
         slip = Slip(1, "gus", "heron", (4,))
         greetings: tuple[Callable[[], object], ...] = (lambda: enter(slip), lambda: again(slip, Closed("lost")))
         for greets in greetings:
+            # The stand-in for connecting and greeting fails twice. Without `sleep`, the client doesn't wait in between.
             came = unittest.mock.Mock(side_effect=[Refused("memory"), Refused("busy"), "greeted"])
             with unittest.mock.patch.object(Client, "of", came), unittest.mock.patch("time.sleep"):
                 self.assertEqual(greets(), "greeted")
             with unittest.mock.patch.object(Client, "of", side_effect=Refused("journal")), unittest.mock.patch("time.sleep"):
                 self.assertRaisesRegex(Refused, "journal", greets)
 
-    def test_a_right_request_is_its_line(self) -> None:
+    def test_a_right_request_is_written_as_a_line_of_json(self) -> None:
         self.assertEqual(line_of({"do": "look", "node": 4}), b'{"do": "look", "node": 4}')
 
 
@@ -214,14 +220,15 @@ class CommandLine(InRoom):
         done = subprocess.run([sys.executable, TOP / "classroom/client.py", *given], capture_output=True, text=True, check=False, timeout=LIMIT)
         return done.returncode, done.stdout, done.stderr
 
-    def test_help_is_printed(self) -> None:
+    def test_help_is_printed_for_help_and_without_arguments(self) -> None:
+        """Without arguments, it is an error, so the text is printed on the standard error."""
         status, told, error = self.called("--help")
         self.assertEqual((status, error), (0, ""))
         for word in ("SLIP", "PORT NAME KEYFILE", "--log FILE", "--tunnel SLIP", "CENDUWA_SLIP", "Exit status: 0 "):
             self.assertIn(word, told)
         self.assertEqual((self.called("-h"), self.called()), ((0, told, ""), (1, "", told)))
 
-    def test_wrong_words_are_a_line_that_says_what_is_wrong(self) -> None:
+    def test_for_wrong_arguments_one_line_says_what_is_wrong(self) -> None:
         slip = str(self.file("gus.slip", "port 4711\nname gus\nkey heron-31\n"))
         for given, why in (
             (["--lgo"], "--lgo: there is no such option (did you mean --log?)" + HINT),
@@ -236,15 +243,18 @@ class CommandLine(InRoom):
 
 
 class Installed(InRoom):
-    """The package `classroom-client/`."""
+    """The package `classroom-client/`, which Python's installer pip can install."""
 
     def setUp(self) -> None:
+        """Copies the package's folder, and puts the client into the copy, as a release has it."""
         super().setUp()
         self.source = self.room / "classroom-client"
         shutil.copytree(TOP / "classroom-client", self.source, ignore=shutil.ignore_patterns("__pycache__"))
         shutil.copy(TOP / "classroom/client.py", self.source)
 
     def test_a_wheel_is_the_client_with_its_metadata(self) -> None:
+        """A wheel is the archive that pip installs. Its file RECORD lists all files with their hashes and sizes, last
+        RECORD itself without them."""
         call = [sys.executable, "-B", "-c", "import building; print(building.build_wheel('.'))"]
         name = subprocess.run(call, cwd=self.source, capture_output=True, text=True, check=True).stdout.strip()
         with zipfile.ZipFile(self.source / name) as wheel:
@@ -259,7 +269,7 @@ class Installed(InRoom):
             wanted = base64.urlsafe_b64encode(hashlib.sha256(files[file]).digest()).decode().rstrip("=")
             self.assertEqual((digest, size), (f"sha256={wanted}", str(len(files[file]))))
 
-    def test_in_a_clone_the_client_stands_in_its_own_folder(self) -> None:
+    def test_in_a_clone_the_wheel_is_made_with_the_client_of_the_folder_classroom(self) -> None:
         (self.room / "classroom").mkdir()
         shutil.move(self.source / "client.py", self.room / "classroom/client.py")
         self.test_a_wheel_is_the_client_with_its_metadata()
@@ -278,7 +288,9 @@ class Installed(InRoom):
 class Schemas(unittest.TestCase):
     """`docs/requests.schema.json` and `docs/replies.schema.json`."""
 
-    def test_each_line_of_the_scripts_is_as_the_server_takes_it(self) -> None:
+    def test_a_request_of_the_scripts_fits_the_schema_unless_the_server_refuses_it_as_malformed(self) -> None:
+        """The server also refuses some lines that fit, for reasons that no schema can express. Each reply fits its
+        schema."""
         requests, replies, count = schemas.read("requests"), schemas.read("replies"), 0
         for line, reply in scripts():
             count += 1
@@ -294,12 +306,12 @@ class Schemas(unittest.TestCase):
                 self.assertEqual(is_request, reply.get("refuse") != "malformed", line[:80])
         self.assertGreater(count, 1000)
 
-    def test_a_schema_refuses_other_lines(self) -> None:
+    def test_wrong_lines_and_replies_do_not_fit_the_schemas(self) -> None:
         requests, replies = schemas.read("requests"), schemas.read("replies")
         for line, _ in HURT:
             try:
                 self.assertFalse(schemas.fits(json.loads(line), requests, requests), line)
-            except ValueError:
+            except ValueError:  # The line isn't JSON.
                 continue
         for reply in ('{"ok":"hello"}', '{"ok":"bye","who":"a"}', '{"at":1,"clause":3,"deny":"stale","text":"t"}', '{"refuse":"late","ok":"bye"}',
                       '{"at":0,"m":1,"node":2,"ok":"see","p":null}', '{"at":0,"m":true,"node":0,"ok":"see","p":null}'):

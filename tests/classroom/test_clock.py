@@ -1,4 +1,4 @@
-"""The end of a lesson by the clock, and names as pages show them."""
+"""The end of a lesson by the clock, names as pages show them, and lines about many events."""
 from __future__ import annotations
 
 import argparse
@@ -21,22 +21,24 @@ NOW = datetime(2026, 11, 24, 10, 2, 30)
 class Clocks(unittest.TestCase):
     """Times of the day, and warnings."""
 
-    def test_the_next_time(self) -> None:
+    def test_the_end_is_the_next_such_time_of_day_unless_it_is_over_twelve_hours_away(self) -> None:
         self.assertEqual(next_time("10:45", NOW), datetime(2026, 11, 24, 10, 45))
         self.assertEqual(next_time("00:30", datetime(2026, 11, 24, 23, 0)), datetime(2026, 11, 25, 0, 30))
         with self.assertRaisesRegex(ValueError, "^--ends 09:45: it is 10:02 already. Name a later time$"):
             next_time("09:45", NOW)
+        # The argument of the option, and words that aren't a time of day.
         self.assertEqual((time_of_day("9:05"), time_of_day("23:59")), ("09:05", "23:59"))
         for word in ("24:00", "10:60", "10", "10:5", "x", "10:45:00"):
             with self.assertRaises(argparse.ArgumentTypeError):
                 time_of_day(word)
 
-    def test_a_run_that_goes_on_keeps_an_end_that_is_to_come(self) -> None:
+    def test_a_resumed_run_keeps_its_end_unless_that_time_has_passed_or_is_not_valid(self) -> None:
         self.assertEqual(kept_end("2026-11-24T10:45:00", NOW), datetime(2026, 11, 24, 10, 45))
         for text in ("2026-11-24T10:00:00", "2026-11-24T10:45:00+00:00", "x", "", None):
             self.assertIsNone(kept_end(text, NOW))
 
-    def test_warnings_come_once_and_in_time(self) -> None:
+    def test_warnings_come_once_each_ten_five_and_one_minute_before_the_end(self) -> None:
+        """If the clock starts four minutes before the end, the two earlier warnings are left out."""
         clock = Clock(datetime(2026, 11, 24, 10, 45), NOW)
         told = [(minute, clock.warning(datetime(2026, 11, 24, 10, minute))) for minute in range(2, 46)]
         self.assertEqual([(minute, line) for minute, line in told if line], [
@@ -52,7 +54,8 @@ class Clocks(unittest.TestCase):
 class Ends(Cycle):
     """A run with `--ends`."""
 
-    def test_it_warns_and_ends(self) -> None:
+    def test_a_run_ends_at_the_time_that_is_named(self) -> None:
+        # The next full minute that is at least thirty seconds away, so that the run has started by then.
         end = (datetime.now() + timedelta(seconds=90)).replace(second=0, microsecond=0)
         end += timedelta(minutes=(end - datetime.now()) < timedelta(seconds=30))
         going = Going(self, CYCLE, "--close", "by-hand", "--ends", f"{end:%H:%M}")
@@ -61,7 +64,7 @@ class Ends(Cycle):
         self.assertGreaterEqual(datetime.now(), end)
         self.whole(going.folder)
 
-    def test_a_time_that_is_over(self) -> None:
+    def test_a_time_that_has_passed_is_refused_and_no_folder_is_made(self) -> None:
         before = datetime.now() - timedelta(minutes=5)
         for labs in ([CYCLE], [CYCLE, EXAMPLES / "shared.toml"]):
             done = words("run", *labs, "--close", "every:1", "--into", self.room / "runs", "--ends", f"{before:%H:%M}")
@@ -74,13 +77,13 @@ class Names(unittest.TestCase):
     """Names on pages."""
 
     def lab(self) -> Lab:
-        """Returns a lab of six students."""
+        """Returns a lab of six students, two of whom have the same name in the class list."""
         written = {"zoe-mueller": "Zoë Müller", "lukas-schmidt-1": "Lukas Schmidt", "lukas-schmidt-2": "Schmidt, Lukas", "ana": "ana",
                    "plato": "Plato", "jean-le-bon": "Jean Marie  Le Bon"}
         nodes = [Node(1, ["zoe-mueller"]), Node(2, ["lukas-schmidt-2", "ana"])]
         return Lab(9, 2, ("tess", "chalk"), dict.fromkeys(written, "key"), nodes, [(1, 2)], {name: Person(it) for name, it in written.items()})
 
-    def test_short_names(self) -> None:
+    def test_pages_show_first_names_with_an_initial_and_a_number_if_two_are_the_same(self) -> None:
         for written, wanted in (("Zoë Müller", "Zoë M."), ("Müller, Zoë", "Zoë M."), ("Plato", "Plato"), ("李 小龙", "李 小."), ("", ""),
                                 ("Anna-Lena von der Heide", "Anna-Lena H.")):
             self.assertEqual(short(written), wanted)
@@ -88,7 +91,7 @@ class Names(unittest.TestCase):
             "zoe-mueller": "Zoë M.", "lukas-schmidt-1": "Lukas S. 1", "lukas-schmidt-2": "Lukas S. 2", "ana": "ana", "plato": "Plato",
             "jean-le-bon": "Jean B."})
 
-    def test_lines_events_and_labs(self) -> None:
+    def test_whole_names_in_lines_events_and_labs_are_replaced(self) -> None:
         names = ShownNames.of(self.lab(), False)
         self.assertEqual(names.line("waiting for 1 (zoe-mueller): update, 2 (lukas-schmidt-2 and ana)"),
                          "waiting for 1 (Zoë M.): update, 2 (Lukas S. 2 and ana)")
@@ -99,7 +102,7 @@ class Names(unittest.TestCase):
         shown = names.lab(self.lab())
         self.assertEqual((shown.owners(2), shown.nodes_of("Zoë M.")), (["Lukas S. 2", "ana"], [1]))
 
-    def test_numbers_alone(self) -> None:
+    def test_if_names_are_hidden_numbers_are_shown(self) -> None:
         names = ShownNames.of(self.lab(), True)
         line = names.line("zoe-mueller lukas-schmidt-1 lukas-schmidt-2 ana plato jean-le-bon")
         self.assertEqual(line, "#1 #2 #3 #4 #5 #6")
@@ -109,13 +112,14 @@ class Names(unittest.TestCase):
 class Wording(unittest.TestCase):
     """Texts of many events of one kind."""
 
-    def test_moves_of_a_step(self) -> None:
+    def test_up_to_six_moves_of_a_step_are_listed_and_more_are_counted_by_rule(self) -> None:
         moved = [(node, f"s{node}", "update" if node % 3 else "marriage") for node in range(1, 56)]
         self.assertEqual(wording.moves(moved[:2]), "node 1 (s1): update, node 2 (s2): update")
         self.assertEqual(wording.moves(moved), "55 moves, 37 update, 18 marriage")
         self.assertEqual(len(re.findall(r"\(s\d", wording.moves(moved[:6]))), 6)
 
-    def test_faults_links_and_cuts(self) -> None:
+    def test_an_edit_has_a_text_and_many_of_one_kind_have_one_with_their_number(self) -> None:
+        """At most six nodes are named."""
         faults = [Event(node, node - 1, ("fault", str(node), "-", "true")) for node in range(1, 65)]
         self.assertEqual(wording.edit(faults[11]), "fault at node 12: p null, m true")
         self.assertEqual(wording.edit(Event(1, 0, ("fault", "12", "4", "false"))), "fault at node 12: p 4, m false")
@@ -125,7 +129,7 @@ class Wording(unittest.TestCase):
         self.assertEqual(wording.edits([Event(at, at - 1, ("cut", "1", str(at))) for at in (2, 3)]), "2 removed links at nodes 1, 2, 3")
         self.assertEqual(wording.edit(Event(1, 0, ("release", "3"))), "dropped the granted move of node 3")
 
-    def test_some_of_many(self) -> None:
+    def test_of_many_texts_the_first_are_listed_and_the_others_counted(self) -> None:
         self.assertEqual(wording.some(["a", "b"], 2, "node"), "a, b")
         self.assertEqual(wording.some(["a", "b", "c"], 2, "node"), "a, b, and 1 more node")
         self.assertEqual(wording.some(["a", "b", "c", "d"], 2, "node"), "a, b, and 2 more nodes")

@@ -1,4 +1,5 @@
-"""The contrast of each text of a page or a picture with its background, computed from the palette in both themes."""
+"""The contrast of each text of a page or a picture with its background, computed from the palette in both themes, light
+and dark. A colour is given by its name in the palette."""
 from __future__ import annotations
 
 import re
@@ -18,11 +19,14 @@ DRAWN = {
     ("ink", "ground"), ("ink", "wedtint"), ("ground", "quiet"), ("onwed", "wed"), ("quiet", "ground"), ("can", "cantint"), ("oncan", "can"),
     ("hit", "ground"), ("can", "ground"),
 }
+# The selectors of style rules for texts in a drawing.
 TEXTS = re.compile(r"\btext\b|\.identifier|\.owner|\.mark")
 
 
 def of_a_page(name: str) -> set[tuple[str, str]]:
-    """Returns the colours of all texts in a page's style, each with the colour of its background."""
+    """Returns the colours of the texts in the style sheet of a page, each with a colour that its background may have.
+    That is the background in the same style rule. If the rule has none, it is each of GROUNDS for `quiet`, and each of
+    the first two for any other colour."""
     found = {("ink", ground) for ground in GROUNDS}
     for rule in RULE.finditer((colours.STYLE.parent / name).read_text("utf-8")):
         front, back, fill = COLOUR.search(rule["set"]), BACKGROUND.search(rule["set"]), FILL.search(rule["set"])
@@ -36,29 +40,29 @@ def of_a_page(name: str) -> set[tuple[str, str]]:
 class Palette(unittest.TestCase):
     """Computed contrasts, without a browser."""
 
-    def readable(self, pairs: set[tuple[str, str]]) -> None:
-        """Checks that these pairs of colours have enough contrast in both themes."""
+    def check_readable(self, pairs: set[tuple[str, str]]) -> None:
+        """Checks that the two colours of each of these pairs have enough contrast in both themes."""
         for theme in colours.THEMES:
             for front, back in sorted(pairs):
                 one, other = ([float(int(colours.value(f"--{name}", theme)[at:at + 2], 16)) for at in (1, 3, 5)] for name in (front, back))
                 with self.subTest(theme=theme, front=front, back=back):
                     self.assertGreaterEqual(contrast(one, other), LEAST)
 
-    def test_texts_of_pages(self) -> None:
+    def test_texts_of_pages_have_enough_contrast(self) -> None:
         for name in PAGES:
-            self.readable(of_a_page(name))
+            self.check_readable(of_a_page(name))
 
-    def test_texts_of_drawings(self) -> None:
-        self.readable(DRAWN)
+    def test_texts_of_drawings_have_enough_contrast(self) -> None:
+        self.check_readable(DRAWN)
 
-    def test_each_colour_of_a_drawing_s_texts_is_known(self) -> None:
+    def test_the_table_of_drawn_texts_has_each_colour_of_the_style_and_no_other(self) -> None:
         fills = {fill[1] for rule in RULE.finditer(colours.parts()[1]) if TEXTS.search(rule["chosen"]) and (fill := FILL.search(rule["set"])) is not None}
         self.assertEqual(fills, {front for front, _ in DRAWN})
 
-    def test_every_page_s_style_is_looked_at(self) -> None:
+    def test_every_style_sheet_is_checked_here(self) -> None:
         self.assertEqual({file.name for file in colours.STYLE.parent.glob("*.css")}, {*PAGES, colours.STYLE.name})
 
-    def test_colours_that_are_alike(self) -> None:
+    def test_contrasts_are_from_1_to_21(self) -> None:
         black, white, grey = [0.0] * 3, [255.0] * 3, [119.0] * 3
         self.assertAlmostEqual(contrast(black, white), 21.0)
         self.assertLess(contrast(grey, white), LEAST)

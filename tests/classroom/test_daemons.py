@@ -1,4 +1,6 @@
-"""Daemons and faults at the desk of `./class run`, and the lines about recoveries."""
+"""Daemons and faults at the desk of `./class run`, and the lines about recoveries. A *chosen* move was granted and
+waits for the close of the step. A daemon decides when a step is closed, and which of the chosen moves the close
+applies. The others are *released* before, that is, taken back."""
 from __future__ import annotations
 
 import os
@@ -17,14 +19,17 @@ from classroom.run.striking import Striker
 from classroom.setup.shaking import longest_start, shaken
 from tests.classroom.help import CYCLE, Cycle, Going, KEYS
 
-SERVE = tuple(os.environ.get("MML_SERVE", "").split())
+SERVE = tuple(os.environ.get("MML_SERVE", "").split())  # options for the runs, such as `--serve`
+# A line that the desk prints when the network is stable, after a recovery.
 BACK = r"^stable (again )?after \d+ moves?, \d+ steps? and \d+ rounds? \(at most 35 moves and 13 rounds, as is proved\)$"
 
 
 class Alone(unittest.TestCase):
     """A daemon's choice for a given state, and drawn registers."""
 
-    def test_which_moves_a_close_applies(self) -> None:
+    def test_each_daemon_applies_the_moves_that_its_definition_says(self) -> None:
+        """A `Sight` has the privileged nodes, the chosen ones, and the seconds since the last grant and the last close.
+        An empty result means that no step is closed yet."""
         chance = random.Random(1)
         two = Sight([1, 2, 3], [2, 1], 0.0, 0.0)
         all_three = Sight([1, 2, 3], [2, 1, 3], 0.0, 0.0)
@@ -41,7 +46,8 @@ class Alone(unittest.TestCase):
         self.assertEqual(applied(Daemon("when-idle", 2), Sight([1], [1], 1.9, 9), chance, 1), [])
         self.assertEqual(applied(Daemon("when-idle", 2), Sight([1], [1], 2.1, 0), chance, 1), [1])
 
-    def test_who_asks_in_time_where_times_are_drawn(self) -> None:
+    def test_in_experiments_a_timed_daemon_moves_the_nodes_that_ask_before_the_close(self) -> None:
+        """The times at which nodes ask are drawn at random, as the test draws them again with the same seed."""
         for seed in range(200):
             times = random.Random(seed)
             asks = {node: times.expovariate(1.0) for node in (4, 2, 9)}
@@ -55,7 +61,8 @@ class Alone(unittest.TestCase):
             self.assertEqual(len(movers(Daemon(kind, 0), [4, 2, 9], random.Random(1))), 1)
             self.assertEqual(len(movers(Daemon(kind, 1000), [4, 2, 9], random.Random(1))), 3)
 
-    def test_registers_that_are_drawn(self) -> None:
+    def test_shaken_registers_point_at_neighbours_and_break_sets_a_start_with_a_long_recovery(self) -> None:
+        """The same seed gives the same registers. `longest_start` returns those that the command `break` sets."""
         nodes, links = [1, 2, 3, 4], [(1, 2), (2, 3), (3, 4)]
         found = shaken(nodes, links, "all", 5)
         self.assertEqual(found, shaken(nodes, links, "all", 5))
@@ -72,10 +79,12 @@ class Alone(unittest.TestCase):
 
 
 class Beside:
-    """A stand-in for a desk at which moves are granted while others are released."""
+    """A stand-in for a desk at which moves are granted while others are released. The nodes 3 and 1 have chosen moves,
+    in this order."""
 
     def __init__(self, later: list[int]) -> None:
-        """The moves of the nodes in `later` are granted one by one while others are released."""
+        """The moves of the nodes in `later`, from its end, are granted one by one while others are released. `done`
+        gets the nodes whose moves are released, and a text about the close."""
         self.closing = Daemon("central")
         self.report = unittest.mock.Mock(privileged=[(node, "update") for node in (1, 2, 3, 4)])
         self.book = unittest.mock.Mock(chosen={3: ("ana", "update"), 1: ("ben", "update")})
@@ -84,11 +93,11 @@ class Beside:
         self.done: list[object] = []
 
     def present_lab(self) -> None:
-        """Raises, since only a daemon that searches needs the network, and a central daemon doesn't search."""
+        """Raises an error, since a central daemon doesn't search, and so doesn't need the network."""
         raise AssertionError("a central daemon searches nothing")
 
     def release(self, node: int) -> None:
-        """Releases a move."""
+        """Takes back the chosen move of a node."""
         self.done.append(node)
         del self.book.chosen[node]
 
@@ -104,14 +113,14 @@ class Beside:
 
 
 class Striking(unittest.TestCase):
-    """The moves that remain at a close."""
+    """The moves that remain at a close under a central daemon."""
 
-    def test_central_takes_all_back_but_the_first(self) -> None:
+    def test_all_moves_but_the_first_are_released_also_those_granted_meanwhile(self) -> None:
         desk = Beside([4, 2])
         Striker().strike(desk)  # type: ignore[arg-type]
         self.assertEqual(desk.done, [1, 2, 4, "close of [3]"])
 
-    def test_it_ends_where_each_is_asked_for_again(self) -> None:
+    def test_releasing_ends_after_a_few_rounds_if_a_move_is_granted_again_each_time(self) -> None:
         desk = Beside([2] * 100)
         Striker().strike(desk)  # type: ignore[arg-type]
         self.assertEqual(desk.done[-1], "close of [2, 3]")
@@ -122,8 +131,9 @@ class Desk(Cycle):
     """Runs with the four bots of the cycle."""
 
     def comes_back(self, daemon: str, *words: str) -> Path:
-        """Runs a class under a daemon with its four bots. Types these commands, waits after each until the class is
-        stable, and ends it. Returns the folder."""
+        """Runs a class under a daemon with its four bots until it is stable. Then types these commands, which set all
+        registers, and waits after each until the class is stable again. Ends it, and checks that the marks have the
+        lines about these recoveries. Returns the run's folder."""
         going = Going(self, CYCLE, "--daemon", daemon, *SERVE)
         for name in KEYS:
             self.bot(going, name)
@@ -152,19 +162,21 @@ class Desk(Cycle):
             privileged, chosen = set(frame.state.privileged), set(frame.state.chosen)
         return found
 
-    def test_central_lets_one_move_in_a_step(self) -> None:
-        """An exception is a move that is granted between the desk's last check and its close."""
+    def test_under_the_central_daemon_most_steps_have_a_single_move(self) -> None:
+        """A step has more if a move is granted between the desk's last check and its close. This may happen in two of
+        three steps."""
         steps = self.steps(self.comes_back("central", "break"))
         self.assertLess(len(steps), 3 * sum(len(moved) == 1 for _, moved in steps))
 
-    def test_synchronous_waits_for_each(self) -> None:
+    def test_under_the_synchronous_daemon_all_privileged_nodes_move_in_each_step(self) -> None:
         self.assertTrue(all(moved == privileged for privileged, moved in self.steps(self.comes_back("synchronous", "break"))))
 
-    def test_a_coin_takes_moves_back(self) -> None:
+    def test_under_the_random_daemon_not_all_privileged_nodes_move_in_some_step(self) -> None:
         steps = self.steps(self.comes_back("random:0.5", "break", "shake all 3"))
         self.assertTrue(any(moved != privileged for privileged, moved in steps))
 
-    def test_words(self) -> None:
+    def test_the_commands_daemon_and_shake_act_and_are_refused_in_a_wrong_form(self) -> None:
+        """The registers that `shake 2 5` sets are those that its seed, 5, determines."""
         going = Going(self, CYCLE, "--close", "by-hand", *SERVE)
         going.type("daemon synchronous")
         going.until("^from now on steps are closed by the daemon synchronous$")
@@ -181,9 +193,9 @@ class Desk(Cycle):
         with Client(going.port, "gus", KEYS["gus"]) as gus:
             seen = gus.look(1)
         wanted = {node: (p, m) for node, p, m in shaken([node.id for node in lab.nodes], lab.links, "2", 5)}
-        if 1 in wanted:
+        if 1 in wanted:  # if node 1, at which gus has looked, is one of the two nodes with new registers
             self.assertEqual((seen.p, seen.m), wanted[1])
-        for _ in range(2):
+        for _ in range(2):  # The network isn't stable, so the desk asks for a second `end`.
             going.type("end")
         self.assertEqual(going.ends(), 0, going.lines)
 
