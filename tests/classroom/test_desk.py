@@ -1,4 +1,5 @@
-"""The desk of `./class run`: its commands, its lines about limits and slow servers, and its terminal."""
+"""The desk of `./class run`: its commands, its lines about limits and slow servers, and its terminal. The desk is the
+process that connects to the server as the teacher, runs the teacher's commands, and prints lines about the run."""
 from __future__ import annotations
 
 import contextlib
@@ -38,7 +39,7 @@ ROOM_AGAIN = "the disk has room again. If a line of the journal couldn't be writ
 class Forms(unittest.TestCase):
     """Commands by themselves."""
 
-    def test_each_word_has_one_form(self) -> None:
+    def test_a_command_has_one_form_and_for_any_other_line_the_error_says_what_to_write(self) -> None:
         for line in ("close", "fault 1 2 true", "fault 1 null false", "fault 1 - false", "link 1 2", "cut 1 2", "release 3", "report",
                      "wait", "who", "every 5", "every 0.5", "when-idle 2", "by-hand", "help", "end"):
             self.assertEqual(parse_command(line), line.split())
@@ -51,7 +52,7 @@ class Forms(unittest.TestCase):
         with self.assertRaisesRegex(ValueError, "^clsoe isn't a command. Did you mean close\\? The commands are: close, fault NODE"):
             parse_command("clsoe")
 
-    def test_what_others_write_is_printable(self) -> None:
+    def test_control_characters_in_printed_texts_are_escaped(self) -> None:
         self.assertEqual(printable("Zoë\x1b[2J\nk\x07 \u202e"), "Zoë\\x1b[2J\nk\\x07 \\u202e")
 
 
@@ -60,14 +61,15 @@ class Completed(unittest.TestCase):
 
     def offers(self, line: str) -> list[str]:
         """Returns the completions at the end of a typed line. The nodes are 1, 12 and 7."""
-        terminal = object.__new__(Terminal)
+        terminal = object.__new__(Terminal)  # without `__init__`, which needs a real terminal
         terminal.words, terminal.readline = ["1", "12", "7"], unittest.mock.Mock()
         terminal.readline.get_line_buffer.return_value = line
         terminal.readline.get_begidx.return_value = line.rfind(" ") + 1
         found = [terminal.complete(line.rpartition(" ")[2], state) for state in range(len(FORMS) + 1)]
         return [each for each in found if each is not None]
 
-    def test_words_and_nodes(self) -> None:
+    def test_the_first_word_is_completed_to_a_command_and_others_to_a_node(self) -> None:
+        """A number and a colon before the command name a network of a class of several."""
         self.assertEqual(self.offers("cl"), ["close "])
         self.assertEqual(self.offers("2: cl"), ["close "])
         self.assertEqual(self.offers(""), [f"{word} " for word in FORMS])
@@ -79,7 +81,7 @@ class Completed(unittest.TestCase):
 class Words(Cycle):
     """Runs in which commands are typed."""
 
-    def test_the_end_is_asked_for_twice(self) -> None:
+    def test_while_the_network_is_not_stable_only_two_ends_in_a_row_end_the_run(self) -> None:
         going = Going(self, CYCLE, "--close", "by-hand")
         going.type("end")
         going.until("^the network isn't stable yet \\(privileged nodes: 3\\). Type `end` once more to end the run anyway$")
@@ -90,7 +92,7 @@ class Words(Cycle):
         going.type("end")
         self.assertEqual(going.ends(), 0, going.lines)
 
-    def test_who_report_and_help(self) -> None:
+    def test_the_commands_who_report_and_help_print_lines(self) -> None:
         going = Going(self, CYCLE, "--close", "by-hand")
         with Client(going.port, "gus", KEYS["gus"]) as gus:
             gus.move(gus.look(4))
@@ -104,7 +106,9 @@ class Words(Cycle):
             for form in FORMS.values():
                 going.until(f"^  {re.escape(form)} ")
 
-    def test_no_word_of_a_process_is_told(self) -> None:
+    def test_a_client_without_a_hello_is_shown_only_as_a_connection_or_a_process_number(self) -> None:
+        """The second run has the option `--serve`, and no record that names students. Its desk shows a client by the
+        number of its process, and not by the process's arguments, which anybody could choose."""
         going = Going(self, CYCLE, "--close", "by-hand")
         with socket.create_connection(("127.0.0.1", going.port)):
             going.type("who")
@@ -117,7 +121,8 @@ class Words(Cycle):
         self.addCleanup(held.kill)
         self.assertEqual(by_number.until("^connected: "), f"connected: process {held.pid}")
 
-    def test_events_are_counted_and_few_are_told(self) -> None:
+    def test_events_are_counted_and_a_warning_comes_before_the_last(self) -> None:
+        """The lab allows ten events. After them the run ends with status 5."""
         lab = self.file("cycle.toml", re.sub(r"(?m)^events = \d+", "events = 10", CYCLE.read_text(encoding="utf-8")))
         going = Going(self, lab, "--close", "by-hand")
         for number in range(1, 11):
@@ -130,7 +135,9 @@ class Words(Cycle):
         self.assertEqual(going.ends(), 5, going.lines)
         self.assertEqual(self.whole(going.folder), 10)
 
-    def test_the_page_of_several_and_their_words(self) -> None:
+    def test_in_a_class_of_two_networks_a_number_before_a_command_names_its_network(self) -> None:
+        """A command for network 9 is refused, since there is none. The desk also prints a row for each network, with
+        its port and the address of its page."""
         students = self.file("students", "".join(f"S {number}\n" for number in range(6)))
         self.assertEqual(words("new", self.room / "lab.toml", "--students", students, "--groups", "2", "--start", "random").returncode, 0)
         process = subprocess.Popen(
@@ -151,6 +158,7 @@ class Words(Cycle):
         self.assertEqual(process.wait(LIMIT), 0, told)
         self.assertIn("not done: this class has no network 9. Its networks are: 1 lab-1, 2 lab-2\n", told)
         self.assertFalse(any(line.startswith("lab-1: configuration 1: ") for line in told))
+        # Each row has the network's number and name, its port, and the numbers of its students and seats.
         row = rf"\d  lab-\d +28\d\d\d +3 +{MOST['sessions'] - 1} +http://127.0.0.1:282\d\d/"
         self.assertEqual([bool(re.match(row, line)) for line in told if line[:1].isdigit()], [True, True])
 
@@ -158,12 +166,13 @@ class Words(Cycle):
 class InATerminal(Cycle):
     """Runs in their own terminal."""
 
-    def test_editing_history_completion_and_the_end_of_input(self) -> None:
+    def test_lines_can_be_completed_repeated_and_edited_and_ctrl_d_does_not_end_the_run(self) -> None:
         terminal = InTerminal(self)
         terminal.type(b"fau\t1 2 true\n", b"fault at node 1: p 2, m true; ")
-        terminal.type(b"\x1b[A\n", b"configuration 2: fault at node 1: p 2, m true; ")
+        terminal.type(b"\x1b[A\n", b"configuration 2: fault at node 1: p 2, m true; ")  # the key for the line before
+        # After the key for a move to the left, two letters are removed, so that `close` is left.
         terminal.type(b"clossse\x1b[D\x7f\x7f\n", b"the server denied this command: empty")
-        terminal.type(b"\x04", b"to end the run, type `end`")
+        terminal.type(b"\x04", b"to end the run, type `end`")  # Ctrl-D
         terminal.type(b"end\n", b"Type `end` once more to end the run")
         terminal.type(b"end\n", b"all files of the run are in ")
         self.assertEqual(terminal.process.wait(LIMIT), 0)
@@ -174,7 +183,8 @@ class InATerminal(Cycle):
 class Late(Cycle):
     """Slow servers, and runs that are going on already."""
 
-    def test_a_server_that_is_late_is_waited_for(self) -> None:
+    def test_the_desk_connects_again_to_a_server_that_is_late_and_runs_the_next_command(self) -> None:
+        """The server is stopped when a command comes, and continues after the desk has lost its connection."""
         lab = labs.read(CYCLE)
         it = server.start(self.room, CYCLE, 29000, self.room / "journal")
         self.addCleanup(lambda: it.has_ended() or it.stop())
@@ -206,7 +216,7 @@ class Late(Cycle):
         self.assertTrue(it.has_ended(LIMIT))
 
     def until(self, holds: object) -> None:
-        """Waits until the function `holds` returns a true value. Fails after a time limit."""
+        """Waits until the function `holds` returns a true value. Fails after LIMIT seconds."""
         end = time.monotonic() + LIMIT
         assert callable(holds)
         while not holds():
@@ -214,6 +224,8 @@ class Late(Cycle):
             time.sleep(0.01)
 
     def test_a_server_whose_end_is_late_is_not_killed(self) -> None:
+        """It is stopped for a second while the run ends. The status is 0, and no line says that the server has ended by
+        itself."""
         going = Going(self, CYCLE, "--close", "by-hand")
         number = going.server()
         with Client(going.port, "gus", KEYS["gus"]):
@@ -224,7 +236,8 @@ class Late(Cycle):
         self.assertEqual(going.ends(), 0, going.lines)
         self.assertFalse(any("by itself" in line for line in going.lines), going.lines)
 
-    def test_where_a_page_acts_is_told_to_who_types_alone(self) -> None:
+    def test_the_secret_address_of_the_page_to_act_is_not_printed_into_a_file(self) -> None:
+        """The output has the address of the page for the projector, and no other."""
         for more in ((), ("--typed",)):
             told = self.room / "told"
             with told.open("w", encoding="utf-8") as it:
@@ -245,7 +258,9 @@ class Late(Cycle):
             self.assertIn("\npage on which you can act: its address is secret, and is printed only in a terminal\n", text)
             self.assertEqual(text.count("http://"), 1, text)
 
-    def test_the_address_to_look_at_stays_and_where_it_acts_does_not(self) -> None:
+    def test_a_resumed_run_has_the_same_page_for_the_projector_and_another_one_to_act(self) -> None:
+        """The token of the page to act isn't kept in the run's folder. After the server was killed, the run is
+        resumed."""
         going = Going(self, CYCLE, "--close", "by-hand", "--page", str(a_port()))
         looks, acts = (going.until(f"^{word} http").removeprefix(f"{word} ") for word in ("page for the projector", "page on which you can act"))
         os.kill(going.server(), signal.SIGKILL)
@@ -260,7 +275,8 @@ class Late(Cycle):
         with self.assertRaises(urllib.error.HTTPError):
             urllib.request.urlopen(acts, timeout=LIMIT)
 
-    def test_a_second_run_says_where_the_first_is(self) -> None:
+    def test_a_second_run_of_a_lab_is_refused_unless_it_is_started_beside_the_first(self) -> None:
+        """The error line names the port and the folder of the first run. After its end, a run can be started again."""
         going = Going(self, CYCLE, "--close", "by-hand")
         second = words("run", CYCLE, "--into", self.room / "runs")
         self.assertEqual((second.returncode, second.stdout), (1, ""))
@@ -279,7 +295,7 @@ class Late(Cycle):
 class Kept(InRoom):
     """The lines of a run in its folder."""
 
-    def test_each_line_has_its_hour_and_minute(self) -> None:
+    def test_each_kept_line_has_its_hour_and_minute_and_lines_for_the_terminal_are_not_kept(self) -> None:
         tell, heard = Teller(self.room), list[str]()
         tell.also.append(heard.append)
         with contextlib.redirect_stdout(io.StringIO()) as printed:
@@ -293,9 +309,9 @@ class Kept(InRoom):
 
 
 class Disk(InRoom):
-    """Lines about the disk."""
+    """Lines about the room on the disk, and about the limit on the size of files."""
 
-    def test_little_room_none_and_room_again(self) -> None:
+    def test_a_line_is_printed_when_the_disk_is_nearly_full_full_or_has_room_again(self) -> None:
         told = self.told(self.disk(), 10**9, 65536, 65535, 4096, 0, 0, 10**9, 10**9)
         self.assertEqual(told, [[], [], ["the disk is nearly full"], [], ["the disk is full"], [], [ROOM_AGAIN], []])
 
@@ -306,15 +322,18 @@ class Disk(InRoom):
         return room
 
     def told(self, room: DiskRoom, *free: int) -> list[list[str]]:
-        """Returns the beginnings of the lines that are printed for each number of free bytes in turn."""
+        """Checks the disk once for each of these numbers of free bytes. Returns the beginnings of the lines that each
+        check returns."""
         told = []
         for left in free:
-            room.due = 0.0
+            room.due = 0.0  # so that the check is made at once
             with unittest.mock.patch.object(room, "left", return_value=left):
                 told.append([re.split(r": |\. (?!If)", line)[0] for line in room.news()])
         return told
 
-    def test_a_disk_that_takes_nothing_though_bytes_are_free(self) -> None:
+    def test_a_disk_that_can_not_be_written_though_bytes_are_free_counts_as_full(self) -> None:
+        """The limit on the size of this process's files makes the write fail by which the disk is checked. In a folder
+        that doesn't exist nothing is checked."""
         room = self.disk()
         self.assertEqual(self.told(room, 10**9), [[]])
         before = resource.getrlimit(resource.RLIMIT_FSIZE)
@@ -327,7 +346,9 @@ class Disk(InRoom):
         self.assertEqual(list(self.room.iterdir()), [])
         self.assertEqual(self.told(DiskRoom(self.room / "none"), 10**9), [[]])
 
-    def test_a_limit_on_the_files_of_the_server(self) -> None:
+    def test_a_line_is_printed_when_the_journal_is_near_the_limit_on_the_server_s_files_and_at_it(self) -> None:
+        """The stand-in for the server is a process with a limit of 100,000 bytes. Without a limit, no line is
+        printed."""
         server = subprocess.Popen(["sleep", "1000"], preexec_fn=lambda: resource.setrlimit(resource.RLIMIT_FSIZE, (100_000, 100_000)))
         self.addCleanup(server.wait)
         self.addCleanup(server.kill)
@@ -347,7 +368,9 @@ class Disk(InRoom):
 class Memory(InRoom):
     """A server that is out of memory."""
 
-    def test_a_report_that_is_refused_is_asked_for_again(self) -> None:
+    def test_a_report_that_is_refused_as_memory_is_asked_for_again(self) -> None:
+        """The first report is needed at once, so it is asked for until it comes. A later one is asked for at each read
+        of the journal, and meanwhile the desk has the old one. Any other refusal is raised."""
         reports = [Report(at, at == 1, (), (), (), ()) for at in (0, 1)]
         client = unittest.mock.Mock()
         client.report.side_effect = [Refused("memory"), reports[0], Refused("memory"), Refused("memory"), reports[1], Refused("journal")]
@@ -370,12 +393,13 @@ class NotDone(Cycle):
     """Commands that fail print a line, and leave no folder."""
 
     def says(self, status: int, line: str, *asked: str | Path) -> None:
-        """Runs `./class` with these arguments. Checks the status, and that the standard error is this line."""
+        """Runs `./class` with the arguments `asked`. Checks the status, and that it prints only one line, on the
+        standard error, which matches `line`."""
         done = words(*asked)
         self.assertEqual((done.returncode, done.stdout), (status, ""), done.stderr)
         self.assertRegex(done.stderr, f"^{line}\n$")
 
-    def test_a_line_each(self) -> None:
+    def test_a_wrong_port_lab_or_folder_gets_an_error_line(self) -> None:
         into = self.room / "runs"
         for word, port in (("--port", "65536"), ("--port", "0"), ("--page", "70000"), ("--page", "x")):
             self.says(1, f"class run: argument {word}: {port} isn't a port: write a number from 1 to 65535; class run --help prints what to type",
@@ -388,14 +412,14 @@ class NotDone(Cycle):
         self.says(4, "class: /proc/none/.*: this folder can't be made: .*. Name another place for it by --into FOLDER", "run", CYCLE, "--into", "/proc/none")
         self.assertFalse(into.exists() and list(into.iterdir()))
 
-    def test_no_folder_is_left_where_no_server_starts(self) -> None:
+    def test_no_folder_is_left_if_the_server_does_not_start(self) -> None:
         broken = self.file("broken", "#!/bin/sh\necho no >&2\nexit 4\n")
         broken.chmod(0o755)
         with unittest.mock.patch.dict(os.environ, {"MML_HOST": str(broken)}):
             self.says(4, "class: the server can't be started. It ended with status 4, and printed: no", "run", CYCLE, "--into", self.room / "runs")
         self.assertEqual(list((self.room / "runs").iterdir()), [])
 
-    def test_each_word_has_an_example(self) -> None:
+    def test_the_help_of_each_subcommand_has_an_example_and_that_of_run_all_commands_of_the_desk(self) -> None:
         everything = words("--help").stdout
         self.assertIn("exit status: 0 done; ", " ".join(everything.split()))
         for word in ("new", "check", "run", "attach", "mark", "play", "demo"):
@@ -405,7 +429,7 @@ class NotDone(Cycle):
             for form in FORMS.values() if word in ("run", "attach") else ():
                 self.assertIn(form, said)
 
-    def test_names_with_dots(self) -> None:
+    def test_new_accepts_names_of_labs_with_dots_but_not_of_dots_alone(self) -> None:
         students = self.file("students", "Ana\nBen\nCyd\n")
         for name in ("..", "..."):
             self.says(1, "class: .* isn't a file name of the form NAME.toml", "new", f"{self.room}/x/{name}", "--students", students)
@@ -413,10 +437,10 @@ class NotDone(Cycle):
             self.assertEqual(words("new", self.room / name, "--students", students).returncode, 0)
             self.assertTrue((self.room / made).is_file())
 
-    def test_who_reads_no_more(self) -> None:
+    def test_a_command_whose_output_nobody_reads_ends_with_status_4_and_no_error_line(self) -> None:
         journal = self.file("journal", "")
         ours, theirs = os.pipe()
-        os.close(ours)
+        os.close(ours)  # Nobody can read the pipe any more.
         done = subprocess.run([sys.executable, EXAMPLES.parent / "class", "mark", CYCLE, journal], stdout=theirs,
                               stderr=subprocess.PIPE, check=False, timeout=LIMIT)
         os.close(theirs)

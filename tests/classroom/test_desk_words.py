@@ -1,5 +1,5 @@
-"""The table of the desk's commands, checked by all that use it: typing, running, showing, the page, replays and
-counts."""
+"""The table of the desk's commands (`classroom.core.desk_words`), checked by the code that uses it: the desk, which
+runs typed lines, the page on which the teacher acts, and the data about events of a journal."""
 from __future__ import annotations
 
 import json
@@ -58,7 +58,8 @@ SENT = {
     "end": "end",
 }
 FIELDS = {"seconds": "5", "count": "3", "picked": "4", "p": "null", "m": "true"}
-# An event's line, the request that does it again, the nodes that it names, the links that it adds, and whether it is an edit.
+# The words of an event, the request that repeats it, the nodes that it names, the number of links that it adds, and
+# whether it is an edit, a change by the teacher.
 EVENTS = {
     "close": ('1 {"do":"close"}', (), 0, False),
     "release 7": ('1 {"do":"release","node":7}', (7,), 0, False),
@@ -75,17 +76,18 @@ class AtDesk(InRoom):
     """The reaction of the desk to each command."""
 
     def setUp(self) -> None:
+        """Makes a desk of the cycle with a stand-in for its connection. `lines` gets the printed lines."""
         super().setUp()
         self.client, self.lines = unittest.mock.Mock(), list[str]()
         self.client.report.return_value = Report(0, False, (), (), ((4, "update"),), ())
         self.desk = Desk(labs.read(CYCLE), self.file("journal", ""), self.client, Daemon("by-hand"), self.lines.append)
         self.addCleanup(self.desk.known.journal.close)
 
-    def test_each_word_is_tried_here(self) -> None:
+    def test_each_command_is_tried_here_and_the_desk_can_run_each_action(self) -> None:
         self.assertEqual({line.split()[0] for line in (*ASKED, *TOLD)}, {*WORDS})
         self.assertEqual({*self.desk.actions, Action.END}, {*Action})
 
-    def test_what_is_asked(self) -> None:
+    def test_commands_that_change_the_run_send_a_request_and_print_nothing(self) -> None:
         for line, asked in ASKED.items():
             self.assertTrue(self.desk.command(line))
             self.client.ask.assert_called_once_with(**asked)
@@ -93,18 +95,19 @@ class AtDesk(InRoom):
             self.client.ask.reset_mock()
         self.assertEqual(self.lines, [])
 
-    def test_what_is_told(self) -> None:
+    def test_other_commands_print_a_line_and_send_no_request_but_faults(self) -> None:
+        """Only a second `end` in a row ends the run, since the network isn't stable."""
         for line, told in TOLD.items():
             self.lines.clear()
             self.assertTrue(self.desk.command(line))
             self.assertTrue(self.lines[-1].startswith(told), (line, self.lines))
         self.client.ask.assert_not_called()
-        self.assertEqual(len(self.client.fault.mock_calls), 3 + 7 + 7)
+        self.assertEqual(len(self.client.fault.mock_calls), 3 + 7 + 7)  # those of `shake 3 1`, `shake all` and `break`
         self.assertFalse(self.desk.command("end"))
 
 
 class Buttons(HTMLParser):
-    """The buttons of a page, and its data."""
+    """The identifiers of a page's buttons (`names`), and the data for its script (`data`)."""
 
     def __init__(self, page: str) -> None:
         """Reads the text of a page."""
@@ -114,7 +117,7 @@ class Buttons(HTMLParser):
         self.feed(page)
 
     def handle_starttag(self, tag: str, attrs: list[tuple[str, str | None]]) -> None:
-        """Keeps a button or the element with the data."""
+        """Keeps the identifier of a button."""
         if tag == "button":
             self.names.append(dict(attrs)["id"] or "")
 
@@ -123,6 +126,8 @@ class OnPage(unittest.TestCase):
     """The lines that the page on which the teacher acts sends."""
 
     def test_each_button_sends_a_line_that_can_be_typed(self) -> None:
+        """So do clicks on two nodes, which add or remove a link. Buttons that send no line are left out. Each field
+        that a line names is on the page."""
         lab = labs.read(TOP / "examples/cycle.toml")
         state = State(0, 0, frozenset(map(labs.ordered, lab.links)), {node.id: None for node in lab.nodes}, {node.id: False for node in lab.nodes})
         page, _ = live_page("cycle", drawing_of(lab), state, True)
@@ -144,7 +149,8 @@ class OnPage(unittest.TestCase):
 class InJournal(unittest.TestCase):
     """The table's data about events of a journal."""
 
-    def test_events(self) -> None:
+    def test_each_event_has_its_request_nodes_links_and_whether_it_is_an_edit(self) -> None:
+        """The request of an event in configuration 9 is the line of a script that makes the event again."""
         for line, (asked, nodes, links, is_edit) in EVENTS.items():
             event = Event(1, 9, tuple(line.split()))
             self.assertEqual((request(9, event.words), event.nodes, event.links, event.is_edit), (asked, nodes, links, is_edit))

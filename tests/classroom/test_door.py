@@ -1,4 +1,6 @@
-"""The door by itself, with a stand-in for the class's server: what it forwards, and what it rejects."""
+"""The door by itself, with stand-ins for the servers of classes and of pages: what it forwards, and what it rejects.
+The *door* is a TLS port for students on other machines. Clients name their network by the server name of the TLS
+handshake, and browsers by the path of a page. A *slip* is a file with what a student's program needs to connect."""
 from __future__ import annotations
 
 import contextlib
@@ -31,12 +33,12 @@ CLIENT = EXAMPLES.parent / "classroom/client.py"
 
 
 class Lines:
-    """A server that answers each line with its own name and the line. The server hangs up after `bye`, or after a last
-    line of its own."""
+    """A stand-in for a network's server. It answers each request with its own name and the request's word, and hangs up
+    after `bye`. `taken` has all lines that came."""
 
     def __init__(self, name: str, last: bytes = b"") -> None:
-        """Listens at a free port. `name` begins each answer, and `last` is sent before hanging up, if it isn't
-        empty."""
+        """Listens at a free port. `name` is in each answer. If `last` isn't empty, each connection gets this line at
+        once, and is closed."""
         self.name, self.last, self.taken = name, last, list[bytes]()
         self.listener = socket.create_server(("127.0.0.1", 0), backlog=1024)
         self.port: int = self.listener.getsockname()[1]
@@ -49,10 +51,10 @@ class Lines:
                 connection, _ = self.listener.accept()
             except OSError:
                 return
-            threading.Thread(target=self.one, args=[connection], daemon=True).start()
+            threading.Thread(target=self.serve_connection, args=[connection], daemon=True).start()
 
-    def one(self, connection: socket.socket) -> None:
-        """Serves one connection."""
+    def serve_connection(self, connection: socket.socket) -> None:
+        """Serves a connection, and closes it after `bye` or after a line that isn't a request."""
         with connection, connection.makefile("rb") as lines:
             if self.last:
                 connection.sendall(self.last)
@@ -69,10 +71,10 @@ class Lines:
 
 
 class Afterwards(Lines):
-    """A server that answers only after it has received the end of all requests."""
+    """A stand-in that answers only after the client has ended its side of the connection."""
 
-    def one(self, connection: socket.socket) -> None:
-        """Reads to the end, and then answers each line."""
+    def serve_connection(self, connection: socket.socket) -> None:
+        """Reads all lines to the end, and then sends back each line that has come so far, slowly."""
         with connection, connection.makefile("rb") as lines:
             self.taken += lines.readlines()
             for line in self.taken:
@@ -81,7 +83,7 @@ class Afterwards(Lines):
 
 
 class Page(BaseHTTPRequestHandler):
-    """A server of a page that answers with the request that it got."""
+    """A stand-in for the server of a page. It answers with the request that it got."""
 
     def log_message(self, *_: object) -> None:
         """Prints nothing."""
@@ -102,15 +104,17 @@ class AtDoor(InRoom):
     """A door on this machine, with stand-ins for networks."""
 
     def setUp(self) -> None:
+        """Makes a certificate (`known` is its fingerprint), opens a door, and waits until the door's process serves.
+        `told` gets the lines that the door prints."""
         super().setUp()
         self.told: list[str] = []
         self.known = certificate.make_if_missing(self.room / "door.pem", "localhost")
         self.door = opening.open_door(Place("127.0.0.1", 0), self.room, self.room / "door.pem", self.told.append)
-        self.addCleanup(self.ended)
+        self.addCleanup(self.end_door)
         self.wait(lambda: (kept := routes.DoorData.read(self.door.folder)) is not None and kept.process.lives())
 
-    def ended(self) -> None:
-        """Ends the process of the door."""
+    def end_door(self) -> None:
+        """Closes the door, and kills its process."""
         self.door.close()
         self.door.child.kill()
         self.door.child.wait()
@@ -124,7 +128,9 @@ class AtDoor(InRoom):
             time.sleep(0.02)
 
     def network(self, name: str, students: int, page: int | None = None, play: int | None = None) -> Path:
-        """Makes the folder of a network whose run goes on as long as this test."""
+        """Makes the door forward connections for the network `name` to the port `students` of this machine, and
+        requests for its pages to `page` (for the projector) and `play`. Returns the folder of the network's run, which
+        goes on as long as this test."""
         run = self.room / f"run-{name}"
         run.mkdir(exist_ok=True)
         routes.announce(self.door.folder, name, run, ["class.example"])
@@ -132,8 +138,9 @@ class AtDoor(InRoom):
         return run
 
     def record(self, run: Path, students: int, page: int | None = None, play: int | None = None) -> None:
-        """Writes the record of a run with these ports into its folder."""
-        me = Process.of(os.getpid())
+        """Writes the file `run.json` with these ports into the folder of a run. The token of the page to look at is
+        `look-token`."""
+        me = Process.of(os.getpid())  # This process stands for the desk and the server, so that the run goes on.
         Record("lab.toml", students, 1, page, "by-hand", None, me, me, play, looks="look-token").write(run)
 
     def lines(self, name: str, last: bytes = b"") -> Lines:
@@ -144,10 +151,11 @@ class AtDoor(InRoom):
         return it
 
     def slip(self, name: str, fingerprint: str = "") -> Slip:
-        """Returns a slip that leads to the network with this name through the door."""
+        """Returns a slip that leads to the network with this name through the door. By default it has the fingerprint
+        of the door's certificate."""
         return Slip(4711, "gus", "heron-31", (1,), f"127.0.0.1:{self.door.port}", name, fingerprint or self.known)
 
-    def files(self, slip: Slip) -> Path:
+    def slip_file(self, slip: Slip) -> Path:
         """Writes a slip into a file, and returns its path."""
         path = self.room / "gus.slip"
         path.write_text(f"port {slip.port}\nname gus\nkey heron-31\nnodes 1\ndoor {slip.door}\nnetwork {slip.network}\n"
@@ -155,7 +163,8 @@ class AtDoor(InRoom):
         return path
 
     def raw(self, name: str) -> ssl.SSLSocket:
-        """Returns a TLS connection to the door after its handshake. An empty `name` stands for no server name."""
+        """Returns a TLS connection to the door after its handshake, with the server name `name`, or without one if that
+        is empty."""
         context = ssl.SSLContext(ssl.PROTOCOL_TLS_CLIENT)
         context.check_hostname, context.verify_mode = False, ssl.CERT_NONE
         it = context.wrap_socket(socket.create_connection(("127.0.0.1", self.door.port), LIMIT), server_hostname=name or None)
@@ -163,16 +172,16 @@ class AtDoor(InRoom):
         return it
 
     def half_closed(self, name: str, lines: bytes) -> bytes:
-        """Connects to a network through the door, sends lines and the end of TLS, and returns all bytes that come after
-        that."""
+        """Connects to a network through the door, sends lines, and ends its own side of TLS. Returns all bytes that
+        come until the door ends the other side."""
         context = ssl.SSLContext(ssl.PROTOCOL_TLS_CLIENT)
         context.check_hostname, context.verify_mode = False, ssl.CERT_NONE
         come, goes, got = ssl.MemoryBIO(), ssl.MemoryBIO(), b""
         it = context.wrap_bio(come, goes, server_hostname=name)
         with socket.create_connection(("127.0.0.1", self.door.port), LIMIT) as plain:
             def done(step: Callable[[], bytes | None]) -> bytes | None:
-                """Does a step of TLS, and returns its result. Sends the bytes that the step makes, and receives those
-                that it needs."""
+                """Does a step of TLS, and returns its result. Sends the bytes that the step makes, and receives bytes
+                as long as the step needs more."""
                 while True:
                     try:
                         return step()
@@ -202,27 +211,27 @@ class AtDoor(InRoom):
 
 
 class Bots(AtDoor):
-    """Connections with lines."""
+    """Connections of clients that send lines."""
 
-    def test_each_name_leads_to_its_network(self) -> None:
+    def test_each_server_name_leads_to_its_network_and_others_to_none(self) -> None:
         for name in ("maths-1", "maths-2"):
             self.lines(name)
         for name in ("maths-1", "maths-2", "maths-1"):
             with Client.of(self.slip(name)) as me:
                 self.assertEqual(me.ask(do="look", node=1), {"ok": "look", "by": name})
-        for name in ("class.example", ""):  # The host name of a browser, or none.
+        for name in ("class.example", ""):  # the name of the door's host, as a browser sends it, and none
             it = self.raw(name)
             it.sendall(b'{"do":"look"}\n')
             self.assertEqual(it.recv(100), b"")
 
-    def test_one_network_alone_needs_no_name(self) -> None:
+    def test_if_there_is_only_one_network_its_name_is_not_needed(self) -> None:
         self.lines("maths")
         for name in ("class.example", ""):
             it = self.raw(name)
             it.sendall(b'{"do":"bye"}\n')
             self.assertEqual(json.loads(it.makefile("rb").readline()), {"ok": "bye", "by": "maths"})
 
-    def test_a_network_that_is_about_to_begin_has_no_other_s_place(self) -> None:
+    def test_a_client_whose_network_has_not_begun_is_not_led_to_the_only_other_one(self) -> None:
         seen = self.lines("maths-1").taken
         with self.assertRaises(NoServer):
             Client.of(self.slip("maths-2"))
@@ -231,24 +240,26 @@ class Bots(AtDoor):
         with Client.of(self.slip("maths-2")) as me:
             self.assertEqual(me.ask(do="look", node=1)["by"], "maths-2")
 
-    def test_a_certificate_that_is_not_the_slip_s(self) -> None:
+    def test_a_client_sends_nothing_to_a_door_with_another_certificate_than_its_slip_names(self) -> None:
         seen = self.lines("maths").taken
         other = self.slip("maths", "0" * 64)
         with self.assertRaisesRegex(NoDoor, "^the door at 127.0.0.1:.* has another certificate than your slip names, so nothing was sent$"):
             Client.of(other)
-        for words in ([str(self.files(other))], ["--tunnel", str(self.files(other))]):
+        for words in ([str(self.slip_file(other))], ["--tunnel", str(self.slip_file(other))]):
             done = subprocess.run([sys.executable, CLIENT, *words], capture_output=True, text=True, check=False, timeout=LIMIT, input="")
             self.assertEqual((done.returncode, done.stdout), (4, ""))
             self.assertRegex(done.stderr, "^client.py: the door at .* has another certificate .*; ask your teacher for a new slip\n$")
         self.assertEqual(seen, [])
 
-    def test_last_words_reach_the_client(self) -> None:
+    def test_the_server_s_last_line_reaches_the_client(self) -> None:
+        """It comes in place of the reply to the hello, and the client raises the error for it."""
         for word, error in (("busy", Refused), ("over", Over), ("late", Closed)):
             self.lines("maths", b'{"refuse":"%s"}\n' % word.encode())
             with self.assertRaises(error):
                 Client.of(self.slip("maths"))
 
-    def test_who_has_ended_the_own_side_gets_the_replies(self) -> None:
+    def test_a_client_that_has_ended_its_own_side_still_gets_the_replies(self) -> None:
+        """The client ends its side of TLS, or only that of TCP. After the latter, only the first reply is checked."""
         it = Afterwards("maths")
         self.addCleanup(it.listener.close)
         self.network("maths", it.port)
@@ -256,15 +267,16 @@ class Bots(AtDoor):
         self.assertEqual(self.half_closed("maths", lines), lines)
         plain = self.raw("maths")
         plain.sendall(lines)
-        socket.socket.shutdown(plain, socket.SHUT_WR)  # A connection that sends no byte of TLS.
+        socket.socket.shutdown(plain, socket.SHUT_WR)  # This ends the side of TCP, and sends no byte of TLS.
         self.assertEqual(plain.makefile("rb").readline(), lines[:13])
         self.assertEqual(it.taken, 2 * lines.splitlines(keepends=True))
 
-    def test_a_door_without_room_is_busy(self) -> None:
+    def test_a_door_that_closes_a_connection_before_the_handshake_counts_as_busy(self) -> None:
+        """A door does that if it has too many connections. The client raises `Refused`."""
         with socket.create_server(("127.0.0.1", 0)) as full:
             def turn_away(most: int) -> None:
-                """Reads at most `most` bytes of a connection and closes it: with a reset if some bytes weren't
-                read."""
+                """Reads at most `most` bytes of a connection, and closes it. If some bytes weren't read, the client
+                gets a reset."""
                 connection, _ = full.accept()
                 with connection:
                     connection.recv(most)
@@ -274,7 +286,7 @@ class Bots(AtDoor):
                 with self.assertRaisesRegex(Refused, "^busy: "):
                     Client.of(Slip(4711, "gus", "heron-31", (1,), f"127.0.0.1:{full.getsockname()[1]}", "maths", "0" * 64))
 
-    def test_a_network_whose_server_is_gone_and_comes_back(self) -> None:
+    def test_a_client_finds_no_server_until_its_network_has_one_again_at_another_port(self) -> None:
         first = self.lines("maths")
         with Client.of(self.slip("maths")):
             pass
@@ -288,13 +300,13 @@ class Bots(AtDoor):
         with Client.of(self.slip("maths")) as me:
             self.assertEqual(me.ask(do="see", node=1)["by"], "again")
 
-    def test_who_says_nothing_is_late(self) -> None:
+    def test_a_client_that_sends_nothing_gets_late_after_more_than_five_seconds(self) -> None:
         self.lines("maths")
         it, begun = self.raw("maths"), time.monotonic()
         self.assertEqual(it.makefile("rb").readline(), b'{"refuse":"late"}\n')
         self.assertGreater(time.monotonic() - begun, 5)
 
-    def test_a_door_that_fell_is_opened_again(self) -> None:
+    def test_a_door_whose_process_was_killed_is_opened_again(self) -> None:
         self.lines("maths")
         self.door.child.kill()
         self.wait(lambda: self.told != [])
@@ -302,11 +314,12 @@ class Bots(AtDoor):
             self.assertEqual(me.ask(do="see", node=1)["by"], "maths")
         self.assertRegex(self.told[0], "^the process of the door has ended unexpectedly, by the signal SIGKILL. The door is opened again$")
 
-    def test_it_ends_with_its_last_network(self) -> None:
+    def test_the_process_of_the_door_ends_by_itself_after_the_run_of_its_last_network(self) -> None:
         self.lines("maths")
         self.door.closes.set()
         record = Record.read(self.room / "run-maths")
         assert record is not None
+        # The process with this number has another start, so the one that the new record names counts as ended.
         gone = Process(record.run.number, "1")
         Record("lab.toml", record.port, 1, None, "by-hand", None, gone, gone).write(self.room / "run-maths")
         self.assertEqual(self.door.child.wait(LIMIT), 0)
@@ -316,11 +329,13 @@ class Bots(AtDoor):
 
 
 class Tunnels(AtDoor):
-    """`client.py --tunnel`."""
+    """`client.py --tunnel SLIP [PORT]`: a port of this machine that leads through the door. With it, programs that
+    don't support TLS can play."""
 
     @contextmanager
     def tunnel(self, slip: Path, *more: str) -> Iterator[str]:
-        """Starts a tunnel with a slip, and yields the line that names its port."""
+        """Starts a tunnel with a slip and these further arguments. Yields the line that names its port, and kills the
+        tunnel at the end."""
         with subprocess.Popen([sys.executable, CLIENT, "--tunnel", slip, *more], stdout=subprocess.PIPE, stderr=subprocess.PIPE, text=True) as it:
             try:
                 assert it.stdout is not None
@@ -328,10 +343,10 @@ class Tunnels(AtDoor):
             finally:
                 it.kill()
 
-    def test_programs_as_they_are(self) -> None:
+    def test_a_program_connects_to_the_tunnel_as_to_a_server_on_its_own_machine(self) -> None:
         self.lines("maths")
-        port = opening_port()
-        with self.tunnel(self.files(self.slip("maths")), str(port)) as line:
+        port = free_port()
+        with self.tunnel(self.slip_file(self.slip("maths")), str(port)) as line:
             self.assertEqual(line, f"port {port} of this machine leads through the door at 127.0.0.1:{self.door.port} to the network maths; "
                                    "Ctrl-C closes the tunnel\n")
             with Client(port, "gus", "heron-31") as me:
@@ -341,11 +356,11 @@ class Tunnels(AtDoor):
                 it.shutdown(socket.SHUT_WR)
                 self.assertEqual([json.loads(line)["ok"] for line in it.makefile("rb")], ["see", "bye"])
 
-    def test_wrong_words(self) -> None:
+    def test_for_wrong_arguments_a_taken_port_or_no_door_the_tunnel_prints_an_error_line(self) -> None:
         self.lines("maths")
         plain = self.room / "plain.slip"
         plain.write_text("port 4711\nname gus\nkey heron-31\n", encoding="utf-8")
-        slip = self.files(self.slip("maths"))
+        slip = self.slip_file(self.slip("maths"))
         wrong: tuple[tuple[str | Path, ...], ...] = ((plain,), (slip, "70000"), (slip, "1", "2"), ())
         for words in wrong:
             done = subprocess.run([sys.executable, CLIENT, "--tunnel", *words], capture_output=True, text=True, check=False, timeout=LIMIT)
@@ -355,13 +370,14 @@ class Tunnels(AtDoor):
                                   check=False, timeout=LIMIT)
             self.assertEqual(done.returncode, 1)
             self.assertTrue(done.stderr.endswith("; --tunnel SLIP PORT uses another port\n"), done.stderr)
-        far = Slip(4711, "gus", "k", (), f"127.0.0.1:{opening_port()}", "maths", "0" * 64)
-        done = subprocess.run([sys.executable, CLIENT, "--tunnel", self.files(far)], capture_output=True, text=True, check=False, timeout=LIMIT)
+        far = Slip(4711, "gus", "k", (), f"127.0.0.1:{free_port()}", "maths", "0" * 64)
+        done = subprocess.run([sys.executable, CLIENT, "--tunnel", self.slip_file(far)], capture_output=True, text=True,
+                              check=False, timeout=LIMIT)
         self.assertEqual(done.returncode, 4)
         self.assertIn(f"no door at {far.door}", done.stderr)
 
-    def test_slips_that_name_no_whole_door(self) -> None:
-        text = self.files(self.slip("maths")).read_text(encoding="utf-8")
+    def test_a_slip_without_a_network_a_fingerprint_or_a_door_s_host_is_refused(self) -> None:
+        text = self.slip_file(self.slip("maths")).read_text(encoding="utf-8")
         for old in ("network maths\n", f"fingerprint {self.known}\n", "127.0.0.1:"):
             (self.room / "bad.slip").write_text(text.replace(old, ""), encoding="utf-8")
             with self.assertRaises(NoSlip):
@@ -372,6 +388,7 @@ class Pages(AtDoor):
     """Requests for pages."""
 
     def setUp(self) -> None:
+        """Makes the network maths with stand-ins for its server, the page for the projector and the page to play."""
         super().setUp()
         ports = []
         for _ in range(2):
@@ -385,7 +402,8 @@ class Pages(AtDoor):
         self.addCleanup(self.bots.listener.close)
         self.network("maths", self.bots.port, self.page, self.play)
 
-    def test_the_pages_have_paths_below_the_network_s_name(self) -> None:
+    def test_requests_below_the_network_s_name_are_forwarded_to_its_pages(self) -> None:
+        """Only the headers that pages need are forwarded, and nothing reaches the network's server."""
         for path, asked, port in (("/maths/", "GET /", self.play), ("/maths/enter", "GET /enter", self.play),
                                   ("/maths/look/look-token/", "GET /look-token/", self.page),
                                   ("/maths/look/look-token/events", "GET /look-token/events", self.page)):
@@ -397,13 +415,15 @@ class Pages(AtDoor):
         self.assertEqual((told["asked"], told["body"]), ("POST /move", "told"))
         self.assertEqual(self.bots.taken, [])
 
-    def test_the_page_to_act_has_no_way_through(self) -> None:
+    def test_no_path_leads_to_the_page_to_act(self) -> None:
         for path in ("/maths/look/act-token/", "/maths/look/act-token/act", "/maths/look/look-token/../act-token/", "/maths/look/look-token%2f",
                      "/maths/look/", "/maths/act-token/act", "/maths/a/b", "/other/", "/", "/maths/look/look-token/events?x"):
             self.assertEqual(self.asks(path)[0], 404, path)
         self.assertEqual(self.asks("/maths/look/look-token/act", method="POST")[0], 404)
 
-    def test_the_page_for_all_networks(self) -> None:
+    def test_the_page_for_all_networks_can_be_looked_at_once_it_is_announced(self) -> None:
+        """No path leads to its commands, no client is led to a network named `all`, and a damaged file of the
+        announcement counts as none."""
         self.assertEqual(self.asks("/all/look/all-token/")[0], 404)
         routes.announce_all(self.door.folder, self.page, "all-token")
         for path in ("", "state", "events"):
@@ -417,12 +437,14 @@ class Pages(AtDoor):
         (self.door.folder / routes.HALL).write_text('{"port": 99999, "looks": 1}', encoding="utf-8")
         self.assertEqual(self.asks("/all/look/all-token/")[0], 404)
 
-    def test_hosts(self) -> None:
+    def test_a_request_for_an_unknown_host_or_another_port_is_refused(self) -> None:
+        """The known hosts are those of this machine and those that the slips name. An empty one stands for the right
+        address."""
         for host, status in ((f"class.example:{self.door.port}", 200), (f"localhost:{self.door.port}", 200), ("class.example", 421),
                              (f"evil.example:{self.door.port}", 421), ("127.0.0.1:1", 421), ("", 200)):
             self.assertEqual(self.asks("/maths/", host)[0], status, host)
 
-    def test_what_is_no_request(self) -> None:
+    def test_a_request_of_a_wrong_form_or_size_is_answered_with_its_status(self) -> None:
         many = b"A: " + b"x" * 9000
         for text, status in ((b"GET / HTTP/1.1\r\nA b\r\n\r\n", b"400"), (b"GARBAGE\r\n\r\n", b"400"), (b"PUT / HTTP/1.1\r\n\r\n", b"405"),
                              (b"GET / HTTP/1.1\r\n" + many + b"\r\n\r\n", b"431"), (b"GET / HTTP/1.1\r\nHost: a\r\nHost: b\r\n\r\n", b"400"),
@@ -433,40 +455,42 @@ class Pages(AtDoor):
         large = self.asks("/maths/move", method="POST", **{"Content-Length": "5000"})
         self.assertEqual(large[0], 413)
 
-    def test_no_second_request_goes_in_behind_a_first(self) -> None:
+    def test_a_second_request_on_a_connection_is_not_answered(self) -> None:
+        """Only the first request of a connection is checked, so no other may reach a page."""
         one = f"GET /maths/ HTTP/1.1\r\nHost: 127.0.0.1:{self.door.port}\r\nConnection: keep-alive\r\n\r\n".encode()
         it = self.raw("")
         it.sendall(one + b"GET /act-token/ HTTP/1.1\r\nHost: 127.0.0.1:1\r\n\r\n")
         self.assertEqual(it.makefile("rb").read().count(b"HTTP/1."), 1)
 
-    def test_a_page_s_address_without_its_slash(self) -> None:
+    def test_an_address_without_its_last_slash_leads_to_the_one_with_it(self) -> None:
         it = self.raw("")
         it.sendall(f"GET /maths HTTP/1.1\r\nHost: 127.0.0.1:{self.door.port}\r\n\r\n".encode())
         self.assertIn(b"\r\nLocation: /maths/\r\n", it.makefile("rb").read())
 
-    def test_no_page_where_the_run_has_none(self) -> None:
+    def test_if_a_run_has_no_pages_requests_for_them_get_404(self) -> None:
         self.record(self.room / "run-maths", self.bots.port)
         self.assertEqual(self.asks("/maths/"), (404, b"this class has no page for playing by hand. Ask your teacher\n"))
         self.assertEqual(self.asks("/maths/look/look-token/")[0], 404)
         self.assertEqual(self.bots.taken, [])
 
-    def test_a_slow_request_ends(self) -> None:
+    def test_a_request_that_does_not_end_is_cut_off_after_some_seconds(self) -> None:
         it = self.raw("")
         it.sendall(b"GET /maths/ HTTP/1.1\r\n")
         begun = time.monotonic()
         self.assertEqual(it.recv(100), b"")
         self.assertGreater(time.monotonic() - begun, 2)
 
-    def test_lines_where_a_page_is_expected(self) -> None:
+    def test_a_client_may_send_lines_with_the_server_name_of_a_browser(self) -> None:
         it = self.raw("localhost")
         it.sendall(b'{"do":"see"}\n')
         self.assertEqual(json.loads(it.makefile("rb").readline())["by"], "maths")
 
 
 class Crowds(AtDoor):
-    """Very many connections, none of which is correct."""
+    """Very many connections, none of which is correct, and a client that plays meanwhile."""
 
-    def test_slow_handshakes_end_and_leave_room(self) -> None:
+    def test_slow_handshakes_are_ended_and_meanwhile_a_client_can_connect(self) -> None:
+        """The door has as many handshakes of this address as it allows at a time, and each is ended in the end."""
         self.lines("maths")
         slow = []
         for _ in range(bounds.HANDSHAKES_EACH):
@@ -485,7 +509,9 @@ class Crowds(AtDoor):
                 pass
         self.assertLess(time.monotonic() - begun, LIMIT)
 
-    def test_garbage_and_a_thousand_connections(self) -> None:
+    def test_a_thousand_wrong_connections_stop_neither_the_door_nor_a_client_for_ever(self) -> None:
+        """They send nothing, garbage, parts of requests or handshakes, or lines without TLS. At the end the door's
+        process has closed their sockets, and has printed no error."""
         self.lines("maths")
         crowd = []
         for number in range(1000):
@@ -517,9 +543,11 @@ class Crowds(AtDoor):
 
 
 class Counts(unittest.TestCase):
-    """The counts of connections by address."""
+    """The limits of a door by themselves, and the forms of its requests, addresses and names. The origin of a
+    connection is the address by which it is counted."""
 
-    def test_connections(self) -> None:
+    def test_connections_are_limited_for_each_origin_and_in_all(self) -> None:
+        """Nothing is kept about an origin without connections."""
         it = Bounds()
         with mock.patch.multiple(bounds, CONNECTIONS=5, CONNECTIONS_EACH=3):
             self.assertEqual([it.enter("a") for _ in range(4)], [True, True, True, False])
@@ -530,7 +558,8 @@ class Counts(unittest.TestCase):
             it.leave(of)
         self.assertEqual((it.connections, it.meters), ({}, {}))
 
-    def test_the_oldest_handshake_of_who_has_most_ends(self) -> None:
+    def test_one_handshake_too_many_ends_the_oldest_one_of_the_origin_with_the_most(self) -> None:
+        """The limits are three for an origin and five in all."""
         it, ended = Bounds(), list[str]()
 
         def begin(name: str) -> None:
@@ -546,7 +575,8 @@ class Counts(unittest.TestCase):
             begin("d1")
             self.assertEqual(ended, ["a1", "a2"])
 
-    def test_bytes(self) -> None:
+    def test_bytes_beyond_the_rate_have_to_wait_and_two_seconds_of_the_rate_may_come_at_once(self) -> None:
+        """The rate is a hundred bytes a second."""
         now = [0.0]
         it = Meter(100, lambda: now[0])
         self.assertEqual(it.spend(200), 0)
@@ -556,18 +586,18 @@ class Counts(unittest.TestCase):
         now[0] = 100.0
         self.assertEqual(it.spend(300), 1.0)
 
-    def test_addresses(self) -> None:
+    def test_an_ipv4_address_is_an_origin_and_so_is_a_network_of_ipv6_addresses(self) -> None:
         for address, of in (("192.0.2.7", "192.0.2.7"), ("::ffff:192.0.2.7", "192.0.2.7"), ("2001:db8::7", "2001:db8::/64"),
                             ("2001:db8:0:0:9::1", "2001:db8::/64"), ("fe80::1%eth0", "fe80::/64"), ("?", "?")):
             self.assertEqual(origin(address), of)
 
-    def test_heads(self) -> None:
+    def test_a_page_gets_only_the_needed_headers_and_a_request_to_a_proxy_is_refused(self) -> None:
         asked = RequestHead.read(b"POST /maths/move HTTP/1.1\r\nHost: a\r\nContent-Length: 12\r\nX-Any: 1\r\n\r\n")
         self.assertEqual(asked.head_for_page(80, "/move"), b"POST /move HTTP/1.0\r\nHost: 127.0.0.1:80\r\nConnection: close\r\nContent-Length: 12\r\n\r\n")
         with self.assertRaises(BadRequest):
             RequestHead.read(b"GET http://a/ HTTP/1.1\r\n\r\n")
 
-    def test_places_and_names(self) -> None:
+    def test_addresses_of_doors_are_read_as_they_are_written_and_names_of_labs_become_host_names(self) -> None:
         for word, place in (("4700", Place("", 4700)), ("class.example:4700", Place("class.example", 4700)), ("[::1]:4700", Place("::1", 4700))):
             self.assertEqual(Place.of(word), place)
             self.assertEqual(place.told().removeprefix(":"), word)
@@ -581,7 +611,8 @@ class Counts(unittest.TestCase):
 class Certificates(InRoom):
     """The door's certificate."""
 
-    def test_one_is_made_once(self) -> None:
+    def test_a_certificate_for_a_host_is_made_only_if_there_is_none(self) -> None:
+        """Only its owner can read its file. The program openssl reads the same fingerprint and the host from it."""
         file = self.room / "door.pem"
         known = certificate.make_if_missing(file, "class.example")
         self.assertRegex(known, "^[0-9a-f]{64}$")
@@ -591,7 +622,7 @@ class Certificates(InRoom):
         self.assertIn(known, told.replace(":", "").lower())
         self.assertIn("DNS:class.example", told)
 
-    def test_none_can_be_had(self) -> None:
+    def test_without_openssl_or_with_a_damaged_file_or_a_wrong_host_name_there_is_no_certificate(self) -> None:
         why = "the door has no certificate yet, and the program openssl, which makes one, isn't installed"
         with mock.patch("shutil.which", return_value=None), self.assertRaisesRegex(Fault, why):
             certificate.make_if_missing(self.room / "door.pem", "class.example")
@@ -603,14 +634,14 @@ class Certificates(InRoom):
         with self.assertRaisesRegex(Fault, "^this machine calls itself 'my_pc', but a certificate's name may contain only letters, digits, dots and hyphens"):
             certificate.make(self.room / "a.pem", "my_pc")
 
-    def test_a_port_that_is_taken(self) -> None:
+    def test_a_door_is_not_opened_at_a_port_that_is_taken(self) -> None:
         certificate.make_if_missing(self.room / "door.pem", "localhost")
         with socket.create_server(("127.0.0.1", 0)) as taken, self.assertRaisesRegex(Fault, "^the door can't be opened at 127.0.0.1:"):
             opening.open_door(Place("127.0.0.1", taken.getsockname()[1]), self.room, self.room / "door.pem", print)
 
 
-def opening_port() -> int:
-    """Returns a free port."""
+def free_port() -> int:
+    """Returns a port that is free at this moment."""
     with socket.create_server(("127.0.0.1", 0)) as it:
         port: int = it.getsockname()[1]
     return port

@@ -1,4 +1,6 @@
-"""Connections to the port of a page: their number and their time are limited."""
+"""Connections to the port of a page: their number and their time are limited. At most CONNECTIONS are served at a time,
+a request has ASKING seconds, and so has the page to receive each answer. Other tests are about the *door*, the port for
+students on other machines."""
 from __future__ import annotations
 
 import http.client
@@ -20,18 +22,22 @@ from tests.classroom.help import CYCLE, LIMIT, a_port
 
 
 class Doors(unittest.TestCase):
-    """Pages of a run in which nobody plays."""
+    """The page for the projector. `path` is one for which the answer is 404. `page` is the path of the page, and
+    `posts` one that accepts requests with a body."""
 
     path = "/"
     posts = "/act"
 
     def setUp(self) -> None:
+        """Opens the page's server. `told` gets its lines about errors, and `threads` is the number of threads
+        before."""
         self.told: list[str] = []
         self.threads = threading.active_count()
         self.port = self.opened(a_port()).server_port
 
     def opened(self, port: int) -> Web:
-        """Returns the server of the page for the projector, at this port or the next free one."""
+        """Starts and returns the server of the page for the projector, at this port or the next free one. Sets `page`
+        and `posts`."""
         pages = open_pages(port, "cycle", read(CYCLE), queue.SimpleQueue())
         pages.show(Present(State(0, 0, frozenset()), "by-hand"), self.told.append)
         self.addCleanup(pages.stop)
@@ -49,7 +55,8 @@ class Doors(unittest.TestCase):
         return it
 
     def asks(self) -> int:
-        """Requests the page. Returns the status of the answer, or 0 if there is none."""
+        """Sends a request for `path`. Returns the status of the answer: 404, or 0 if the connection ends without an
+        answer."""
         connection = http.client.HTTPConnection("127.0.0.1", self.port, timeout=LIMIT)
         try:
             connection.request("GET", self.path)
@@ -60,10 +67,10 @@ class Doors(unittest.TestCase):
             connection.close()
 
     def request(self, method: str, path: str, *heads: str) -> bytes:
-        """Returns the bytes of a request."""
+        """Returns the bytes of a request with these headers and without a body."""
         return "\r\n".join([f"{method} {path} HTTP/1.1", f"Host: 127.0.0.1:{self.port}", *heads, "", ""]).encode("ascii")
 
-    def test_a_size_of_many_digits_is_no_error_of_the_page(self) -> None:
+    def test_a_size_of_many_digits_gets_404_and_is_no_error_of_the_server(self) -> None:
         for size in ("9" * 5000, "0" * 5000 + "1", "-1", "1e3", "4" * 10):
             with self.subTest(digits=len(size)):
                 it = self.connect()
@@ -71,7 +78,8 @@ class Doors(unittest.TestCase):
                 self.assertTrue(it.makefile("rb").readline().startswith(b"HTTP/1.0 404 "), size[:10])
         self.assertEqual(self.told, [])
 
-    def test_an_error_of_one_kind_is_told_once(self) -> None:
+    def test_of_errors_of_the_server_only_the_first_of_each_kind_is_printed(self) -> None:
+        """Errors of the same class in the same line are of one kind, whatever their texts."""
         numbers = iter(range(1000))
 
         def fails(_: object) -> bool:
@@ -85,8 +93,9 @@ class Doors(unittest.TestCase):
             self.assertEqual(self.asks(), 0)
         self.assertEqual([line.partition(": ")[2] for line in self.told], ["ValueError: the 0th", "KeyError: 'another'"])
 
-    def test_who_takes_no_answer_has_five_seconds(self) -> None:
-        """The page is larger than the system's buffer for a connection that doesn't read."""
+    def test_connections_that_do_not_read_the_answer_are_ended_and_leave_room(self) -> None:
+        """The page is larger than the system's buffer for such a connection. As many of them as are served at a time
+        keep others out, but only for a while."""
         with mock.patch("classroom.pages.projector.live_page", return_value=("x" * 1_000_000, "")):
             begun = time.monotonic()
             for _ in range(CONNECTIONS):
@@ -95,25 +104,26 @@ class Doors(unittest.TestCase):
                 it.setsockopt(socket.SOL_SOCKET, socket.SO_RCVBUF, 1)
                 it.connect(("127.0.0.1", self.port))
                 it.sendall(self.request("GET", self.page))
-            self.assertEqual(self.asks(), 0, "more are let in than there is room for")
+            self.assertEqual(self.asks(), 0, "more connections are served than CONNECTIONS")
             while self.asks() != 404:
-                self.assertLess(time.monotonic() - begun, 45, "the page is locked")
+                self.assertLess(time.monotonic() - begun, 45, "no other connection is served")
                 time.sleep(0.1)
 
-    def test_many_who_come_at_once_are_heard(self) -> None:
+    def test_a_hundred_connections_can_be_made_before_the_server_accepts_one(self) -> None:
         web = self.unserved()
         self.addCleanup(web.close)
         for _ in range(100):
             it = socket.create_connection(("127.0.0.1", web.server_port), 20)
             self.addCleanup(it.close)
 
-    def test_idle_connections_use_up_no_threads(self) -> None:
+    def test_idle_connections_get_no_more_threads_than_connections_are_served(self) -> None:
+        """The others are closed. The time limit for requests is so long here that it doesn't end the idle ones."""
         self.assertEqual(self.asks(), 404)
         with mock.patch("classroom.pages.web.ASKING", 10 * LIMIT):
             idle = [self.connect() for _ in range(2 * CONNECTIONS)]
             begun = time.monotonic()
             while len(select.select(idle, [], [], 0.1)[0]) < CONNECTIONS:
-                self.assertLess(time.monotonic() - begun, LIMIT, "nobody is hung up on")
+                self.assertLess(time.monotonic() - begun, LIMIT, "no connection is closed")
             self.assertLessEqual(threading.active_count(), self.threads + CONNECTIONS + 1)
         for it in idle:
             it.close()
@@ -123,12 +133,13 @@ class Doors(unittest.TestCase):
             time.sleep(0.05)
         self.assertEqual(status, 404)
 
-    def test_who_is_silent_has_five_seconds(self) -> None:
+    def test_a_connection_that_sends_nothing_is_closed_but_not_at_once(self) -> None:
         begun, it = time.monotonic(), self.connect()
         self.assertEqual(it.recv(1), b"")
         self.assertGreater(time.monotonic() - begun, ASKING / 2)
 
-    def test_a_request_in_pieces_has_five_seconds(self) -> None:
+    def test_a_request_that_comes_byte_by_byte_is_cut_off_but_not_at_once(self) -> None:
+        """The server then answers others."""
         begun, it = time.monotonic(), self.connect()
         it.settimeout(0.5)
         for byte in b"GET / HTTP/1.1\r\nHost: 127.0.0.1\r\n" * 100:
@@ -146,12 +157,13 @@ class Doors(unittest.TestCase):
 
 
 class DoorsOfHands(Doors):
-    """The page to play by hand, on which nobody has entered."""
+    """The same tests for the page to play by hand, on which nobody has entered."""
 
     path = "/events"
 
     def opened(self, port: int) -> Web:
-        """Returns the server of the page to play by hand, at this port or the next free one."""
+        """Starts and returns the server of the page to play by hand, at this port or the next free one. Sets `page` and
+        `posts`."""
         hands = open_play_page(port, "cycle", read(CYCLE))
         hands.show(1, self.told.append)
         self.addCleanup(hands.stop)

@@ -1,4 +1,5 @@
-"""Failures while bots are tried: full disks, missing labs, no browser, programs that misbehave."""
+"""Failures while bots are tried: full disks, missing labs, no browser, programs that misbehave. Grading has *records*,
+the folders with the files of its cases, and *tables*, files with the results."""
 from __future__ import annotations
 
 import argparse
@@ -19,13 +20,14 @@ from classroom.core.program import TOP
 from tests.classroom.help import CLASS, EXAMPLES, LIMIT, InRoom, words
 
 FAULTY = TOP / "tests/classroom/bots/faulty.py"
-SLEEP = b"98765.25"
-# Mounts a disk at $1 on which no byte is free.
+SLEEP = b"98765.25"  # an argument of the processes that bots of `faulty.py` leave running
+# A command of a shell that mounts a disk at $1, fills it, and then runs the other words.
 FULL = 'mount -t tmpfs -o size=64k none "$1" && head -c 1000000 /dev/zero > "$1/filler" 2> /dev/null; shift; exec "$@"'
 
 
 def full_disk(test: InRoom) -> tuple[Path, tuple[str, ...]]:
-    """Returns a folder, and the words to put before a call, so that the folder is a full disk in it."""
+    """Returns a folder, and the words to put before a call, so that the folder is a full disk in it. Skips the test if
+    nothing can be mounted."""
     disk = test.room / "disk"
     disk.mkdir()
     for way in (["unshare", "-m"], ["unshare", "-rm"]):
@@ -39,18 +41,19 @@ class Disks(InRoom):
     """Records and tables for which there is no room."""
 
     def setUp(self) -> None:
+        """Makes a folder with a single lab."""
         super().setUp()
         (self.room / "labs").mkdir()
         shutil.copy(EXAMPLES / "path.toml", self.room / "labs")
 
     def grades(self, before: tuple[str, ...], *more: str | Path) -> subprocess.CompletedProcess[str]:
-        """Grades a correct bot and one that doesn't exist, with `before` as words before the call. Returns the
-        result."""
+        """Grades a correct bot and one that doesn't exist, each in one case. `before` are words before the call, and
+        `more` further options. Returns the result of the call."""
         given = ("grade", EXAMPLES / "bot.py", "no-such-bot", "--labs", self.room / "labs", "--daemon", "synchronous", "--timeout", "100")
         call: list[str | Path] = [*before, sys.executable, TOP / "class", *given, *more]
         return subprocess.run(call, stdin=subprocess.DEVNULL, capture_output=True, text=True, check=False, timeout=LIMIT)
 
-    def test_records_that_do_not_fit_take_no_result_away(self) -> None:
+    def test_results_are_printed_although_records_do_not_fit_on_the_disk(self) -> None:
         disk, before = full_disk(self)
         table = self.room / "cases.json"
         done = self.grades(before, "--into", disk, "--json", table)
@@ -59,7 +62,7 @@ class Disks(InRoom):
         self.assertIn("bot.py: 1 of 1 cases passed\nno-such-bot: not tried: the bot can't be started\n", done.stdout)
         self.assertEqual([each["passed"] for each in json.loads(table.read_text(encoding="utf-8"))], [True, False])
 
-    def test_a_table_that_does_not_fit_takes_no_other_away(self) -> None:
+    def test_a_table_is_written_although_another_one_does_not_fit_on_its_disk(self) -> None:
         disk, before = full_disk(self)
         junit = self.room / "cases.xml"
         done = self.grades(before, "--into", self.room / "grades", "--json", disk / "cases.json", "--junit", junit)
@@ -69,7 +72,8 @@ class Disks(InRoom):
         self.assertIn("bot.py: 1 of 1 cases passed\n", done.stdout)
         self.assertIn("</testsuites>", junit.read_text(encoding="utf-8"))
 
-    def test_an_experiment_names_the_file_that_does_not_fit(self) -> None:
+    def test_an_experiment_names_the_file_that_does_not_fit_and_how_to_continue(self) -> None:
+        """First the table is on the full disk, and then the chart. In the latter case, all runs are made."""
         disk, before = full_disk(self)
         call: list[str | Path] = [*before, sys.executable, TOP / "class", "experiment", "--family", "path", "--nodes", "4", "--runs", "2"]
         rows: tuple[tuple[tuple[str | Path, ...], str], ...] = (
@@ -85,14 +89,14 @@ class Disks(InRoom):
         self.assertIn("4 of 4 runs are done, all within the proved bounds", done.stdout)
         self.assertEqual(len((self.room / "runs.csv").read_text(encoding="utf-8").splitlines()), 5)
 
-    def test_practice_says_where_there_may_be_room(self) -> None:
+    def test_practise_on_a_full_disk_suggests_another_folder(self) -> None:
         disk, before = full_disk(self)
         done = subprocess.run([*before, sys.executable, TOP / "class", "practise", EXAMPLES / "bot.py", "--into", disk],
                               capture_output=True, text=True, check=False, timeout=LIMIT)
         self.assertEqual((done.returncode, done.stderr.count("\n")), (4, 1), done.stderr)
         self.assertRegex(done.stderr, f"^class: {disk}/2.*-practise: No space left on device; name another folder by --into$")
 
-    def test_a_bot_without_room_of_its_own_is_not_tried(self) -> None:
+    def test_a_bot_whose_slip_can_not_be_written_is_not_tried(self) -> None:
         told = argparse.Namespace(timeout=20.0, memory=512, own_rule=False, at_once=2)
         plan = suites.SMALL[0]
         case = suites.planned(plan, 1, plan.daemon)
@@ -108,21 +112,24 @@ class AtHome(InRoom):
     """Programs that misbehave while a student practises."""
 
     def practises(self, bot: str, seconds: str = "3") -> str:
-        """Returns the output of `practise` with a bot that hangs or ends, within these seconds."""
+        """Practises with a bot that hangs or ends. The run is given up if nothing happens for `seconds` seconds.
+        Returns the output, and fails if the status isn't 5."""
         done = words("practise", bot, "--family", "path", "--nodes", "3", "--start", "clean", "--daemon", "synchronous", "--timeout", seconds,
                      "--into", self.room / "runs")
         self.assertEqual(done.returncode, 5, done.stdout + done.stderr)
         self.assertRegex(done.stdout, r"(?m)^page: .*/run.html; all lines and replies: .*/conversation.txt$")
         return done.stdout
 
-    def test_bytes_replies_and_silence(self) -> None:
+    def test_practise_says_that_a_bot_sent_bytes_or_that_nothing_has_happened(self) -> None:
         self.assertIn("\nyou: a line is refused as malformed: the line isn't UTF-8 at byte 1; the line is \\x80\\x81",
                       self.practises(f"python3 {FAULTY} binary", "15"))
         for fault in ("pretends", "hangs"):
             self.assertRegex(self.practises(f"python3 {FAULTY} {fault}"),
                              r"(?m)^the run is given up, since nothing has happened for 3 seconds; it waits for \w+ at node 1 \(")
 
-    def test_nothing_stays_of_what_it_started(self) -> None:
+    def test_when_practise_has_ended_no_process_of_the_bot_is_left(self) -> None:
+        """The bot starts a program in a session of its own, and ends. Other tests may run such bots at the same time,
+        so the test waits until none of these programs is left."""
         told = self.practises(f"python3 {FAULTY} forks", str(LIMIT))
         self.assertIn("\nyou: the bot ended by itself, with status 0\n", told)
         end = time.monotonic() + LIMIT
@@ -130,7 +137,8 @@ class AtHome(InRoom):
             self.assertLess(time.monotonic(), end)
             time.sleep(0.05)
 
-    def test_no_browser_is_needed(self) -> None:
+    def test_practise_needs_no_browser(self) -> None:
+        """In this environment no browser is found, and the page is written into its file all the same."""
         (self.room / "bin").mkdir()
         (self.room / "bin/python3").symlink_to(sys.executable)
         done = words("practise", EXAMPLES / "bot.py", "--nodes", "4", "--into", self.room / "runs", PATH=str(self.room / "bin"),
@@ -141,7 +149,8 @@ class AtHome(InRoom):
 
 
 def cmdline(process: Path) -> list[bytes]:
-    """Returns the words of a process."""
+    """Returns the words of a process's command line. `process` is its folder in /proc. Returns none if it has ended, or
+    if this isn't the folder of a process."""
     try:
         return (process / "cmdline").read_bytes().split(b"\0") if process.name.isdecimal() else []
     except OSError:
@@ -149,9 +158,9 @@ def cmdline(process: Path) -> list[bytes]:
 
 
 class Folders(InRoom):
-    """Files that aren't labs."""
+    """Folders without correct labs."""
 
-    def test_each_is_a_line_with_the_remedy(self) -> None:
+    def test_for_a_missing_folder_no_labs_or_a_wrong_one_a_line_says_what_to_do(self) -> None:
         (self.room / "empty").mkdir()
         (self.room / "wrong").mkdir()
         (self.room / "wrong/one.toml").write_bytes(os.urandom(50))

@@ -1,4 +1,6 @@
-"""`./class experiment`: its table, its chart, and a run that exceeds a bound, which is saved."""
+"""`./class experiment`: its table, its chart, and a run that exceeds a bound, which is saved. A *row* of the table has
+the numbers of moves, closed steps and rounds of a run. A run is determined by its setting (the network's family and
+size, the daemon and the start) and its seed."""
 from __future__ import annotations
 
 import csv
@@ -24,6 +26,7 @@ from classroom.core.tally import Bounds
 from classroom.run.daemons import Daemon, heads, movers
 from tests.classroom.help import LIMIT, InRoom, words
 
+# The options of an experiment with 54 runs: three families, three sizes, three daemons, and two seeds.
 TINY = ("--family", "path,star,random", "--nodes", "3..5", "--daemon", "central,synchronous,random:0.5", "--runs", "2")
 
 
@@ -34,9 +37,12 @@ def read(path: Path) -> list[dict[str, str]]:
 
 
 class Counts(unittest.TestCase):
-    """Rounds and coins."""
+    """Counted rounds, and the nodes that daemons choose."""
 
-    def test_rounds_by_their_definition(self) -> None:
+    def test_a_round_ends_when_each_node_has_moved_or_was_not_privileged(self) -> None:
+        """A `Recovery` counts the moves, steps and rounds. `step` has the nodes that moved, and those that are
+        privileged after the step. The numbers at the end are the proved bounds for some networks, given by nodes and
+        links."""
         one = Recovery([1, 2, 3])
         one.step([1], [2, 3])
         self.assertEqual(one.rounds, 0)
@@ -56,7 +62,8 @@ class Counts(unittest.TestCase):
         self.assertEqual([most.rounds for most in told], [1, 4, 5, 8, 8, 8, 9])
         self.assertEqual([most.events for most in told], [6, 16, 26, 36, 40, 40, 54])
 
-    def test_daemons_choose_as_they_say(self) -> None:
+    def test_each_daemon_chooses_as_many_nodes_as_its_definition_says(self) -> None:
+        """A random daemon tosses coins, but chooses a node even if no coin shows heads."""
         chance = random.Random(1)
         self.assertEqual(movers(Daemon("synchronous"), [3, 1, 2], chance), [3, 1, 2])
         self.assertEqual({len(movers(Daemon("central"), [3, 1, 2], chance)) for _ in range(50)}, {1})
@@ -69,27 +76,30 @@ class Counts(unittest.TestCase):
 class Runs(InRoom):
     """Runs of experiments with the program."""
 
-    def test_the_same_seed_gives_the_same_row_in_any_company(self) -> None:
+    def test_a_run_has_the_same_row_alone_and_among_other_runs(self) -> None:
         setting = Setting("cycle", 7, Daemon("random", 0.5), "random")
         together = [row for row, _ in runs(setting, [3, 4, 5])]
         self.assertEqual([row for row, _ in runs(setting, [5])], together[2:])
         self.assertTrue(all(row.stable and row.moves > 0 for row in together))
 
-    def test_daemons_that_go_by_the_clock(self) -> None:
+    def test_under_timed_daemons_runs_become_stable_and_have_the_same_row_again(self) -> None:
         for how in (Daemon("every", 0.5), Daemon("when-idle", 0.2)):
             setting = Setting("cycle", 7, how, "random")
             rows = [row for row, _ in runs(setting, [3, 4])]
             self.assertEqual([row for row, _ in runs(setting, [4])], rows[1:])
             self.assertTrue(all(row.stable and row.rounds <= row.closes <= row.moves for row in rows), rows)
 
-    def test_one_program_after_another_where_events_are_used_up(self) -> None:
+    def test_runs_are_the_same_if_a_new_program_is_started_when_events_are_used_up(self) -> None:
+        """Each program may have only 250 events here, fewer than all runs need."""
         setting = Setting("path", 5, Daemon("central"), "random")
         wanted = runs(setting, list(range(6)))
         few = replace(limits.allowed(), events=250)
         with unittest.mock.patch.object(limits, "allowed", return_value=few):
             self.assertEqual(runs(setting, list(range(6))), wanted)
 
-    def test_a_run_that_breaks_what_is_proved_is_kept_whole(self) -> None:
+    def test_a_run_that_exceeds_a_bound_is_saved_with_its_lab_and_script(self) -> None:
+        """The bound on rounds is taken as 0, so a run with a round exceeds it. The program grants all requests of the
+        script, and they have the moves and steps of the run's row."""
         setting = Setting("cycle", 6, Daemon("synchronous"), "random")
         most = replace(bounds.of(6, 6), rounds=0)
         with unittest.mock.patch.object(bounds, "of", return_value=most):
@@ -104,7 +114,7 @@ class Runs(InRoom):
         self.assertTrue(replies[-1]["stable"])
         self.assertRegex(call("audit", folder / "lab.toml", folder / "journal").output, ", stable$")
 
-    def test_clean_starts_are_those_of_the_lab(self) -> None:
+    def test_a_clean_start_has_empty_registers(self) -> None:
         made = drawn(Setting("tree", 6, Daemon("central"), "clean"), 1)
         self.assertTrue(all(node.p is None and not node.m for node in made.nodes))
 
@@ -112,7 +122,8 @@ class Runs(InRoom):
 class Words(InRoom):
     """The subcommand."""
 
-    def test_the_table_has_a_row_for_each_number_of_nodes(self) -> None:
+    def test_the_printed_table_has_a_line_for_each_number_of_nodes_and_names_the_run_closest_to_a_bound(self) -> None:
+        """A line has the number of runs, and the median, maximum and bound of the moves and of the rounds."""
         rows = [Row("path", nodes, nodes - 1, "central", "random", seed, moves, moves, 1, True)
                 for nodes, seed, moves in ((4, 1, 3), (4, 2, 9), (4, 3, 4), (8, 1, 20), (8, 2, 10))]
         with unittest.mock.patch.object(bounds, "of", side_effect=lambda nodes, links: Bounds(5 * nodes, 2 * nodes, 0)):
@@ -122,7 +133,7 @@ class Words(InRoom):
         self.assertIn("closest to the bounds", " ".join(lines[3]))
         self.assertIn("20 of at most 40 moves (8 nodes, seed 1)", " ".join(lines[3]))
 
-    def test_a_table_and_a_chart_and_going_on(self) -> None:
+    def test_the_table_and_the_chart_have_all_runs_also_after_an_interruption(self) -> None:
         table, plot = self.room / "runs.csv", self.room / "runs.svg"
         done = words("experiment", *TINY, "--csv", table, "--plot", plot)
         self.assertEqual(done.returncode, 0, done.stdout + done.stderr)
@@ -147,17 +158,18 @@ class Words(InRoom):
         titles = [each.text for each in picture.iter("{http://www.w3.org/2000/svg}text") if each.get("class") == "title"]
         self.assertEqual(titles, [f"{family}, {daemon}" for daemon in ("central", "random:0.5", "synchronous")
                                   for family in ("path", "random", "star")])
-        # An experiment that is interrupted in the middle of a row continues, and has the same table in the end.
+        # The table ends in the middle of a row, as after an interruption. The same command makes the missing runs.
         lines = table.read_text(encoding="utf-8").splitlines(keepends=True)
         table.write_text("".join(lines[:20]) + lines[20][:9], encoding="utf-8")
         again = words("experiment", *TINY, "--csv", table)
         self.assertIn(f"already in {table}, and not repeated: 19 runs\n", again.stdout)
         self.assertEqual(sorted(table.read_text(encoding="utf-8").splitlines()), sorted(line.rstrip("\n") for line in lines))
 
-    def test_an_interrupt_keeps_what_is_there(self) -> None:
+    def test_an_interrupt_keeps_the_rows_that_are_in_the_table(self) -> None:
         table = self.room / "runs.csv"
         going = subprocess.Popen([sys.executable, TOP / "class", "experiment", "--nodes", "30", "--runs", "20000", "--csv", table],
                                  stdout=subprocess.PIPE, stderr=subprocess.STDOUT, text=True,
+                                 # The signal isn't ignored there, even if it is in this process.
                                  preexec_fn=partial(signal.signal, signal.SIGINT, signal.SIG_DFL))
         while not table.exists() or table.read_text(encoding="utf-8").count("\n") < 2:
             self.assertIsNone(going.poll())
@@ -167,7 +179,7 @@ class Words(InRoom):
         self.assertIn("interrupted: run the same command again to continue", output)
         self.assertLess(0, len(read(table)))
 
-    def test_what_is_no_experiment(self) -> None:
+    def test_wrong_arguments_get_an_error_line_and_another_file_is_not_changed(self) -> None:
         other = self.file("other.csv", "name,mark\nana,1\n")
         rows: tuple[tuple[tuple[str | Path, ...], str], ...] = (
             (("--csv", other), "this file isn't a table of class experiment, so it isn't changed"),
@@ -185,7 +197,7 @@ class Words(InRoom):
 class InTheReadme(InRoom):
     """The chart that README.md shows."""
 
-    def test_its_command_draws_it(self) -> None:
+    def test_the_command_in_the_readme_draws_its_chart_byte_for_byte(self) -> None:
         shown = re.search(r"(?m)^    ./class (experiment .*) --plot runs.svg$", (TOP / "README.md").read_text(encoding="utf-8"))
         assert shown is not None
         drawn_now, table = self.room / "runs.svg", self.room / "runs.csv"
@@ -195,9 +207,9 @@ class InTheReadme(InRoom):
 
 
 class Forms(unittest.TestCase):
-    """Reading and writing rows."""
+    """Reading and writing rows of the table."""
 
-    def test_rows_are_read_as_they_are_written(self) -> None:
+    def test_a_row_is_written_as_a_line_from_which_it_can_be_read(self) -> None:
         row = Row("random:6:9", 6, 9, "random:0.5", "hurt", 3, 12, 9, 4, True)
         line = experiment.line_of(row)
         self.assertEqual(line, "random:6:9,6,9,random:0.5,hurt,3,12,9,4,true\n")

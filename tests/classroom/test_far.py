@@ -1,5 +1,6 @@
-"""A class whose students are at another machine: 44 students in four networks through one door. One of them gets
-another key meanwhile."""
+"""Classes whose students are at another machine: 44 students in four networks through one door, and a student who gets
+another key during a class. The *door* is the only port of the teacher's machine that others can reach. The machines are
+network namespaces."""
 from __future__ import annotations
 
 import csv
@@ -23,6 +24,7 @@ from tests.classroom.machines import TEACHERS, Machine, can_be_made, two
 
 CROWD = Path(__file__).parent / "bots/crowd.py"
 CLIENT = EXAMPLES.parent / "classroom/client.py"
+# Programs of Python: one connects to an address and a port, the other prints the status and size of a page.
 REACHES = "import socket, sys; socket.create_connection((sys.argv[1], int(sys.argv[2])), 20)"
 GETS = ("import http.client, ssl, sys; it = http.client.HTTPSConnection(sys.argv[1], int(sys.argv[2]), timeout=60, context=ssl._create_unverified_context()); "
         "it.request('GET', sys.argv[3]); answer = it.getresponse(); print(answer.status, len(answer.read()))")
@@ -34,12 +36,15 @@ class Far(InRoom):
     """Classes through a door."""
 
     def setUp(self) -> None:
+        """Makes the teacher's machine and that of the students. `port` is that of the door, and `told` a file to which
+        the students' bots append their names."""
         super().setUp()
         self.teachers, self.students = self.enterContext(two())
         self.port, self.told = a_port(), self.room / "told"
 
     def new(self, count: int, *more: str) -> list[Path]:
-        """Makes labs for this number of students in two rooms. Returns their files."""
+        """Makes one or several labs for this number of students, who are in two rooms in turn. `more` are options of
+        `new`. Returns the labs' files."""
         rows = "".join(f"Student {number},s{number}@x.example,{'A 1' if number % 2 else 'B 2'}\n" for number in range(count))
         students = self.file("list.csv", f"Name,Email address,Room\n{rows}")
         done = words("new", self.room / "maths.toml", "--students", students, "--door", f"{TEACHERS}:{self.port}", "--start", "hurt", *more)
@@ -57,7 +62,7 @@ class Far(InRoom):
                 it.kill()
 
     def greeted(self) -> list[str]:
-        """Returns the name of each granted hello so far."""
+        """Returns the names of the students whose bots have greeted so far, one for each granted hello."""
         return self.told.read_text(encoding="utf-8").split() if self.told.exists() else []
 
     def reaches(self, machine: Machine, port: int) -> bool:
@@ -71,7 +76,9 @@ class Far(InRoom):
         status, size = map(int, done.stdout.split())
         return status, size
 
-    def test_four_networks_and_forty_four_students(self) -> None:
+    def test_forty_four_students_play_in_four_networks_through_one_door(self) -> None:
+        """Only the door can be reached. A server that is killed is resumed. In the end all networks are stable, and the
+        marks have all students."""
         labs = self.new(44, "--groups-by", "Room")
         self.assertEqual([lab.stem for lab in labs], ["maths-1", "maths-2", "maths-3", "maths-4"])
         with (self.room / "maths-slips.csv").open(encoding="utf-8", newline="") as it:
@@ -95,7 +102,8 @@ class Far(InRoom):
                 self.assertEqual(self.gets(f"/{lab.stem}/")[0], 200)
                 self.assertEqual(self.gets(f"/{lab.stem}/look/{record['looks']}/")[0], 200)
             path = self.page_for_all(runs[0].parent, [record["looks"] for record in records])
-            self.killed(3, records[2]["server"]["number"], path, run, {Path(row["file"]).stem for row in rows if row["network"] == "maths-3"})
+            in_third = {Path(row["file"]).stem for row in rows if row["network"] == "maths-3"}
+            self.kill_and_resume(3, records[2]["server"]["number"], path, run, in_third)
             wait_until(lambda: all("; stable; " in (folder / "run.txt").read_text(encoding="utf-8") for folder in runs))
             run.stdin.write("end\n")
             run.stdin.flush()
@@ -129,9 +137,11 @@ class Far(InRoom):
         networks: list[dict[str, Any]] = json.loads(done.stdout.removeprefix("200 "))["networks"]
         return networks
 
-    def killed(self, number: int, server: int, path: str, run: subprocess.Popen[str], students: set[str]) -> None:
-        """Kills the server of a network, and checks that it is down on the page for all until the desk resumes it. Then
-        the network's bots come back."""
+    def kill_and_resume(self, number: int, server: int, path: str, run: subprocess.Popen[str],
+                        students: set[str]) -> None:
+        """Kills the process `server`, the server of the network with this number. Waits until only this network is down
+        on the page for all networks, whose path is `path`. Then resumes it by a command at the desk of `run`, and waits
+        until the bots of all these students have greeted again."""
         before = {name: self.greeted().count(name) for name in students}
         os.kill(server, signal.SIGKILL)
         wait_until(lambda: bool(self.networks(path)[number - 1]["status"] == "down"))
@@ -141,7 +151,9 @@ class Far(InRoom):
         run.stdin.flush()
         wait_until(lambda: all(self.greeted().count(name) > count for name, count in before.items()))
 
-    def test_another_key_while_the_class_goes_on(self) -> None:
+    def test_a_student_gets_another_key_and_the_others_connect_again(self) -> None:
+        """The command `key` resumes the class with the new key. The old key is denied then, and the slips, the lab and
+        the page with all slips have the new one. The journal continues, and the record is begun anew."""
         lab, = self.new(6)
         going = Going(self, None, "run", lab, "--door", str(self.port), "--into", self.room / "runs", "--close", "every:1", before=self.teachers.on)
         folder = self.room / "maths-slips"
@@ -160,6 +172,7 @@ class Far(InRoom):
             new = Slip.read(slips["student-3"])
             self.assertNotEqual(new.key, old.key)
             self.assertEqual(read(lab).students["student-3"], new.key)
+            # The page for printing all slips.
             printed = (self.room / "maths-slips.html").read_text(encoding="utf-8")
             self.assertEqual((printed.count(old.key), new.key in printed), (0, True))
             past = self.file("old.slip", slips["student-3"].read_text(encoding="utf-8").replace(new.key, old.key))

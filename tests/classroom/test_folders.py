@@ -1,4 +1,6 @@
-"""The folder of a run that another user hands in: with pipes, devices, and endless or strange files."""
+"""The folder of a run that another user hands in: with pipes, devices, and endless or strange files. A *plain* file is
+neither a folder, a pipe nor a device. The *record* is the folder with the requests and replies of the class, with a
+file for each seat, and `run.json` (`Record`) has what other commands need to know about the run."""
 from __future__ import annotations
 
 import json
@@ -20,6 +22,7 @@ from classroom.run.heard import Heard
 from tests.classroom.help import CYCLE, Going, words
 from tests.classroom.test_history import MOVE, Disputed, Raw
 
+# A nested JSON text that is too deep for a reader, and a number that is too large for one.
 DEEP = "[" * 200_000 + "]" * 200_000
 MANY = "7" * 5000
 Spoils = Callable[[Path], object]
@@ -54,7 +57,7 @@ SPOILS = (pipe, endless, huge, nowhere)
 
 @unittest.skipUnless(host(), "not tried: no host is built")
 class Hostile(Disputed):
-    """Copies of a folder with a strange file each, and the error line of each subcommand."""
+    """Copies of a run's folder with a strange file each, and the error lines of the subcommands."""
 
     def setUp(self) -> None:
         """Makes the folder of a run in which gus was granted a move in configuration 0, and was then denied a move as
@@ -69,19 +72,21 @@ class Hostile(Disputed):
         self.run_folder = self.ended(going)
 
     def copy(self) -> Path:
-        """Returns another copy of the run's folder."""
+        """Makes a copy of the run's folder, and returns its path."""
         folder = self.room / f"copy-{len(list(self.room.iterdir()))}"
         shutil.copytree(self.run_folder, folder)
         return folder
 
     def says(self, done: subprocess.CompletedProcess[str], status: int, *named: Path | str) -> None:
-        """Checks the status of a call, and that it prints a single line on standard error, which has these texts."""
+        """Checks the status of a call, and that it prints a single line on standard error, which contains the texts
+        `named`."""
         told = done.stderr.strip()
         self.assertEqual((done.returncode, told.count("\n"), told.startswith("class: ")), (status, 0, True), told or done.stdout)
         for each in named:
             self.assertIn(str(each), told)
 
-    def test_a_part_of_the_record_that_is_no_plain_file(self) -> None:
+    def test_history_and_mark_name_a_file_of_the_record_that_is_not_plain(self) -> None:
+        """`mark` prints the marks all the same, but without the requests (`asked`), which are in the record."""
         seat = self.seat(self.run_folder).name
         for name in (seat, "lab", "begun"):
             for spoil in SPOILS:
@@ -94,7 +99,8 @@ class Hostile(Disputed):
                     self.assertIsNone(json.loads(done.stdout)["runs"][0]["asked"])
                     shutil.rmtree(folder)
 
-    def test_a_file_of_the_run_that_is_no_plain_file(self) -> None:
+    def test_mark_names_a_file_of_the_run_that_is_not_plain_and_so_do_other_subcommands(self) -> None:
+        """The others are tried with a pipe in place of `run.json`, from which a command would read without an end."""
         for name in ("run.json", "journal", "lab.toml", "server.txt", "run.txt", "run.html", "journal.lab", "marks.txt"):
             for spoil in (pipe, endless, nowhere):
                 folder = self.copy()
@@ -108,7 +114,8 @@ class Hostile(Disputed):
                         self.says(words(*given), 4, f"{folder / name}: this isn't a plain file")
                 shutil.rmtree(folder)
 
-    def test_the_program_waits_for_no_pipe(self) -> None:
+    def test_the_program_s_commands_verify_and_tally_fail_on_a_record_with_a_file_that_is_not_plain(self) -> None:
+        """They don't wait for a pipe that no program writes to."""
         it = host()
         assert it is not None
         for name in (self.seat(self.run_folder).name, "begun"):
@@ -122,9 +129,9 @@ class Hostile(Disputed):
                         self.assertEqual((done.returncode, done.stdout, done.stderr), (4, "", "read fault: record\n"))
                 shutil.rmtree(folder)
 
-    def test_a_class_goes_on_beside_a_record_that_is_none(self) -> None:
-        """If the record's lab or its beginning isn't a plain file, the record stays as it is, and a new one is
-        begun."""
+    def test_a_class_is_resumed_with_a_new_record_if_the_old_one_is_damaged(self) -> None:
+        """If the record's file `lab` or `begun` isn't plain, the record is kept under another name, and a new one is
+        begun. If the journal's copy of the lab isn't plain, the class isn't resumed."""
         it = host()
         assert it is not None
         for name, spoil in (("lab", pipe), ("lab", endless), ("begun", pipe), ("begun", endless)):
@@ -146,7 +153,9 @@ class Hostile(Disputed):
                               stdin=subprocess.DEVNULL, text=True, check=False, timeout=120)
         self.assertEqual((done.returncode, done.stderr), (4, "journal fault\n"))
 
-    def test_texts_that_are_strange(self) -> None:
+    def test_a_strange_text_in_the_record_gets_an_error_line_and_no_traceback(self) -> None:
+        """The texts are JSON that is nested too deeply, numbers of thousands of digits, replies with values of a wrong
+        kind, and labs that are none. The desk's reader of the record, `Heard`, raises no error for them."""
         seat = self.seat(self.run_folder).name
         number = seat.partition(".")[0]
         for name, text in (
@@ -165,7 +174,8 @@ class Hostile(Disputed):
                 heard = Heard(folder / "record", labs.read(folder / "lab.toml"))
                 heard.catch_up(0)
 
-    def test_what_a_run_keeps_and_is_none(self) -> None:
+    def test_a_run_json_with_a_wrong_value_counts_as_none(self) -> None:
+        """Then marks and histories are printed all the same, but the run can't be attached."""
         kept = json.loads((self.run_folder / RECORD).read_text(encoding="utf-8"))
         self.assertIsNotNone(Record.read(self.run_folder))
         for text in (DEEP, json.dumps(kept).replace(str(kept["port"]), MANY), json.dumps([kept]), "{}", "5", "", "\\xff", "null", MANY, *(
@@ -189,7 +199,7 @@ class Hostile(Disputed):
         (folder / RECORD).write_text(" " * (plain.MOST_KEPT + 1), encoding="utf-8")
         self.assertIsNone(Record.read(folder))
 
-    def test_a_record_of_another_lab_is_refused(self) -> None:
+    def test_a_record_of_another_lab_is_refused_unless_only_a_key_differs(self) -> None:
         text = (self.run_folder / "record" / "lab").read_text(encoding="utf-8")
         key = re.search(r'(?m)^key = "(.*)"$', text)
         assert key is not None
@@ -209,7 +219,8 @@ class Hostile(Disputed):
 class Plainly(Disputed):
     """Reading plain files."""
 
-    def test_limits(self) -> None:
+    def test_a_file_is_read_only_if_it_is_plain_and_not_too_large(self) -> None:
+        """`read` and `tail` get the most bytes to read. `number` reads up to 19 ASCII digits as a number."""
         it = self.file("it", "1234")
         self.assertEqual((plain.read(it, 4), plain.tail(it, 2), plain.tail(it, 9)), (b"1234", b"34", b"1234"))
         self.assertRaisesRegex(Fault, "this file is too large: it has more than 3 bytes", plain.read, it, 3)
@@ -219,7 +230,7 @@ class Plainly(Disputed):
         self.assertEqual([plain.number(text) for text in (b"0", b"007", b"9" * 19, b"9" * 20, b"", b"-1", b" 1", "٣".encode())],
                          [0, 7, 10 ** 19 - 1, None, None, None, None, None])
 
-    def test_places_of_many_digits(self) -> None:
+    def test_an_entry_of_the_record_whose_place_has_thousands_of_digits_is_left_out(self) -> None:
         many = MANY.encode()
         self.assertEqual(list(Reader().take(b"4 %s .\n%s 0 .\n4 1 .\n" % (many, many)))[0].place, 1)
         self.assertEqual(entries_up_to(b"4 0 .\n4 %s .\n" % many, 10 ** 6), b"4 0 .\n")

@@ -1,4 +1,5 @@
-"""The frames of a journal show exactly the program's replies."""
+"""The frames of a journal show exactly the program's replies. A *frame* has an event of the journal and the state of
+the network after it. The first frame has the state at the beginning, and no event."""
 from __future__ import annotations
 
 import re
@@ -24,7 +25,10 @@ def states(lab: Path, journal: Path) -> list[State]:
 
 
 class Replayed(unittest.TestCase):
+    """Frames of runs of examples, and of a run with every kind of event."""
+
     def setUp(self) -> None:
+        """Makes the test's folder, the room."""
         room = tempfile.TemporaryDirectory()
         self.addCleanup(room.cleanup)
         self.room = Path(room.name)
@@ -38,7 +42,7 @@ class Replayed(unittest.TestCase):
                 told = [(" ".join(line.split(" ")[2:]), place) for place, line in enumerate(lines, 1)]
                 self.assertEqual(shown, [(None, 0), *told])
 
-    def test_the_whole_run_by_hand(self) -> None:
+    def test_the_states_of_the_run_of_the_built_in_lab_are_those_computed_by_hand(self) -> None:
         run = states(BUILT_IN, TOP / "examples" / "whole-run.journal")
         self.assertEqual(run[3].pointers, {1: 2, 2: 3, 3: None})
         self.assertEqual(run[2].chosen, {1: "seduction", 2: "seduction"})
@@ -46,7 +50,7 @@ class Replayed(unittest.TestCase):
         self.assertEqual(run[8].ms, {1: False, 2: True, 3: True})
         self.assertEqual((run[10].pairs, run[10].stable, run[10].moves, run[10].number), ([(2, 3)], True, 6, 4))
 
-    def test_a_picture_says_each_node_in_words(self) -> None:
+    def test_a_picture_has_a_text_about_each_node_for_screen_readers(self) -> None:
         lab, frames = frames_of(BUILT_IN, TOP / "examples" / "whole-run.journal")
         drawing = drawing_of(lab)
         said = [re.findall(r'role="img" aria-label="([^"]*)"', drawing.svg(frame.state, None)) for frame in frames]
@@ -58,7 +62,8 @@ class Replayed(unittest.TestCase):
         ):
             self.assertEqual(said[place], [f"{node}{word}" for node, word in zip(of, words)])
 
-    def test_every_kind_of_event(self) -> None:
+    def test_each_kind_of_event_changes_the_state_as_it_should(self) -> None:
+        """For each kind, the state after the first event of this kind is checked."""
         lab, journal = edited_run(self.room)
         run = states(lab, journal)
         kinds = [line.split(" ")[2] for line in journal.read_text().splitlines()]
@@ -71,7 +76,9 @@ class Replayed(unittest.TestCase):
         self.assertEqual((after["cut"].chosen, after["cut"].since), ({}, 0))
         self.assertEqual(after["close"].moves, 2)
 
-    def test_a_long_run_goes_in_parts(self) -> None:
+    def test_a_script_over_the_limit_is_sent_in_parts_with_the_same_states(self) -> None:
+        """The limit on the size of a script is so small here that the longer runs need more than two calls of the
+        program."""
         for lab, journal in (edited_run(self.room), *examples(self.room)):
             whole = states(lab, journal)
             with self.subTest(lab=lab.name), mock.patch.object(module, "SCRIPT_LIMIT", 6000):
@@ -80,7 +87,8 @@ class Replayed(unittest.TestCase):
                 if lab.stem in ("grid", "random", "ring"):
                     self.assertGreater(run.call_count, 2)
 
-    def test_what_the_program_tells_is_what_is_shown(self) -> None:
+    def test_frames_show_the_program_s_replies_also_if_these_are_wrong(self) -> None:
+        """The stand-in for the program calls it and changes m to true in each look at node 3."""
         liar = self.room / "liar"
         liar.write_text(
             f"#!{sys.executable}\nimport re, subprocess, sys\n"
@@ -93,14 +101,14 @@ class Replayed(unittest.TestCase):
             run = states(BUILT_IN, TOP / "examples" / "whole-run.journal")
         self.assertEqual([state.ms[3] for state in run], [True] * len(run))
 
-    def test_a_journal_that_the_audit_refuses_is_not_played(self) -> None:
+    def test_a_journal_that_the_audit_refuses_has_no_frames(self) -> None:
         journal = self.room / "bad.journal"
         lines = (TOP / "examples" / "whole-run.journal").read_text().splitlines(keepends=True)
         journal.write_text(lines[0] + lines[0] + "".join(lines[2:]))
         with self.assertRaisesRegex(Fault, "audit: line 2: wrong place or configuration$"):
             states(BUILT_IN, journal)
 
-    def test_an_empty_journal_is_its_beginning(self) -> None:
+    def test_an_empty_journal_has_one_frame_the_beginning(self) -> None:
         journal = self.room / "empty.journal"
         journal.write_text("")
         _, frames = frames_of(BUILT_IN, journal)

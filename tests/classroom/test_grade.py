@@ -1,5 +1,6 @@
-"""`./class grade`: correct bots pass each case, bots with known faults fail the right case, and no process is
-left."""
+"""`./class grade`: correct bots pass each case, bots with known faults fail the right case, and no process is left. A
+*case* is a lab that a bot plays, with a daemon and a seed, and a *plan* describes cases that differ only in these two.
+Each bot has a *keeper*, the process that starts it and enforces its limits."""
 from __future__ import annotations
 
 import concurrent.futures
@@ -27,9 +28,9 @@ from classroom.run.daemons import Daemon
 from tests.classroom.help import EXAMPLES, LIMIT, InRoom, words
 
 FAULTY = TOP / "tests/classroom/bots/faulty.py"
-SLEEP = b"98765.25"
+SLEEP = b"98765.25"  # an argument of the processes that bots of `faulty.py` leave running
 SECONDS = 20  # seconds that a case may take; a slow machine starts a bot in a part of them
-# Each fault with the case that finds it, and the reason that is recorded.
+# Each fault with the plan of the case that finds it, and a pattern of the reason that the result has.
 OWN = {
     "never-updates": ("path-4", rf"didn't become stable within {SECONDS} seconds: it waits for update at node \d \(bot\)"),
     "marries-anyone": ("alone-path-4", r"move at node \d+ by marriage with \d+ is denied as guard, clause 4: .*; (update|seduction|abandonment) would be"),
@@ -53,12 +54,13 @@ PLANS = {plan.name: plan for plan in suites.SMALL}
 
 
 def faulty(fault: str) -> Bot:
-    """Returns the bot of `faulty.py` with a fault."""
+    """Returns the bot of `faulty.py` with this fault. The fault `right` is none: the bot is correct."""
     return Bot.of(f"{sys.executable} {FAULTY} {fault}")
 
 
-def case(bot: Bot, plan: str, limits: Limits, room: Path) -> Result:
-    """Tries a bot in the case of a plan of the suite `small`. Returns the result."""
+def try_case(bot: Bot, plan: str, limits: Limits, room: Path) -> Result:
+    """Tries a bot in the case of a plan of the suite `small`, with the seed 1 and the plan's daemon. Writes the record
+    of the case below the folder `room`. Returns the result."""
     it = PLANS[plan]
     with tempfile.TemporaryDirectory() as own:
         found = try_bot(bot, suites.planned(it, 1, it.daemon), limits, Path(own), room / bot.name / plan, threading.Event())
@@ -67,7 +69,7 @@ def case(bot: Bot, plan: str, limits: Limits, room: Path) -> Result:
 
 
 def left_behind() -> list[str]:
-    """Returns the numbers of the running processes that a bot has started."""
+    """Returns the numbers of the running processes that bots of `faulty.py` have started, as their arguments show."""
     found = []
     for each in Path("/proc").iterdir():
         try:
@@ -99,8 +101,9 @@ def command_of(process: int) -> list[bytes]:
         return []
 
 
-def nothing_left(test: unittest.TestCase) -> None:
-    """Checks that no process of a bot is left. Waits a moment, because other tests run such bots too."""
+def check_nothing_left(test: unittest.TestCase) -> None:
+    """Waits until no process is left that a bot has started. Fails after LIMIT seconds. It waits because other tests
+    may run such bots at the same time."""
     end = time.monotonic() + LIMIT
     while left := left_behind():
         test.assertLess(time.monotonic(), end, left)
@@ -110,20 +113,21 @@ def nothing_left(test: unittest.TestCase) -> None:
 class Faults(InRoom):
     """Bots with known faults."""
 
-    def test_each_fails_the_case_that_is_its_own(self) -> None:
-        # A bot at rest is watched for longer, since a slow machine may halt it for a while.
+    def test_each_bot_fails_the_case_that_finds_its_fault_for_the_right_reason(self) -> None:
+        # A bot is watched for longer while its class is stable, since a slow machine may halt it for a while.
         with unittest.mock.patch.object(troubles, "QUIET", 3.0), concurrent.futures.ThreadPoolExecutor(len(OWN)) as pool:
-            going = {fault: pool.submit(case, faulty(fault), plan, Limits(SECONDS, 200), self.room) for fault, (plan, _) in OWN.items()}
+            going = {fault: pool.submit(try_case, faulty(fault), plan, Limits(SECONDS, 200), self.room) for fault, (plan, _) in OWN.items()}
         for fault, (_, why) in OWN.items():
             result = going[fault].result()
             self.assertFalse(result.passed, fault)
             self.assertRegex(result.why, why, fault)
-        nothing_left(self)
+        check_nothing_left(self)
 
-    def test_a_right_bot_passes_the_same_cases(self) -> None:
+    def test_a_correct_bot_passes_the_same_cases(self) -> None:
+        """The record of each case has a journal that passes the audit, a page, and the lines and replies."""
         plans = sorted({plan for plan, _ in OWN.values()})
         with concurrent.futures.ThreadPoolExecutor(len(plans)) as pool:
-            for result in pool.map(lambda plan: case(faulty("right"), plan, Limits(60), self.room), plans):
+            for result in pool.map(lambda plan: try_case(faulty("right"), plan, Limits(60), self.room), plans):
                 self.assertTrue(result.passed, result)
                 self.assertEqual(result.why, "")
                 self.assertLessEqual(result.denied.keys(), {"stale", "chosen", "memory"})
@@ -139,6 +143,8 @@ class Cases(unittest.TestCase):
     """The contents of cases."""
 
     def test_a_seed_gives_the_same_labs_but_for_the_keys(self) -> None:
+        """Another seed gives another lab if the registers are random. The suite `full` has at least 60 cases with
+        different names."""
         for plan in suites.FULL:
             one, again, other = (suites.planned(plan, seed, plan.daemon).made for seed in (1, 1, 2))
             self.assertEqual((one.nodes, one.links), (again.nodes, again.links))
@@ -149,7 +155,7 @@ class Cases(unittest.TestCase):
         self.assertEqual(len(set(names)), len(names))
         self.assertLessEqual(60, len(names))
 
-    def test_daemons_are_read(self) -> None:
+    def test_a_daemon_is_read_from_the_word_that_spells_it_and_other_words_are_refused(self) -> None:
         for word in ("central", "synchronous", "random:0.25", "every:2", "when-idle:0.5", "by-hand"):
             self.assertEqual(Daemon.of(word).spelled(), word)
         for word in ("", "fair", "central:1", "random:0", "random:1.5", "every:x", "when-idle:-1"):
@@ -158,16 +164,16 @@ class Cases(unittest.TestCase):
 
 
 class Commands(InRoom):
-    """The bots that arguments name."""
+    """The bots that arguments name, and how bots end."""
 
-    def test_a_file_that_is_there_is_meant(self) -> None:
-        """The name of an existing file means this file, with and without a path before it, whichever interpreter runs
-        it."""
+    def test_the_name_of_a_file_means_this_file_with_and_without_a_path(self) -> None:
+        """A file that can be executed and names its interpreter in its first line runs by itself. Any other file in
+        Python is run by Python, and a file of no known kind, or a missing one, is an error of the bot."""
         before = Path.cwd()
         self.addCleanup(os.chdir, before)
         os.chdir(self.room)
         room = Path.cwd()
-        told, untold = "#!/usr/bin/env python3\n", "print()\n"
+        told, untold = "#!/usr/bin/env python3\n", "print()\n"  # texts that name their interpreter and don't
         for name, text, mode in (("told.py", told, 0o755), ("untold.py", untold, 0o755), ("plain.py", told, 0o644), ("run", told, 0o755)):
             self.file(name, text).chmod(mode)
         by_python = str(Path(sys.executable).absolute())
@@ -183,7 +189,9 @@ class Commands(InRoom):
         for name in ("none.py", "./none.py"):
             self.assertIn("there is no such program; a BOT is a command", Bot.of(name).fault)
 
-    def test_how_a_bot_ended_is_told_in_words(self) -> None:
+    def test_how_a_bot_ended_is_said_in_words(self) -> None:
+        """The keeper reports `ended` with a status, or with the negative number of a signal, or `killed` with a reason.
+        The limit of processor time is in seconds, or None if there is none."""
         by_system = "which the system sends if a program uses far too much processor time or memory"
         rows = (("ended 3", 20.0, "ended by itself, with status 3"), ("killed it had more than 64 processes", 20.0, "was ended: it had more than 64 processes"),
                 ("ended -24", 20.0, "used more than 20 seconds of processor time, the limit of --timeout, and was ended"),
@@ -195,10 +203,11 @@ class Commands(InRoom):
 
 
 class Calls(InRoom):
-    """The subcommand."""
+    """The subcommand, called with bots."""
 
     @unittest.skipUnless(shutil.which("java"), "no java: Bot.java wasn't graded")
-    def test_the_examples_pass_all_of_small(self) -> None:
+    def test_two_example_bots_pass_all_cases_of_the_suite_small(self) -> None:
+        """The results are also written in three forms: JSON, JUnit and Gradescope."""
         files = {form: self.room / form for form in ("json", "junit", "gradescope")}
         done = words("grade", EXAMPLES / "bot.py", EXAMPLES / "Bot.java", "--timeout", "120", "--into", self.room / "grades",
                      *(word for form, file in files.items() for word in (f"--{form}", str(file))))
@@ -214,7 +223,8 @@ class Calls(InRoom):
         tests = json.loads(files["gradescope"].read_text(encoding="utf-8"))["tests"]
         self.assertEqual(sum(each["score"] for each in tests), 24)
 
-    def test_own_labs_and_bots_that_are_none(self) -> None:
+    def test_labs_of_the_teacher_are_used_and_a_wrong_lab_or_missing_bot_gets_a_line(self) -> None:
+        """The missing bot fails in both correct labs, and the other bot passes in both."""
         labs = self.room / "labs"
         labs.mkdir()
         shutil.copy(EXAMPLES / "path.toml", labs)
@@ -229,7 +239,8 @@ class Calls(InRoom):
         self.assertIn("no-such-bot: not tried: the bot can't be started\npython3 faulty.py right: 2 of 2 cases passed\n", done.stdout)
         self.assertEqual([each["passed"] for each in json.loads(table.read_text(encoding="utf-8"))], [False, False, True, True])
 
-    def test_where_no_bot_starts_there_is_no_score(self) -> None:
+    def test_bots_that_can_not_be_started_are_not_tried_but_are_in_the_table(self) -> None:
+        """One doesn't exist, and the other is a file that can be executed but has no program of this machine."""
         table = self.room / "cases.json"
         done = words("grade", "no-such-bot", "--into", self.room / "grades", "--json", table)
         self.assertEqual(done.returncode, 5, done.stdout + done.stderr)
@@ -251,7 +262,7 @@ class Calls(InRoom):
              "--at-once", "24"], stdout=subprocess.PIPE, stderr=subprocess.STDOUT, text=True)
         assert going.stdout is not None
         lines = []
-        for line in going.stdout:  # Bots that start more and more processes are killed.
+        for line in going.stdout:  # Each of the 12 cases of `bombs` ends soon, since that bot is killed.
             lines.append(line)
             if sum("more than 64 processes" in each for each in lines) == 12:
                 break
@@ -261,33 +272,35 @@ class Calls(InRoom):
         self.assertEqual(going.wait(LIMIT), 4, lines)
         self.assertIn("interrupted: only 12 of 24 cases were tried to their end\n", lines)
         self.assertEqual(len(json.loads(table.read_text(encoding="utf-8"))), 12)
-        nothing_left(self)
+        check_nothing_left(self)
 
     def test_bots_that_fight_their_keeper_take_no_result_away(self) -> None:
-        """In namespaces they can't reach the keeper, and without namespaces they end it."""
+        """In namespaces these bots can't reach their keeper. Without namespaces they stop or kill it, and fail because
+        of that. The correct bot passes in both ways."""
         labs = self.room / "labs"
         labs.mkdir()
         shutil.copy(EXAMPLES / "path.toml", labs)
-        self.fight(labs)
-        whys = self.fight(labs, "--not-apart")
+        self.reasons_of_fighters(labs)
+        whys = self.reasons_of_fighters(labs, "--not-apart")
         self.assertEqual(whys["halts"], {"the bot was ended: it halted the process that watches it"})
         self.assertEqual(whys["kills"], {"the bot was ended: it killed the process that watches it"})
 
-    def fight(self, labs: Path, *more: str) -> dict[str, set[str]]:
-        """Grades bots that kill or halt their keeper together with a correct bot. Returns why each of them failed."""
+    def reasons_of_fighters(self, labs: Path, *more: str) -> dict[str, set[str]]:
+        """Grades bots that kill or halt their keeper, or replace their output file, together with a correct bot. Checks
+        that only the correct one passes. Returns the reasons for which each bot failed."""
         table = self.room / "cases.json"
         faults = ("swaps-output", "halts", "kills", "right")
         done = words("grade", *(f"python3 {FAULTY} {fault}" for fault in faults), "--labs", labs, "--timeout", "60", "--into", self.room / "grades",
                      "--json", table, *more)
         self.assertEqual(done.returncode, 5, done.stdout + done.stderr)
-        nothing_left(self)
+        check_nothing_left(self)
         cases = json.loads(table.read_text(encoding="utf-8"))
         self.assertEqual([each["passed"] for each in cases], [False] * 9 + [True] * 3)
         whys = {fault: {each["why"] for each in cases[3 * index:][:3]} for index, fault in enumerate(faults)}
         self.assertEqual(whys["swaps-output"], {"the bot ended by itself, with status 3"})
         return whys
 
-    def test_a_second_interrupt_ends_it_whatever_it_waits_for(self) -> None:
+    def test_a_second_interrupt_ends_a_grade_whatever_it_waits_for(self) -> None:
         """The grade waits for 12 processes of `mml answer`. The test stops these processes, so that they never answer.
         The first interrupt doesn't end the grade, and the second does. The results of the first bot's 12 cases are
         kept."""
@@ -313,7 +326,8 @@ class Calls(InRoom):
         for child in answering:
             self.addCleanup(end, child)
             os.kill(child, signal.SIGSTOP)
-        time.sleep(5)  # By then the bots, which look again and again, have sent a line that isn't answered.
+        # By then each bot has sent a line that isn't answered, since the bots look at nodes again and again.
+        time.sleep(5)
         going.send_signal(signal.SIGINT)
         with self.assertRaises(subprocess.TimeoutExpired):
             going.wait(3)
@@ -323,7 +337,7 @@ class Calls(InRoom):
         self.assertEqual([each["bot"] for each in json.loads(table.read_text(encoding="utf-8"))], ["python3 faulty.py forks"] * 12)
         self.assertEqual([child for child in answering if Path(f"/proc/{child}").exists()], [])
         self.assertEqual(list(rooms.iterdir()), [])
-        nothing_left(self)
+        check_nothing_left(self)
 
     def test_a_grade_that_is_killed_leaves_nothing_running(self) -> None:
         going = subprocess.Popen([sys.executable, TOP / "class", "grade", f"python3 {FAULTY} leaves", "--into", self.room / "grades"],
@@ -332,7 +346,7 @@ class Calls(InRoom):
             time.sleep(0.05)
         going.kill()
         going.wait(LIMIT)
-        nothing_left(self)
+        check_nothing_left(self)
 
 
 if __name__ == "__main__":
