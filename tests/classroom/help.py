@@ -171,7 +171,7 @@ class Going:
         return self.process.wait(LIMIT)
 
     def server(self) -> int:
-        """Returns the number of the server's process."""
+        """Returns the number of the server's process, the only child of the run's process."""
         children = Path(f"/proc/{self.process.pid}/task/{self.process.pid}/children").read_text(encoding="ascii").split()
         assert len(children) == 1
         return int(children[0])

@@ -49,7 +49,8 @@ class GoingClass(Going):
         os.kill(self.record(name).server.number, signal.SIGKILL)
 
     def state(self, name: str) -> dict[str, Any]:
-        """Returns the state that the run of the network with this name wrote last."""
+        """Returns the state that the run of the network with this name wrote last, or an empty one if it wrote
+        none."""
         return state_of(self.folder / name) or {}
 
     def marks(self, name: str) -> dict[str, int]:

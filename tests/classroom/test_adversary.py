@@ -28,7 +28,7 @@ def rows(daemon: str, family: str, nodes: int, seeds: range) -> list[Row]:
 class Search(unittest.TestCase):
     """The search by itself, without a run."""
 
-    def over(self, made: labs.Lab) -> tuple[Adversary, list[int]]:
+    def adversary_for(self, made: labs.Lab) -> tuple[Adversary, list[int]]:
         """Returns an adversary whose bench has this network with the registers of the lab, and the privileged nodes."""
         it = Adversary("test")
         self.addCleanup(it.close)
@@ -37,7 +37,7 @@ class Search(unittest.TestCase):
 
     def test_trying_moves_leaves_the_registers_as_they_were(self) -> None:
         made = drawn(Setting("random:7:10", 7, Daemon("central"), "random"), 4)
-        it, privileged = self.over(made)
+        it, privileged = self.adversary_for(made)
         self.assertLess(2, len(privileged))
         bench = it.bench
         assert bench is not None
@@ -54,7 +54,7 @@ class Search(unittest.TestCase):
     def test_it_chooses_one_or_all_of_those_that_may_move_and_the_same_again(self) -> None:
         """A node that isn't privileged is left out, also if it is among those to choose from."""
         made = drawn(Setting("complete", 5, Daemon("central"), "random"), 2)
-        it, privileged = self.over(made)
+        it, privileged = self.adversary_for(made)
         found = it.choose(made, privileged)
         self.assertTrue(found == privileged or len(found) == 1 and set(found) < set(privileged))
         again = Adversary("test")
@@ -68,13 +68,13 @@ class Search(unittest.TestCase):
         """Two nodes that point at each other can both update. These two moves are the last ones, so it doesn't matter
         for their number whether they are made in one step. In this case the adversary chooses a single node."""
         made = network([labs.Node(1, [], 2, False), labs.Node(2, [], 1, False)], [(1, 2)])
-        it, privileged = self.over(made)
+        it, privileged = self.adversary_for(made)
         self.assertEqual(privileged, [1, 2])
         self.assertEqual(len(it.choose(made, [2, 1])), 1)
 
     def test_a_new_bench_is_started_when_events_are_used_up_or_links_differ(self) -> None:
         made = drawn(Setting("path", 4, Daemon("central"), "random"), 1)
-        it, privileged = self.over(made)
+        it, privileged = self.adversary_for(made)
         first = it.bench
         self.assertIs(it.bench_over(made), first)
         with unittest.mock.patch.object(adversary, "USED", -1):  # Even a bench without events counts as used up.

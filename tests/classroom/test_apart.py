@@ -78,7 +78,7 @@ class Apart(Grades):
         output = self.grades("right", "copies")
         self.assertEqual([self.passed(output, fault) for fault in ("right", "copies")], [3, 0], output)
 
-    def test_a_bot_reads_only_files_in_its_own_folder_and_can_change_none(self) -> None:
+    def test_a_bot_reads_files_in_its_own_folder_but_no_others_of_the_user_and_changes_none(self) -> None:
         """It also can't connect to a port of this machine, make namespaces, or read about other processes."""
         own, other = self.room / "own", self.room / "other"
         for folder in (own, other):

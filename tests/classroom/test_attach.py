@@ -37,7 +37,7 @@ class Attach(Cycle):
         return going
 
     def end(self, server: int) -> None:
-        """Ends the server with this number, which a test has left running."""
+        """Kills the process of a server, which a test may have left running."""
         if Process.of(server).lives():
             os.kill(server, signal.SIGKILL)
 
@@ -65,7 +65,7 @@ class Attach(Cycle):
             self.assertEqual(told.count(line), 1, line)
 
     def test_attach_serves_the_page_for_the_projector_again(self) -> None:
-        going = self.killed("--page", "29500")
+        going = self.killed("--page", "29500")  # at this port or the next free one
         again = Going(self, None, "attach", going.folder)
         self.assertRegex(again.until("^page for the projector "), "^page for the projector http://127.0.0.1:295")
         again.type("link 1 3")

@@ -32,7 +32,7 @@ MOUNT = "mount -t tmpfs -o size=128k tmpfs \"$1\" && shift && exec \"$@\""
 
 
 class Broken(Cycle):
-    """Runs that fail in some way, and runs whose clients do."""
+    """Runs that fail in some way, and runs with clients that fail or misbehave."""
 
     def lab(self, name: str, sessions: int) -> Path:
         """Writes a copy of a lab of `examples/` in which `sessions`, the number of connections for the desk and the
@@ -174,7 +174,7 @@ class Broken(Cycle):
         journal.rename(self.room / "moved")
 
     def replace(self, journal: Path) -> None:
-        """Replaces a journal by another file, like an editor."""
+        """Replaces a journal by another file with its name, as some editors do when they save a file."""
         other = journal.with_name("other")
         other.write_text("1 0 fault 1 2 true\n", encoding="ascii")
         other.replace(journal)

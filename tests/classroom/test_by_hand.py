@@ -49,6 +49,7 @@ return [document.documentElement.scrollWidth, ...[...document.querySelectorAll('
 RULES = ["update", "marriage", "seduction", "abandonment"]
 VERBS = {"update": "update m", "marriage": "marry", "seduction": "seduce", "abandonment": "abandon"}
 NOTHING = "nothing to do now: wait for the next step"
+GRANTED = "step 0, update: granted, as event 1; the move is applied when the step closes"  # the reply to the first move
 
 
 class Playing(InRoom):
@@ -105,7 +106,7 @@ class Playing(InRoom):
             card.find_element("css selector", f"[data-rule={rule}] button").click()
         return card is not None
 
-    def click_act(self, node: int) -> bool:
+    def click_large(self, node: int) -> bool:
         """Presses the large button of a node. Returns whether there is one, that is, whether a move can be made."""
         buttons = self.driver.find_elements("css selector", ".btn.act")
         button = next((button for button in buttons if button.text.startswith(f"Node {node}: ")), None)
@@ -113,18 +114,20 @@ class Playing(InRoom):
             button.click()
         return button is not None
 
-    def press(self, node: int, rule: str) -> str:
-        """Presses the button of a rule at a node. Returns the reply that the page shows."""
+    def press_rule(self, node: int, rule: str) -> str:
+        """Presses the button of a rule on the card of a node. Returns the reply that the page shows then. Earlier
+        replies are removed from the page before."""
         self.driver.execute_script("for (const it of document.querySelectorAll('.reply')) it.textContent = ''")
         until(self.driver, lambda _: self.click_rule(node, rule))
         until(self.driver, lambda _: self.card(node)["reply"] != "")
         reply: str = self.card(node)["reply"]
         return reply
 
-    def act(self, node: int) -> str:
-        """Presses the large button of a node. Returns the reply that the page shows."""
+    def press_large(self, node: int) -> str:
+        """Presses the large button of a node. Returns the reply that the page shows then. Earlier replies are removed
+        from the page before."""
         self.driver.execute_script("for (const it of document.querySelectorAll('.reply')) it.textContent = ''")
-        until(self.driver, lambda _: self.click_act(node))
+        until(self.driver, lambda _: self.click_large(node))
         until(self.driver, lambda _: self.card(node)["reply"] != "")
         reply: str = self.card(node)["reply"]
         return reply
@@ -183,12 +186,13 @@ class Playing(InRoom):
         gus = self.enter_beside("gus")
         self.compare(gus, [1, 4])
         self.assertEqual(self.driver.execute_script("return [...document.querySelectorAll('.beyond text')].map((it) => it.textContent)"), ["6"])
-        self.assertEqual(self.press(1, "seduction"), "step 0, seduction: denied, since the guard of seduction doesn't hold at this node now (clause 4, guard)")
-        self.assertEqual(self.act(4), "step 0, update: granted, as event 1; the move is applied when the step closes")
+        self.assertEqual(self.press_rule(1, "seduction"), "step 0, seduction: denied, since the guard of seduction "
+                         "doesn't hold at this node now (clause 4, guard)")
+        self.assertEqual(self.press_large(4), GRANTED)
         until(self.driver, lambda _: self.card(4)["idle"].startswith("update is chosen"))
         self.compare(gus, [1, 4])
-        self.assertEqual(self.press(4, "update"), "step 0, update: denied, since a move of this node is chosen already, and is applied when the step closes "
-                         "(clause 3, chosen)")
+        self.assertEqual(self.press_rule(4, "update"), "step 0, update: denied, since a move of this node is chosen "
+                         "already, and is applied when the step closes (clause 3, chosen)")
         self.close(1)
         self.assertEqual((self.card(4)["m"], self.card(4)["idle"].partition(" is chosen")[1]), ("false", ""))
         self.compare(gus, [1, 4])
@@ -200,7 +204,7 @@ class Playing(InRoom):
         for partner, told in (("2", "denied, since the guard of marriage "), ("7", "granted, as event 4; ")):
             choice: Any = Select(self.driver.find_element("css selector", "#nodes section:first-child select"))
             choice.select_by_value(partner)
-            self.assertIn(f"step 2, marriage: {told}", self.press(1, "marriage"))
+            self.assertIn(f"step 2, marriage: {told}", self.press_rule(1, "marriage"))
         self.close(3)
         self.compare(gus, [1, 4])
         self.going.type("link 1 4")
@@ -213,7 +217,7 @@ class Playing(InRoom):
         marks = json.loads((self.going.folder / "marks.json").read_text(encoding="utf-8"))
         granted = {name: row["granted"] for name, row in marks["runs"][0]["students"].items()}
         self.assertEqual({name: sum(rules.values()) for name, rules in granted.items()}, {"gus": 2, "hana": 0, "ines": 0, "jonas": 0})
-        self.keeps_no_key()
+        self.check_no_key_is_kept()
 
     def enter_beside(self, name: str) -> Client:
         """Returns a connection of a student's program, beside the page."""
@@ -221,7 +225,7 @@ class Playing(InRoom):
         self.addCleanup(client.hang_up)
         return client
 
-    def keeps_no_key(self) -> None:
+    def check_no_key_is_kept(self) -> None:
         """Checks that no file directly in the run's folder contains a key, except for the lab and its copy. The record,
         in a folder of its own, has the keys of the hellos."""
         for file in self.going.folder.iterdir():
@@ -241,7 +245,7 @@ class Playing(InRoom):
             self.assertEqual((self.card(node)["holding"], self.card(node)["acts"], set(self.card(node)["guards"])), ([], [], {""}))
         page = self.driver.execute_script("return document.getElementById('stage').innerHTML")
         self.assertEqual(re.findall('privileged: |data-rule="[a-z]|>U</text>', page), [])
-        self.assertIn("step 0, update: granted", self.press(4, "update"))
+        self.assertIn("step 0, update: granted", self.press_rule(4, "update"))
         self.driver.find_element("id", "quiz").click()
         until(self.driver, lambda _: self.card(4)["holding"] == ["update"])
 
@@ -269,7 +273,7 @@ class Playing(InRoom):
         self.wait_until_in()
         self.driver.get("about:blank")
         self.wait_for_seats("nobody (0 of 7 seats are taken)")
-        self.keeps_no_key()
+        self.check_no_key_is_kept()
 
     def test_a_student_is_turned_away_while_there_is_no_seat_and_can_enter_later(self) -> None:
         """The lab allows two connections: that of the desk and one more."""
@@ -283,7 +287,7 @@ class Playing(InRoom):
         self.wait_for_seats("nobody (0 of 1 seats are taken)")
         self.come()
         self.wait_until_in()
-        self.assertEqual(self.press(4, "update"), "step 0, update: granted, as event 1; the move is applied when the step closes")
+        self.assertEqual(self.press_rule(4, "update"), GRANTED)
 
     def test_the_page_fits_windows_of_four_sizes_and_is_readable_in_both_themes(self) -> None:
         """No part is wider than the window, and no button is too low for a finger (on a phone) or a mouse."""
@@ -296,7 +300,7 @@ class Playing(InRoom):
             self.assertLessEqual(self.driver.execute_script(WIDE), size[0])
             self.come()
             self.wait_until_in()
-            self.press(4, "seduction")
+            self.press_rule(4, "seduction")
             self.assertLessEqual(self.driver.execute_script(WIDE), size[0])
             high = self.driver.execute_script("return [...document.querySelectorAll('button')].filter((it) => it.offsetWidth)"
                                               ".map((it) => it.getBoundingClientRect().height)")
@@ -438,8 +442,8 @@ class Wire(InRoom):
         self.assertIn("no server at port", text)
 
     def hello_without_server(self, hands: PlayServer) -> tuple[int, str]:
-        """Sends a hello to another server of the page, for the same port as that of `hands`, where no server of a class
-        listens any more. Returns the status of the answer and its text."""
+        """Sends a hello to a new server of the page, which connects to the same port as `hands` did. No server of a
+        class listens there any more. Returns the status of the answer and its text."""
         with served(self) as other:
             other.show(hands.students, print)
             answer, told = self.ask(other.address, "POST", "/enter", {"name": "gus", "key": "a"})

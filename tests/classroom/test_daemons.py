@@ -47,7 +47,7 @@ class Alone(unittest.TestCase):
         self.assertEqual(applied(Daemon("when-idle", 2), Sight([1], [1], 2.1, 0), chance, 1), [1])
 
     def test_in_experiments_a_timed_daemon_moves_the_nodes_that_ask_before_the_close(self) -> None:
-        """The times at which nodes ask are drawn at random, as the test draws them again with the same seed."""
+        """The times at which nodes ask are random. The test draws the same times with the same seed."""
         for seed in range(200):
             times = random.Random(seed)
             asks = {node: times.expovariate(1.0) for node in (4, 2, 9)}
@@ -78,7 +78,7 @@ class Alone(unittest.TestCase):
         self.assertEqual(longest_start([1, 2, 3, 4], [(1, 2), (1, 3), (2, 3), (1, 4)])[3], (4, None, True))
 
 
-class Beside:
+class StandInDesk:
     """A stand-in for a desk at which moves are granted while others are released. The nodes 3 and 1 have chosen moves,
     in this order."""
 
@@ -89,6 +89,7 @@ class Beside:
         self.report = unittest.mock.Mock(privileged=[(node, "update") for node in (1, 2, 3, 4)])
         self.book = unittest.mock.Mock(chosen={3: ("ana", "update"), 1: ("ben", "update")})
         self.later, self.client, self.news_came = later, self, 0.0
+        # This object also stands for the desk's client, and for the part of a desk that reads the journal (`known`).
         self.known, self.announcer = self, unittest.mock.Mock(over="")
         self.done: list[object] = []
 
@@ -116,12 +117,12 @@ class Striking(unittest.TestCase):
     """The moves that remain at a close under a central daemon."""
 
     def test_all_moves_but_the_first_are_released_also_those_granted_meanwhile(self) -> None:
-        desk = Beside([4, 2])
+        desk = StandInDesk([4, 2])
         Striker().strike(desk)  # type: ignore[arg-type]
         self.assertEqual(desk.done, [1, 2, 4, "close of [3]"])
 
     def test_releasing_ends_after_a_few_rounds_if_a_move_is_granted_again_each_time(self) -> None:
-        desk = Beside([2] * 100)
+        desk = StandInDesk([2] * 100)
         Striker().strike(desk)  # type: ignore[arg-type]
         self.assertEqual(desk.done[-1], "close of [2, 3]")
         self.assertLess(len(desk.done), 10)

@@ -108,7 +108,7 @@ class Words(Cycle):
 
     def test_a_client_without_a_hello_is_shown_only_as_a_connection_or_a_process_number(self) -> None:
         """The second run has the option `--serve`, and no record that names students. Its desk shows a client by the
-        number of its process, and not by the process's arguments, which anybody could choose."""
+        number of its process, and not by the process's arguments, one of which is the name of a student."""
         going = Going(self, CYCLE, "--close", "by-hand")
         with socket.create_connection(("127.0.0.1", going.port)):
             going.type("who")

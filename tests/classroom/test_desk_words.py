@@ -59,7 +59,7 @@ SENT = {
 }
 FIELDS = {"seconds": "5", "count": "3", "picked": "4", "p": "null", "m": "true"}
 # The words of an event, the request that repeats it, the nodes that it names, the number of links that it adds, and
-# whether it is an edit, a change by the teacher.
+# whether it is an edit, a change of registers or links by the teacher.
 EVENTS = {
     "close": ('1 {"do":"close"}', (), 0, False),
     "release 7": ('1 {"do":"release","node":7}', (7,), 0, False),

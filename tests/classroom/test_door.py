@@ -105,7 +105,7 @@ class AtDoor(InRoom):
 
     def setUp(self) -> None:
         """Makes a certificate (`known` is its fingerprint), opens a door, and waits until the door's process serves.
-        `told` gets the lines that the door prints."""
+        The lines that the door prints are kept."""
         super().setUp()
         self.told: list[str] = []
         self.known = certificate.make_if_missing(self.room / "door.pem", "localhost")

@@ -1,6 +1,6 @@
-"""Connections to the port of a page: their number and their time are limited. At most CONNECTIONS are served at a time,
-a request has ASKING seconds, and so has the page to receive each answer. Other tests are about the *door*, the port for
-students on other machines."""
+"""Connections to the port of a page: their number and their time are limited. At most CONNECTIONS are served at a time.
+A request has to come within ASKING seconds, and reading the answer has a time limit too. Other tests are about the
+*door*, the port for students on other machines."""
 from __future__ import annotations
 
 import http.client
@@ -29,8 +29,7 @@ class Doors(unittest.TestCase):
     posts = "/act"
 
     def setUp(self) -> None:
-        """Opens the page's server. `told` gets its lines about errors, and `threads` is the number of threads
-        before."""
+        """Opens the page's server, and keeps its lines about errors. `threads` is the number of threads before."""
         self.told: list[str] = []
         self.threads = threading.active_count()
         self.port = self.opened(a_port()).server_port

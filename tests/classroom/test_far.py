@@ -36,8 +36,8 @@ class Far(InRoom):
     """Classes through a door."""
 
     def setUp(self) -> None:
-        """Makes the teacher's machine and that of the students. `port` is that of the door, and `told` a file to which
-        the students' bots append their names."""
+        """Makes the teacher's machine and that of the students, and chooses a port for the door and a file to which the
+        students' bots append their names."""
         super().setUp()
         self.teachers, self.students = self.enterContext(two())
         self.port, self.told = a_port(), self.room / "told"
@@ -101,7 +101,7 @@ class Far(InRoom):
             for record, lab in zip(records, labs, strict=True):
                 self.assertEqual(self.gets(f"/{lab.stem}/")[0], 200)
                 self.assertEqual(self.gets(f"/{lab.stem}/look/{record['looks']}/")[0], 200)
-            path = self.page_for_all(runs[0].parent, [record["looks"] for record in records])
+            path = self.check_page_for_all(runs[0].parent, [record["looks"] for record in records])
             in_third = {Path(row["file"]).stem for row in rows if row["network"] == "maths-3"}
             self.kill_and_resume(3, records[2]["server"]["number"], path, run, in_third)
             wait_until(lambda: all("; stable; " in (folder / "run.txt").read_text(encoding="utf-8") for folder in runs))
@@ -117,7 +117,7 @@ class Far(InRoom):
         self.assertTrue(all(it["stable"] for it in marks))
         wait_until(lambda: not self.reaches(self.students, self.port))  # The door stays open for a little while after its last network has ended.
 
-    def page_for_all(self, folder: Path, looks: list[str]) -> str:
+    def check_page_for_all(self, folder: Path, looks: list[str]) -> str:
         """Checks from the students' machine that the page for all networks and their pages to look at can be
         opened, and none to act at. Returns the path of the page."""
         kept = json.loads((folder / "class.json").read_text(encoding="utf-8"))

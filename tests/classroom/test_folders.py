@@ -22,7 +22,7 @@ from classroom.run.heard import Heard
 from tests.classroom.help import CYCLE, Going, words
 from tests.classroom.test_history import MOVE, Disputed, Raw
 
-# A nested JSON text that is too deep for a reader, and a number that is too large for one.
+# A JSON text that is nested more deeply than a reader allows, and a number of more digits than Python's `int` reads.
 DEEP = "[" * 200_000 + "]" * 200_000
 MANY = "7" * 5000
 Spoils = Callable[[Path], object]
@@ -100,7 +100,7 @@ class Hostile(Disputed):
                     shutil.rmtree(folder)
 
     def test_mark_names_a_file_of_the_run_that_is_not_plain_and_so_do_other_subcommands(self) -> None:
-        """The others are tried with a pipe in place of `run.json`, from which a command would read without an end."""
+        """The others are tried with a pipe in place of `run.json`, for which a command could wait without an end."""
         for name in ("run.json", "journal", "lab.toml", "server.txt", "run.txt", "run.html", "journal.lab", "marks.txt"):
             for spoil in (pipe, endless, nowhere):
                 folder = self.copy()

@@ -116,7 +116,8 @@ class Faults(InRoom):
     def test_each_bot_fails_the_case_that_finds_its_fault_for_the_right_reason(self) -> None:
         # A bot is watched for longer while its class is stable, since a slow machine may halt it for a while.
         with unittest.mock.patch.object(troubles, "QUIET", 3.0), concurrent.futures.ThreadPoolExecutor(len(OWN)) as pool:
-            going = {fault: pool.submit(try_case, faulty(fault), plan, Limits(SECONDS, 200), self.room) for fault, (plan, _) in OWN.items()}
+            going = {fault: pool.submit(try_case, faulty(fault), plan, Limits(SECONDS, 200), self.room)
+                     for fault, (plan, _) in OWN.items()}
         for fault, (_, why) in OWN.items():
             result = going[fault].result()
             self.assertFalse(result.passed, fault)
@@ -255,6 +256,8 @@ class Calls(InRoom):
         self.assertIn("\nforeign: not tried: the bot can't be started\n", done.stdout)
 
     def test_an_interrupted_grade_keeps_what_it_has_and_leaves_nothing_running(self) -> None:
+        """Of two bots, one is killed in all of its 12 cases, and the other hangs. Then the grade is interrupted. The
+        table has the first bot's cases."""
         table = self.room / "cases.json"
         bots = [f"python3 {FAULTY} {fault}" for fault in ("hangs", "bombs")]
         going = subprocess.Popen(
@@ -342,7 +345,7 @@ class Calls(InRoom):
     def test_a_grade_that_is_killed_leaves_nothing_running(self) -> None:
         going = subprocess.Popen([sys.executable, TOP / "class", "grade", f"python3 {FAULTY} leaves", "--into", self.room / "grades"],
                                  stdout=subprocess.DEVNULL)
-        while len(left_behind()) < 3:
+        while len(left_behind()) < 3:  # until the bot of three cases has left a process running
             time.sleep(0.05)
         going.kill()
         going.wait(LIMIT)
