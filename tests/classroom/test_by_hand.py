@@ -250,7 +250,8 @@ class Playing(InRoom):
         until(self.driver, lambda _: self.card(4)["holding"] == ["update"])
 
     def test_only_a_student_with_the_right_key_takes_a_seat_and_only_while_the_page_is_open(self) -> None:
-        """A name and a key after the address, as on a slip, enter at once, and vanish from the address."""
+        """A name and a key after the address, as a printed slip has them, enter at once, and vanish from the
+        address."""
         self.begin()
         self.open()
         self.wait_for_seats("nobody (0 of 7 seats are taken)")
