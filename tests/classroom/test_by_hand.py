@@ -185,6 +185,7 @@ class Playing(InRoom):
         self.wait_until_in()
         gus = self.enter_beside("gus")
         self.compare(gus, [1, 4])
+        # Gus isn't shown node 6, so only its number is drawn.
         self.assertEqual(self.driver.execute_script("return [...document.querySelectorAll('.beyond text')].map((it) => it.textContent)"), ["6"])
         self.assertEqual(self.press_rule(1, "seduction"), "step 0, seduction: denied, since the guard of seduction "
                          "doesn't hold at this node now (clause 4, guard)")
