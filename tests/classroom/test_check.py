@@ -66,8 +66,7 @@ class Check(InRoom):
         self.says(2, "lab: sessions is out of its limits", f"  `sessions` has to be from 1 to {MOST['sessions']}\n",
                   change=("sessions = 4", "sessions = 99"))
 
-    def test_hints(self) -> None:
-        """Each error of the program that has a hint is found in its text."""
+    def test_errors_of_the_program_that_need_a_hint_have_one_and_others_have_none(self) -> None:
         for error in ("lab: principal 2: bad name or key", "lab: node 0: owner and owners", "lab: node 1: identifier out of range",
                       "lab: node 1: identifier stands twice", "lab: principal 1: name stands twice", "lab: node 1: owner stands twice",
                       "lab: link 3: stands twice", "lab: too many nodes", "lab: events is out of its limits",
