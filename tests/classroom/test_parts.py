@@ -1,5 +1,6 @@
-"""Parts of experiments and grades: the merged table is the same as that of a single call without parts, byte for byte,
-also with GNU parallel."""
+"""The options `--part K/N` and `--merge FILE..` of `./class experiment` and `./class grade`. Part K of N has every N-th
+run or case, from the K-th on. The merged results of all parts are those of a single call without parts, byte for byte,
+also if GNU parallel makes the parts."""
 from __future__ import annotations
 
 import argparse
@@ -15,19 +16,24 @@ from classroom.bots.parts import of, part
 from classroom.core.program import TOP
 from tests.classroom.help import EXAMPLES, LIMIT, InRoom, words
 
+# 54 runs: with three families, three sizes and two daemons, three runs each.
 RUNS: tuple[str, ...] = ("experiment", "--family", "path,cycle,random", "--nodes", "4..6", "--runs", "3", "--at-once", "1")
-CALL = f"{shlex.quote(sys.executable)} {shlex.quote(str(TOP / 'class'))}"
+CALL = f"{shlex.quote(sys.executable)} {shlex.quote(str(TOP / 'class'))}"  # calls `./class` in a shell line
+MOVES = 6  # the column of the table that has the number of moves
 
 
 class Numbers(unittest.TestCase):
-    """The items of a part."""
+    """The items of a part, and the argument that names it."""
 
-    def test_each_is_in_one_part(self) -> None:
+    def test_each_item_is_in_exactly_one_part(self) -> None:
         for count in (0, 1, 7, 20):
             for number in (1, 2, 3, 30):
                 every = [each for k in range(1, number + 1) for each in of(range(count), (k, number))]
                 self.assertEqual(sorted(every), list(range(count)))
         self.assertEqual((of("abcdefg", (2, 3)), of("ab", None)), (["b", "e"], ["a", "b"]))
+
+    def test_an_argument_names_a_part_by_k_of_n_with_k_from_1_to_n(self) -> None:
+        """Any other text is refused, also one with digits that aren't ASCII."""
         self.assertEqual((part("2/8"), part("1/1")), ((2, 8), (1, 1)))
         for word in ("0/8", "9/8", "2", "2/0", "-1/2", "a/b", "1/2/3", "٣/٤"):
             with self.assertRaises(argparse.ArgumentTypeError):
@@ -45,6 +51,7 @@ class Experiments(InRoom):
         return whole.read_bytes()
 
     def test_the_merged_table_is_that_of_one_call(self) -> None:
+        """The order of the files doesn't matter. Each part has about a third of the runs."""
         whole = self.table_of_one_call()
         files = [self.room / f"part-{number}.csv" for number in (1, 2, 3)]
         for number, file in enumerate(files, 1):
@@ -56,17 +63,17 @@ class Experiments(InRoom):
         done = words(*RUNS, "--merge", *files[::-1], "--csv", merged)
         self.assertEqual((done.returncode, merged.read_bytes()), (0, whole), done.stderr)
         self.assertIn("54 of 54 runs are done, all within the proved bounds", done.stdout)
-        self.lacks_a_part(files)
+        self.check_bad_merges(files)
 
-    def lacks_a_part(self, files: list[Path]) -> None:
-        """Checks that a merge of only some of these files names the missing runs, and that tables which differ or don't
-        exist are refused."""
+    def check_bad_merges(self, files: list[Path]) -> None:
+        """Checks that a merge without the last of these files counts only the runs that the others have. A merge is
+        refused if two tables differ about a run, or if a table doesn't exist."""
         done = words(*RUNS, "--merge", *files[:2], "--csv", self.room / "two.csv")
         self.assertEqual(done.returncode, 5)
         self.assertIn("36 of 54 runs are done, ", done.stdout)
         text = files[0].read_text().splitlines()
         row = text[1].split(",")
-        row[6] = str(int(row[6]) + 1)
+        row[MOVES] = str(int(row[MOVES]) + 1)
         other = self.file("other.csv", "\n".join([text[0], ",".join(row)]) + "\n")
         said = words(*RUNS, "--merge", *files, other, "--csv", self.room / "differ.csv")
         self.assertEqual((said.returncode, said.stdout), (4, ""))
@@ -75,7 +82,8 @@ class Experiments(InRoom):
 
     @unittest.skipUnless(shutil.which("parallel"), "not tried: parallel")
     def test_gnu_parallel_spreads_the_parts(self) -> None:
-        """Runs the commands of docs/OPERATE.md, with the test's own programs as first words."""
+        """The commands of docs/OPERATE.md make the same table as one call. Here they have the runs of this test and
+        three parts, of which two are made at once."""
         whole = self.table_of_one_call()
         shown = (TOP / "docs/OPERATE.md").read_text(encoding="utf-8")
         for line in ("parallel ./class experiment --runs 1000 --part {}/8 --csv part-{}.csv ::: $(seq 8)",
@@ -91,13 +99,15 @@ class Experiments(InRoom):
 class Grades(InRoom):
     """Results of grades."""
 
-    def results(self, file: Path, number: int, count: int) -> None:
-        """Writes results for part `number` of `count` into a file, without grading."""
+    def write_part(self, file: Path, number: int, count: int) -> None:
+        """Writes the results of part `number` of `count` into a file, without grading. Takes them from `whole.json`,
+        the results of the whole grade."""
         every = json.loads((self.room / "whole.json").read_text(encoding="utf-8"))
         file.write_text(json.dumps(of(every, (number, count))), encoding="utf-8")
 
     def test_the_merged_results_are_those_of_one_call(self) -> None:
-        """Each part has its own cases. The first part is run, and the others are copied from the whole."""
+        """Part 1 of 2 is graded, and part 2 is copied from the results of the whole grade. A merge without part 1 names
+        the missing case. With another suite, the results are refused, since it doesn't have their cases."""
         labs = self.room / "labs"
         labs.mkdir()
         (labs / "cycle.toml").write_bytes((EXAMPLES / "cycle.toml").read_bytes())
@@ -107,9 +117,9 @@ class Grades(InRoom):
         first = words(*asked, "--part", "1/2", "--json", self.room / "part-1.json")
         self.assertEqual(first.stdout.count("passed  bot.py: "), 1, first.stdout)
         self.assertIn("bot.py: 1 of 1 cases passed", first.stdout)
-        self.results(self.room / "part-2.json", 2, 2)
+        self.write_part(self.room / "part-2.json", 2, 2)
         files = [self.room / "part-2.json", self.room / "part-1.json"]
-        self.same(self.room / "part-1.json")
+        self.replace_by_whole(self.room / "part-1.json")
         done = words(*asked, "--merge", *files, "--json", self.room / "all.json", "--gradescope", self.room / "all.scope")
         self.assertEqual(done.returncode, 0, done.stdout + done.stderr)
         self.assertEqual(sorted(case["daemon"] for case in json.loads((self.room / "all.json").read_text())), ["central", "synchronous"])
@@ -124,9 +134,9 @@ class Grades(InRoom):
         self.assertEqual(other.returncode, 4)
         self.assertIn("isn't a case of this command: name the same bots and options as for the parts", other.stderr)
 
-    def same(self, file: Path) -> None:
-        """Replaces the results in the file of a part by those of the whole grade, because the number of moves in a case
-        depends on the time."""
+    def replace_by_whole(self, file: Path) -> None:
+        """Replaces the only result in the file of a part by that of the same case in the whole grade. Fails if they
+        differ in more than the numbers of moves and denials, which depend on the time."""
         one, = json.loads(file.read_text(encoding="utf-8"))
         every = json.loads((self.room / "whole.json").read_text(encoding="utf-8"))
         own, = (case for case in every if case["daemon"] == one["daemon"])

@@ -1,5 +1,6 @@
-"""Pictures outside a browser: `rsvg-convert` renders drawings and charts, and the tests count the pixels of each
-colour."""
+"""The SVG files that `./class play --svg` and `./class experiment --plot` write, seen without a browser:
+`rsvg-convert` renders them, and the tests count the pixels of each colour. Colours have the names that they have in the
+style of the pages, such as `--ink`."""
 from __future__ import annotations
 
 import math
@@ -22,8 +23,9 @@ BYTES = {2: 3, 6: 4}  # bytes of a pixel, by the colour type of a PNG: red, gree
 
 
 def unfiltered(kind: int, row: bytes, above: bytes, step: int) -> bytes:
-    """Returns the bytes of a row of a PNG image after undoing its filter of this kind. The filter uses the pixel to the
-    left, which is `step` bytes before, and the row above."""
+    """Returns the bytes of a row of a PNG image after undoing its filter, which replaced each byte by the difference
+    from a guess. As in the PNG standard, `kind` is 0 for no filter, 1 if the guess is the pixel to the left, 2 if it is
+    that in the row `above`, 3 for the average of both, and 4 for Paeth's guess. A pixel has `step` bytes."""
     if kind == 0:
         return row
     if kind == 2:
@@ -44,7 +46,7 @@ def unfiltered(kind: int, row: bytes, above: bytes, step: int) -> bytes:
 
 
 def colours_of(png: bytes) -> Counter[str]:
-    """Returns the number of pixels of each colour in a PNG."""
+    """Returns the number of pixels of each colour in a PNG. Fails if its pixels have a form that isn't in BYTES."""
     wide, high, depth, kind, _, _, interlaced = struct.unpack(">IIBBBBB", png[16:29])
     assert depth == 8 and kind in BYTES and not interlaced, "another kind of PNG"
     data, at = b"", 8
@@ -62,7 +64,7 @@ def colours_of(png: bytes) -> Counter[str]:
 
 
 def rendered(picture: Path) -> Counter[str]:
-    """Returns the number of pixels of each colour in a rendered drawing."""
+    """Renders an SVG file, and returns the number of pixels of each colour. Fails if it can't be rendered."""
     done = subprocess.run([RENDERER, "--width", "1000", "--keep-aspect-ratio", picture], capture_output=True, check=False, timeout=LIMIT)
     assert done.returncode == 0, done.stderr
     return colours_of(done.stdout)
@@ -79,8 +81,9 @@ class Pictures(InRoom):
     """The files that `--svg` and `--plot` write."""
 
     def has(self, picture: Path, *names: str, theme: str = colours.LIGHT) -> None:
-        """Checks that a picture has the colours with these names, and the background of a page in this theme."""
-        self.assertNotIn("var(", picture.read_text(encoding="utf-8"))
+        """Checks that a picture has the colours with these names, and the background of a page in this theme. Fails if
+        more than one pixel in a hundred is black, since colours that the renderer doesn't understand become black."""
+        self.assertNotIn("var(", picture.read_text(encoding="utf-8"))  # The renderer doesn't know variables of CSS.
         found = rendered(picture)
         self.assertEqual(found.most_common(1)[0][0], colours.value("--ground", theme), picture)
         wanted = [colours.value(name, theme) for name in names]
@@ -88,28 +91,29 @@ class Pictures(InRoom):
         self.assertLess(found["#000000"], found.total() / 100, picture)
 
     def drawn(self, lab: Path, journal: Path, places: str, *more: str) -> Path:
-        """Writes a picture of these places, and returns its path."""
+        """Writes a picture of the configurations after these places, numbers of events with commas between them.
+        Returns its path."""
         output = self.room / f"{lab.stem}-{places.replace(',', '-')}.svg"
         done = words("play", lab, journal, "--svg", places, "-o", output, *more)
         self.assertEqual(done.returncode, 0, done.stderr)
         return output
 
-    def test_a_configuration(self) -> None:
+    def test_a_picture_of_a_configuration_has_the_colours_of_each_theme(self) -> None:
         lab = EXAMPLES / "cycle.toml"
         journal = journal_of(lab, EXAMPLES / "cycle-run.script", self.room / "journal")
         for theme, more in ((colours.LIGHT, ()), (colours.DARK, ("--dark",))):
             self.has(self.drawn(lab, journal, "9", *more), "--hair", "--quiet", "--wed", "--wedtint", "--point", "--can", "--oncan", "--ink", theme=theme)
 
-    def test_several_configurations(self) -> None:
+    def test_a_picture_of_several_configurations_has_the_colour_of_a_fault(self) -> None:
         lab, journal = edited_run(self.room)
         self.has(self.drawn(lab, journal, "0,7,9,10"), "--hit", "--can", "--point", "--ink")
 
-    def test_many_small_nodes(self) -> None:
+    def test_a_picture_of_sixty_small_nodes_has_its_colours(self) -> None:
         lab = many_owners(self.room, 60)
         journal = self.file("none.journal", "")
         self.has(self.drawn(lab, journal, "0"), "--can", "--hair", "--quiet")
 
-    def test_a_chart(self) -> None:
+    def test_a_chart_has_the_colours_of_each_theme(self) -> None:
         plot = self.room / "runs.svg"
         for theme, more in ((colours.LIGHT, ()), (colours.DARK, ("--dark",))):
             done = words("experiment", *TINY, "--csv", self.room / "runs.csv", "--plot", plot, *more)
@@ -117,7 +121,8 @@ class Pictures(InRoom):
             self.has(plot, "--can", "--wed", "--point", "--hit", "--quiet", theme=theme)
 
     def test_colours_are_those_of_a_page(self) -> None:
-        """Each colour that the style sets and a picture uses is the same in both."""
+        """The style of a picture has the value of each colour that the style of a page uses, in both themes. Two values
+        are compared with the text of the colour, so that the lookup itself is tested."""
         page = colours.STYLE.read_text(encoding="utf-8")
         used = set(re.findall(r"var\((--[a-z]+)\)", page))
         for theme in colours.THEMES:

@@ -1,4 +1,8 @@
-"""The page of a run, in a real browser."""
+"""The page of a run that `./class play` makes, in a real browser, and the pictures that `play --svg` draws.
+
+A *place* is the number of an event. The page and a picture show the state after it, and place 0 is the beginning. The
+*number* of a configuration stays the same while moves are granted, so several places can have the same number.
+"""
 from __future__ import annotations
 
 import re
@@ -31,7 +35,9 @@ def header(state: State) -> list[str]:
 class Play(Played):
     """Runs that are short enough to be checked step by step."""
 
-    def test_each_configuration_by_keys(self) -> None:
+    def test_the_keys_go_to_each_place_and_each_step(self) -> None:
+        """The right and left arrows go to the next and the previous place, and the down and up arrows to the first
+        place of the next and the previous number. Home and End go to the first and the last place."""
         for lab, journal in (edited_run(self.room), *examples(self.room)):
             _, frames = frames_of(lab, journal)
             both = [(told(frame.state, frame), header(frame.state)) for frame in frames]
@@ -57,7 +63,9 @@ class Play(Played):
                 self.press(Keys.HOME)
                 self.assertEqual(shown(self.driver), run[0])
 
-    def test_a_link_to_a_place(self) -> None:
+    def test_the_address_names_the_place_or_step_that_is_shown(self) -> None:
+        """The fragment `#p=N` shows place N, or the last place if there are fewer. `#step=N` shows number N. After a
+        key the address names the new place, and the page has a link to the step that is shown."""
         lab, journal = edited_run(self.room)
         page = self.page(lab, journal)
         self.open(page, "#p=7")
@@ -76,16 +84,16 @@ class Play(Played):
         until(self.driver, lambda driver: shown(driver)[0]["number"] == "3")
         self.assertEqual(self.driver.find_element("id", "moment").get_attribute("href").rpartition("#")[2], "step=3")
 
-    def test_it_plays_to_the_end_by_itself(self) -> None:
+    def test_after_the_space_key_it_plays_to_the_end_by_itself(self) -> None:
         lab, journal = edited_run(self.room)
         self.open(self.page(lab, journal))
-        self.driver.execute_script("document.getElementById('speed').value = '20'")
+        self.driver.execute_script("document.getElementById('speed').value = '20'")  # fast, so that the test is short
         self.press(" ")
         last = str(len(journal.read_text().splitlines()))
         until(self.driver, lambda driver: shown(driver)[0]["place"] == last)
         until(self.driver, lambda driver: driver.find_element("id", "play").text == "▶ Play")
 
-    def test_names_of_files_end_nothing(self) -> None:
+    def test_html_in_the_names_of_files_is_shown_as_text(self) -> None:
         odd = "<img src=x onerror=window.broken=1>'\"&\n{{DATA}}<b>"
         lab, journal = (file.rename(file.with_stem(odd)) for file in edited_run(self.room))
         self.open(self.page(lab, journal))
@@ -94,7 +102,9 @@ class Play(Played):
         day = f"{datetime.fromtimestamp(journal.stat().st_mtime):%Y-%m-%d}"
         self.assertEqual(self.driver.title, " ".join(f"{lab.stem}, {day}".split()))
 
-    def test_it_asks_for_nothing_else(self) -> None:
+    def test_a_page_loads_nothing_and_has_no_key(self) -> None:
+        """The page refers to no other file, so it also works offline. The names of SVG's namespace and of its own arrow
+        load nothing, so they are left out."""
         text = self.page(BUILT_IN, TOP / "examples" / "whole-run.journal").read_text()
         for word in ("http://", "https://", "src=", "@import", "url("):
             found = text.replace('xmlns="http://www.w3.org/2000/svg"', "").replace('"http://www.w3.org/2000/svg"', "")
@@ -102,7 +112,7 @@ class Play(Played):
         for key in ("a-key", "b-key", "c-key", "chalk"):
             self.assertNotIn(key, text)
 
-    def test_a_picture_of_one_place(self) -> None:
+    def test_a_picture_of_a_place_has_its_registers_and_rules(self) -> None:
         lab, journal = edited_run(self.room)
         _, frames = frames_of(lab, journal)
         for place, frame in enumerate(frames):
@@ -112,7 +122,9 @@ class Play(Played):
             self.assertEqual(attributes(output), told(frame.state, frame)[:2])
         self.assertEqual(self.call("play", lab, journal, "--svg", "99", "-o", output).returncode, 3)
 
-    def test_several_places_in_one_picture(self) -> None:
+    def test_a_picture_of_several_places_has_a_drawing_of_each(self) -> None:
+        """The drawings don't cover each other, and share one arrowhead, the only element with an identifier. Places
+        that don't exist or aren't numbers are refused, and no file is written."""
         lab, journal = edited_run(self.room)
         frames = [told(frame.state, frame)[:2] for frame in frames_of(lab, journal)[1]]
         for places in ([0, 3], [9, 0, 5, 5, 12]):
@@ -128,7 +140,7 @@ class Play(Played):
             done = self.call("play", lab, journal, "--svg", word, "-o", self.room / "none.svg")
             self.assertEqual((done.returncode, (self.room / "none.svg").exists()), (status, False), word)
 
-    def test_the_pictures_of_the_documents(self) -> None:
+    def test_the_pictures_of_the_documents_are_what_is_drawn_now(self) -> None:
         for name, theme in (("cycle", "light"), ("cycle", "dark"), ("crowd", "light")):
             kept, output = TOP / "docs" / f"{name}{'-dark' * (theme == 'dark')}.svg", self.room / f"{name}.svg"
             lab = EXAMPLES / f"{name}.toml"
@@ -137,7 +149,7 @@ class Play(Played):
             output.write_text(picture(lab, journal, places, theme))
             self.assertEqual(output.read_text(), kept.read_text())
 
-    def test_words_that_are_wrong(self) -> None:
+    def test_wrong_arguments_and_files_have_their_exit_statuses(self) -> None:
         lab, journal = edited_run(self.room)
         self.assertEqual(self.call("play").returncode, 1)
         self.assertEqual(self.call("play", self.room / "none", journal).returncode, 4)
@@ -145,7 +157,7 @@ class Play(Played):
 
 
 def attributes(picture: Path) -> tuple[dict[str, str], list[dict[str, str]]]:
-    """Returns the data attributes of the drawing in an SVG file, and those of each node."""
+    """Returns the data attributes of the drawing in an SVG file, and those of each node in it."""
     return attributes_of(ElementTree.parse(picture).getroot())
 
 

@@ -1,4 +1,5 @@
-"""`./class practise`: a student alone, whose denials are explained."""
+"""`./class practise`: a student practises alone, and printed lines explain denials and mistakes. Most tests run a bot of
+`bots/faulty.py`, whose argument names the bot's mistake. With `right` it has none."""
 from __future__ import annotations
 
 import contextlib
@@ -33,6 +34,7 @@ class Practise(InRoom):
         return Path(found[1])
 
     def test_a_right_bot_comes_to_a_stable_end(self) -> None:
+        """The printed counts of moves and steps are those of the printed steps, and the journal passes the audit."""
         done = self.practises(EXAMPLES / "bot.py", "--family", "grid:3x2", "--node", "2,5", "--daemon", "synchronous", "--seed", "4")
         self.assertEqual(done.returncode, 0, done.stdout + done.stderr)
         self.assertRegex(done.stdout, r"^network: grid:3x2, 6 nodes; start: hurt; daemon: synchronous; your nodes: 2, 5\n")
@@ -48,7 +50,8 @@ class Practise(InRoom):
         self.assertRegex(answer.output, f"^ok: .* configuration {told[3]}, stable$")
         self.assertIn("</html>", (folder / "run.html").read_text(encoding="utf-8"))
 
-    def test_denials_are_explained_and_what_hangs_is_told(self) -> None:
+    def test_a_denial_is_explained_and_a_run_without_a_bot_is_given_up(self) -> None:
+        """The bot asks for a marriage that is denied, and ends. The run then names the move for which it waits."""
         done = self.practises(f"python3 {FAULTY} marries-anyone", "--family", "path", "--nodes", "4", "--node", "1,2,3,4",
                               "--start", "clean", "--daemon", "by-hand")
         self.assertEqual(done.returncode, 5, done.stdout + done.stderr)
@@ -59,14 +62,14 @@ class Practise(InRoom):
         self.assertIn("\nyou: the bot ended by itself, with status 1\n", done.stdout)
         self.assertRegex(done.stdout, r"(?m)^the run is given up, since no bot is running any longer; it waits for seduction at node 1 \(you\), ")
 
-    def test_the_nodes_that_are_dealt_out_need_all_four_rules(self) -> None:
+    def test_with_the_default_options_the_student_s_nodes_need_all_four_rules(self) -> None:
         done = self.practises(EXAMPLES / "bot.py")
         self.assertEqual(done.returncode, 0, done.stdout + done.stderr)
         self.assertRegex(done.stdout, r"\nyou: \d+ granted moves \(update, marriage, seduction, abandonment\), \d+ denials?( \(.*\))?\n$")
 
-    def test_a_page_to_play_by(self) -> None:
-        """The page's server sends the same requests as a program and gets the same replies. The class ends when
-        the page has played it to its end."""
+    def test_a_class_can_be_played_to_its_end_by_requests_to_the_page_s_server(self) -> None:
+        """The test sends the requests that the page would send, and asks for each enabled move. `--page` is refused
+        together with a bot."""
         self.assertIn("--page is for playing by hand", self.practises(EXAMPLES / "bot.py", "--page").stderr)
         going = subprocess.Popen(
             [sys.executable, TOP / "class", "practise", "--page", "--family", "path", "--nodes", "2", "--node", "1,2", "--start", "clean",
@@ -89,7 +92,7 @@ class Practise(InRoom):
         self.assertEqual(going.wait(LIMIT), 0)
 
     def move(self, address: str, asked: dict[str, object]) -> str:
-        """Asks the page's server for a move. Returns the reply."""
+        """Asks the page's server for a move. Returns `move` if it is granted, or the name of the denial."""
         parts = urlsplit(address)
         connection = http.client.HTTPConnection("127.0.0.1", parts.port or 0, timeout=LIMIT)
         with contextlib.closing(connection):
@@ -97,19 +100,20 @@ class Practise(InRoom):
             told = json.loads(connection.getresponse().read())
         return str(told.get("ok") or told.get("deny"))
 
-    def test_what_a_program_did_is_told_last(self) -> None:
+    def test_the_last_line_has_the_bot_s_moves_denials_and_unused_rules(self) -> None:
         done = self.practises(f"python3 {FAULTY} floods", "--family", "path", "--nodes", "2", "--node", "1", "--start", "clean")
         self.assertEqual(done.returncode, 0, done.stdout + done.stderr)
         self.assertRegex(done.stdout, r"\nyou: 2 granted moves \(update, seduction\), \d+ denials?.*; rules that were never asked for: marriage, abandonment"
                                       r"(; the bot floods the server: it sends line after line .*)?\n$")
 
-    def test_floods_are_told(self) -> None:
+    def test_a_bot_that_never_pauses_is_said_to_flood_the_server(self) -> None:
         done = self.practises(f"python3 {FAULTY} floods", "--family", "path", "--nodes", "3", "--node", "1", "--daemon", "by-hand", "--timeout", "10")
         self.assertEqual(done.returncode, 5, done.stdout + done.stderr)
         self.assertIn("; the bot floods the server: it sends line after line without a pause; a bot waits a tenth of a second when it has looked at all "
                       "its nodes\n", done.stdout)
 
-    def test_what_is_malformed_is_told_once_and_counted(self) -> None:
+    def test_a_malformed_line_is_explained_once_and_its_repetitions_are_counted(self) -> None:
+        """The bot sends thirty such lines. The second line that is printed is for the tenth of them."""
         done = self.practises(f"python3 {FAULTY} quotes-numbers", "--nodes", "3")
         self.assertEqual(done.returncode, 0, done.stdout + done.stderr)
         lines = [line for line in done.stdout.splitlines() if "malformed" in line]
@@ -119,11 +123,13 @@ class Practise(InRoom):
         self.assertEqual(lines[1], "you: this has happened 10 times so far: a line is refused as malformed: node is a string, not a whole number")
         self.assertIn(", 30 malformed lines", lines[2])
 
-    def test_denials_of_a_kind_are_told_once_and_counted(self) -> None:
+    def test_a_denial_is_explained_once_and_its_repetitions_are_counted(self) -> None:
+        """The bot keeps asking with an `at` that has become stale. After the first denial, a line is printed for the
+        10th, the 100th and so on."""
         done = self.practises(f"python3 {FAULTY} asks-always", "--nodes", "7", "--daemon", "central")
         self.assertEqual(done.returncode, 0, done.stdout + done.stderr)
         lines = [line for line in done.stdout.splitlines() if "stale" in line]
-        self.assertGreater(len(re.findall("(?m)^configuration ", done.stdout)), 2, "the number was the same for all of them")
+        self.assertGreater(len(re.findall("(?m)^configuration ", done.stdout)), 2, "too few steps for several stale values of `at`")
         self.assertRegex(lines[0], r"^you: move at node \d by \w+.* is denied as stale, clause 2: this is not the current configuration; "
                                    r"the request has `at` \d+, but the current configuration has the number \d+$")
         told = re.fullmatch(r"you: .*, \d+ denials? \(.*?(\d+) stale.*", lines[-1])
@@ -132,7 +138,8 @@ class Practise(InRoom):
         counts = [10 ** power for power in range(1, len(told[1]))]
         self.assertEqual(lines[1:-1], [f"you: this has happened {count} times so far: move is denied as stale, clause 2" for count in counts])
 
-    def test_a_program_that_never_connects_is_told_from_one_that_is_silent(self) -> None:
+    def test_a_bot_that_never_connects_is_named_as_the_reason(self) -> None:
+        """The bot only prints what looks like a reply, so its output isn't taken for a connection."""
         done = self.practises(f"python3 {FAULTY} pretends", "--timeout", "1")
         self.assertEqual(done.returncode, 5, done.stdout + done.stderr)
         self.assertRegex(done.stdout, r"(?m)^the run is given up, since nothing has happened for 1 seconds; it waits for \w+ at node \d \(you\).*; "
@@ -142,8 +149,9 @@ class Practise(InRoom):
         self.assertTrue(done.stdout.endswith("\nyou: 0 granted moves, 0 denials; rules that were never asked for: update, marriage, seduction, "
                                              "abandonment\n"), done.stdout)
 
-    def test_no_program_goes_on_while_record_and_page_are_made(self) -> None:
-        """Writing the record and the page may take long, and nobody would answer a program meanwhile."""
+    def test_all_bots_have_ended_before_record_and_page_are_written(self) -> None:
+        """Writing the record and the page may take long, and nobody would answer a bot meanwhile. The code runs the
+        subcommand with another `write_run`, which prints for each bot whether its process has ended."""
         given = ["practise", f"python3 {FAULTY} right", "--nodes", "3", "--into", str(self.room / "runs")]
         code = ("import sys; from classroom import words; from classroom.bots import bots, practise; kept = []; began = bots.RunningBot.__init__\n"
                 "bots.RunningBot.__init__ = lambda self, *given: (kept.append(self), began(self, *given))[1]\n"
@@ -153,13 +161,15 @@ class Practise(InRoom):
         self.assertEqual(done.returncode, 0, done.stdout + done.stderr)
         self.assertIn("\nended [True]\n", done.stdout)
 
-    def test_two_bots_play_together(self) -> None:
+    def test_two_bots_play_together_with_two_nodes_each(self) -> None:
         bot = f"python3 {FAULTY} right"
         done = self.practises(bot, bot, "--family", "star", "--nodes", "5", "--start", "random", "--daemon", "central")
         self.assertEqual(done.returncode, 0, done.stdout + done.stderr)
         self.assertRegex(done.stdout, r"; nodes of you-1: \d, \d; nodes of you-2: \d, \d\n")
 
-    def test_without_a_bot_a_port_waits(self) -> None:
+    def test_without_a_bot_the_class_waits_for_the_student_s_own_program(self) -> None:
+        """The test connects with the slip that the printed line names. A denial and a malformed line are explained as
+        for a bot."""
         going = subprocess.Popen(
             [sys.executable, TOP / "class", "practise", "--family", "path", "--nodes", "2", "--node", "1", "--start", "clean",
              "--daemon", "central", "--into", self.room / "runs"], stdout=subprocess.PIPE, text=True)
@@ -190,7 +200,7 @@ class Practise(InRoom):
         self.assertTrue(any(line.startswith("the network is stable; pairs: 1-2; ") for line in rest), rest)
 
     def plays(self, me: Client, node: int) -> None:
-        """Plays a node until it is married."""
+        """Asks for the enabled moves of a node until it has none and its `m` is true, but not longer than LIMIT."""
         end = time.monotonic() + LIMIT
         while time.monotonic() < end:
             look = me.look(node)
@@ -203,7 +213,7 @@ class Practise(InRoom):
                     self.assertEqual(denied.name, "stale")
             time.sleep(0.01)
 
-    def test_words_that_fit_no_network(self) -> None:
+    def test_wrong_arguments_are_refused_before_a_folder_is_made(self) -> None:
         rows: tuple[tuple[tuple[str | Path, ...], str], ...] = (
             (("no-such-program",), "no-such-program: there is no such program"),
             ((EXAMPLES / "bot.py", "--node", "9"), "--node 9: this network has only the nodes 1 to 7"),

@@ -1,4 +1,5 @@
-"""The player is readable: the contrast of its texts in both themes, the meaning of colours, and its print."""
+"""The page of a run is readable: its texts have enough contrast in both themes, nothing is told by colour alone, and it
+can be printed."""
 from __future__ import annotations
 
 import base64
@@ -44,10 +45,12 @@ class Readable(Played):
     """Pages of short runs."""
 
     def setUp(self) -> None:
+        """Opens the browser, whose usual theme is restored after the test."""
         super().setUp()
         self.addCleanup(show_as, self.driver)
 
-    def test_texts_are_readable_in_both_themes(self) -> None:
+    def test_texts_have_enough_contrast_in_both_themes(self) -> None:
+        """Each seventh configuration is looked at. The themes have different backgrounds."""
         for lab, journal in (edited_run(self.room), *examples(self.room)):
             self.open(self.page(lab, journal))
             grounds = []
@@ -61,9 +64,9 @@ class Readable(Played):
                 grounds.append(self.driver.execute_script("return getComputedStyle(document.body).backgroundColor"))
             self.assertEqual(len(set(grounds)), 2)
 
-    def test_owners_are_told_as_text(self) -> None:
-        """The name beside a node may be cut, but the description of the node has it in full, however many nodes
-        there are."""
+    def test_a_node_that_is_picked_names_all_its_owners(self) -> None:
+        """The name beside a node may be cut, and a network of more than 30 nodes has no such names. The text about a
+        node that is picked has them in full in any case."""
         for nodes in (8, 60):
             lab_file = many_owners(self.room, nodes)
             journal = self.room / "none.journal"
@@ -82,7 +85,9 @@ class Readable(Played):
                     self.driver.execute_script("player.pick(arguments[0])", index)
                     self.assertEqual(self.driver.find_element("id", "story-name").text, f"Node {node.id} · {', '.join(node.owners)}")
 
-    def test_lines_and_states_are_told_without_colour(self) -> None:
+    def test_kinds_of_lines_and_states_of_nodes_differ_also_without_colour(self) -> None:
+        """This holds for large nodes and for the small ones of a network of 60. Only a married node looks like another
+        one, since the line of its pair shows that it is married."""
         for nodes in (8, 60):
             journal = self.room / "none.journal"
             journal.write_text("")
@@ -93,6 +98,7 @@ class Readable(Played):
             self.assertEqual((len(set(states[:3])), states[3] == states[0]), (3, True), states)
 
     def test_it_prints_alike_in_both_themes(self) -> None:
+        """The printed page has the legend but no controls, and its texts have enough contrast on paper."""
         lab, journal = edited_run(self.room)
         self.open(self.page(lab, journal), "#p=7")
         printed = []
@@ -111,14 +117,15 @@ class Readable(Played):
         self.assertGreater(len(b"".join(printed[0])), 5000)
 
     def drawn(self, document: str) -> list[bytes]:
-        """Returns the decompressed streams with the drawings in the text of a PDF document."""
+        """Returns the decompressed streams of a PDF document that draw something. `document` has its bytes in Base64.
+        Fails if there are none."""
         found = []
         for stream in re.findall(rb"stream\r?\n(.*?)\r?\nendstream", base64.b64decode(document), re.DOTALL):
             try:
                 content = zlib.decompress(stream)
-            except zlib.error:
+            except zlib.error:  # This stream isn't compressed.
                 continue
-            if re.search(rb"\bre\b|\bm\b", content) and b" rg\n" in content:
+            if re.search(rb"\bre\b|\bm\b", content) and b" rg\n" in content:  # forms, and a colour to fill them
                 found.append(content)
         self.assertGreater(len(found), 0)
         return found
