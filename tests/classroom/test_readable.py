@@ -1,4 +1,4 @@
-"""The page of a run is readable: its texts have enough contrast in both themes, nothing is told by colour alone, and it
+"""The page of a run is readable: its texts have enough contrast in both themes, nothing is shown by colour alone, and it
 can be printed."""
 from __future__ import annotations
 

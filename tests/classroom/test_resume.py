@@ -1,4 +1,5 @@
-"""A class continues from its journal after a kill: `./class run --resume`."""
+"""A class continues from its journal after its server was killed or has ended: `./class run --resume`. The *host* is
+the server's process, and *run* is the process of `./class run`, which has the desk."""
 from __future__ import annotations
 
 import json
@@ -19,7 +20,7 @@ from classroom.core.lab import Node, read
 from classroom.core.program import call, host
 from tests.classroom.help import CLASS, CYCLE, KEYS, Cycle, Going, words
 
-BOTH = ("host", "run and host")
+KINDS = ("host", "run and host")  # the processes that a test kills
 KILLS = 10  # the number of kills of each kind, at random points; tests/resume kills hosts alone more often
 
 
@@ -29,12 +30,12 @@ class Players:
     def __init__(self, port: int, disturbs: bool = True) -> None:
         """Starts to play at the students' port. If `disturbs` is set, the second teacher causes faults."""
         self.port, self.disturbs = port, disturbs
-        self.over, self.told = threading.Event(), 0
+        self.over, self.last_place = threading.Event(), 0
         self.thread = threading.Thread(target=self.play)
         self.thread.start()
 
     def play(self) -> None:
-        """Plays until the server is gone, or the class is over."""
+        """Plays, in the thread, until the server closes a connection or `ended` is called."""
         lab = read(CYCLE)
         clients: dict[str, Client] = {}
         try:
@@ -48,7 +49,7 @@ class Players:
             client.hang_up()
 
     def turn(self, nodes: list[Node], students: dict[str, Client], teacher: Client) -> None:
-        """Asks for the enabled move of each node. The teacher causes a fault at a node without one."""
+        """Asks for the enabled move of each node. If no node has one, the second teacher causes a fault at node 1."""
         is_idle = True
         for node in nodes:
             student = students[node.owners[0]]
@@ -56,17 +57,17 @@ class Players:
             is_idle = is_idle and look.rule is None
             if look.rule and not look.chosen:
                 try:
-                    self.told = student.move(look).place
-                except Denied:
+                    self.last_place = student.move(look).place
+                except Denied:  # A step was closed since the look.
                     pass
         if is_idle and self.disturbs:
-            self.told = teacher.fault(1, None, True).place
+            self.last_place = teacher.fault(1, None, True).place
 
     def ended(self) -> int:
-        """Waits for the end of the thread. Returns the greatest place in a reply."""
+        """Ends the thread. Returns the number of the last event that a reply named."""
         self.over.set()
         self.thread.join()
-        return self.told
+        return self.last_place
 
 
 @unittest.skipUnless(host(), "not tried: no host is built")
@@ -74,8 +75,9 @@ class Resume(Cycle):
     """Runs of the cycle of `examples/`."""
 
     def killed(self, going: Going, what: str, number: int = 0) -> None:
-        """Kills the server of a run. Kills the process of `run` before that, unless `what` is `host`. `number` is that
-        of the server, if it is known."""
+        """Kills the server of a run, and waits until it has ended. If `what` is `host`, checks that `run` then ends
+        with status 4, and prints how to continue. Otherwise kills `run` first. `number` is the number of the server's
+        process. If it is 0, the server is the child of `run`."""
         server = Process.of(number or going.server())
         if what != "host":
             going.process.kill()
@@ -108,8 +110,10 @@ class Resume(Cycle):
         students = json.loads((folder / "marks.json").read_text(encoding="utf-8"))["runs"][0]["students"]
         return {name: total for name, it in students.items() if (total := sum(it["applied"].values()))}
 
-    def test_kills_while_bots_ask(self) -> None:
-        for what in BOTH:
+    def test_a_class_whose_server_is_killed_while_bots_ask_continues_to_its_end(self) -> None:
+        """Until it is resumed, another run of the lab is refused. The resumed class has the same ports, and all
+        complete lines of the journal. The marks are those that the test counts."""
+        for what in KINDS:
             with self.subTest(what=what):
                 going = Going(self, CYCLE, "--close", "every:0.2", "--beside", "--until", "stable")
                 for name in KEYS:  # A bot that has greeted greets again after the class continues.
@@ -132,12 +136,13 @@ class Resume(Cycle):
                 self.whole(going.folder)
                 self.assertTrue((going.folder / "journal").read_bytes().startswith(before[:before.rfind(b"\n") + 1]))
                 self.assertEqual(self.marks(going.folder), self.counted(going.folder))
+                # Each line of `run.txt` begins with the time in six characters. No configuration is printed twice.
                 told = [line[6:] for line in (going.folder / "run.txt").read_text(encoding="utf-8").splitlines() if line[6:].startswith("configuration ")]
                 self.assertEqual(len({line.partition(":")[0] for line in told}), len(told), told)
 
-    def test_kills_at_random_points(self) -> None:
-        """`run` or both processes are killed, ten times each. The desk is taken over, or the journal is resumed.
-        No event in a reply is lost."""
+    def test_no_event_in_a_reply_is_lost_by_kills_at_random_points(self) -> None:
+        """In random order `run` is killed ten times, and both processes ten times. After a kill of `run` the desk is
+        taken over by `attach`, and after a kill of both the journal is resumed."""
         lab = self.file("cycle.toml", re.sub(r"(?m)^events = \d+", "events = 100000", CYCLE.read_text(encoding="utf-8")))
         chance = random.Random(47)
         kinds = ["run", "run and host"] * KILLS
@@ -178,7 +183,8 @@ class Resume(Cycle):
         limited.chmod(0o755)
         return limited
 
-    def test_a_full_disk(self) -> None:
+    def test_a_run_that_a_full_disk_has_ended_continues_when_there_is_room(self) -> None:
+        """More faults are typed than the journal has room for. No line says that the server has ended by itself."""
         going = Going(self, CYCLE, "--close", "by-hand", MML_HOST=str(self.limited(2)))
         going.type("\n".join(["fault 1 2 true"] * 110))
         line = going.until("^nothing more is granted: ")
@@ -198,7 +204,9 @@ class Resume(Cycle):
         self.assertGreater(self.whole(going.folder), events)
         self.assertEqual(self.marks(going.folder), self.counted(going.folder))
 
-    def test_a_halted_journal_is_told_where_no_move_is_chosen(self) -> None:
+    def test_a_run_ends_if_its_journal_stops_after_a_part_of_a_line(self) -> None:
+        """The journal has no room for a further line, so a student's move is refused. The desk learns this from the
+        journal's incomplete line, as no move is chosen and no step is closed."""
         going = Going(self, CYCLE, "--close", "by-hand", MML_HOST=str(self.limited(2)))
         journal, count = going.folder / "journal", 0
         with Client(going.port, "gus", KEYS["gus"]) as gus:
@@ -213,7 +221,9 @@ class Resume(Cycle):
             going.until("^nothing more is granted: no line can be written to the journal. ")
         self.assertEqual(going.ends(), 4, going.lines)
 
-    def test_another_key_in_mid_course(self) -> None:
+    def test_after_a_change_of_a_key_the_resumed_run_accepts_only_the_new_one(self) -> None:
+        """`key` changes the run's lab and the lab from which it was started, here a copy of the example. The student's
+        granted move is still there."""
         going = Going(self, CYCLE, "--close", "by-hand")
         with Client(going.port, "gus", KEYS["gus"]) as gus:
             gus.move(gus.look(4))
@@ -236,7 +246,7 @@ class Resume(Cycle):
             self.assertEqual(gus.look(4).chosen, "update")
         self.assertEqual(again.ended(), 0, again.lines)
 
-    def test_a_limit_that_was_reached_is_raised(self) -> None:
+    def test_a_run_that_used_all_its_events_continues_after_its_limit_is_raised(self) -> None:
         lab = self.file("cycle.toml", re.sub(r"(?m)^events = \d+", "events = 2", CYCLE.read_text(encoding="utf-8")))
         going = Going(self, lab, "--close", "by-hand")
         with Client(going.port, "gus", KEYS["gus"]) as gus:
@@ -253,7 +263,9 @@ class Resume(Cycle):
         self.assertEqual(again.ended(), 0, again.lines)
         self.assertEqual(self.whole(going.folder), 3)
 
-    def test_a_class_that_was_ended_is_opened_again_where_that_is_meant(self) -> None:
+    def test_a_run_that_was_ended_is_only_resumed_with_the_option_again(self) -> None:
+        """Without the option nothing changes. A run that was resumed and whose server was then killed needs no option,
+        since it wasn't ended again."""
         going = Going(self, CYCLE, "--close", "by-hand")
         going.type("fault 1 2 true")
         going.until("^configuration 1: ")
@@ -269,11 +281,13 @@ class Resume(Cycle):
         self.assertIn("the class continues at configuration 1; events: 1 of 1000", again.lines)
         os.kill(again.server(), signal.SIGKILL)
         self.assertEqual(again.ends(), 4, again.lines)
-        again = Going(self, None, "run", "--resume", folder)  # The session is open, and its server died.
+        again = Going(self, None, "run", "--resume", folder)  # This one wasn't ended, but its server died.
         self.assertEqual(again.ended(), 0, again.lines)
         self.assertEqual(words("run", CYCLE, "--again").stderr, "class: run: --again can only be used together with --resume FOLDER\n")
 
-    def test_a_torn_line_and_another_lab(self) -> None:
+    def test_an_incomplete_last_line_is_dropped_and_a_changed_lab_is_refused(self) -> None:
+        """The journal ends in the middle of a line, as after a power failure. The lab is changed by another owner of a
+        node, and then restored. A second `run --resume` is refused while the first one is going on."""
         going = Going(self, CYCLE, "--close", "by-hand")
         going.type("fault 1 2 true")
         going.until("^configuration 1: ")

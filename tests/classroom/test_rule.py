@@ -1,4 +1,6 @@
-"""Rules that turn marks into grades: their results, their errors, and their columns in all forms of the marks."""
+"""Rules that turn marks into grades: their results, their errors, and their columns in all forms of the marks. A *rule*
+is a file with lines such as `pass = applied >= 3`. Each line adds a column to the marks, and its expression uses the
+columns before it."""
 from __future__ import annotations
 
 import csv
@@ -14,19 +16,20 @@ from classroom.marks.rule import MOST_DEPTH, MOST_LINES, Value, parsed
 from tests.classroom.help import EXAMPLES, InRoom, words
 from tests.classroom.runs import journal_of
 
+# The row of marks for which the tests compute values. `clause4` isn't known, as in a run without a record.
 ROW: dict[str, Value] = {"applied": Fraction(7), "nodes": Fraction(2), "student": "ana", "clause4": None, "whole": True}
 TAKEN = "is already the name of a column, of an earlier line or of a word of rules; choose another name"
 
 
 def value(expression: str) -> str:
-    """Returns the value of an expression for the row of marks above, as a text."""
+    """Returns the value of an expression for ROW, as a text. Raises `Fault` if it can't be parsed or computed."""
     return parsed(Path("rule"), [f"x = {expression}"], list(ROW)).values(ROW)[0]
 
 
 class Expressions(unittest.TestCase):
     """The values of expressions."""
 
-    def test_values(self) -> None:
+    def test_each_operator_and_function_has_its_value(self) -> None:
         for expression, wanted in (
             ("1 + 2 * 3", "7"), ("(1 + 2) * 3", "9"), ("7 - 2 - 1", "4"), ("8 / 4 / 2", "1"), ("1 / 3", "0.333"), ("-2 * -3", "6"), ("- - 2", "2"),
             ("0.1 + 0.2 == 0.3", "yes"), ("applied / nodes", "3.5"), ("applied >= 7", "yes"), ("applied > 7", "no"), ("applied < 7.5", "yes"),
@@ -38,7 +41,7 @@ class Expressions(unittest.TestCase):
         ):
             self.assertEqual(value(expression), wanted, expression)
 
-    def test_what_is_not_known(self) -> None:
+    def test_an_expression_with_an_unknown_value_is_a_dash_unless_the_rest_decides(self) -> None:
         for expression, wanted in (
             ("clause4", "-"), ("clause4 + 1", "-"), ("clause4 <= 5", "-"), ("clause4 <= 5 and false", "no"), ("false and clause4 <= 5", "no"),
             ("clause4 <= 5 and true", "-"), ("clause4 <= 5 or true", "yes"), ("true or clause4 <= 5", "yes"), ("false or clause4 <= 5", "-"),
@@ -51,7 +54,8 @@ class Expressions(unittest.TestCase):
         rule = parsed(Path("rule"), ["# a rule", "", "pass = applied >= 3", "points = 5 if pass else 0", "more = points * nodes"], list(ROW))
         self.assertEqual((rule.names, rule.values(ROW)), (["pass", "points", "more"], ["yes", "5", "10"]))
 
-    def test_each_error_is_a_line(self) -> None:
+    def test_each_error_of_a_line_has_the_line_s_number_its_text_and_a_reason(self) -> None:
+        """A file with no line of a rule, or with too many, is refused too."""
         deep = "(" * (MOST_DEPTH + 1) + "1" + ")" * (MOST_DEPTH + 1)
         for text, error in (
             ("pass", "each line has the form NAME = EXPRESSION"), ("= 1", "each line has the form NAME = EXPRESSION"),
@@ -77,11 +81,11 @@ class Expressions(unittest.TestCase):
             self.assertEqual(str(fault.exception), f"rule: line 2 is wrong: {text} ({error})")
         several: list[list[str]] = [[], ["# none"], [f"x{number} = 1" for number in range(MOST_LINES + 1)]]
         for lines in several:
-            count = len(lines) if len(lines) > 1 else 0
+            count = len(lines) if len(lines) > 1 else 0  # The only line of the second file is a comment.
             with self.assertRaisesRegex(Fault, f"^rule: this file has {count} lines of a rule, but it must have 1 to {MOST_LINES}, "):
                 parsed(Path("rule"), lines, [])
 
-    def test_each_fault_of_a_value_is_a_line(self) -> None:
+    def test_each_error_of_a_computation_has_the_line_s_number_the_student_and_a_reason(self) -> None:
         for expression, error in (
             ("applied / 0", "it divides by 0"), ("1 / (nodes - 2)", "it divides by 0"), ("student + 1", "the value 'ana' isn't a number"),
             ("true + 1", "the value 'yes' isn't a number"),
@@ -97,16 +101,18 @@ class Expressions(unittest.TestCase):
 
 
 class InMarks(InRoom):
-    """Rules in the forms of the marks."""
+    """The columns of rules in the forms of the marks."""
 
     def setUp(self) -> None:
+        """Writes the journal of a run of the cycle, and a rule of four lines. The run has no record, so `guard_denials`
+        isn't known."""
         super().setUp()
         self.lab = EXAMPLES / "cycle.toml"
         self.journal = journal_of(self.lab, EXAMPLES / "cycle-run.script", self.room / "cycle.journal")
         self.rule = self.file("rule.txt", "pass = applied_per_node >= 2 and guard_denials <= 5\nenough = applied_per_node >= 2\n"
                                           "points = min(3, applied) * nodes\nwhere = network\n")
 
-    def test_each_form_has_its_columns(self) -> None:
+    def test_each_form_of_the_marks_has_the_columns_of_the_rule(self) -> None:
         rows = list(csv.DictReader(io.StringIO(words("mark", "--csv", "--rule", self.rule, self.lab, self.journal).stdout)))
         wanted = {"gus": ("2", "no", "no", "6"), "hana": ("2", "-", "yes", "6"), "ines": ("2", "-", "yes", "6"), "jonas": ("1", "-", "yes", "3")}
         self.assertEqual({row["student"]: (row["nodes"], row["pass"], row["enough"], row["points"]) for row in rows}, wanted)
@@ -117,7 +123,9 @@ class InMarks(InRoom):
         said = words("mark", "--rule", self.rule, self.lab, self.journal).stdout
         self.assertRegex(said, r"(?m)^ +student +granted .* +guard denials +malformed +nodes +pass +enough +points +where$")
 
-    def test_totals_are_ruled_over_all_runs(self) -> None:
+    def test_a_rule_for_totals_uses_the_sums_over_all_runs(self) -> None:
+        """The same run is counted twice. Totals have no column `first`, so a rule can't use it there. A roster adds a
+        row for each of its students, with the same columns."""
         done = words("mark", "--total", "--rule", self.rule, self.lab, self.journal, self.journal)
         self.assertEqual(done.returncode, 0, done.stderr)
         rows = {row["student"]: row for row in csv.DictReader(io.StringIO(done.stdout))}
@@ -131,7 +139,7 @@ class InMarks(InRoom):
         self.assertEqual(listed[0][-5:], ["network", "pass", "enough", "points", "where"])
         self.assertEqual(len({len(row) for row in listed}), 1)
 
-    def test_each_column_is_explained(self) -> None:
+    def test_the_option_columns_explains_each_column(self) -> None:
         said = words("mark", "--columns").stdout
         names = [line.split("  ")[0] for line in said.splitlines()]
         heads = csv.reader(io.StringIO(words("mark", "--csv", self.lab, self.journal).stdout)).__next__()
@@ -139,7 +147,7 @@ class InMarks(InRoom):
         self.assertLessEqual({*heads, *totals}, {*names})
         self.assertLessEqual({*columns.for_rules(True), *columns.for_rules(False)}, {*names})
 
-    def test_mark_needs_a_run(self) -> None:
+    def test_mark_without_arguments_says_what_it_needs(self) -> None:
         self.assertEqual(words("mark").stderr, "class: mark: name the folders of runs or of classes, or a lab and its journals\n")
 
 

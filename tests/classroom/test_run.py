@@ -1,4 +1,4 @@
-"""`./class run` and `demo` with the built program, and the programs that take part."""
+"""`./class run` and `./class demo` with the built program, and the bots and clients that connect to them."""
 from __future__ import annotations
 
 import shutil
@@ -16,7 +16,7 @@ from tests.classroom.help import CYCLE, EXAMPLES, KEYS, LIMIT, Cycle, Going, no_
 class Run(Cycle):
     """Runs of the cycle of `examples/`."""
 
-    def test_run_until_stable(self) -> None:
+    def test_a_run_until_stable_ends_by_itself_with_all_its_files(self) -> None:
         going = Going(self, CYCLE, "--close", "when-idle:0.3", "--until", "stable")
         for name in KEYS:
             self.bot(going, name)
@@ -25,7 +25,10 @@ class Run(Cycle):
         self.assertIn(", stable", (going.folder / "audit.txt").read_text(encoding="utf-8"))
         self.assertGreater(self.whole(going.folder), 10)
 
-    def test_by_hand_with_a_bot_that_dies(self) -> None:
+    def test_a_class_whose_steps_are_closed_by_hand(self) -> None:
+        """Checks what the desk prints for each typed command, and what a client is denied. A bot that is killed
+        disturbs nothing. The printed bounds are 3n + 2 min(L, n²/4) for n nodes and L links: 35 at first, and 33 after
+        a link is removed."""
         going = Going(self, CYCLE, "--close", "by-hand")
         going.type("wait")
         self.assertIn("node 7 (jonas): abandonment", going.until("^waiting for "))
@@ -59,7 +62,7 @@ class Run(Cycle):
         self.assertEqual(going.ended(), 0, going.lines)
         self.assertGreaterEqual(self.whole(going.folder), 4)
 
-    def test_a_bot_in_another_language(self) -> None:
+    def test_a_bot_in_java_plays_beside_bots_in_python(self) -> None:
         if shutil.which("java") is None:
             self.skipTest("not tried: java")
         going = Going(self, CYCLE, "--close", "when-idle:0.5", "--until", "stable")
@@ -69,14 +72,14 @@ class Run(Cycle):
         self.assertEqual(going.ends(), 0, going.lines)
         self.assertGreater(self.whole(going.folder), 10)
 
-    def test_signals(self) -> None:
+    def test_sigint_and_sigterm_end_a_run_with_all_its_files(self) -> None:
         for number in (signal.SIGINT, signal.SIGTERM):
             going = Going(self, CYCLE, "--close", "by-hand")
             going.process.send_signal(number)
             self.assertEqual(going.ends(), 0, going.lines)
             self.assertEqual(self.whole(going.folder), 0)
 
-    def test_a_port_in_use(self) -> None:
+    def test_a_server_whose_port_is_in_use_takes_another_and_says_so(self) -> None:
         with socket.create_server(("127.0.0.1", 0)) as taken:
             port = taken.getsockname()[1]
             going = Going(self, CYCLE, "--port", str(port))
@@ -85,14 +88,15 @@ class Run(Cycle):
             going.type("end\nend")
             self.assertEqual(going.ends(), 0)
 
-    def test_nothing_built(self) -> None:
+    def test_without_the_program_run_says_how_to_build_it(self) -> None:
         done = words("run", CYCLE, "--into", self.room / "runs", MML_PROGRAM=str(self.room / "none"))
         self.assertEqual(done.returncode, 1)
         self.assertIn("the program mml isn't built. Type `./mml build` to build it", done.stderr)
         self.assertFalse((self.room / "runs").exists())
 
-    def test_no_host_built(self) -> None:
-        """Without a host's program, a run fails with a message about how to build one. With `--serve` it needs none."""
+    def test_without_the_host_s_program_only_a_run_with_serve_starts(self) -> None:
+        """Without it a run fails with a message about how to build it. With `--serve` the server is another program,
+        but at the end a line says that the host's program isn't built, and the status is 1."""
         none = str(self.room / "none")
         asked: tuple[list[str | Path], ...] = (["run", CYCLE], ["demo"])
         for given in asked:
@@ -112,15 +116,15 @@ class Run(Cycle):
         self.assertIn("2 events, among them 1 closed step, 0 faults, 0 added links and 0 removed links; last configuration: 1, ",
                       words("mark", going.folder).stdout)
 
-    def test_no_server(self) -> None:
+    def test_a_client_at_a_port_without_a_server_raises_closed(self) -> None:
         with no_server() as port, self.assertRaises(Closed):
             Client(port, "gus", "key")
 
-    def test_a_silent_server(self) -> None:
+    def test_a_client_whose_server_says_nothing_raises_closed_after_its_time_limit(self) -> None:
         with socket.create_server(("127.0.0.1", 0)) as silent, self.assertRaises(Closed):
             Client(silent.getsockname()[1], "gus", "key", limit=0.1)
 
-    def test_demo(self) -> None:
+    def test_demo_ends_stable_and_leaves_the_files_of_a_run(self) -> None:
         done = words("demo", "--into", self.room)
         self.assertEqual(done.returncode, 0, done.stdout + done.stderr)
         self.assertIn("the network is stable, so the run is ended", done.stdout)
@@ -128,7 +132,8 @@ class Run(Cycle):
         self.whole(folder)
         self.assertLess((folder / "run.html").stat().st_size, 1_000_000)
 
-    def test_side_by_side(self) -> None:
+    def test_two_labs_run_side_by_side_until_a_signal(self) -> None:
+        """SIGINT is sent after the last row of the table at the start. `mark` takes the folder of both runs."""
         students = self.file("students", "".join(f"S {number}\n" for number in range(6)))
         self.assertEqual(words("new", self.room / "lab.toml", "--students", students, "--groups", "2").returncode, 0)
         labs = [self.room / "lab-1.toml", self.room / "lab-2.toml"]

@@ -1,4 +1,9 @@
-"""Another program is at the desk before a class is begun, resumed or taken over."""
+"""Another program is at the desk before a class is begun, resumed or taken over. The *desk* is the port for the
+teacher's programs, and has one seat. `run`, `run --resume` and `attach` have to get this seat.
+
+In some tests the host is started by a *relay*, which passes on the host's output, but holds back its first line until
+something has happened at the desk.
+"""
 from __future__ import annotations
 
 import json
@@ -17,8 +22,8 @@ from classroom.core.lab import read
 from classroom.core.program import TOP, host
 from tests.classroom.help import CLASS, CYCLE, KEYS, LIMIT, Cycle, Going, a_port
 
-# A program that becomes a host. Its child process passes on the host's output, and does what `what` says before the
-# first line: it says hello at the desk as a student, or waits until somebody has connected there.
+# The relay: a program that becomes a host. Its child process passes on the host's output by the function `relay`, which
+# calls `seated` or `knocked` before the first line.
 RELAY = """#!/usr/bin/python3
 import os, sys
 sys.path.insert(0, {top!r})
@@ -37,8 +42,8 @@ PATIENT = 30.0  # seconds in which somebody comes to a desk that listens, on a s
 
 
 def relay(lines: int, what: str, told: str) -> None:
-    """Passes on the output of a host, and writes into a file what happened at the desk before its first line was
-    passed on."""
+    """Passes on the output of a host, which it reads from the file descriptor `lines`. Before the first line it calls
+    `seated` or `knocked`, as `what` says, with the desk's port, and appends the result to the file named last."""
     with open(lines, "rb") as host_lines:
         first = host_lines.readline()
         words = first.decode().split()
@@ -52,7 +57,7 @@ def relay(lines: int, what: str, told: str) -> None:
 
 
 def seated(desk: int) -> str:
-    """Says hello at a desk as a student, and keeps the connection open. Returns the reply."""
+    """Says hello at a desk as a student, and leaves the connection open. Returns the reply."""
     it = socket.create_connection(("127.0.0.1", desk), LIMIT)
     it.sendall(json.dumps({"do": "hello", "name": "gus", "key": KEYS["gus"]}).encode() + b"\n")
     reply = it.makefile("rb").readline().decode()
@@ -61,7 +66,8 @@ def seated(desk: int) -> str:
 
 
 def knocked(desk: int) -> str:
-    """Waits until another connection has come to a desk. Returns as a text whether one has come in time."""
+    """Waits until somebody has connected to the port of a desk, at most PATIENT seconds. Returns a text that says
+    whether somebody has."""
     end = time.monotonic() + PATIENT
     while time.monotonic() < end:
         if any(own == desk and state == ESTABLISHED for own, _, state, _ in rows()):
@@ -75,19 +81,20 @@ class Seated(Cycle):
     """Runs of the cycle of `examples/`."""
 
     def relayed(self, what: str) -> str:
-        """Writes a program that runs the host, but delays its first line until `what` was done at its desk. Returns its
-        path."""
+        """Writes a relay that does `what` at the desk, `seated` or `knocked`, before it passes on the host's first
+        line. Returns its path."""
         text = RELAY.format(top=str(TOP), host=str(host()), what=what, told=str(self.room / "told"))
         it = self.file("relayed", text)
         it.chmod(0o755)
         return str(it)
 
     def told(self) -> str:
-        """Returns what happened at the desk before the first line was printed."""
+        """Returns what the relay wrote about the desk: the reply to its hello, or whether somebody came."""
         return (self.room / "told").read_text(encoding="utf-8")
 
     def killed(self) -> tuple[Going, Record]:
-        """Returns a run that was killed after a fault, and its record. The run's server is still running."""
+        """Starts a run, causes a fault, and kills `run` but not its server. Returns the run and its record, which has
+        the server's process and ports."""
         going = Going(self, CYCLE, "--close", "by-hand")
         going.type("fault 1 2 true")
         going.until("^configuration 1: fault at node 1: p 2, m true")
@@ -100,12 +107,13 @@ class Seated(Cycle):
         return going, record
 
     def end(self, server: Process) -> None:
-        """Ends a server that a test has left running."""
+        """Kills a server if it is running."""
         if server.lives():
             os.kill(server.number, signal.SIGKILL)
 
     def goes_on(self, going: Going, events: int) -> None:
-        """Checks that a class works, and ends well."""
+        """Checks that a class serves a student and the desk, and ends with all its files. `events` is the number of its
+        events so far."""
         with Client(going.port, "hana", KEYS["hana"]) as hana:
             hana.look(read(CYCLE).nodes_of("hana")[0])
         going.type("link 1 3")
@@ -113,14 +121,14 @@ class Seated(Cycle):
         self.assertEqual(going.ended(), 0, going.lines)
         self.assertEqual(self.whole(going.folder), events + 1)
 
-    def test_a_student_before_run(self) -> None:
-        """A student who says hello at the desk before `run` connects loses the seat to `run`."""
+    def test_run_gets_the_seat_of_a_student_who_came_before(self) -> None:
+        """The student says hello at the desk before `run` gets the host's first line."""
         going = Going(self, CYCLE, "--close", "by-hand", MML_HOST=self.relayed("seated"))
         self.assertEqual(self.told(), '{"ok":"hello","who":"gus"}\n')
         self.goes_on(going, 0)
 
-    def test_a_student_before_a_class_goes_on(self) -> None:
-        """A student who says hello at the desk before `run --resume` connects loses the seat to it."""
+    def test_run_resume_gets_the_seat_of_a_student_who_came_before(self) -> None:
+        """The student says hello at the desk before `run --resume` gets the host's first line."""
         going, record = self.killed()
         self.end(record.server)
         while record.server.lives():
@@ -130,8 +138,8 @@ class Seated(Cycle):
         self.assertIn("the class continues at configuration 1; events: 1 of 1000", again.lines)
         self.goes_on(again, 1)
 
-    def test_a_student_before_attach(self) -> None:
-        """A student who has the seat of the desk of a running server loses it to `attach`, with the refusal `busy`."""
+    def test_attach_gets_the_seat_of_a_student_who_is_at_the_desk(self) -> None:
+        """The student's next request is refused with `busy`."""
         going, record = self.killed()
         gus = Client(record.desk, "gus", KEYS["gus"])
         self.addCleanup(gus.hang_up)
@@ -143,8 +151,8 @@ class Seated(Cycle):
         self.goes_on(again, 1)
 
     def attached(self, going: Going, record: Record) -> tuple[Going, Client]:
-        """Starts an `attach` that has to wait, because another connection of the teacher has the desk. Returns
-        both."""
+        """Connects to the desk as the teacher, and starts an `attach`, which has to wait for the end of this
+        connection. Returns the `attach` and the connection."""
         tess = Client(record.desk, *TESS)
         self.addCleanup(tess.hang_up)
         again = Going(self, None, "attach", going.folder, ready="^another program is connected to the desk; trying to connect again for a minute$")
@@ -172,19 +180,18 @@ class Seated(Cycle):
             f"the server (process {record.server.number}) keeps running, but nobody controls it. To control it again, type: {CLASS} attach {going.folder}",
         ])
         self.assertTrue(record.server.lives())
-        self.assertTrue(tess.fault(2, None, True).place)
+        self.assertTrue(tess.fault(2, None, True).place)  # The other connection of the teacher still works.
         self.assertFalse((going.folder / "marks.txt").exists())
         tess.hang_up()
         self.goes_on(Going(self, None, "attach", going.folder), 2)
 
-    def test_the_first_at_the_desk_is_run(self) -> None:
-        """`run` connects to the desk before the server's first line is passed on to it."""
+    def test_run_connects_to_the_desk_before_it_gets_the_host_s_first_line(self) -> None:
         going = Going(self, CYCLE, "--close", "by-hand", MML_HOST=self.relayed("knocked"))
         self.assertEqual(self.told(), "somebody came\n")
         self.goes_on(going, 0)
 
-    def test_the_first_at_the_desk_of_a_class_that_goes_on_is_run(self) -> None:
-        """The same holds for `run --resume`, which keeps the ports of the class."""
+    def test_run_resume_connects_to_the_desk_before_it_gets_the_host_s_first_line(self) -> None:
+        """The resumed class keeps its ports."""
         going, record = self.killed()
         self.end(record.server)
         while record.server.lives():
@@ -196,8 +203,9 @@ class Seated(Cycle):
         self.assertEqual((kept.port, kept.desk), (record.port, record.desk))
         self.goes_on(again, 1)
 
-    def test_the_desk_listens_first(self) -> None:
-        """The students' port of a host listens only after a connection at the desk, or after a second."""
+    def test_the_desk_listens_before_the_students_port(self) -> None:
+        """Reads again and again which of the two ports listen. There is a time at which only the desk does, and none at
+        which only the students' port does. Nobody connects to the desk meanwhile."""
         port, desk = a_port(), a_port()
         words: list[str | Path | None] = [host(), "host", CYCLE, str(port), str(desk)]
         it = subprocess.Popen([word for word in words if word], stdout=subprocess.DEVNULL)

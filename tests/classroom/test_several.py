@@ -1,4 +1,5 @@
-"""A class of several networks: one desk, one folder, a killed host that the others don't notice, and its commands."""
+"""A class of several networks: one desk, at which the teacher types commands for all of them, one folder, and a server
+(host) for each network, whose end the other networks don't notice."""
 from __future__ import annotations
 
 import json
@@ -24,9 +25,11 @@ NAMES = ["maths-1", "maths-2", "close"]
 
 
 class Lines(unittest.TestCase):
-    """Typed lines at the desk of a class, and its tables."""
+    """Lines that are typed at the desk of a class, the tables that it prints, and the name of a class."""
 
-    def test_which_networks_a_line_is_for(self) -> None:
+    def test_a_typed_line_is_for_the_networks_that_it_names(self) -> None:
+        """A line names a network by its number or name, before or after a command. A line without a name is for all
+        networks. The third network is called `close`, like a command, which comes first."""
         every = [0, 1, 2]
         for line, indices, rest in (
             ("2 close", [1], "close"), ("2: close", [1], "close"), ("2:close", [1], "close"), ("maths-2 close", [1], "close"),
@@ -41,7 +44,8 @@ class Lines(unittest.TestCase):
             with self.assertRaisesRegex(ValueError, f"^this class has no network {name}. Its networks are: 1 maths-1, 2 maths-2, 3 close$"):
                 addressed(line, NAMES)
 
-    def test_tables(self) -> None:
+    def test_the_table_at_the_start_and_that_of_the_present_states(self) -> None:
+        """In both tables columns are aligned, and a value that isn't known is a dash."""
         one = NetworkState(1, "maths-1", "A 104", 4711, "http://127.0.0.1:4781/x/", 15, 11, "runs", "", {
             "configuration": 12, "stable": False, "privileged": [[4, "update"]], "moves": 5, "most": 35, "events": 20, "limit": 100,
             "missing": ["Ana L.", "Ben R.", "Cyd S.", "Dora E."]})
@@ -66,7 +70,7 @@ class Lines(unittest.TestCase):
                      "the desk can't be used, because it has no connection to the server: no answer in 30 seconds"):
             self.assertIsNotNone(DIED.fullmatch(line), line)
 
-    def test_the_name_of_a_class(self) -> None:
+    def test_the_name_of_a_class_is_what_the_names_of_its_labs_have_in_common(self) -> None:
         for stems, name in (("maths-1 maths-2", "maths"), ("maths-10 maths-11", "maths"), ("a b", "class"), ("one one-2", "one"),
                             ("year2026-1 year2026-2", "year2026")):
             self.assertEqual(name_of([Path(f"{stem}.toml") for stem in stems.split()]), name)
@@ -77,6 +81,7 @@ class OneDesk(Classes):
     """Two networks at one desk."""
 
     def test_a_killed_host_is_an_alarm_until_it_is_resumed(self) -> None:
+        """The other network continues meanwhile, and gets commands from the same desk."""
         desk = self.begin("--rooms", "A 104, B 7", "--close", "by-hand")
         self.table(desk)
         desk.kill("maths-2")
@@ -84,7 +89,7 @@ class OneDesk(Classes):
         desk.type("networks")
         desk.until(r"^1  maths-1  A 104  \d+ privileged|^1  maths-1  A 104  stable")
         desk.until(r"^2  maths-2  B 7    DOWN ")
-        desk.type("1 shake all 3")
+        desk.type("1 shake all 3")  # with the seed 3: a fault at each of the four nodes
         desk.until("^maths-1: configuration 4: 4 faults at nodes 1, 2, 3, 4; ")
         desk.type("2 close")
         desk.until("^maths-2: not done: the server has ended, by the signal SIGKILL; type `resume 2")
@@ -105,7 +110,8 @@ class OneDesk(Classes):
         self.taken_as_a_whole(desk)
 
     def table(self, desk: GoingClass) -> None:
-        """Checks the table at the start, and that no line before its first row begins with a network's name."""
+        """Checks the table at the start, and that no line before its first row begins with a network's name. Each of
+        the two networks has four students, and all its seats but the desk's."""
         rows, seats = [line.split() for line in desk.lines if re.match(r"\d  ", line)], str(MOST["sessions"] - 1)
         self.assertEqual(rows, [["1", "maths-1", "A", "104", str(desk.record("maths-1").port), "4", seats],
                                 ["2", "maths-2", "B", "7", str(desk.record("maths-2").port), "4", seats]])
@@ -116,6 +122,7 @@ class OneDesk(Classes):
         """Checks that the subcommands that take the folder of a run also take that of a class."""
         done = words("mark", "--csv", *(self.room / "runs").glob("*-maths"))
         self.assertEqual(done.returncode, 0, done.stderr)
+        # Each of the eight students has a row, which names the journal.
         self.assertEqual(done.stdout.count(str(desk.folder / "maths-1/journal")), 4)
         self.assertEqual(done.stdout.count(str(desk.folder / "maths-2/journal")), 4)
         said = words("history", desk.folder, "jose-garcia")
@@ -128,7 +135,9 @@ class OneDesk(Classes):
         after = labs.read(desk.folder / "maths-2/lab.toml").students
         self.assertEqual([name for name in before if before[name] != after[name]], ["jose-garcia"])
 
-    def test_words_for_a_student_find_the_network(self) -> None:
+    def test_a_command_for_a_student_is_for_the_student_s_network(self) -> None:
+        """`key` finds the network by the student's name. It refuses a student whom no network has, or not the one that
+        the line names."""
         desk = self.begin("--close", "by-hand")
         students = [list(labs.read(lab).students) for lab in self.labs]
         desk.type(f"key {students[1][0]}")
@@ -144,7 +153,9 @@ class OneDesk(Classes):
         desk.type("end all\nend")
         self.assertEqual(desk.ends(), 0, desk.lines)
 
-    def test_a_host_that_is_given_up(self) -> None:
+    def test_a_network_whose_host_was_killed_can_be_given_up(self) -> None:
+        """The class then ends with status 4. Only the marks of this network say that its record may be incomplete. The
+        class counts as ended, so that it is only resumed with `--again`."""
         desk = self.begin("--close", "by-hand")
         desk.kill("maths-1")
         desk.until("^ALARM maths-1 is down: ")
@@ -159,7 +170,9 @@ class OneDesk(Classes):
         self.assertEqual((again.returncode, again.stderr), (1, f"class: {desk.folder}: all runs of this class were ended. To continue them, "
                                                                f"type: {CLASS} run --resume {desk.folder} --again\n"))
 
-    def test_a_desk_that_was_killed_is_taken(self) -> None:
+    def test_attach_takes_over_a_class_whose_desk_was_killed(self) -> None:
+        """One of the two servers is killed too, so `attach` prints an alarm. A second `attach` is refused. The taken
+        class can be resumed and ended as before."""
         desk = self.begin("--close", "by-hand")
         servers = [desk.record(name).server for name in ("maths-1", "maths-2")]
         desk.process.kill()
@@ -181,7 +194,8 @@ class OneDesk(Classes):
         self.assertEqual(again.ends(), 0, again.lines)
         self.assertEqual(again.marks("maths-1")["faults"], 1)
 
-    def test_the_state_of_each_network(self) -> None:
+    def test_the_class_writes_the_state_of_each_network_into_its_folder(self) -> None:
+        """With `--anonymous` students are numbers in it. Here `#3` is ana-lima."""
         desk = self.begin("--close", "by-hand", "--anonymous")
         wait_until(lambda: desk.state("maths-1").get("missing") == ["#1", "#2", "#3", "#4"])
         lab = labs.read(self.labs[0])
@@ -196,7 +210,7 @@ class OneDesk(Classes):
         desk.type("end\nend")
         self.assertEqual(desk.ends(), 0, desk.lines)
 
-    def test_what_is_no_class(self) -> None:
+    def test_labs_that_make_no_class_and_damaged_class_files_are_refused(self) -> None:
         other = self.room / "more"
         other.mkdir()
         (other / "maths-1.toml").write_bytes(self.labs[0].read_bytes())
@@ -218,7 +232,8 @@ class OneDesk(Classes):
             self.assertEqual((done.returncode, done.stderr), (4, f"class: {folder / 'class.json'}: this file is damaged, so the networks of the "
                                                                 "class aren't known. Name the folder of each network instead\n"))
 
-    def test_the_folder_is_kept(self) -> None:
+    def test_the_folder_of_a_class_names_its_networks_and_its_desk(self) -> None:
+        """While the class is going on, another run of one of its labs is refused. SIGINT ends the class."""
         desk = self.begin("--close", "by-hand")
         kept = Class.read(desk.folder)
         assert kept is not None

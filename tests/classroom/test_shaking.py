@@ -1,8 +1,11 @@
-"""Faults by the page of a run in a browser, and the counts of recoveries, also from the journal."""
+"""The commands `shake` and `break`, which set registers at random or to the worst start, and the counts of recoveries
+at the desk and from the journal. A *recovery* is a part of a run. It begins with the run, or with a fault or a change
+of the links, and ends when the network is stable."""
 from __future__ import annotations
 
 import os
 import re
+import signal
 import unittest
 from typing import Any
 
@@ -19,7 +22,8 @@ from tests.classroom.help import CYCLE, KEYS, Cycle, Going, a_port, words
 class Counted(unittest.TestCase):
     """Counts of recoveries along a journal."""
 
-    def test_the_network_as_it_is_then_bounds_it(self) -> None:
+    def test_the_bounds_of_a_recovery_are_those_of_the_network_at_that_time(self) -> None:
+        """After the only link is removed, the bound on moves is 6 instead of 8."""
         lab = labs.Lab(100, 2, ("teacher", "key"), {"ana": "key"}, [labs.Node(1, ["ana"], 2), labs.Node(2, ["ana"], 1)], [(1, 2)])
         text = ("1 0 grant ana 1 update\n2 0 grant ana 2 update\n3 0 close\n4 1 fault 1 - false\n5 2 grant ana 1 marriage 2\n"
                 "6 2 grant ana 2 update\n7 2 close\n8 3 grant ana 1 update\n9 3 grant ana 2 update\n10 3 close\n11 4 cut 1 2\n"
@@ -30,13 +34,14 @@ class Counted(unittest.TestCase):
             "event 15: stable again after 2 moves, 2 steps and 1 round (at most 6 moves and 4 rounds, as is proved)",
         ])
 
-    def test_a_fault_on_the_way_begins_the_count_anew(self) -> None:
+    def test_a_fault_during_a_recovery_begins_the_count_anew(self) -> None:
         lab = labs.Lab(100, 2, ("teacher", "key"), {"ana": "key"}, [labs.Node(1, ["ana"], 2), labs.Node(2, ["ana"], 1)], [(1, 2)])
         text = ("1 0 grant ana 1 update\n2 0 close\n3 1 fault 1 2 false\n4 2 grant ana 1 update\n5 2 grant ana 2 update\n6 2 close\n")
         self.assertEqual(recoveries(lab, events(text)), [
             "event 6: stable again after 2 moves, 1 step and 1 round (at most 8 moves and 4 rounds, as is proved)"])
 
-    def test_what_was_missed_is_not_told_as_counted(self) -> None:
+    def test_a_recovery_of_which_a_close_was_missed_has_no_counts(self) -> None:
+        """The recovery after it is counted again."""
         it = Comeback(read(CYCLE))
         self.assertEqual(it.close([1], [1, 2], [2]), "")
         it.miss()
@@ -49,18 +54,19 @@ class Counted(unittest.TestCase):
 class AfterACrash(Cycle):
     """After a crash of the server the counts include the events before it."""
 
-    def test_live_and_in_the_marks_it_is_the_same(self) -> None:
+    def test_the_counts_at_the_desk_are_those_of_the_marks(self) -> None:
+        """The recovery begins with `break`, and two of its steps are closed before the crash."""
         going = Going(self, CYCLE, "--daemon", "by-hand")
         for name in KEYS:
             self.bot(going, name)
         going.type("break")
         going.until("^the registers of 7 nodes were set$")
-        for _ in range(2):
+        for _ in range(2):  # Closes a step. That is denied as long as no bot has asked for a move.
             while not going.lines[-1].startswith("configuration ") or " fault" in going.lines[-1]:
                 going.type("close")
                 going.until("^(configuration .*;|the server denied this command: empty)")
-            going.lines.append("")
-        os.kill(going.server(), 9)
+            going.lines.append("")  # so that the next turn doesn't find the line of this close
+        os.kill(going.server(), signal.SIGKILL)
         self.assertEqual(going.ends(), 4, going.lines)
         again = Going(self, None, "run", "--resume", going.folder, "--daemon", "synchronous")
         for name in KEYS:
@@ -75,9 +81,10 @@ class AfterACrash(Cycle):
 
 
 class ByThePage(Cycle):
-    """The buttons of the page."""
+    """The buttons of the page on which the teacher acts."""
 
-    def test_shake_and_break(self) -> None:
+    def test_the_buttons_shake_and_break_set_the_registers(self) -> None:
+        """The page for the projector doesn't show them. The line about the recovery is on the page too."""
         driver: Any = browser()
         going = Going(self, CYCLE, "--daemon", "synchronous", "--page", str(a_port()))
         looks = going.until("^page for the projector http").removeprefix("page for the projector ")
@@ -93,7 +100,7 @@ class ByThePage(Cycle):
         going.until("^the registers of 7 nodes were set$")
         driver.find_element("id", "break").click()
         going.until("^the registers of 7 nodes were set$")
-        until(driver, lambda driver: shown(driver)[0]["number"] == "16")
+        until(driver, lambda driver: shown(driver)[0]["number"] == "16")  # after 2 + 7 + 7 faults
         lab = read(CYCLE)
         wanted = [(str(node), str(p or ""), str(m).lower()) for node, p, m in longest_start([node.id for node in lab.nodes], lab.links)]
         self.assertEqual([(node["node"], node["p"], node["m"]) for node in shown(driver)[1]], wanted)
