@@ -35,21 +35,21 @@ if os.fork():
     os.close(theirs)
     os.execv({host!r}, [{host!r}, *sys.argv[1:]])
 os.close(theirs)
-relay(ours, {what!r}, {told!r})
+relay(ours, {what!r}, {file!r})
 """
 TESS = read(CYCLE).teacher
 PATIENT = 30.0  # seconds in which somebody comes to a desk that listens, on a slow machine
 
 
-def relay(lines: int, what: str, told: str) -> None:
+def relay(lines: int, what: str, file: str) -> None:
     """Passes on the output of a host, which it reads from the file descriptor `lines`. Before the first line it calls
-    `seated` or `knocked`, as `what` says, with the desk's port, and appends the result to the file named last."""
+    `seated` or `knocked`, as `what` says, with the desk's port, and appends the result to `file`."""
     with open(lines, "rb") as host_lines:
         first = host_lines.readline()
         words = first.decode().split()
         if words[:1] == ["listening"]:
             kept = seated(int(words[-1])) if what == "seated" else knocked(int(words[-1]))
-            with open(told, "a", encoding="utf-8") as it:
+            with open(file, "a", encoding="utf-8") as it:
                 it.write(kept)
         while first:
             os.write(1, first)
@@ -83,7 +83,7 @@ class Seated(Cycle):
     def relayed(self, what: str) -> str:
         """Writes a relay that does `what` at the desk, `seated` or `knocked`, before it passes on the host's first
         line. Returns its path."""
-        text = RELAY.format(top=str(TOP), host=str(host()), what=what, told=str(self.room / "told"))
+        text = RELAY.format(top=str(TOP), host=str(host()), what=what, file=str(self.room / "told"))
         it = self.file("relayed", text)
         it.chmod(0o755)
         return str(it)

@@ -1,5 +1,6 @@
-"""The contents of pages and their positions: all texts match the program's replies, on a phone and on a projector,
-and nothing overlaps."""
+"""The contents of pages and their positions: all texts match the program's replies, on a phone and on a projector, and
+nothing overlaps. A *place* is the number of an event. An *open link* joins two nodes without a pair, and its *witness*
+is a node with an enabled rule (docs/PROTOCOL.md)."""
 from __future__ import annotations
 
 import unittest
@@ -18,6 +19,7 @@ from tests.classroom.runs import EXAMPLES, journal_of
 
 PHONE, LAPTOP, WIDER, PROJECTOR = WINDOWS = (390, 844), (1280, 720), (1366, 768), (1920, 1080)
 SMALLEST, SMALLEST_ON_PHONE = 12, 11  # pixels of a text
+# The elements of the page whose texts are compared, by their identifiers. The first says how many nodes can move.
 TEXTS = ("told", "pairs", "number", "since", "bound", "event")
 # Returns each visible text with the height of its letters in pixels.
 LETTERS = """
@@ -35,12 +37,16 @@ return [row.top, row.bottom, list.top, list.bottom, innerHeight];
 """
 NAMES = ("Zoë Müller", "Jonas Ek", "Ana Lima", "Gus Roy", "Ida Berg", "Tim Ode", "Eva Sol", "Bo Dahl", "Kim Vo", "Pia Rot", "Leo Wolf",
          "Uma Das", "Kai Ness", "Nora Lind")
+# Returns each node with its description for people who don't see the drawing.
 NODES = """
 return [...document.querySelectorAll('#drawing .node')].map((it) => [Number(it.dataset.node), it.getAttribute('aria-label')]);
 """
+# Returns the texts at the witnesses of the open links, each with the witness and its rule, sorted.
 WITNESSES = "return [...document.querySelectorAll('.witnesses text')].map((it) => it.textContent).sort()"
-# The page makes the rows of this list anew at each report, so one script reads all of them.
+# Returns the nodes for whose moves the class waits, as the page lists them. The page makes the rows of this list anew
+# at each report, so one script reads all of them.
 WAITS = "return [...document.querySelectorAll('#waits li')].map((it) => it.innerText.split(/\\s/)[0])"
+# Returns for each path of open links how many lines it draws, since a path can have several.
 DRAWN_OPEN = "return [...document.querySelectorAll('g.open path')].map((it) => (it.getAttribute('d').match(/M/g) || []).length)"
 # Shows the state that needs most room in the picture: each node has the longest rule, and it is chosen.
 FULLEST = """
@@ -67,6 +73,8 @@ FOR_WINDOW = """
 const {drawing, data} = window.player || window.live;
 return drawing.view === data.views[innerWidth < 500 ? 1 : 0];
 """
+# Returns the width and height of the page, the boxes of its parts, how many pixels of the legend are cut off, and the
+# pixels for each unit of the picture.
 SIZES = """
 const box = (it) => { const {left, top, right, bottom} = it.getBoundingClientRect(); return [left, top, right, bottom]; };
 const root = document.documentElement, legend = document.querySelector('.legend'), drawing = document.getElementById('drawing');
@@ -92,7 +100,7 @@ def counted(count: int, word: str) -> str:
 
 
 def meet(a: list[float], b: list[float]) -> bool:
-    """Returns whether two boxes overlap by more than a pixel's fraction."""
+    """Returns whether two boxes overlap by more than a pixel in both directions."""
     return min(a[2], b[2]) - max(a[0], b[0]) > 1 and min(a[3], b[3]) - max(a[1], b[1]) > 1
 
 
@@ -107,10 +115,11 @@ def can_be_read(test: unittest.TestCase, driver: Any, size: tuple[int, int], cou
     test.assertLessEqual(driver.execute_script("return document.documentElement.scrollWidth"), size[0])
 
 
-class Told(InRoom):
-    """A run of the cycle of `examples/` that is only watched."""
+class Watched(InRoom):
+    """The page for the projector, while a run of the cycle of `examples/` goes on."""
 
     def setUp(self) -> None:
+        """Starts the run, opens its page, and connects the teacher and all students."""
         super().setUp()
         self.driver: Any = browser()
         self.addCleanup(resize, self.driver, None)
@@ -122,9 +131,9 @@ class Told(InRoom):
         self.students = {name: self.client(name, key) for name, key in self.lab.students.items()}
 
     def client(self, name: str, key: str) -> Client:
-        """Returns the connection of a student or teacher."""
+        """Connects a student or teacher. Returns the connection, which is closed at the end of the test."""
         client = Client(self.going.port, name, key)
-        self.addCleanup(client.__exit__, OSError, None, None)
+        self.addCleanup(client.hang_up)
         return client
 
     def journal(self) -> list[list[str]]:
@@ -152,8 +161,8 @@ class Told(InRoom):
             "counts": f"after event {len(lines)}: {counted(moves, 'move')} in the whole run, {counted(len(report.open), 'open link')} now",
         }
 
-    def said(self) -> dict[int, str]:
-        """Returns the expected description of each node, from looks at it."""
+    def descriptions(self) -> dict[int, str]:
+        """Returns the expected description of each node, by its identifier, from looks at it."""
         report = self.teacher.report()
         partners = {a: b for pair in report.pairs for a, b in (pair, pair[::-1])}
         found = {}
@@ -167,14 +176,15 @@ class Told(InRoom):
         return found
 
     def compare(self) -> None:
-        """Compares the whole contents of the page with the expected ones."""
+        """Waits until the page shows the last event, and compares its whole contents with the expected ones."""
         wanted = self.wanted()
         until(self.driver, lambda driver: driver.find_element("id", "event").text == wanted["event"])
         seen = {name: self.driver.find_element("id", name).text for name in TEXTS}
         self.assertEqual(seen | {"counts": self.driver.find_element("id", "counts").get_attribute("title")}, wanted)
         self.assertEqual(self.driver.find_element("id", "closes").text, "steps are closed by hand")
-        self.assertEqual(dict(self.driver.execute_script(NODES)), self.said())
+        self.assertEqual(dict(self.driver.execute_script(NODES)), self.descriptions())
         report = self.teacher.report()
+        # In the picture for a phone a rule is only its first letter.
         short = self.driver.execute_script("return !live.drawing.view.words")
         self.assertEqual(self.driver.execute_script(WITNESSES),
                          sorted(f"{witness}: {rule[:1].upper() if short else rule}" for _, _, witness, rule in report.open))
@@ -183,19 +193,21 @@ class Told(InRoom):
         self.assertEqual(sum(self.driver.execute_script(DRAWN_OPEN)), len(report.open))
 
     def ask_all(self) -> None:
-        """Lets each student ask for the enabled moves of the own nodes."""
+        """Asks for the enabled move of each node, by its first owner."""
         for node in self.lab.nodes:
             student = self.students[node.owners[0]]
             look = student.look(node.id)
             if look.rule:
                 try:
                     student.move(look)
-                except Denied:
+                except Denied:  # The move is chosen already.
                     pass
 
-    def test_each_text_is_the_program_s(self) -> None:
+    def test_each_text_of_the_page_matches_the_program_s_replies(self) -> None:
+        """This is checked after moves and after each step until the network is stable, in a small and a large window in
+        turn, and then after faults and changes of links."""
         self.compare()
-        for turn in range(40):
+        for turn in range(40):  # More steps than moves are possible, of which there are at most 35.
             resize(self.driver, (PHONE, PROJECTOR)[turn % 2])
             self.ask_all()
             self.compare()
@@ -211,36 +223,41 @@ class Told(InRoom):
             self.compare()
         self.assertEqual(self.going.ended(), 0, self.going.lines)
 
-    def test_a_screen_reader_reaches_each_node(self) -> None:
+    def test_a_screen_reader_finds_each_node(self) -> None:
+        """In the accessibility tree of the browser each node has its description. On the page on which the teacher acts
+        it is that of a button. No element is inside an image, since a screen reader would skip it there."""
         self.assertEqual(self.driver.find_elements("css selector", "[role=img] [role=button], [role=img] button, [role=img] [role=img]"), [])
         self.assertEqual(self.driver.find_element("id", "drawing").get_attribute("role"), "group")
         tree = self.driver.execute_cdp_cmd("Accessibility.getFullAXTree", {})["nodes"]
         names = {it.get("name", {}).get("value", "") for it in tree if not it.get("ignored")}
-        self.assertLessEqual(set(self.said().values()), names)
+        self.assertLessEqual(set(self.descriptions().values()), names)
         act = self.going.until("^page on which you can act http").removeprefix("page on which you can act ")
         self.driver.get(act)
         until(self.driver, is_ready)
         tree = self.driver.execute_cdp_cmd("Accessibility.getFullAXTree", {})["nodes"]
         buttons = {it["name"]["value"] for it in tree if it.get("role", {}).get("value") == "button" and not it.get("ignored")}
-        self.assertLessEqual(set(self.said().values()), buttons)
+        self.assertLessEqual(set(self.descriptions().values()), buttons)
 
 
 class Sizes(Played):
-    """A network of 14 nodes and 22 links, in windows of several sizes."""
+    """Pages of networks of 14 nodes, and of the grid of `examples/`, in windows of several sizes."""
 
     def setUp(self) -> None:
+        """Opens the browser, whose usual size is restored after the test."""
         super().setUp()
         self.addCleanup(resize, self.driver, None)
 
     def lab(self, seed: int, *family: str) -> Path:
-        """Writes a lab of 14 students with a random start, and returns its path."""
+        """Writes a lab of 14 students with a random start, and returns its path. `family` are the arguments for its
+        network."""
         lab, students = self.room / f"{seed}.toml", self.room / "names.txt"
         students.write_text("\n".join(NAMES) + "\n", encoding="utf-8")
         done = words("new", lab, "--students", students, "--start", "random", "--seed", str(seed), *family)
         self.assertEqual(done.returncode, 0, done.stderr)
         return lab
 
-    def test_nothing_stands_upon_another(self) -> None:
+    def test_discs_names_and_rules_of_different_nodes_do_not_overlap(self) -> None:
+        """Each node has a disc, a name and a rule, but no name in the window of a phone."""
         journal = self.room / "none.journal"
         journal.write_text("")
         families = [("--family", "random:14:22"), ("--family", "cycle"), ("--family", "grid:7x2"), ("--family", "tree"), ("--family", "star")]
@@ -256,9 +273,9 @@ class Sizes(Played):
                     upon = [(a[:2], b[:2]) for a, b in combinations(found, 2) if a[0] != b[0] and meet(a[2], b[2])]
                     self.assertEqual(upon, [])
 
-    def test_every_text_can_be_read_and_the_step_is_on_the_screen(self) -> None:
-        """In four windows and both themes no text is small or faint, and nothing has to be scrolled to the side.
-        The run has more events than the list shows."""
+    def test_every_text_can_be_read_and_the_current_event_is_in_view(self) -> None:
+        """In four windows and both themes no text is small or faint, and nothing has to be scrolled to the side. The
+        run has more events than the list shows, so the list is scrolled to the current one."""
         lab = EXAMPLES / "grid.toml"
         journal = journal_of(lab, EXAMPLES / "grid-run.script", self.room / "grid.journal")
         self.addCleanup(show_as, self.driver)
@@ -275,10 +292,12 @@ class Sizes(Played):
                         top, bottom, above, below, high = self.driver.execute_script(CURRENT)
                         self.assertTrue(0 <= above <= top + 1 < bottom <= below + 1 and below <= high)
 
-    def test_on_phone_laptop_and_projector(self) -> None:
+    def test_the_pages_of_a_run_fit_into_each_window(self) -> None:
+        """These are the page for the projector, the one on which the teacher acts, and that of the ended run. The first
+        has no controls."""
         lab = self.lab(1, "--family", "random:14:22")
         port = a_port()
-        test = InRoom()
+        test = InRoom()  # `Going` needs a test of this class, for its folder and for what is done at the end.
         test.room = self.room
         going = Going(test, lab, "--close", "by-hand", "--page", str(port))
         self.addCleanup(test.doCleanups)
@@ -297,7 +316,8 @@ class Sizes(Played):
         self.whole_screen()
 
     def fits(self, has_controls: bool) -> None:
-        """Checks that the open page fits into each window."""
+        """Checks that the open page fits into each window without being scrolled, and that its picture is large enough
+        on a phone and on a projector. The bar is higher if it has controls."""
         found = self.sized(PHONE)
         self.assertLessEqual((found["wide"], found["high"]), PHONE)
         self.assertGreater(found["scale"], 0.8)
@@ -319,14 +339,15 @@ class Sizes(Played):
         show_as(self.driver)
 
     def sized(self, size: tuple[int, int]) -> dict[str, Any]:
-        """Returns the boxes of all elements in a window of this size, after the right picture has appeared."""
+        """Sets the window's size, and waits until the picture for it has appeared. Returns the values of SIZES."""
         resize(self.driver, size)
         until(self.driver, lambda driver: driver.execute_script(FOR_WINDOW))
         found: dict[str, Any] = self.driver.execute_script(SIZES)
         return found
 
     def whole_screen(self) -> None:
-        """Presses the key f twice, and checks the full screen."""
+        """Checks that the key f shows the page on the full screen, where the picture isn't smaller, and that pressing
+        it again ends this. The key Escape then ends what f may have selected."""
         before = self.driver.execute_script(SIZES)["scale"]
         press(self.driver, "f")
         until(self.driver, lambda driver: driver.execute_script("return document.fullscreenElement !== null"))

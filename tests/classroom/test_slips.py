@@ -1,4 +1,6 @@
-"""Slips, and the programs that read them: their error messages and statuses."""
+"""Slips, and the programs that read them: their error messages and statuses. A *slip* is the file of a student or
+teacher with the server's port, the name, the key and the nodes. The programs are two example bots, in Python and Java,
+the example of a teacher's program, and `client.py`, which sends lines that are typed by hand."""
 from __future__ import annotations
 
 import json
@@ -32,6 +34,7 @@ STRANGE = (
     '{"a":' * 127 + "1" + "}" * 127, '{"\\udc00":1}', '"\udcff"', '"\t"', "01", "+1", "1.", ".1", '"\\x"', "1,", "'a'",
 )
 PLAIN = ("1e308", "9" * 308, "1e-400", "-0", "-5", '"\\ud83d\\ude00"', "[" * 126 + "]" * 126, '{"a":' * 126 + "1" + "}" * 126, '"\x7f"', "0.1e1")
+# Whole lines, of which 15 are malformed.
 WHOLE = (
     '{"do":"see","node":-0}', '{"do":"see","node":1e0}', '{"do":"see","node":18446744073709551615}', '{"do":"see","node":18446744073709551616}',
     '{"do":"fault","node":1,"m":false}', '{"do":"fault","node":1,"p":false,"m":false}', '{"do":"move","node":1,"at":0,"rule":["update"]}',
@@ -41,8 +44,8 @@ WHOLE = (
 
 
 def call(*command: str | Path, typed: str = "", key: str | None = None, slip: str | None = None) -> subprocess.CompletedProcess[str]:
-    """Runs a command with `typed` as its input to its end, with or without a key or a slip in its environment. Returns
-    its result."""
+    """Runs a command with `typed` as its input to its end, with this key or slip in its environment, or without one.
+    Returns its result."""
     given = {"CENDUWA_KEY": key, "CENDUWA_SLIP": slip}
     environment = {name: value for name, value in os.environ.items() if name not in given}
     environment |= {name: value for name, value in given.items() if value is not None}
@@ -50,9 +53,9 @@ def call(*command: str | Path, typed: str = "", key: str | None = None, slip: st
 
 
 class Files(InRoom):
-    """Slips as files."""
+    """Slips as files, and what is wrong with lines."""
 
-    def test_what_new_makes(self) -> None:
+    def test_new_makes_a_slip_for_each_student_and_for_the_teacher(self) -> None:
         students = self.file("students", "Zoë Müller\nBen\nCyd\nDan\n")
         done = words("new", self.room / "lab.toml", "--students", students, "--groups", "2", "--family", "path", "--port", "5000")
         self.assertEqual(done.returncode, 0, done.stderr)
@@ -65,6 +68,7 @@ class Files(InRoom):
             for file in [*folder.iterdir(), self.room / f"lab-{number}-teacher.slip"]:
                 self.assertEqual(file.stat().st_mode & 0o777, 0o600)
                 found[file.stem] = Slip.read(file)
+                # The labs have the ports 5000 and 5001.
                 self.assertEqual((found[file.stem].port, found[file.stem].network), (4999 + number, f"lab-{number}"))
             for name, key in lab.students.items():
                 self.assertEqual((found[name].name, found[name].key), (name, key))
@@ -76,7 +80,9 @@ class Files(InRoom):
                 self.assertIn(f'<code class="key">{key}</code>', printed)
                 self.assertIn(f"<code>python3 bot.py {name}.slip</code>", printed)
 
-    def test_what_a_slip_is(self) -> None:
+    def test_a_slip_is_read_from_a_file_or_from_arguments(self) -> None:
+        """`Slip.of` also returns the arguments after those of the slip. If the file of a key is a slip, its key is
+        taken. A file that isn't a slip is refused with a reason."""
         slip = self.file("ana.slip", "# Ana\nport 4711\nname ana\nkey a b\nnodes 1,4\n")
         self.assertEqual(Slip.read(slip), Slip(4711, "ana", "a b", (1, 4)))
         self.assertEqual(Slip.of([str(slip), "5"]), (Slip(4711, "ana", "a b", (1, 4)), ["5"]))
@@ -90,7 +96,7 @@ class Files(InRoom):
         with self.assertRaisesRegex(NoSlip, "No such file"):
             Slip.read(self.room / "none.slip")
 
-    def test_what_is_wrong_with_a_line(self) -> None:
+    def test_wrong_returns_what_is_wrong_with_a_line_and_nothing_for_a_right_one(self) -> None:
         move = '{"do":"move","node":1,"at":0,"rule":"update"}'
         for line in (move, ' {"do" : "close"} ', '{"do":"move","node":2,"rule":"marriage","with":1,"at":4,"more":[]}',
                      '{"do":"fault","node":1,"p":null,"m":true}', '{"do":"hello","name":"a","key":"b"}'):
@@ -129,7 +135,7 @@ class Files(InRoom):
             self.assertEqual(wrong(f'{{"do":"see","node":1,"x":{value}}}'), what)
 
     @unittest.skipUnless(host(), "not tried: no host is built")
-    def test_what_is_wrong_is_what_the_server_refuses(self) -> None:
+    def test_the_lines_that_are_wrong_are_those_that_the_server_refuses(self) -> None:
         lines = [*WHOLE, *(f'{{"do":"see","node":1,"x":{value}}}' for value in (*STRANGE, *PLAIN))]
         program = Answering(read(CYCLE))
         self.addCleanup(program.close)
@@ -140,10 +146,12 @@ class Files(InRoom):
 
 
 class Fake(InRoom):
-    """Listeners that aren't servers of a class, or that have no seat."""
+    """Programs that connect to a listener of the test instead of a server. It sends what a server may send, or what
+    another program would send."""
 
     def answers(self, line: bytes, times: int = 1) -> int:
-        """Listens at a free port, and answers each of `times` connections with `line`. Returns the port."""
+        """Listens at a free port, and sends `line` on each of `times` connections, one after another, before anything
+        has come. Returns the port."""
         listener = socket.create_server(("127.0.0.1", 0))
         self.addCleanup(listener.close)
 
@@ -184,7 +192,8 @@ class Fake(InRoom):
         port: int = listener.getsockname()[1]
         return port
 
-    def test_the_port_of_another_program_and_of_none(self) -> None:
+    def test_a_port_without_a_server_ends_a_program_with_status_4(self) -> None:
+        """Nobody listens at the port, or another program sends its own line, hangs up after a hello or stays silent."""
         none = self.enterContext(no_server())
         for command in (*BOTS, BY_HAND):
             said = call(*command, self.slip(none))
@@ -203,21 +212,23 @@ class Fake(InRoom):
         with self.assertRaisesRegex(NoServer, r"^no server at port \d+ answers a hello: no answer in 0.2 seconds$"):
             Client.from_slip(self.slip(self.answers(b"")), limit=0.2)
 
-    def test_memory_that_is_short_ends_no_bot(self) -> None:
+    def test_a_bot_asks_again_after_the_refusal_memory_and_ends_after_full(self) -> None:
         memory, full = b'{"refuse":"memory"}', b'{"refuse":"full"}'
         for command in BOTS:
             said = call(*command, self.slip(self.talks(b'{"ok":"hello","who":"gus"}', memory, LOOK, memory, LOOK, full)))
             self.assertEqual(said.returncode, 6, said.stdout + said.stderr)
             self.assertRegex(said.stderr, r"^\w+(\.py)?: nothing is granted any longer: tell your teacher\n$")
 
-    def test_who_leaves_for_a_newcomer_comes_again(self) -> None:
+    def test_a_bot_that_loses_its_seat_connects_again(self) -> None:
+        """The refusal `busy` during a connection says that its seat was given to a new connection."""
         hello = b'{"ok":"hello","who":"gus"}'
         for command in BOTS:
             said = call(*command, self.slip(self.talks(hello, LOOK, b'{"refuse":"busy"}', then=(hello, b'{"refuse":"over"}'))))
             self.assertEqual(said.returncode, 0, said.stdout + said.stderr)
             self.assertRegex(said.stderr, r"^\w+(\.py)?: the run is over\n$")
 
-    def test_a_bot_whose_lines_nobody_reads(self) -> None:
+    def test_a_bot_whose_output_nobody_reads_ends_without_a_message(self) -> None:
+        """The status is 141, as after the signal SIGPIPE (128 + 13)."""
         port = self.talks(b'{"ok":"hello","who":"gus"}', LOOK, b'{"at":0,"node":1,"ok":"move","place":1,"rule":"update"}')
         ours, theirs = os.pipe()
         os.close(ours)
@@ -225,23 +236,24 @@ class Fake(InRoom):
         os.close(theirs)
         self.assertEqual((said.returncode, said.stderr), (141, b""))
 
-    def test_a_class_that_is_over(self) -> None:
+    def test_a_bot_that_comes_after_the_end_of_the_class_has_status_0(self) -> None:
         for command in BOTS:
             said = call(*command, self.slip(self.answers(b'{"refuse":"over"}\n')))
             self.assertEqual((said.returncode, said.stdout), (0, ""), said.stderr)
             self.assertRegex(said.stderr, r"^\w+(\.py)?: the run is over\n$")
 
-    def test_why_a_conversation_by_hand_has_ended(self) -> None:
+    def test_the_client_by_hand_says_why_the_server_has_closed_the_connection(self) -> None:
         for word, why in LAST.items():
             said = call(*BY_HAND, self.slip(self.answers(b'{"refuse":"%s"}\n' % word.encode())), typed='{"do":"close"}\n')
             self.assertEqual((said.returncode, said.stdout), (0, f"the server has closed the connection: {why}\n"), said.stderr)
 
-    def test_no_seat_is_free(self) -> None:
+    def test_a_bot_with_a_time_limit_gives_up_sooner_if_no_seat_is_free(self) -> None:
+        """There are nine answers only, so a bot that tried for a minute would hang. The message is the usual one."""
         said = call(*BOT, self.slip(self.answers(b'{"refuse":"busy"}\n', 9)), "0.5")
         self.assertEqual((said.returncode, said.stdout), (5, ""))
         self.assertEqual(said.stderr, "bot.py: all seats were taken for a minute: try again later\n")
 
-    def test_no_seat_is_free_for_a_minute(self) -> None:
+    def test_a_bot_gives_up_after_a_minute_in_which_no_seat_is_free(self) -> None:
         slip = self.slip(self.answers(b'{"refuse":"busy"}\n', 1000))
         begun = time.monotonic()
         bots = [subprocess.Popen([*command, slip], stdout=subprocess.PIPE, stderr=subprocess.PIPE, text=True) for command in BOTS]
@@ -251,32 +263,33 @@ class Fake(InRoom):
             self.assertRegex(error, r"^\w+(\.py)?: all seats were taken for a minute: try again later\n$")
             self.assertGreater(time.monotonic() - begun, 59)
 
-    def test_wrong_words(self) -> None:
+    def test_a_file_that_is_no_slip_is_a_wrong_command_line(self) -> None:
         for command in (*BOTS, TEACHER, BY_HAND):
             wrong_words: tuple[str | Path, ...] = ("none.slip", "4711", self.file("bad.slip", "no slip\n"))
             for more in wrong_words:
                 if command is BY_HAND and more == "4711":
-                    continue
-                self.is_told(*command, more)
+                    continue  # By hand, a port alone is enough: the hello is typed too.
+                self.check_wrong(*command, more)
 
-    def test_wrong_words_after_a_slip(self) -> None:
+    def test_bad_slips_and_bad_arguments_after_a_slip_are_a_wrong_command_line(self) -> None:
         slip, lab = self.slip(1), self.file("no.toml", "node = 1\n")
         far = self.file("far.slip", "port 70000\nname gus\nkey heron\nnodes 1\n")
         keyless = self.file("keyless.slip", "port 1\nname gus\nnodes 1\n")
         for command in BOTS:
             for more in (("soon",), ("5", "6")):
-                self.is_told(*command, slip, *more)
+                self.check_wrong(*command, slip, *more)
             for given in (far, keyless):
-                self.is_told(*command, given)
+                self.check_wrong(*command, given)
         for word in ("nan", "-1"):
-            self.is_told(*BOT, slip, word)
+            self.check_wrong(*BOT, slip, word)
         for file in (self.room / "none.toml", lab):
-            self.is_told(*TEACHER, slip, file)
+            self.check_wrong(*TEACHER, slip, file)
         for rest in (("--log",), ("soon",)):
-            self.is_told(*BY_HAND, slip, *rest)
+            self.check_wrong(*BY_HAND, slip, *rest)
 
-    def is_told(self, *command: str | Path) -> None:
-        """Checks that a command prints the error line for wrong arguments, and ends with its status."""
+    def check_wrong(self, *command: str | Path) -> None:
+        """Runs a command to its end, and checks that it prints one line of error and has the status 1, that of a wrong
+        command line."""
         said = call(*command)
         self.assertEqual((said.returncode, said.stdout), (1, ""), (command, said.stderr))
         self.assertEqual(said.stderr.count("\n"), 1, said.stderr)
@@ -284,13 +297,13 @@ class Fake(InRoom):
 
 
 class Talking(Cycle):
-    """Programs in a run."""
+    """Programs that connect to the server of a run."""
 
     def edited(self, slip: Path, name: str, old: str, new: str) -> Path:
-        """Writes a slip in which a text is replaced into a file of this name, and returns its path."""
+        """Copies a slip to a file of this name, with `new` in place of `old`. Returns the path of the copy."""
         return self.file(name, slip.read_text(encoding="utf-8").replace(old, new))
 
-    def test_a_wrong_key_and_a_wrong_node(self) -> None:
+    def test_a_bot_with_a_wrong_key_or_node_names_the_slip_as_the_remedy(self) -> None:
         going = Going(self, CYCLE, "--close", "by-hand")
         good = self.slip(going.port, "gus")
         for command in BOTS:
@@ -301,7 +314,7 @@ class Talking(Cycle):
             self.assertEqual(said.returncode, 3)
             self.assertRegex(said.stderr, r"^\w+(\.py)?: a node isn't yours: take the nodes from your slip\n$")
 
-    def test_a_key_in_the_environment(self) -> None:
+    def test_with_a_dash_for_its_file_the_key_is_taken_from_the_environment(self) -> None:
         going = Going(self, CYCLE, "--close", "by-hand")
         words_of: tuple[str, ...] = (str(going.port), "gus", "-")
         said = call(*BOT, *words_of, "4", "0.5", key=KEYS["gus"])
@@ -316,7 +329,7 @@ class Talking(Cycle):
             self.assertRegex(said.stderr, r"^\w+(\.py)?: the environment variable CENDUWA_KEY isn't set\n$")
         self.assertEqual(call(*TEACHER, *words_of, key="another").returncode, 2)
 
-    def test_a_slip_in_the_environment(self) -> None:
+    def test_with_a_dash_for_its_file_the_slip_is_taken_from_the_environment(self) -> None:
         going = Going(self, CYCLE, "--close", "by-hand")
         slip = self.slip(going.port, "gus").read_text(encoding="utf-8")
         said = call(*BOT, "-", "0.5", slip=slip)
@@ -331,7 +344,7 @@ class Talking(Cycle):
                 self.assertEqual((said.returncode, said.stdout), (1, ""))
                 self.assertRegex(said.stderr, rf"^\w+(\.py)?: {why}\n$")
 
-    def test_the_run_s_end(self) -> None:
+    def test_bots_end_with_status_0_at_the_end_of_the_run(self) -> None:
         going = Going(self, CYCLE, "--close", "by-hand")
         slip = self.slip(going.port, "gus")
         bots = []
@@ -343,7 +356,9 @@ class Talking(Cycle):
             self.assertRegex(bot.communicate(timeout=LIMIT)[1], r"^\w+(\.py)?: the run is over\n$")
             self.assertEqual(bot.returncode, 0)
 
-    def test_by_hand(self) -> None:
+    def test_by_hand_each_line_gets_a_reply_and_a_wrong_one_also_a_note(self) -> None:
+        """The log has all lines, but no key. Further conversations have a line that is too long, a log that can't be
+        written, and a line that isn't UTF-8."""
         going = Going(self, CYCLE, "--close", "by-hand")
         log = self.room / "log"
         said = call(*BY_HAND, self.slip(going.port, "gus"), "--log", log, typed='{"do":"look"}\n{"do":"look","node":4}\n{"do":"bye"}\n')

@@ -1,4 +1,5 @@
-"""The texts of a run for screen readers, and reduced motion."""
+"""The page of a run for people who don't see it, or who prefer that nothing moves: the texts that it announces to
+screen readers, and reduced motion."""
 from __future__ import annotations
 
 import unittest
@@ -33,54 +34,57 @@ return [now, arrows(), getComputedStyle(document.querySelector('#drawing .disc')
 
 
 class Spoken(Played):
-    """The page of a run."""
+    """The page of the run of the grid of `examples/`."""
 
     def setUp(self) -> None:
+        """Opens the browser, which has no preference about motion again after the test."""
         super().setUp()
-        self.addCleanup(self.ask_for)
+        self.addCleanup(self.prefer_motion)
 
-    def ask_for(self, motion: str = "no-preference") -> None:
-        """Emulates a reader who prefers reduced motion, or has no preference."""
+    def prefer_motion(self, motion: str = "no-preference") -> None:
+        """Emulates a reader who has no preference about motion, or prefers less of it if `motion` is `reduce`."""
         self.driver.execute_cdp_cmd("Emulation.setEmulatedMedia", {"features": [{"name": "prefers-reduced-motion", "value": motion}]})
 
     def heard(self, count: int) -> list[str]:
-        """Waits until `count` texts were announced, and returns them."""
+        """Waits until the page has announced at least `count` texts since LISTEN, and returns all of them."""
         until(self.driver, lambda driver: len(driver.execute_script("return window.heard")) >= count)
         found: list[str] = self.driver.execute_script("return window.heard")
         return found
 
-    def told(self) -> str:
-        """Returns the expected text for the step that is shown."""
+    def expected(self) -> str:
+        """Returns the text that the page has to announce for the step that it shows."""
         root = shown(self.driver)[0]
         state = self.driver.find_element("id", "told").text
         pairs = int(root["pairs"])
         return f"step {root['number']}: {state}, {pairs} pair{'' if pairs == 1 else 's'}"
 
-    def test_a_new_state_is_said_once(self) -> None:
-        """A playing run is announced when it pauses, and an unchanged state isn't announced again."""
+    def test_a_new_state_is_announced_once(self) -> None:
+        """A run that is played without a pause is announced only at its end. A state that is left and shown again at
+        once isn't announced again."""
         lab, journal = next(each for each in examples(self.room) if each[0].stem == "grid")
         self.open(self.page(lab, journal))
-        first = self.told()
+        first = self.expected()
         until(self.driver, lambda driver: driver.find_element("id", "said").get_attribute("textContent") == first)
         self.driver.execute_script(LISTEN)
         self.driver.execute_script(ALL)
-        said = [self.told()]
+        said = [self.expected()]
         self.assertEqual(self.heard(1), said)
         self.driver.execute_script("player.goTo(player.last - 1); player.goTo(player.last)")
         self.press(Keys.HOME)
-        said.append(self.told())
+        said.append(self.expected())
         self.assertEqual(self.heard(2), said)
         self.press(Keys.ARROW_DOWN)
-        said.append(self.told())
+        said.append(self.expected())
         self.assertEqual(self.heard(3), said)
         self.assertEqual(len(set(said)), 3)
 
-    def test_nothing_moves_if_that_is_asked_for(self) -> None:
+    def test_nothing_moves_for_a_reader_who_prefers_reduced_motion(self) -> None:
+        """Arrows are at once where they otherwise are after an animation, and discs change without a transition."""
         lab, journal = next(each for each in examples(self.room) if each[0].stem == "grid")
         page = self.page(lab, journal)
         moved: dict[str, Any] = {}
         for motion in ("no-preference", "reduce"):
-            self.ask_for(motion)
+            self.prefer_motion(motion)
             self.open(page)
             moved[motion] = self.driver.execute_script(GROWN)
         now, later, changes = moved["no-preference"]

@@ -1,4 +1,5 @@
-"""The subcommands of `./class`: help and examples, completion by bash, and those that need no run."""
+"""The subcommands of `./class`: their help, their completion by bash, the version, the subcommand `key`, and a release
+whose program can't be started."""
 from __future__ import annotations
 
 import os
@@ -17,6 +18,7 @@ from classroom.setup.rekey import changed
 from classroom.words import parser
 from tests.classroom.help import LIMIT, InRoom, words
 
+# Calls the completion function as bash does after these words, of which the last is incomplete, and prints its offers.
 COMPLETE = """
 source operate/class.bash
 COMP_WORDS=(./class "$@") COMP_CWORD=$#
@@ -26,27 +28,30 @@ printf '%s\\n' "${COMPREPLY[@]}"
 
 
 def all_words() -> list[str]:
-    """Returns all subcommands of the parser."""
+    """Returns all subcommands of `./class`: the choices of the only argument of its parser that has choices."""
     found: dict[str, object] = next(action for action in parser()._actions if action.dest == "work" or action.choices).choices  # type: ignore[assignment]
     return list(found)
 
 
 class Helped(InRoom):
-    """Help and completion."""
+    """The help of subcommands, and completion by bash."""
 
     def completed(self, *typed: str) -> set[str]:
-        """Returns the completions that bash offers after these words."""
+        """Returns what bash offers for the last of these words, after the others. Fails if the completion prints an
+        error."""
         done = subprocess.run(["bash", "-c", COMPLETE, "bash", *typed], cwd=TOP, capture_output=True, text=True, check=True, timeout=LIMIT)
         self.assertEqual(done.stderr, "")
         return set(done.stdout.split())
 
-    def test_each_word_is_told_with_an_example(self) -> None:
+    def test_the_help_of_each_subcommand_has_an_example(self) -> None:
         self.assertGreaterEqual(len(all_words()), 8)
         for word in all_words():
             said = " ".join(words(word, "--help").stdout.split())
             self.assertRegex(said, f"Examples?: class {word}")
 
-    def test_bash_completes_them(self) -> None:
+    def test_bash_completes_subcommands_options_daemons_and_students(self) -> None:
+        """For files it offers nothing, so that bash offers files itself. Students are those of the lab or folder that
+        is named before."""
         self.assertEqual(self.completed(""), set(all_words()))
         self.assertEqual(self.completed("de"), {"demo"})
         self.assertEqual(self.completed("run", "--"), set(re.findall(r"--[a-z-]+", words("run", "--help").stdout)))
@@ -64,21 +69,23 @@ class Helped(InRoom):
 
 
 class Version(InRoom):
-    """The version."""
+    """The option `--version`."""
 
-    def test_it_is_what_mml_tells(self) -> None:
-        told = subprocess.run([TOP / "mml", "--version"], capture_output=True, text=True, check=True, timeout=LIMIT).stdout
-        self.assertRegex(told, r"^Cenduwa \d+\.\d+\.\d+, commit ([0-9a-f]{7}\+?|unknown), rattle-kit-\S+ logic [0-9a-f]{16}")
+    def test_version_prints_what_mml_prints_but_with_the_name_class(self) -> None:
+        printed = subprocess.run([TOP / "mml", "--version"], capture_output=True, text=True, check=True, timeout=LIMIT).stdout
+        self.assertRegex(printed, r"^Cenduwa \d+\.\d+\.\d+, commit ([0-9a-f]{7}\+?|unknown), rattle-kit-\S+ logic [0-9a-f]{16}")
         for more in ((), ("run",)):
             done = words("--version", *more)
-            self.assertEqual((done.returncode, done.stdout), (0, told.replace("Cenduwa", "class")))
+            self.assertEqual((done.returncode, done.stdout), (0, printed.replace("Cenduwa", "class")))
 
 
 class Release(InRoom):
     """The subcommands of a release whose program can't be started."""
 
-    def test_a_c_library_that_is_too_old(self) -> None:
-        """Each subcommand that starts a program prints a line about it, like `mml`. The others work."""
+    def test_a_c_library_that_is_too_old_is_named_in_an_error_line(self) -> None:
+        """The file PROVED names the version of the C library that the release's program needs. If this machine's is
+        older, `mml` and each subcommand that starts the program print a line about it and do nothing else. If it isn't
+        older, no line names the library."""
         for name in ("class", "mml", "VERSION"):
             shutil.copy(TOP / name, self.room)
         shutil.copytree(TOP / "classroom", self.room / "classroom", ignore=shutil.ignore_patterns("__pycache__"))
@@ -107,16 +114,19 @@ class Release(InRoom):
 
 
 class Rekeyed(InRoom):
-    """`./class key` during a course."""
+    """`./class key`, which gives a student another key during a course."""
 
     def setUp(self) -> None:
+        """Makes a lab of three students by `./class new`, with slips as files and for printing."""
         super().setUp()
         self.lab = self.room / "maths.toml"
         students = self.file("students", "Ana Lima\nBen Roy\nCyd Sol\n")
         self.assertEqual(words("new", self.lab, "--students", students, "--port", "4799").returncode, 0)
         self.folder = self.room / "maths-slips"
 
-    def test_one_student_has_another_key(self) -> None:
+    def test_key_replaces_the_key_of_one_student_in_the_lab_and_on_the_slips(self) -> None:
+        """Nothing else in these files changes. The new key isn't printed on standard output, and only the teacher's
+        user can read the files."""
         before, text = document(self.lab), self.lab.read_text(encoding="utf-8")
         others = {file.name: file.read_bytes() for file in self.folder.iterdir()}
         done = words("key", self.lab, "ben-roy")
@@ -135,7 +145,7 @@ class Rekeyed(InRoom):
         for file in (self.lab, self.folder / "ben-roy.slip", self.room / "maths-slips.html"):
             self.assertEqual(file.stat().st_mode & 0o777, 0o600, file)
 
-    def test_what_can_not_be_changed(self) -> None:
+    def test_key_refuses_an_unknown_student_a_key_in_another_form_and_what_is_no_lab(self) -> None:
         text = self.lab.read_text(encoding="utf-8")
         done = words("key", self.lab, "dora")
         self.assertEqual(done.returncode, 1)
@@ -151,9 +161,10 @@ class Rekeyed(InRoom):
 
 
 class KeyInText(InRoom):
-    """Changing a key in the text of a lab, in several forms."""
+    """Changing a key in the text of a lab."""
 
-    def test_a_table_in_braces_before_it(self) -> None:
+    def test_in_each_form_of_the_table_only_the_student_s_own_key_changes(self) -> None:
+        """The students are tables in braces or with heads, and other tables have a `key` too."""
         for text in (
             'note = { a = 1 }\nstudent = [{ name = "ana", key = "a" }, { name = "ben", key = "b" }]\n',
             'student = [{ name = "ana", key = "a", more = { key = "x" } },\n  { name = "ben", key = "b" } ]\n',

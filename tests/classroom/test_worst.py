@@ -1,4 +1,5 @@
-"""The worst known starts: runs from them take as many moves or rounds as any run can, by the program's replies."""
+"""The worst known starts, in networks of the families `crowd` and `halves`: runs from them take as many moves or rounds
+as any run can, by the program's replies."""
 from __future__ import annotations
 
 import contextlib
@@ -25,8 +26,9 @@ def made(family: str, nodes: int) -> labs.Lab:
 
 
 def phases(nodes: int, links: set[tuple[int, int]], last: int) -> list[Asked]:
-    """Returns the moves of one couple after another in a network. All nodes up to `last` seduce the highest free node,
-    which marries the lowest. Both update, and the others abandon it."""
+    """Returns the moves by which one couple after another is married. For each couple, the free nodes up to `last` that
+    are linked to the highest free node seduce it. It marries the lowest of them, both update, and the others abandon
+    it."""
     asked: list[Asked] = []
     for couple in range(nodes // 2):
         high = nodes - couple
@@ -38,8 +40,8 @@ def phases(nodes: int, links: set[tuple[int, int]], last: int) -> list[Asked]:
 
 
 def counted(lab: labs.Lab, asked: list[Asked]) -> Recovery:
-    """Plays these moves, one in each step, and checks that the run is stable exactly after the last. Returns its
-    counts."""
+    """Plays these moves from the lab's start, one in each step. Fails if the network isn't stable after the last of
+    them, or is stable before. Returns the counts of moves and rounds."""
     with contextlib.closing(Bench(lab)) as bench:
         report = bench.begin(lab)
         found = Recovery(node for node, _ in report["privileged"])
@@ -56,7 +58,9 @@ def counted(lab: labs.Lab, asked: list[Asked]) -> Recovery:
 class Worst(unittest.TestCase):
     """The starts of both families."""
 
-    def test_a_crowd_takes_the_most_moves(self) -> None:
+    def test_a_run_from_a_crowd_s_worst_start_takes_the_most_moves(self) -> None:
+        """With an odd number of nodes it takes one move less than the proved bound. First each node updates and
+        abandons."""
         for nodes in (4, 5, 6, 7, 8, 12):
             lab = made("crowd", nodes)
             self.assertEqual(len(lab.links), nodes * nodes // 4)
@@ -71,14 +75,16 @@ class Worst(unittest.TestCase):
         replies = (EXAMPLES / "crowd-run.out").read_text(encoding="ascii")
         self.assertEqual((replies.count('"ok":"move"'), replies.count('"deny"')), (bounds.of_lab(lab).moves, 0))
 
-    def test_halves_take_the_most_rounds(self) -> None:
+    def test_a_run_from_the_worst_start_of_halves_takes_the_most_rounds(self) -> None:
+        """First each node updates. Only nodes of the lower half seduce."""
         for nodes in (2, 3, 4, 5, 6, 7, 12):
             lab = made("halves", nodes)
             first: list[Asked] = [(node, "update", None) for node in range(1, nodes + 1)]
             rounds = counted(lab, first + phases(nodes, {*lab.links}, (nodes + 1) // 2)).rounds
             self.assertEqual(rounds, bounds.of_lab(lab).rounds, nodes)
 
-    def test_whatever_its_nodes_are_called(self) -> None:
+    def test_the_worst_start_of_a_crowd_needs_no_consecutive_identifiers(self) -> None:
+        """Here they are 10, 20 and so on. The registers are those of the nodes 1 to 6, by the order of the nodes."""
         links = [{10 * a, 10 * b} for a, b in networks.plain("crowd", 6)]
         registers = {node: (p, m) for node, p, m in longest_start([60, 10, 20, 30, 40, 50], links)}
         self.assertEqual({node: p for node, (p, _) in registers.items()}, {10: 60, 20: 50, 30: 40, 40: 50, 50: 60, 60: 20})
@@ -91,7 +97,7 @@ class Worst(unittest.TestCase):
 class Words(InRoom):
     """The start `worst` as an argument."""
 
-    def test_new_and_experiment_take_it(self) -> None:
+    def test_new_and_experiment_accept_the_start_worst(self) -> None:
         done = words("new", self.room / "crowd.toml", "--students", self.file("names.txt", "ana\nben\n"), "--family", "crowd",
                      "--nodes", "6", "--start", "worst")
         self.assertEqual(done.returncode, 0, done.stderr)
@@ -102,7 +108,7 @@ class Words(InRoom):
         self.assertEqual(done.returncode, 0, done.stderr)
         self.assertIn("2 of 2 runs are done, all within the proved bounds", done.stdout)
 
-    def test_practise_begins_with_it(self) -> None:
+    def test_practise_begins_with_the_worst_start_if_that_is_asked_for(self) -> None:
         done = words("practise", EXAMPLES / "bot.py", "--family", "crowd", "--nodes", "4", "--start", "worst", "--daemon", "synchronous",
                      "--timeout", "250", "--into", self.room / "runs")
         self.assertEqual(done.returncode, 0, done.stdout + done.stderr)

@@ -1,5 +1,6 @@
-"""`./class grade` with bots that have one mistake each. Each fails the case that finds its mistake, with a line
-about what to change. Correct bots in several styles pass."""
+"""`./class grade` with bots that have one mistake each. Each fails the case that finds its mistake, with a line about
+what to change. Correct bots in several styles pass. `small` and `full` are the suites of cases, and each case has a
+*plan* with its network, its daemon and what is done to the bot."""
 from __future__ import annotations
 
 import concurrent.futures
@@ -22,7 +23,8 @@ from tests.classroom.wrong_bots.wrong import BOTS
 WRONG = TOP / "tests/classroom/wrong_bots/wrong.py"
 RIGHT = sorted((TOP / "tests/classroom/right_bots").glob("[a-z]*.py"))
 AT_ONCE = 8  # the number of bots at the same time; they mostly wait
-SECONDS = 12.0
+SECONDS = 12.0  # the limit of each wait for a bot, and of its processor time
+# The beginnings of reasons: a move was denied because its rule isn't enabled, and a move was never asked for.
 GUARD = r"denied as guard, clause 4: .*; a second program with the same rules, which doesn't decide the result, explains: {part}; a correct bot would send "
 HANGS = r"(didn't become stable within|didn't ask for \w+ at node \d+, which is privileged,).* {rule}"
 # For each bot: the case of `small` that finds its mistake, and the recorded reason.
@@ -120,7 +122,7 @@ class Wrong(InRoom):
     """Bots with one mistake each."""
 
     def tries(self, name: str, plan: str) -> Result:
-        """Tries the bot with this name in the case of a plan. Returns the result."""
+        """Tries the bot of `wrong.py` with this name in the case of the plan `plan`. Returns the result."""
         it = PLANS[plan]
         bot = Bot.of(f"{sys.executable} {WRONG} {name}")
         with tempfile.TemporaryDirectory() as own:
@@ -128,11 +130,12 @@ class Wrong(InRoom):
         assert found is not None
         return found
 
-    def test_each_fails_a_case_and_is_told_why(self) -> None:
+    def test_each_bot_fails_its_case_for_the_recorded_reason(self) -> None:
+        """Each bot of `wrong.py` has a case here. The cases of `full` begin first."""
         self.assertEqual({**FOUND, **IN_FULL}.keys(), BOTS.keys())
         self.assertLessEqual({plan for plan, _ in FOUND.values()}, {plan.name for plan in suites.SMALL})
         self.assertGreaterEqual(len(BOTS), 30)
-        reap_orphans()
+        reap_orphans()  # `grade` does this too, so that what a bot leaves running can be found and ended.
         with concurrent.futures.ThreadPoolExecutor(AT_ONCE) as pool:
             going = {name: pool.submit(self.tries, name, plan) for name, (plan, _) in {**IN_FULL, **FOUND}.items()}
         for name, (_, why) in {**FOUND, **IN_FULL}.items():
@@ -141,7 +144,8 @@ class Wrong(InRoom):
                 self.assertFalse(result.passed, name)
                 self.assertRegex(result.why, why)
 
-    def test_the_bot_that_they_change_passes_the_same_cases(self) -> None:
+    def test_the_bot_without_a_mistake_passes_the_same_cases(self) -> None:
+        """It is called `right`. Only denials and refusals that a correct bot can get are counted for it."""
         plans = sorted({plan for plan, _ in (*FOUND.values(), *IN_FULL.values())})
         with concurrent.futures.ThreadPoolExecutor(AT_ONCE) as pool:
             results = list(pool.map(lambda plan: self.tries("right", plan), plans))
@@ -153,14 +157,15 @@ class Wrong(InRoom):
 class Right(InRoom):
     """Bots without a mistake."""
 
-    def test_five_styles_pass_small(self) -> None:
+    def test_the_five_correct_bots_pass_each_case_of_small(self) -> None:
         self.assertEqual(len(RIGHT), 5)
         table = self.room / "cases.json"
         done = words("grade", *RIGHT, "--timeout", "120", "--into", self.room / "grades", "--json", table)
         self.assertEqual(done.returncode, 0, done.stdout + done.stderr)
         self.assertEqual(len(json.loads(table.read_text(encoding="utf-8"))), 5 * len(suites.SMALL))
 
-    def test_without_a_shown_rule_only_who_decides_by_itself_passes(self) -> None:
+    def test_with_own_rule_only_a_bot_that_finds_the_rule_by_itself_passes(self) -> None:
+        """With this option the replies to looks don't have the enabled rule."""
         own, asks = next(file for file in RIGHT if file.stem == "own_rule"), next(file for file in RIGHT if file.stem == "snapshot")
         labs = self.room / "labs"
         labs.mkdir()
