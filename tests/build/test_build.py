@@ -23,7 +23,7 @@ SECONDS = {"a": 10.0, "b": 100.0, "c": 50.0, "d": 20.0, "e": 5.0}
 class Estimates(unittest.TestCase):
     """The order in which crates are proved, and the estimate of how long the remaining proofs take."""
 
-    def test_order(self) -> None:
+    def test_the_proof_with_the_longest_chain_above_it_comes_first(self) -> None:
         """A crate is proved after those below it. The crate with the longest chain above it comes first."""
         self.assertEqual(chains(USES, SECONDS), {"a": 65.0, "b": 125.0, "c": 55.0, "d": 25.0, "e": 5.0})
         progress = Progress(USES, SECONDS, 1)
@@ -37,8 +37,8 @@ class Estimates(unittest.TestCase):
         nearly = Progress(USES, {**SECONDS, "a": 65.0}, 2)
         self.assertEqual((nearly.longest["a"], nearly.is_first("b"), nearly.is_first("a")), (120.0, True, True))
 
-    def test_what_is_left(self) -> None:
-        """Independent proofs run side by side, as many as there are processors."""
+    def test_the_time_that_is_left_is_that_of_proofs_side_by_side(self) -> None:
+        """Independent proofs run side by side, as many as there are processors. The progress line has this time."""
         self.assertEqual([Progress(USES, SECONDS, number).left(0.0) for number in (1, 2, 4)], [185.0, 125.0, 125.0])
         progress = Progress(USES, SECONDS, 2)
         progress.begun = {"a": 0.0, "b": 0.0}
@@ -51,7 +51,7 @@ class Estimates(unittest.TestCase):
             progress.note(crate, False, 300.0)
         self.assertEqual(progress.line(0.0), "5 of 5 crates proved, 2 of them earlier")
 
-    def test_shares(self) -> None:
+    def test_the_processes_of_a_proof_and_the_proofs_at_once_by_processors(self) -> None:
         """As many proofs run side by side as are needed to occupy all processors with their processes. If a proof has
         several processes, one more proof runs, since such a proof begins and ends with a single process."""
         with unittest.mock.patch.dict(os.environ, {"RT_JOBS": ""}):
@@ -60,7 +60,7 @@ class Estimates(unittest.TestCase):
         with unittest.mock.patch.dict(os.environ, {"RT_JOBS": "3"}):
             self.assertEqual((processors(), jobs_of(3), at_once_of(3)), (3, 1, 3))
 
-    def test_another_pace(self) -> None:
+    def test_the_time_that_is_left_follows_the_pace_of_the_machine(self) -> None:
         """If the machine takes twice as long as the table says, the remaining proofs are expected to take twice as long
         too."""
         seconds = {crate: 100 * it for crate, it in SECONDS.items()}
@@ -71,8 +71,7 @@ class Estimates(unittest.TestCase):
         progress.begun = {"a": 20_000.0}
         self.assertGreater(progress.left(2_000_000.0), 2 * 7_500)
 
-    def test_the_table(self) -> None:
-        """Each crate of the program has its time."""
+    def test_each_crate_of_the_program_has_its_expected_time(self) -> None:
         crates = needed(["mml_host"])
         self.assertTrue(set(crates) < set(lines()))
         self.assertNotIn("mml_server", crates)
@@ -82,7 +81,7 @@ class Estimates(unittest.TestCase):
 class Builds(InClone):
     """Calls of `./mml` in a clone whose `rt` is a stand-in."""
 
-    def test_what_is_proved(self) -> None:
+    def test_rt_gets_only_the_sources_of_what_is_needed(self) -> None:
         """`rt ci` is called in a repository that has the sources of what is needed, and nothing else."""
         for path in ("low/src/.lib.rt.swp", "low/out/incremental/kept", "low/wrong/bad.edit", "low/must-fail/bad.edit", "low/README.md",
                      "low/specs/Lib.antt", "low/proofs/f/Proof.antt", "mml_host/stdin", "mml_host/data/lab.toml"):
@@ -101,7 +100,7 @@ class Builds(InClone):
         self.assertTrue((self.clone / "crates/low/out/incremental/kept").exists())
         self.assertEqual([*self.temporary.iterdir()], [])
 
-    def test_processors(self) -> None:
+    def test_the_proof_of_the_longest_chain_gets_all_processors(self) -> None:
         """The proof that the longest chain waits for is given all processors, and one beside it half of them."""
         (self.clone / "tools/build/seconds.txt").write_text("low 1\nleft 9\nright 1\nmml_host 1\n", encoding="utf-8")
         self.assertEqual(self.call("./mml", "build", RT_JOBS="2").returncode, 0)
@@ -111,7 +110,7 @@ class Builds(InClone):
         each = {crate: int(processors) for crate, _, processors in told[1:]}
         self.assertEqual((each["low"], each["left"], each["right"]), (2 * number, 2 * number, number))
 
-    def test_memory(self) -> None:
+    def test_the_last_proof_is_given_twice_the_memory(self) -> None:
         """The last proof, beside which no other can run, is given twice the memory, and every other one the memory that
         there is."""
         self.assertEqual(self.call("./mml", "build").returncode, 0)
@@ -120,7 +119,7 @@ class Builds(InClone):
         each = {crate: int(memory) for crate, _, memory in told[1:]}
         self.assertEqual(each, {"low": there, "left": there, "right": there, "mml_host": 2 * there})
 
-    def test_where_it_is_proved(self) -> None:
+    def test_in_a_git_clone_the_proofs_run_in_a_folder_of_git(self) -> None:
         """In a Git clone, the build makes its repository on the clone's disk, in a folder that no check reads. The
         build removes this repository at the end."""
         git = self.clone / ".git"
@@ -133,7 +132,7 @@ class Builds(InClone):
         self.ended(going)
         self.waits(lambda: not [*self.temporary.iterdir(), *git.iterdir()])
 
-    def test_libraries(self) -> None:
+    def test_the_clone_gets_each_library_that_rt_check_has_not_built(self) -> None:
         """The clone gets the libraries. One that `rt check` built there, which has a stamp, stays."""
         for crate, stamp in (("low", "stamp"), ("left", "none")):
             for name in (f"{crate}.rlib/format", stamp):
@@ -145,8 +144,7 @@ class Builds(InClone):
         self.assertEqual(formats, {"low": "old", "left": "new", "right": "new"})
         self.assertFalse((self.clone / "crates/left/out/rlib/none").exists())
 
-    def test_progress(self) -> None:
-        """Prints the expected time first, and the progress after each crate."""
+    def test_build_prints_the_expected_time_first_and_then_the_progress(self) -> None:
         done = self.call("./mml", "build", RT_JOBS="3")
         self.assertEqual(done.returncode, 0, done.stderr)
         self.assertRegex(done.stderr, r"^mml: building mml_host, after proving 4 crates; .*\n"
@@ -154,8 +152,9 @@ class Builds(InClone):
         self.assertRegex(done.stderr, r"\nmml: \d of 4 crates proved; (about \d+ minutes|about a minute) left\n")
         self.assertTrue(done.stderr.endswith("\nmml: 4 of 4 crates proved\n"), done.stderr)
 
-    def test_one_line(self) -> None:
-        """On a terminal the progress is one line, which is written over."""
+    def test_on_a_terminal_the_progress_is_one_line_that_is_written_over(self) -> None:
+        """The proof of `right` waits until two crates are proved, so that this line is seen. Then its process is
+        killed, so that the stand-in goes on."""
         self.set("waits", "right")
         ours, theirs = pty.openpty()
         going = subprocess.Popen(["./mml", "build"], cwd=self.clone, stdin=subprocess.DEVNULL, stdout=subprocess.DEVNULL, stderr=theirs,
@@ -177,8 +176,8 @@ class Builds(InClone):
         self.assertTrue(all(re.match(r"mml: \d of 4 crates proved", line) for line in shown[1:]), shown)
         self.assertFalse(any("\n" in line for line in shown[:-1]), shown)
 
-    def test_side_by_side(self) -> None:
-        """Crates that don't depend on each other are proved side by side, each in its own repository."""
+    def test_crates_that_do_not_depend_on_each_other_are_proved_side_by_side(self) -> None:
+        """Each has its own repository. The first and the last run of `rt` are those of the whole program."""
         self.set("meets", "left right")
         done = self.call("./mml", "build", RT_JOBS="2")
         self.assertEqual(done.returncode, 0, done.stderr)
@@ -187,8 +186,7 @@ class Builds(InClone):
         self.assertEqual(sorted(runs[2:4]), ["low left", "low right"])
         self.assertEqual(runs[4:], ["low left right mml_host"])
 
-    def test_nothing_is_kept(self) -> None:
-        """If the machine keeps nothing, a single run proves everything."""
+    def test_if_rt_keeps_no_proofs_a_single_run_proves_everything(self) -> None:
         self.set("lacks", "the store cannot be used, so nothing is kept: the next run, and the merge, prove all again")
         done = self.call("./mml", "build")
         self.assertEqual(done.returncode, 0, done.stderr)
@@ -197,8 +195,7 @@ class Builds(InClone):
         self.assertEqual((self.room / "runs").read_text(encoding="utf-8").splitlines(), [every, "low", every])
         self.assertEqual(self.call("./mml").stdout, "new\n")
 
-    def test_a_second_clone(self) -> None:
-        """Crates that this machine has proved are taken: a second clone proves nothing."""
+    def test_a_second_clone_proves_nothing_again(self) -> None:
         self.call("./mml", "build")
         second = self.room / "second"
         shutil.copytree(self.clone, second, ignore=shutil.ignore_patterns("out"))
@@ -207,7 +204,7 @@ class Builds(InClone):
         self.assertTrue(done.stderr.endswith("\nmml: 4 of 4 crates proved, 4 of them earlier\n"), done.stderr)
         self.assertTrue((second / "crates/mml_host/out/mml_host").exists())
 
-    def test_interrupted(self) -> None:
+    def test_a_signal_ends_the_build_and_the_next_one_continues(self) -> None:
         """A signal ends `rt` and all that it started, and leaves no program, log or temporary file; the next call goes
         on."""
         for number, is_group in ((signal.SIGINT, True), (signal.SIGTERM, False), (signal.SIGTERM, True), (signal.SIGHUP, True)):
@@ -225,11 +222,10 @@ class Builds(InClone):
         self.assertEqual(done.returncode, 0, done.stderr)
         self.assertTrue(done.stderr.endswith("\nmml: 4 of 4 crates proved, 2 of them earlier\n"), done.stderr)
 
-    def test_killed(self) -> None:
-        """If the build is killed, `rt` is ended, and the next call cleans up."""
+    def test_if_the_build_is_killed_rt_is_ended_and_the_next_build_cleans_up(self) -> None:
         self.set("waits", "right")
         going = self.started("./mml", "build")
-        rt = self.pids()[0]
+        rt = self.pids()[0]  # Its parent is the process of the build, a child of `./mml`.
         parent = Path(f"/proc/{rt}/stat").read_text(encoding="utf-8").rpartition(") ")[2].split()[1]
         os.kill(int(parent), signal.SIGKILL)
         self.ended(going)
@@ -240,8 +236,7 @@ class Builds(InClone):
         self.assertEqual(self.call("./mml", "build").returncode, 0)
         self.assertEqual([*self.temporary.iterdir()], [])
 
-    def test_failed(self) -> None:
-        """A crate that fails is reported with the error, and the old program stays."""
+    def test_a_proof_that_fails_is_reported_and_the_old_program_stays(self) -> None:
         self.call("./mml", "build")
         (self.clone / "crates/low/src/lib.rt").write_text("// another\n", encoding="utf-8")
         self.set("fails", "left")

@@ -24,6 +24,7 @@ class SetsUp(InClone):
     """Calls of `./class` in a clone whose `rt` is a stand-in."""
 
     def setUp(self) -> None:
+        """Adds `./class` and a list of four students to the clone. The program that it builds is PROGRAM."""
         super().setUp()
         shutil.copy(TOP / "class", self.clone / "class")
         shutil.copytree(TOP / "classroom", self.clone / "classroom", ignore=shutil.ignore_patterns("__pycache__"))
@@ -38,8 +39,8 @@ class SetsUp(InClone):
         """Runs `./class new` with these arguments to its end. Returns its result."""
         return self.call("./class", "new", *WORDS, *words, **more)
 
-    def test_it_builds_and_goes_on(self) -> None:
-        """Prints the expected time and the progress on standard error only, and then runs the command."""
+    def test_a_command_builds_the_program_and_then_does_its_work(self) -> None:
+        """The expected time and the progress are printed on standard error only. The next call builds nothing."""
         done = self.new()
         self.assertEqual(done.returncode, 0, done.stderr)
         self.assertTrue(done.stdout.startswith("maths.toml: 4 nodes, 4 students; slips for printing: "), done.stdout)
@@ -52,14 +53,13 @@ class SetsUp(InClone):
         done = self.new()
         self.assertEqual((done.returncode, done.stderr), (0, ""))
 
-    def test_words_that_need_no_program(self) -> None:
-        """Help, the version and unknown commands build nothing."""
+    def test_help_the_version_and_wrong_arguments_build_nothing(self) -> None:
         for words in (("--help",), ("--version",), ("new", "--help"), ("new",), ("demo", "more")):
             self.assertNotIn("building", self.call("./class", *words).stderr, words)
         self.assertFalse((self.room / "words").exists())
 
-    def test_each_word(self) -> None:
-        """Each command builds the program first. If the build fails, the command does nothing."""
+    def test_if_the_build_fails_no_command_does_anything(self) -> None:
+        """Each command that needs the program builds it first."""
         self.set("fails", "low")
         before = sorted(self.clone.rglob("*"))
         for words in (("new", *WORDS), ("check", "it.toml"), ("run", "it.toml"), ("attach", "it"), ("slips", "it.toml"), ("key", "it.toml", "ana"),
@@ -71,14 +71,14 @@ class SetsUp(InClone):
             (self.clone / "crates/mml_host/build.log").unlink()
         self.assertEqual(sorted(self.clone.rglob("*")), before)
 
-    def test_no_toolchain(self) -> None:
+    def test_without_rt_a_command_recommends_a_release(self) -> None:
         """Without `rt` the message names the command that makes a release, and its requirements."""
         done = self.new(PATH="/usr/bin:/bin")
         self.assertEqual((done.returncode, done.stdout, self.made()), (1, "", []))
         self.assertIn("mml: a release runs without it, on x86_64 Linux with Bash, and Python 3.11 for ./class", done.stderr)
         self.assertIn("./release makes one in a clone where rt is", done.stderr)
 
-    def test_stopped(self) -> None:
+    def test_a_signal_ends_the_build_and_the_command_leaves_nothing(self) -> None:
         """A signal ends the build and the command, which leaves nothing. The next command continues the build."""
         for number, is_group in ((signal.SIGINT, True), (signal.SIGINT, False), (signal.SIGTERM, False)):
             self.set("waits", "right")
@@ -93,21 +93,20 @@ class SetsUp(InClone):
         self.assertIn("\nmml: 4 of 4 crates proved, 2 of them earlier\n", done.stderr)
         self.assertEqual(self.made(), sorted(FIRST))
 
-    def test_named_programs(self) -> None:
+    def test_programs_that_the_environment_names_are_not_built(self) -> None:
         """Programs that the environment names aren't built. If the named programs don't exist, nothing is made."""
         done = self.new(MML_PROGRAM=str(self.room / "none"), MML_HOST="/bin/true")
         self.assertEqual((done.returncode, done.stdout, self.made()), (1, "", []))
         self.assertIn("mml isn't built", done.stderr)
         self.assertFalse((self.room / "words").exists())
 
-    def test_all_labs_or_none(self) -> None:
-        """If one of several labs is refused, none is left."""
+    def test_if_one_of_several_labs_is_refused_none_is_left(self) -> None:
         (self.clone / "names.txt").write_text("".join(f"student{number}\n" for number in range(7)) + "refused\n", encoding="utf-8")
         done = self.new("--groups", "2")
         self.assertEqual((done.returncode, done.stdout, self.made()), (2, "", []))
         self.assertIn("no lab can be made from this list and these options (lab fault: 3)", done.stderr)
 
-    def test_a_full_disk(self) -> None:
+    def test_on_a_full_disk_new_leaves_no_file(self) -> None:
         """If a file can't be written completely, neither it nor the others are left. A limit on file sizes stands
         for a full disk."""
         (self.clone / "names.txt").write_text("".join(f"student{number}\n" for number in range(40)), encoding="utf-8")

@@ -18,21 +18,23 @@ SPANS = {"other": Span(0, 50, 90), "low": Span(0, 100, 99), "quick": Span(100, 1
 
 
 class Chains(unittest.TestCase):
-    """The chain of a run."""
+    """The longest chain of the proofs in SPANS."""
 
     def setUp(self) -> None:
+        """Lets the crates use each other as in USES, instead of as in `crates.txt`."""
         patched = mock.patch("tools.check.chain.uses", return_value=USES)
         patched.start()
         self.addCleanup(patched.stop)
 
-    def test_the_chain(self) -> None:
-        """A crate waits for the one that is proved last among those that it uses."""
+    def test_a_chain_has_for_each_crate_the_one_for_which_it_waited(self) -> None:
+        """A crate waits for the one whose proof ends last among those that it uses. Crates without a time are left
+        out."""
         self.assertEqual(chain.chain(SPANS, "top"), ["low", "slow", "top"])
         self.assertEqual(chain.chain(SPANS, "tests"), ["low", "quick", "tests"])
         without = {crate: it for crate, it in SPANS.items() if crate != "low"}
         self.assertEqual(chain.chain(without, "top"), ["slow", "top"])
 
-    def test_tables(self) -> None:
+    def test_the_tables_have_the_waits_and_times_of_each_proof(self) -> None:
         """The time of waiting for a processor has its own column. Without an argument the chain of the last crate
         is printed."""
         rows = [line.split() for line in chain.chain_tables(SPANS, ["top"]).splitlines()[1:]]
@@ -42,14 +44,14 @@ class Chains(unittest.TestCase):
         self.assertEqual(chain.short(SPANS), "the longest chain, in seconds: low 100, quick 30, tests 80; it ended after 480: ./check chain prints each proof")
         self.assertEqual(chain.table(SPANS).splitlines()[1:], ["low 99", "quick 29", "slow 280", "other 90", "top 39", "tests 80"])
 
-    def test_what_is_kept(self) -> None:
+    def test_saved_times_are_read_back_and_without_a_file_there_are_none(self) -> None:
         with tempfile.TemporaryDirectory() as room:
             file = Path(room) / "out/proofs.txt"
             self.assertEqual(chain.saved_spans(file), {})
             chain.save_spans(SPANS, file)
             self.assertEqual(chain.saved_spans(file), SPANS)
 
-    def test_what_was_seen(self) -> None:
+    def test_the_times_of_proofs_come_from_the_prover_s_processes(self) -> None:
         """A crate's time is from the beginning of its first check to the end of its last. Tests and wrong bodies
         don't count."""
         checks = Checks()
@@ -63,13 +65,14 @@ class Chains(unittest.TestCase):
 class Words(InTree):
     """`./check chain` as its user calls it."""
 
-    def test_nothing_was_proved(self) -> None:
+    def test_chain_without_an_earlier_run_is_an_error(self) -> None:
         self.stand_in(part("one", "echo 1 call"))
         done = self.check("chain")
         self.assertEqual((done.returncode, done.stdout, done.stderr), (1, "", "check: no ./check has proved anything in this tree\n"))
 
-    def test_the_last_run(self) -> None:
-        """A run saves the times of its proofs, and prints the chain as a line. `chain` prints it as a table."""
+    def test_chain_prints_the_times_that_the_last_run_saved(self) -> None:
+        """A run saves the times of its proofs, and prints the chain as a line. `chain` prints it as a table. The prover
+        is a script called `rattle`, and proves `one` and then `two`, for at least three seconds each."""
         prover = self.room / "rattle"
         prover.write_text("#!/bin/sh\nwhile [ ! -e \"$ROOM/$3\" ]; do sleep 0.1; done\n", encoding="utf-8")
         prover.chmod(0o755)

@@ -29,10 +29,11 @@ class Words(InTree):
     """Arguments, exit statuses and last lines."""
 
     def setUp(self) -> None:
+        """Makes a tree whose quick parts are `one` and `two`."""
         super().setUp()
         self.stand_in(part("one", WELL), part("two", "echo 2 documents"))
 
-    def test_help(self) -> None:
+    def test_help_names_the_subcommands_and_the_parts(self) -> None:
         for words in (["--help"], ["-h"], ["quick", "--help"]):
             done = self.check(*words)
             self.assertEqual((done.returncode, done.stderr), (0, ""))
@@ -40,7 +41,7 @@ class Words(InTree):
             self.assertIn(word, " ".join(self.check("--help").stdout.split()))
         self.assertIn("one, two", self.check("quick", "--help").stdout)
 
-    def test_not_understood(self) -> None:
+    def test_wrong_arguments_are_refused_with_status_2(self) -> None:
         for words, why in (
             (["slow"], "slow"), (["--quick"], "--quick"), (["quick", "three"], "there is no part three; there are: one, two"),
             (["proofs", "one", "four"], "there is no crate four; there are: one, two"), (["wrong", "four"], "there is no crate four"),
@@ -49,7 +50,7 @@ class Words(InTree):
             self.assertEqual((done.returncode, done.stdout), (2, ""), words)
             self.assertIn(why, done.stderr)
 
-    def test_all_of_it(self) -> None:
+    def test_check_runs_the_proofs_first_and_then_all_parts(self) -> None:
         for program in ("check", ".ci/run"):
             done = self.check(program=program)
             lines = done.stdout.splitlines()
@@ -63,7 +64,8 @@ class Words(InTree):
             self.assertRegex(lines[-2], r"^processor minutes in all: \d")
             self.assertNotIn("left out", done.stdout)
 
-    def test_parts_of_it(self) -> None:
+    def test_a_subcommand_runs_only_its_parts_and_names_what_is_left_out(self) -> None:
+        """`quick` takes names of parts, and `proofs` and `wrong` take names of crates."""
         done = self.check("quick")
         self.assertEqual((done.returncode, done.stdout.splitlines()[-1]), (0, "2 passed, 0 failed"))
         self.assertRegex(done.stdout, r"(?m)^left out: proofs .*: \./check proofs$")
@@ -82,21 +84,22 @@ class Outcomes(InTree):
     """What makes a check fail."""
 
     def failing(self, line: str) -> str:
-        """Checks that a part with this output makes the whole check fail. Returns what the check prints."""
+        """Runs a check with a part that succeeds and a part that is the shell line `line`. Checks that this part, and
+        so the whole check, fails. Returns what the check prints."""
         self.stand_in(part("well", WELL), part("other", line))
         done = self.check("quick")
         self.assertEqual((done.returncode, done.stdout.splitlines()[-1]), (1, "1 passed, 1 failed"), line)
         self.assertRegex(done.stdout, r"(?m)^FAILED +\d+ s  other: ")
         return done.stdout
 
-    def test_a_part_that_fails(self) -> None:
+    def test_a_part_fails_by_its_status_a_signal_or_a_failed_test(self) -> None:
         said = self.failing("echo the reason why; echo 12 calls; exit 1")
         self.assertIn("the reason why\n", said)
         self.failing("exit 1")
         self.failing("echo 12 calls; kill -9 $$")
         self.failing("echo 0 passed, 1 failed; exit 1")
 
-    def test_a_part_that_runs_no_test(self) -> None:
+    def test_a_part_fails_if_it_runs_no_test(self) -> None:
         for line in (":", "echo", "echo all is well", "echo 0 calls", "echo 0 passed, 0 failed",
                      "echo 'Ran 0 tests in 0.001s'; echo; echo OK",
                      "echo 'Ran 2 tests in 0.001s'; echo; echo 'OK (skipped=2)'"):
@@ -107,16 +110,17 @@ class Outcomes(InTree):
         done = self.check()
         self.assertEqual((done.returncode, done.stdout.splitlines()[-1]), (1, "61 passed, 2 failed"))
 
-    def test_proofs_that_fail(self) -> None:
+    def test_after_proofs_that_fail_nothing_else_is_done(self) -> None:
         self.stand_in(part("well", WELL), proofs="echo refused; echo 40 passed, 3 failed; exit 1")
         done = self.check()
         self.assertEqual((done.returncode, done.stdout.splitlines()[-1]), (1, "40 passed, 3 failed"))
         self.assertIn("refused\n", done.stdout)
         self.assertIn("not done, since the proofs failed: well, wrong\n", done.stdout)
 
-    def test_what_is_missing(self) -> None:
-        """A missing tool is named with its Debian package. If nothing may be left out, the check asks for it and
-        then fails."""
+    def test_a_missing_tool_is_named_with_its_debian_package(self) -> None:
+        """The parts that need the tool are left out. With the variable CI nothing may be left out, so the check tries
+        to install the package (as root, here by a false `apt-get`), and then fails. It also fails if no part is
+        left."""
         self.stand_in(part("well", WELL), part("needy", WELL, needs=("nothing",)), part("choosy", WELL, likes=("nothing",)))
         bin = self.room / "bin"
         bin.mkdir()
@@ -137,40 +141,39 @@ class Outcomes(InTree):
         done = self.check("quick")
         self.assertEqual((done.returncode, done.stdout.splitlines()[-1]), (1, "0 passed, 1 failed"))
 
-    def test_what_has_to_be_built(self) -> None:
+    def test_a_part_without_what_it_must_have_fails(self) -> None:
         self.stand_in(part("well", WELL), part("one", WELL, needs=("must",)), part("two", WELL, needs=("must",)))
         done = self.check("quick")
         self.assertEqual((done.returncode, done.stdout.splitlines()[-1]), (1, "1 passed, 2 failed"))
         self.assertRegex(done.stdout, r"(?m)^FAILED one, two: needs what a check is of$")
 
-    def test_what_a_part_leaves(self) -> None:
-        """A process that a part leaves running is ended with the check."""
+    def test_a_process_that_a_part_leaves_running_is_ended_with_the_check(self) -> None:
         self.stand_in(part("well", 'setsid sleep 1000 > /dev/null 2>&1 & echo $! > "$ROOM/pid"; echo 1 call'))
         self.assertEqual(self.check("quick").returncode, 0)
         self.assertFalse(is_there(int((self.room / "pid").read_text(encoding="utf-8"))))
 
 
 class Beside(InTree):
-    """Wrong bodies beside the proofs."""
+    """Wrong bodies beside the proofs. They get the names of proved crates on their standard input."""
 
-    def wrong_tells(self, proofs: str, last: str = "echo 7 passed, 0 failed") -> str:
+    def input_of_wrong(self, proofs: str, last: str = "echo 7 passed, 0 failed") -> str:
         """Runs a check in which the proofs are the shell line `proofs` and the wrong bodies end with the line `last`.
-        Returns the standard input of the wrong bodies, and what the check prints."""
+        Keeps what the check prints in `said`. Returns the standard input of the wrong bodies."""
         self.stand_in(part("well", WELL), wrong=f'touch "$ROOM/begun"; cat > "$ROOM/told"; {last}', proofs=proofs)
         self.said = self.check().stdout
         return (self.room / "told").read_text(encoding="utf-8")
 
-    def test_crates_that_stand(self) -> None:
-        """Each crate is passed on while the proofs run, and nothing after their end."""
-        told = self.wrong_tells("""
+    def test_each_proved_crate_is_passed_to_the_wrong_bodies_at_once(self) -> None:
+        """The proofs wait until the first crate has been passed on. A crate that isn't proved isn't passed on."""
+        told = self.input_of_wrong("""
             echo "rt: one proved"; until [ -s "$ROOM/told" ]; do sleep 0.05; done
             echo "rt: one: its tests are proved"; echo "== two"; echo "rt: two is kept: an earlier run proved it"; echo "rt: three NOT PROVED"
             echo 5 passed, 0 failed
         """)
         self.assertEqual((told, self.said.splitlines()[-1]), ("one\ntwo\n", "13 passed, 0 failed"))
 
-    def test_one_that_reads_nothing(self) -> None:
-        """If the wrong bodies end early, only they fail."""
+    def test_if_the_wrong_bodies_end_early_only_they_fail(self) -> None:
+        """Nobody reads the names of the crates that are proved after their end."""
         self.stand_in(wrong='touch "$ROOM/begun"; exit 1', proofs="""
             until [ -e "$ROOM/begun" ]; do sleep 0.05; done; sleep 1
             for it in 1 2 3; do echo "rt: one proved"; sleep 0.3; done; echo 5 passed, 0 failed
@@ -178,16 +181,14 @@ class Beside(InTree):
         done = self.check()
         self.assertEqual((done.returncode, done.stdout.splitlines()[-1]), (1, "5 passed, 1 failed"), done.stdout)
 
-    def test_proofs_that_fail(self) -> None:
-        """If the proofs fail, the wrong bodies are ended."""
+    def test_if_the_proofs_fail_the_wrong_bodies_are_ended(self) -> None:
         self.stand_in(part("well", WELL), wrong=GOES_ON, proofs='until [ -e "$ROOM/begun" ]; do sleep 0.05; done; echo 1 passed, 1 failed; exit 1')
         done = self.check()
         self.assertEqual((done.returncode, done.stdout.splitlines()[-1]), (1, "1 passed, 1 failed"))
         pids = [int(pid) for pid in (self.room / "pids").read_text(encoding="utf-8").split()]
         self.assertEqual([pid for pid in pids if is_there(pid)], [])
 
-    def test_both_ended(self) -> None:
-        """If the check is ended, nothing is left of either."""
+    def test_a_signal_to_the_check_ends_the_proofs_and_the_wrong_bodies(self) -> None:
         self.stand_in(part("well", WELL), wrong=GOES_ON, proofs="sleep 1000")
         going = self.started()
         going.send_signal(signal.SIGTERM)
@@ -200,8 +201,9 @@ class Beside(InTree):
 class Ends(InTree):
     """A check that is ended, and two at once."""
 
-    def ended(self, number: signal.Signals, whole_group: bool) -> None:
-        """Checks that nothing is left of a check after this signal to its process, or to its whole group."""
+    def check_ended_by(self, number: signal.Signals, whole_group: bool) -> None:
+        """Sends this signal to the process of a running check, or to its whole group. Checks the status and the last
+        lines of the check, and that nothing is left of it."""
         for name in ("begun", "pids"):
             (self.room / name).unlink(missing_ok=True)
         self.stand_in(part("well", WELL), part("on", GOES_ON))
@@ -216,15 +218,15 @@ class Ends(InTree):
         self.assertEqual([pid for pid in pids if is_there(pid)], [])
         self.nothing_left()
 
-    def test_ended_by_a_signal(self) -> None:
+    def test_a_signal_to_its_process_ends_a_check_and_leaves_nothing(self) -> None:
         for number in (signal.SIGTERM, signal.SIGINT, signal.SIGHUP):
-            self.ended(number, False)
+            self.check_ended_by(number, False)
 
-    def test_ended_with_its_group(self) -> None:
-        self.ended(signal.SIGTERM, True)
-        self.ended(signal.SIGINT, True)
+    def test_a_signal_to_its_group_ends_a_check_and_leaves_nothing(self) -> None:
+        self.check_ended_by(signal.SIGTERM, True)
+        self.check_ended_by(signal.SIGINT, True)
 
-    def test_an_output_that_nobody_reads(self) -> None:
+    def test_a_check_whose_output_nobody_reads_ends_with_status_1(self) -> None:
         self.stand_in(part("waits", WAITS), part("well", WELL))
         going = self.started("quick")
         assert going.stdout is not None
@@ -233,7 +235,7 @@ class Ends(InTree):
         self.assertEqual(going.wait(LIMIT), 1)
         self.nothing_left()
 
-    def test_two_at_once(self) -> None:
+    def test_a_second_check_in_the_same_tree_is_refused_with_status_3(self) -> None:
         self.stand_in(part("waits", WAITS))
         going = self.started("quick")
         for words in ("quick", "proofs", ""):
@@ -246,8 +248,8 @@ class Ends(InTree):
         self.assertEqual(self.check("quick").returncode, 0)
 
     def killed(self, kill: Callable[[int], None]) -> int:
-        """Checks that nothing is left of a check in which `kill` has killed a process, after another check has run.
-        `kill` gets the number of the check's process. Returns the status of the killed check."""
+        """Starts a check, and calls `kill`, which kills a process, with the number of the check's process. Checks that
+        nothing is left of the check, and that the next one passes. Returns the status of the killed check."""
         for name in ("begun", "pids"):
             (self.room / name).unlink(missing_ok=True)
         self.stand_in(part("on", GOES_ON))
@@ -261,11 +263,12 @@ class Ends(InTree):
         self.assertEqual(self.check_beside("quick").returncode, 0)
         return going.returncode
 
-    def test_one_after_a_killed_one(self) -> None:
+    def test_nothing_is_left_of_a_check_that_was_killed(self) -> None:
         self.assertEqual(self.killed(lambda pid: os.kill(pid, signal.SIGKILL)), -signal.SIGKILL)
         self.assertEqual(self.killed(lambda pid: os.killpg(pid, signal.SIGKILL)), -signal.SIGKILL)
 
-    def test_one_whose_checking_process_is_killed(self) -> None:
+    def test_nothing_is_left_of_a_check_whose_child_was_killed(self) -> None:
+        """The process of the check watches a child, which runs the parts."""
         def kill_child_of(pid: int) -> None:
             """Kills the only child of a process."""
             children = [below for below, it in processes().items() if it.parent == pid]

@@ -94,10 +94,10 @@ def faults(known: Sources) -> list[str]:
 class Imports(unittest.TestCase):
     """The packages, and what they import."""
 
-    def test_they_go_one_way(self) -> None:
+    def test_the_imports_of_classroom_have_no_fault(self) -> None:
         self.assertEqual(faults(sources()), [])
 
-    def test_each_that_goes_up_is_refused(self) -> None:
+    def test_an_import_from_above_or_from_outside_is_a_fault(self) -> None:
         """Each forbidden import is added to the real sources in turn."""
         above = (
             ("core.lab", "from classroom.run import desk", "classroom.run.desk"),
@@ -116,12 +116,12 @@ class Imports(unittest.TestCase):
                          ["classroom.run.run imports tests.model: that isn't a part of what is released"])
         self.assertEqual(self.planted("core.lab", "importlib.import_module(f'classroom.{name}')"), ["classroom.core.lab imports what only a run shows"])
 
-    def test_a_circle_is_refused(self) -> None:
+    def test_a_circle_of_imports_is_a_fault(self) -> None:
         found = self.planted("run.closing", "if TYPE_CHECKING:\n    from classroom.run.desk import Desk")
         self.assertEqual(len(found), 1)
         self.assertRegex(found[0], r"^a circle of imports: (?=.*classroom\.run\.closing classroom\.run\.desk)")
 
-    def test_each_module_has_its_package(self) -> None:
+    def test_each_file_of_classroom_is_in_a_known_package(self) -> None:
         files = [it for it in (TOP / "classroom").rglob("*") if it.is_file() and "__pycache__" not in it.parts]
         beside = {name_of(it) for it in files if it.parent == TOP / "classroom"}
         self.assertEqual(beside, {"classroom", BOTTOM, TOPMOST})

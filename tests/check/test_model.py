@@ -22,12 +22,12 @@ MOST_LINES = 1600
 class Model(unittest.TestCase):
     """The sources of `model/`."""
 
-    def test_its_size(self) -> None:
+    def test_the_model_is_short(self) -> None:
         lines = sum(len(file.read_text(encoding="utf-8").splitlines()) for file in MODULES)
         self.assertLess(lines, MOST_LINES)
         self.assertGreater(len(MODULES), 9)
 
-    def test_what_it_imports(self) -> None:
+    def test_the_model_imports_only_itself_and_the_standard_library(self) -> None:
         for file in MODULES:
             for node in ast.walk(ast.parse(file.read_text(encoding="utf-8"))):
                 names = [it.name for it in node.names] if isinstance(node, ast.Import) else []
@@ -37,7 +37,7 @@ class Model(unittest.TestCase):
                 for name in names:
                     self.assertIn(name.partition(".")[0], {"model", *sys.stdlib_module_names}, file.name)
 
-    def test_a_comment_for_each_rule_and_clause(self) -> None:
+    def test_each_rule_and_each_denial_has_the_comment_of_its_rule_or_clause(self) -> None:
         world = (TOP / "model/world.py").read_text(encoding="utf-8")
         for rule in ("Update", "Marriage", "Seduction", "Abandonment"):
             self.assertEqual(len(re.findall(rf"(?m)^ +# {rule}\b", world)), 2, f"{rule}: a guard and an effect")
@@ -58,6 +58,7 @@ class Called(unittest.TestCase):
     """Calls of the model in a folder that has only the model and the examples."""
 
     def setUp(self) -> None:
+        """Copies the model and the examples to a new folder."""
         room = tempfile.TemporaryDirectory()
         self.addCleanup(room.cleanup)
         self.room = Path(room.name)
@@ -69,7 +70,7 @@ class Called(unittest.TestCase):
         done = subprocess.run([sys.executable, "-B", "-m", "model", *words], cwd=self.room, capture_output=True, text=True, check=False)
         return done.returncode, done.stdout, done.stderr
 
-    def test_stored_outputs(self) -> None:
+    def test_the_model_reproduces_all_stored_outputs(self) -> None:
         done = subprocess.run([sys.executable, "-B", "-m", "model", "--all"], cwd=TOP, capture_output=True, text=True, check=False)
         self.assertEqual((done.returncode, done.stderr), (0, ""), done.stdout)
         self.assertRegex(done.stdout, r"^[0-9]+ scripts were played; 0 outputs differ from the stored files\n$")
@@ -89,7 +90,7 @@ class Called(unittest.TestCase):
         self.assertEqual(self.called("--all")[0], 0)
         self.assertFalse(new.exists())
 
-    def test_words(self) -> None:
+    def test_wrong_command_lines_and_missing_files_have_their_errors(self) -> None:
         lab, journal = self.room / "examples/path.toml", self.room / "journal"
         self.assertEqual(self.called("check", lab), (0, "ok: 6 nodes, 5 links, 6 students\n", ""))
         calls: list[list[str | Path]] = [["serve", lab], ["check"], ["audit", lab], ["audit", lab, "-"], ["verify", lab, journal], []]
@@ -99,7 +100,7 @@ class Called(unittest.TestCase):
         self.assertEqual(ended(["audit", str(lab), str(journal)]), Ended(4, b"", b"read fault: journal\n"))
         self.assertEqual(ended(["audit", str(journal), str(lab)]), Ended(4, b"", b"read fault: lab\n"))
 
-    def test_no_journal_is_overwritten(self) -> None:
+    def test_an_existing_journal_is_not_overwritten(self) -> None:
         lab, script, journal = self.room / "examples/path.toml", self.room / "examples/path-run.script", self.room / "journal"
         self.assertEqual(ended(["script", str(lab), str(script), str(journal)]).status, 0)
         kept = journal.read_bytes()

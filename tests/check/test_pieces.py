@@ -22,7 +22,8 @@ def done(output: str, status: int = 0) -> Done:
 class Results(unittest.TestCase):
     """Reading a part's output."""
 
-    def test_results(self) -> None:
+    def test_a_part_s_output_and_status_say_how_many_tests_passed_and_failed(self) -> None:
+        """A part that only prints what it did counts as one test. A part in which no test ran has failed."""
         for output, status, wanted in (
             ("12 calls\n", 0, (1, 0)), ("so\n40 passed, 0 failed\n\n", 0, (40, 0)), ("40 passed, 2 failed\n", 1, (40, 2)),
             ("40 passed, 0 failed\n", 2, (40, 1)), ("19 passed, 0 failed (one alone: not the gate)\n", 0, (19, 0)),
@@ -34,11 +35,12 @@ class Results(unittest.TestCase):
             it = result(done(output, status))
             self.assertEqual((it.passed, it.failed), wanted, output)
 
-    def test_what_was_left_out(self) -> None:
+    def test_reasons_of_skipped_tests_are_listed_once(self) -> None:
         said = "test_a (x.Y) ... ok\ntest_b (x.Y) ... skipped 'not tried: java'\ntest_c (x.Y) ... skipped \"not tried: java\"\n"
         self.assertEqual(not_tried(said), ["not tried: java"])
 
-    def test_kits(self) -> None:
+    def test_the_version_of_rt_must_be_one_that_the_readme_names(self) -> None:
+        """The README has exactly one line that names the versions, and all of them have the same logic."""
         page = "# A\n\nIt is proved with `kit-2 logic a0`.\nMore.\n"
         self.assertEqual(fault(page, "kit-2 logic a0"), "")
         self.assertIn("README.md names kit-2 logic a0, and rt is kit-3 logic a0", fault(page, "kit-3 logic a0"))
@@ -53,7 +55,8 @@ class Results(unittest.TestCase):
 class Figures(unittest.TestCase):
     """The table of times at the end."""
 
-    def test_one_table(self) -> None:
+    def test_the_table_has_the_processor_minutes_of_each_crate_and_kind(self) -> None:
+        """`works` has the crate and the kind of each process of the prover, and `used` its seconds."""
         checks = Checks()
         for pid, work, seconds in ((1, ("one", "proof"), 60.0), (2, ("one", "wrong"), 30.0), (3, ("two", "tests"), 90.0), (4, ("one", "proof"), 6.0)):
             checks.works[pid, "0"] = work
@@ -70,7 +73,7 @@ class Figures(unittest.TestCase):
 class Sharing(unittest.TestCase):
     """How parts share processors."""
 
-    def test_minutes(self) -> None:
+    def test_the_expected_minutes_follow_from_work_width_and_processors(self) -> None:
         narrow, long, wide = Part("n", (), 2, 1), Part("l", (), 1, 5), Part("w", (), 8, 1, ALL)
         self.assertEqual(minutes([narrow], 4), 2)
         self.assertEqual(minutes([narrow, narrow, narrow, narrow], 2), 4)
@@ -78,21 +81,21 @@ class Sharing(unittest.TestCase):
         self.assertEqual([minutes([wide], number) for number in (1, 2, 4, 16)], [8, 4, 2, 1])
         self.assertEqual(minutes([narrow, wide], 2), 6)
 
-    def test_minutes_beside(self) -> None:
+    def test_the_expected_minutes_of_a_part_that_runs_beside(self) -> None:
         """A part that runs beside others takes the time that they leave idle, and at least that of its last piece."""
         work, beside = Part("w", (), 8, 4, ALL), Part("b", (), 16, 2, ALL, is_beside=True)
         self.assertEqual([minutes_of([[work], [beside]], number) for number in (1, 2, 4, 8)], [[8, 16], [4, 8], [4, 2], [4, 2]])
         self.assertEqual(minutes_of([[work], [Part("s", (), 2, 2)], [beside]], 4), [4, 2, 2])
         self.assertEqual(minutes_of([[work], [Part("b", (), 40, 2, ALL, is_beside=True)]], 4), [4, 8])
 
-    def test_some_crates(self) -> None:
-        """The time for some crates is estimated from their sizes."""
+    def test_the_time_for_some_crates_is_estimated_from_their_sizes(self) -> None:
         self.assertAlmostEqual(sum(wrong_of([it]).work for it in uses()), WRONG.work)
         low, high = (proofs_of([it]).work for it in ("mml_ids", "mml_host"))
         self.assertTrue(0 < low < high < proofs_of([]).work == PROOFS.work, (low, high))
 
-    def test_side_by_side(self) -> None:
-        """Parts share the processors. One as wide as the machine runs alone, also on a single processor."""
+    def test_parts_run_side_by_side_but_a_part_as_wide_as_the_machine_runs_alone(self) -> None:
+        """On one processor each part runs alone. On four, each of the three narrow parts waits until all of them have
+        begun."""
         for processors in (1, 2, 4):
             with tempfile.TemporaryDirectory() as folder:
                 log = Path(folder) / "log"
@@ -112,7 +115,7 @@ class Sharing(unittest.TestCase):
                 if processors == 4:
                     self.assertEqual(sorted(lines[:3]), ["begin a", "begin b", "begin c"])
 
-    def test_the_tables(self) -> None:
+    def test_the_quick_parts_have_different_names_and_positive_times(self) -> None:
         names = [it.name for it in QUICK]
         self.assertEqual(len(set(names)), len(names))
         for it in QUICK:
