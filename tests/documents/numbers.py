@@ -26,7 +26,7 @@ README, TEACHER, STUDENT, COURSE, OPERATE = "README.md", "docs/TEACHER.md", "doc
 SECURITY, LAB, JOURNAL, PROTOCOL = "SECURITY.md", "docs/LAB.md", "docs/JOURNAL.md", "docs/PROTOCOL.md"
 WORDS = "none one two three four five six seven eight nine ten eleven twelve".split()
 # The words for a time on a page, and the range of minutes for which they may be used.
-ROUNDED = {"five minutes": (4, 7), "ten minutes": (7, 13), "half an hour or more": (25, 60), "an hour": (45, 75)}
+ROUNDED = {"five minutes": (4, 7), "ten minutes": (7, 13), "half an hour or more": (25, 60), "an hour or more": (60, 110)}
 PROCESSORS = 4  # the times on the pages are for this number of processors
 
 
