@@ -346,8 +346,8 @@ class Sizes(Played):
         return found
 
     def whole_screen(self) -> None:
-        """Checks that the key f shows the page on the full screen, where the picture isn't smaller, and that pressing
-        it again ends this. The key Escape then ends what f may have selected."""
+        """Checks that the key f shows the page on the full screen with a picture that isn't smaller, and that pressing
+        it again ends this. At the end presses Escape, which deselects a node."""
         before = self.driver.execute_script(SIZES)["scale"]
         press(self.driver, "f")
         until(self.driver, lambda driver: driver.execute_script("return document.fullscreenElement !== null"))
