@@ -65,6 +65,7 @@ if named("lacks"):
     print("rt: note: " + named("lacks"))
 print("1 passed, 0 failed")
 '''
+# The process with the prover's name. It ends after the seconds that are its argument.
 PROVER = '#!/bin/sh\nsleep "$1" & wait\n'
 
 
@@ -109,8 +110,8 @@ class InClone(unittest.TestCase):
                               env=self.environment(**more), timeout=LIMIT, check=False)
 
     def started(self, *words: str | Path) -> subprocess.Popen[str]:
-        """Starts a command of the clone as the leader of a group of processes, and waits until the stand-in runs in it.
-        Returns its process."""
+        """Starts a command of the clone as the leader of a group of processes, and waits until the stand-in has come to
+        the crate that the setting `waits` names. Returns its process. Fails if it ends before."""
         (self.room / "pids").unlink(missing_ok=True)
         going = subprocess.Popen(words, cwd=self.clone, stdin=subprocess.DEVNULL, stdout=subprocess.PIPE, stderr=subprocess.PIPE,
                                  text=True, env=self.environment(), start_new_session=True)
@@ -121,7 +122,8 @@ class InClone(unittest.TestCase):
         return going
 
     def pids(self) -> list[int]:
-        """Returns the numbers of the stand-in's running processes."""
+        """Returns the numbers of the waiting stand-in's process and its child's, or none if it hasn't waited yet. They
+        may have ended since."""
         text = (self.room / "pids").read_text(encoding="utf-8") if (self.room / "pids").exists() else ""
         return [int(it) for it in text.split()]
 

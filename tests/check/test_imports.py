@@ -130,7 +130,8 @@ class Imports(unittest.TestCase):
         self.assertEqual({it.suffix for it in files if it.parent.name != "pages"}, {".py"})
 
     def planted(self, name: str, line: str) -> list[str]:
-        """Returns the error texts after a line is added to the module `name`."""
+        """Returns the error texts about the sources of `classroom` after a line is added to the text of the module
+        `name`."""
         known = sources()
         known[f"classroom.{name}"] += f"\n{line}\n"
         return faults(known)

@@ -37,7 +37,7 @@ class InTree(unittest.TestCase):
     """A test with a tree of its own, and a folder for temporary files that has to be empty at the end."""
 
     def setUp(self) -> None:
-        """Makes the tree."""
+        """Makes a tree that has the sources of `./check`, the crates `one` and `two`, and the needs of NEED."""
         room = tempfile.TemporaryDirectory()
         self.addCleanup(room.cleanup)
         self.room, self.tree, self.temporary = (Path(room.name) / name for name in ("", "tree", "tmp"))
@@ -54,8 +54,8 @@ class InTree(unittest.TestCase):
         needs.write_text(text.replace("\ndef apt(", NEED + "\n\ndef apt("), encoding="utf-8")
 
     def stand_in(self, *quick: Quick, proofs: str = "echo 5 passed, 0 failed", wrong: str = "echo 7 passed, 0 failed") -> None:
-        """Sets the quick parts, and the shell lines of the proofs and of the wrong bodies. Notes which files exist
-        then."""
+        """Sets the quick parts, and the shell lines of the proofs and of the wrong bodies. Notes which files the tree
+        has then, for `nothing_left`."""
         tables = TABLES.format(quick=[*quick], proofs=proofs, wrong=wrong)
         (self.tree / "tools/check/parts.py").write_text(self.original + tables, encoding="utf-8")
         self.stood = self.files()
@@ -92,7 +92,7 @@ class InTree(unittest.TestCase):
 
     def started(self, *words: str) -> subprocess.Popen[str]:
         """Starts `./check` as the leader of a group of processes, and waits until one of its parts has made the file
-        `begun`. Returns its process."""
+        `begun`. Returns its process. Fails if the check ends before."""
         going = subprocess.Popen(
             [self.tree / "check", *words], stdin=subprocess.DEVNULL, stdout=subprocess.PIPE, stderr=subprocess.STDOUT,
             text=True, env=self.environment(), start_new_session=True,
@@ -113,7 +113,7 @@ class InTree(unittest.TestCase):
 
 
 def ended(going: subprocess.Popen[str]) -> None:
-    """Kills a check with its group if it is running."""
+    """Ends a check by SIGTERM if it is running, and waits for its end."""
     if going.poll() is None:
         going.terminate()
         going.communicate(timeout=LIMIT)

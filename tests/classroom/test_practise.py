@@ -1,5 +1,5 @@
-"""`./class practise`: a student practises alone, and printed lines explain denials and mistakes. Most tests run a bot of
-`bots/faulty.py`, whose argument names the bot's mistake. With `right` it has none."""
+"""`./class practise`: a student practises alone, and printed lines explain denials and mistakes. Most tests run a bot
+of `bots/faulty.py`, whose argument names the bot's mistake. With `right` it has none."""
 from __future__ import annotations
 
 import contextlib

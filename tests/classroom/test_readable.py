@@ -1,5 +1,5 @@
-"""The page of a run is readable: its texts have enough contrast in both themes, nothing is shown by colour alone, and it
-can be printed."""
+"""The page of a run is readable: its texts have enough contrast in both themes, nothing is shown by colour alone, and
+it can be printed."""
 from __future__ import annotations
 
 import base64
