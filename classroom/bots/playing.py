@@ -147,9 +147,11 @@ class Playing:
     # Lines of programs.
 
     def answer(self, connection: int, line: bytes, paused: bool) -> bytes:
-        """Answers a program's line on the connection with this number, and records it. `paused` says whether the
-        program waited before this line. Returns the reply that the program gets, or no bytes if the reply is to be
-        lost."""
+        """Answers a program's line on the connection with this number, and records it. `paused` says whether the line
+        came after a pause. A request for a move in the current configuration may first be disturbed (`interfere`), and
+        any line may be refused as if out of memory (`take_refusal`). Returns the reply that the program gets. Returns
+        no bytes if the reply is to be lost (`take_loss`); the relay then closes the connection. A move whose reply is
+        lost stays granted."""
         request = request_of(line)
         if request.get("do") == "move" and request.get("at") == self.report["at"]:
             self.interfere(number_of(request.get("node")), str(request.get("rule")))

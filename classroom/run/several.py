@@ -301,8 +301,12 @@ def desk_words(words: argparse.Namespace) -> list[str]:
 
 
 def words_of(words: argparse.Namespace, index: int) -> list[str]:
-    """Returns the arguments for the run of the network with this index. A run that continues keeps its port, and the
-    port of its page to play by if it had one."""
+    """Returns the arguments for the process that runs the network with this index. `words` are the arguments of a new
+    class, or those of `attach` or `run --resume`. Only a new class has `ports` for the networks, and `plays` for the
+    pages on which students play. A network that continues keeps its port and, if `play` is None, the port of this page.
+    If `play` is set, but `plays` is missing, the first network's page gets the port `play`, and the others the next
+    ones. The class's own page has the port `page`, and the pages of the networks have the next ones. `attach` has no
+    option `--serve`."""
     more, plays = desk_words(words), getattr(words, "plays", None)
     more += ["--port", str(words.ports[index])] if hasattr(words, "ports") else []
     more += ["--serve"] if getattr(words, "serve", False) else []
