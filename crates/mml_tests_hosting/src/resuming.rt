@@ -153,8 +153,8 @@ fn fault_of_class<R: Threads + Wait + Sync>(
     Ok((fault, out.is_empty()))
 }
 
-/// Resumes a class from `OLD`. Returns four answers: whether ana's replies, the teacher's replies, the journal, and the
-/// printed text are right. Returns an error if the class failed.
+/// Resumes a class from `OLD`. Returns four answers: whether ana's replies are `ANA_IS_TOLD`, the teacher's replies
+/// `TESS_IS_TOLD`, the journal `CLOSED_JOURNAL`, and the printed text `TOLD`. Returns an error if the class failed.
 fn results_of_a_class<R: Threads + Wait + Sync>(rt: &R, alloc: Global) -> Result<[bool; 4], Fail> {
     let mut out = Vec::new(alloc);
     match resume(rt, alloc, 100, OLD, &mut out)? {
@@ -169,8 +169,9 @@ fn results_of_a_class<R: Threads + Wait + Sync>(rt: &R, alloc: Global) -> Result
     }
 }
 
-/// Checks a class that is resumed from a journal with a torn line: the replies, the journal and the printed text must
-/// be right.
+/// Checks a class that is resumed from `OLD`, a journal that has ana's move and then a torn line. Ana's move must still
+/// be chosen, and the teacher's first close must apply it. The line of this close must replace the torn line in the
+/// journal. The printed text must say after how many events the class goes on.
 #[test]
 fn a_class_goes_on_where_its_journal_stopped(rt: HostRuntime) -> Result<(), Fail> {
     assert_eq!(rt; results_of_a_class(&rt, rt.alloc())?, [true; 4]);

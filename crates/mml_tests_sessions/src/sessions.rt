@@ -155,7 +155,8 @@ fn ana_moving(step: usize) -> FakeReader<'static> {
 
 /// Serves `ANA_MOVES` with a writer that stores one byte in each write, and fails after `good` bytes. Returns whether
 /// exactly the first `good` bytes of the replies are written, and the session ends with `WriteFault`, or with `End` if
-/// these are all bytes. The move must stay granted: the close applies it even if its reply wasn't written.
+/// these are all bytes. The move must stay granted: the close applies it even if its reply wasn't written. The house
+/// must end rightly, as `serve` defines it.
 fn tells_a_write<R: Wait>(rt: &R, alloc: Global, good: usize) -> Result<bool, Fail> {
     let reader = ana_moving(usize::MAX);
     let mut writer = FakeWriter::failing_after(good, alloc);
@@ -175,8 +176,8 @@ fn tells_a_write<R: Wait>(rt: &R, alloc: Global, good: usize) -> Result<bool, Fa
     )
 }
 
-/// Tries a writer that fails after each number of bytes of the replies. Returns the first number for which
-/// `tells_a_write` is `false`, or `None` if there is no such number.
+/// Serves a session for each number of bytes of the replies, from 0 to all, with a writer that fails after this number.
+/// Returns the first number for which the session is wrong (`tells_a_write` is `false`), or `None` if there is none.
 fn first_other_write<R: Wait>(rt: &R, alloc: Global) -> Result<Option<usize>, Fail> {
     for good in 0..=ANA_GRANTED.len() {
         if !tells_a_write(rt, alloc, good)? {
@@ -208,7 +209,7 @@ fn replies_after(good: usize) -> &'static str {
 
 /// Serves `ANA_MOVES` with a reader that fails after `good` bytes. Returns whether the session ends with `ReadFault`,
 /// and exactly the whole lines among these bytes are answered. The close must apply the move exactly if the move's line
-/// is one of them.
+/// is one of them. The house must end rightly, as `serve` defines it.
 fn tells_a_read<R: Wait>(rt: &R, alloc: Global, good: usize) -> Result<bool, Fail> {
     let reader = FakeReader::failing_after(good, ANA_MOVES.as_bytes());
     let (served, is_ended) = serve(rt, alloc, reader, FakeWriter::patient(alloc))?;
@@ -220,8 +221,8 @@ fn tells_a_read<R: Wait>(rt: &R, alloc: Global, good: usize) -> Result<bool, Fai
     )
 }
 
-/// Tries a reader that fails after each number of bytes of `ANA_MOVES`. Returns the first number for which
-/// `tells_a_read` is `false`, or `None` if there is no such number.
+/// Serves a session for each number of bytes of `ANA_MOVES`, from 0 to all, with a reader that fails after this number.
+/// Returns the first number for which the session is wrong (`tells_a_read` is `false`), or `None` if there is none.
 fn first_other_read<R: Wait>(rt: &R, alloc: Global) -> Result<Option<usize>, Fail> {
     for good in 0..=ANA_MOVES.len() {
         if !tells_a_read(rt, alloc, good)? {
