@@ -16,6 +16,7 @@ from model.run import LONGEST_REQUEST, answer
 MOST_BEGUN, MOST_RECORD, NEWLINE = 20, 2**30, b"\n"
 BYE, NO_MEMORY, NO_JOURNAL = b'{"ok":"bye"}', b'{"refuse":"memory"}', b'{"refuse":"journal"}'
 NUMERAL = rb"(0|[1-9][0-9]{0,19})"
+# Each line of an entry begins with a stamp: the number of the seat, and the number of events seen before the entry.
 STAMP = rb"%s %s " % (NUMERAL, NUMERAL)
 ASKED = re.compile(STAMP + rb"> ")
 # The patterns of entries: of a line with its reply, and of a mark. `Seat.take` has what each kind of entry means.
@@ -96,7 +97,8 @@ class Seat:
         return "torn" if not newline or asked and self.is_stamp(asked) and b"\n" not in rest else "not an entry"
 
     def is_stamp(self, found: re.Match[bytes]) -> bool:
-        """Returns whether the parts of an entry's line have the seat's number, and a number of events that fits into 64 bits."""
+        """Checks the first stamp in `found`, a match of a pattern that begins with STAMP. Returns whether the stamp has
+        the number of this seat, and a number of events that fits into 64 bits."""
         return int(found[1]) == self.number and int(found[2]) <= GREATEST
 
     def advance(self) -> None:

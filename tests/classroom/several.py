@@ -39,7 +39,8 @@ class GoingClass(Going):
         self.until("^commands: ")
 
     def record(self, name: str) -> Record:
-        """Returns the record of the run of the network with this name."""
+        """Returns the contents of `run.json`, the file about the run of the network with this name. Fails if the file
+        is missing or isn't valid."""
         record = Record.read(self.folder / name)
         assert record is not None
         return record

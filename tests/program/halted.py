@@ -60,7 +60,7 @@ class Limited:
     """Scripts for the built-in lab, with a limit on the journal's file."""
 
     def __init__(self, room: Path) -> None:
-        """`room` is the folder for the files."""
+        """Writes the built-in lab into the folder `room`. `run` writes its script and its journal there, too."""
         self.lab, self.script, self.journal = built_in(room), room / "limited.script", room / "limited.journal"
 
     def run(self, script: bytes, most: int) -> tuple[Ended, bytes]:

@@ -20,7 +20,9 @@ ENDING = re.compile(r"only=(\d+) proved=(\d+)")
 @dataclass
 class Told:
     """The contents of a check's output: the functions with a line, the proved ones, the open goals by function, the
-    functions that depend on unproved ones, and errors that belong to no goal."""
+    functions that depend on unproved ones, and errors that belong to no goal. `ending` has the two numbers with which a
+    check ends: of the functions that it had to prove, and of those that it proved. It is None if the check didn't
+    finish. `last` is the last line that isn't empty."""
 
     functions: set[str] = field(default_factory=set)
     proved: set[str] = field(default_factory=set)
@@ -64,7 +66,8 @@ class Told:
 
 
 def read_output(crate: str, output: str) -> Told:
-    """Returns the contents of the output of a check of a crate."""
+    """Sorts the lines of the output of a check of a crate. Returns what they say, with the names of functions without
+    the crate's name."""
     told = Told()
     for line in output.splitlines():
         if found := LINE.fullmatch(line):

@@ -21,8 +21,8 @@ class Connection:
     """A connection that has said hello."""
 
     def __init__(self, slip: dict[str, str]) -> None:
-        """Connects to the port in `slip`, which has the values of a slip, and says hello. Raises `Lost` if no server
-        accepts the connection, and like `ask`."""
+        """Connects to a server, and says hello. `slip` has the port, name and key of a slip. Raises `Lost` if no server
+        accepts the connection or the connection ends, and `Over` if the class is over."""
         try:
             self.socket = socket.create_connection(("127.0.0.1", int(slip["port"])), timeout=30)
         except OSError:
