@@ -8,9 +8,10 @@ from pathlib import Path
 from tests.classroom import test_play, test_shown, test_spoken
 from tests.classroom.browser import Played
 
-CONFIGURATIONS = (test_play.Play, "test_each_configuration_by_keys")
-READ = (test_shown.Sizes, "test_every_text_can_be_read_and_the_step_is_on_the_screen")
-SAID, STILL = ((test_spoken.Spoken, test) for test in ("test_a_new_state_is_said_once", "test_nothing_moves_if_that_is_asked_for"))
+CONFIGURATIONS = (test_play.Play, "test_the_keys_go_to_each_place_and_each_step")
+READ = (test_shown.Sizes, "test_every_text_can_be_read_and_the_current_event_is_in_view")
+SAID = (test_spoken.Spoken, "test_a_new_state_is_announced_once")
+STILL = (test_spoken.Spoken, "test_nothing_moves_for_a_reader_who_prefers_reduced_motion")
 # A bug in words, the text in the page's source, the text that replaces it, and the test that finds the bug.
 PLANTS = (
     ("the count of nodes that can move never falls", "this.privileged += (rule > 0) - (this.rule[node] > 0);", "this.privileged += Number(rule > 0);",
