@@ -42,7 +42,7 @@ class World:
 
     shown: tuple[tuple[str, str], ...]  # the files and folders that it can read: the path at which it sees each, and the path on the host
     hidden: tuple[str, ...]  # those of these paths at which the program sees an empty file or folder instead
-    slip: str
+    slip: str  # the text of its slip
     port: int  # the port of its server
 
 
@@ -56,15 +56,16 @@ def require_success(result: int, what: str) -> None:
 
 def mount(source: str, target: str, kind: str | None, flags: int, options: str = "") -> None:
     """Mounts the file system `source` of the type `kind` at the path `target`, with these flags and options of the
-    system call `mount`. If `flags` has BIND, makes the file or folder `source` visible there instead. Raises `OSError`
-    if the system refuses the call."""
+    system call `mount`. If `flags` has BIND, makes the file or folder `source` visible there instead. If it has
+    PRIVATE, mounts nothing, and keeps later mounts at and below `target` inside this namespace. Raises `OSError` if the
+    system refuses the call."""
     words = [None if word is None else os.fsencode(word) for word in (source, target, kind)]
     require_success(LIBC.mount(*words, ctypes.c_ulong(flags), options.encode() or None), target)
 
 
 def make_read_only(target: str) -> None:
-    """Makes the mount at the path `target`, and all mounts below that path, read-only. Raises `OSError` if the system
-    refuses the call."""
+    """Makes the mount at the path `target`, and all mounts below that path, read-only. Programs there can't get the
+    rights of their files' owners (set-user-ID) either. Raises `OSError` if the system refuses the call."""
     wanted = struct.pack("4Q", READ_ONLY | NO_SETUID, 0, 0, 0)
     require_success(LIBC.syscall(MOUNT_SETATTR, HERE, os.fsencode(target), ALL_BELOW, wanted, ctypes.c_size_t(len(wanted))), target)
 
@@ -94,17 +95,19 @@ def hide(target: str) -> None:
 
 
 def map_user(user: int, group: int) -> None:
-    """Maps the user and the group with these numbers, and no others, into this process's user namespace. Raises
-    `OSError` if the system refuses that."""
+    """Maps the user and the group with these numbers, and no others, into this process's user namespace. Forbids the
+    call `setgroups` first, because otherwise the system refuses to map the group. Raises `OSError` if the system
+    refuses a step."""
     for name, text in (("setgroups", "deny"), ("uid_map", f"{user} {user} 1"), ("gid_map", f"{group} {group} 1")):
         Path(f"/proc/self/{name}").write_text(text, encoding="ascii")
 
 
 def enter_own_root(world: World, folder: str, megabytes: int) -> None:
-    """Moves this process into a new root, which is a file system in memory of `megabytes` megabytes. The root contains
-    the files that `world` shows and, at its path on the host, the program's folder with the slip. Raises the `OSError`
-    of a call that the system refuses."""
-    mount("none", "/", None, DEEP | PRIVATE)
+    """Moves this process into a new root, a file system in memory with room for `megabytes` megabytes and SPARE more.
+    The root contains the files that `world` shows and, at its path on the host, the program's folder with the slip. It
+    also contains /proc, some devices and the folders in OWN. Files that `world` hides are covered by empty ones. Raises
+    the `OSError` of a call that the system refuses."""
+    mount("none", "/", None, DEEP | PRIVATE)  # From now on, mounts are visible only in this namespace.
     mount("none", folder, "tmpfs", NO_SETUID | NO_DEVICES, f"size={megabytes + SPARE}m,nr_inodes={MOST_FILES},mode=0755")
     os.chdir(folder)
     os.mkdir(HOST[1:])
@@ -151,9 +154,10 @@ def pass_listener(port: int, channel: int) -> None:
 
 def enter(world: World, folder: str, megabytes: int, channel: int) -> None:
     """Continues in a new process, the first one in new namespaces. When the new process ends, all other processes there
-    end too. `folder` is the program's folder, and `megabytes` the size of the new root. A socket that listens at the
-    port of `world` is sent through the descriptor `channel`. The calling process waits for the new one, and exits with
-    its status. Raises the `OSError` of a call that the system refuses."""
+    end too. The calling process doesn't return: it waits for the new one, and exits with its status, or with 0 if a
+    signal ended it. If the calling process is killed, the system kills the new one too. `folder` is the program's
+    folder, and `megabytes` the size of the new root. A socket that listens at the port of `world` is sent through the
+    descriptor `channel`. Raises the `OSError` of a call that the system refuses."""
     user, group = os.geteuid(), os.getegid()
     require_success(LIBC.unshare(NAMESPACES), "unshare")
     map_user(user, group)

@@ -82,7 +82,7 @@ class Attempt:
         self.playing = Playing(case.made, [case.who], case.daemon, case.name(), own_rule=limits.own_rule)
         self.playing.relay.piece = case.piece
         self.heard = self.playing.heard[case.who]
-        self.wrong = ""
+        self.wrong = ""  # why a line of the bot is wrong, or empty
         self.doing = ""  # what is being done to the bot, for the error line if it ends
         self.playing.on_no = self.note_denial
         self.chance = random.Random(f"{case.name()} faults")
@@ -108,8 +108,8 @@ class Attempt:
         return [node.id for node in self.case.made.nodes if node.owners == [self.case.who]]
 
     def note_denial(self, no: NotGranted) -> None:
-        """Records why a line of the bot that wasn't granted is wrong. Ignores denials that correct bots meet too, and
-        all after the first that is recorded."""
+        """Records in `wrong` why a line of the bot wasn't granted, and `turn` then fails the case. Ignores the denials
+        and refusals in ALLOWED, which correct bots get too, and all lines after the first that is recorded."""
         if no.word in ALLOWED or self.wrong:
             return
         hint = f"; {HINTS[no.word]}" if no.word in HINTS else ""
@@ -134,8 +134,9 @@ class Attempt:
                             "use --at-once with a smaller number")
 
     def turn(self) -> None:
-        """Runs the class for a few milliseconds, and checks what the bot did. Raises `Fails` if the bot has ended or
-        did something wrong, and `Stopped` after an interrupt."""
+        """Runs the class for a few milliseconds, and checks what the bot did. Raises `Fails` if the bot has ended, has
+        sent a wrong line, sends lines without pauses, or has too many connections. Raises `Stopped` after an
+        interrupt."""
         self.playing.turn()
         if self.stop.is_set():
             raise Stopped
@@ -149,7 +150,8 @@ class Attempt:
             raise Fails(self.end_reason(how))
 
     def connections_fault(self) -> str:
-        """Returns what is wrong with the number of the bot's connections, or an empty text if nothing is."""
+        """Returns what is wrong with the number of the bot's connections, or an empty text if nothing is. The bot may
+        have only some connections open at once, close only some by itself, and open only some in a minute."""
         nodes = len(self.nodes())
         relay, most = self.playing.relay, most_connections(nodes)
         if len(relay.callers) > most_open(nodes):
@@ -163,8 +165,9 @@ class Attempt:
         return ""
 
     def end_reason(self, how: str) -> str:
-        """Returns a text for people: how the bot ended, what was being done to it at that time, and its last line of
-        output. `how` is `ended STATUS` or `killed REASON`. Raises `NotStarted` if the bot's command couldn't be run."""
+        """Returns a text for people: how the bot ended, and its last line of output. If it ended by itself or by a
+        signal, the text also has what was being done to it at that time. `how` is `ended STATUS` or `killed REASON`.
+        Raises `NotStarted` if the bot's command couldn't be run."""
         kind, _, what = how.partition(" ")
         if kind == "killed" and what.startswith(f"{self.bot.words[0]}: "):
             raise NotStarted(f"the bot can't be started: {what}")
@@ -222,7 +225,7 @@ class Attempt:
     def write_evidence(self, folder: Path) -> None:
         """Makes a folder, and writes into it the lab, the script that repeats the run, the conversation and the bot's
         output. If the script can be run, also writes the page of the run. Raises `OSError` if the folder exists or
-        can't be written."""
+        can't be written, and `Fault` if the page can't be made."""
         folder.mkdir(parents=True)
         self.playing.write(folder)
         (folder / "output.txt").write_bytes(os.pread(self.room.output.fileno(), MOST_KEPT, 0))

@@ -46,7 +46,9 @@ class Bot:
     def of(word: str) -> Bot:
         """Returns the bot of the command `word`, which is split as a shell does it. The command's first word may also
         be a file in the working directory. A single file that ends in .py, .java or .js, and that can't be run
-        directly, is run by Python, Java or Node. If the command can't be run, the bot's `fault` says why."""
+        directly, is run by Python, Java or Node. Names of existing files become absolute paths, since the bot runs in
+        another folder. The bot's name is the command without the folders of its files. If the command can't be run, or
+        names a missing file that ends in .py, .java or .js, the bot's `fault` says why."""
         try:
             words = shlex.split(word)
         except ValueError as error:
@@ -68,7 +70,8 @@ class Bot:
 
 
 def cant_run(word: str) -> str:
-    """Returns why a command that begins with `word` can't be run, and what a BOT is."""
+    """Returns a text that says why a command whose first word is `word` can't be run, and what a BOT is. The word is
+    either a file that can't be run, or no program at all."""
     if Path(word).is_file():
         return f"{word}: this file can't be run; make it executable, or name the command that runs it, such as 'python3 bot.py'"
     return f"{word}: there is no such program; a BOT is a command as you type it in a terminal, such as 'python3 bot.py'"
@@ -121,16 +124,16 @@ class RunningBot:
             pass
 
     def listener(self) -> socket.socket | None:
-        """Returns the listening socket in the namespace of a bot that is kept apart, or None if it isn't open yet.
-        Waits AGAIN seconds at most."""
+        """Returns the listening socket in the namespace of a bot that is kept apart, or None if the keeper hasn't sent
+        it. Waits AGAIN seconds at most."""
         if not select.select([self.channel], [], [], AGAIN)[0]:
             return None
         files = socket.recv_fds(self.channel, 1, 1)[1]
         return socket.socket(fileno=files[0]) if files else None
 
     def ended(self) -> str:
-        """Returns how the bot has ended, `ended STATUS` or `killed REASON`, or an empty text while it runs. Kills
-        a bot that has halted its keeper."""
+        """Returns how the bot has ended, `ended STATUS` or `killed REASON`, or an empty text while it runs. Kills a bot
+        that has halted its keeper, and all processes that are left of a bot that has killed its keeper."""
         if self.process.poll() is None:
             if not is_halted(self.process.pid):
                 return ""
@@ -163,7 +166,9 @@ class RunningBot:
         end_strays()
 
     def stop(self) -> str:
-        """Ends the bot with all processes that it started. Returns how it ended, `ended STATUS` or `killed REASON`."""
+        """Ends the bot with all processes that it started, by closing the keeper's standard input. Kills them and the
+        keeper if the keeper doesn't end within PATIENCE seconds. Returns how the bot ended, `ended STATUS` or `killed
+        REASON`."""
         assert self.process.stdin is not None
         self.channel.close()
         try:
@@ -184,7 +189,8 @@ class RunningBot:
 
 
 def namespaces_refusal() -> str:
-    """Returns why bots can't be kept apart on this system, or an empty text if they can."""
+    """Tries to run a program that does nothing in namespaces of its own. Returns why bots can't be kept apart on this
+    system, or an empty text if they can."""
     it = Bot("true", ("/bin/true",))
     try:
         with tempfile.TemporaryDirectory() as room, tempfile.TemporaryFile() as output:

@@ -94,7 +94,8 @@ def axes(scale: Scale) -> list[str]:
 
 def panel(title: str, rows: list[Row], theme: str) -> str:
     """Returns the SVG drawing of one panel with this title, in a theme's colours. The panel has the bounds, and for
-    each of moves, closes and rounds the counts of the runs in `rows`, their maximum and their median."""
+    each of moves, closes and rounds the counts of the runs in `rows`, their maximum and their median. It also names and
+    rings the runs that came closest to their bounds."""
     sizes = sorted({row.nodes for row in rows})
     links = {size: max(row.links for row in rows if row.nodes == size) for size in sizes}
     most = {size: bounds.of(size, links[size]) for size in sizes}

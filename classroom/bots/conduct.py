@@ -77,9 +77,10 @@ class Conduct:
     wrong: str = ""
 
     def take(self, asked: dict[str, Any], told: dict[str, Any], paused: bool) -> None:
-        """Checks one line of the program and the reply that it got. `asked` has the values of the line, and the second
-        parameter those of the reply, or none if the reply was lost. `paused` says whether the program waited before
-        this line."""
+        """Notes a look of the program, or checks its request for a move, and records a fault in `wrong`. Doesn't check
+        moves that were refused, or denied as `not-greeted` or `not-owner`. `asked` has the values of the line, and the
+        second parameter those of the reply, or none if the reply was lost. `paused` says whether the program waited
+        before this line."""
         self.pauses.append(paused)
         node, at = number_of(asked.get("node")), number_of(asked.get("at"))
         if told.get("ok") in ("look", "see"):
@@ -96,12 +97,12 @@ class Conduct:
         self.newest[node] = at
         if told.get("chosen") is not None:
             self.chosen[node] = at
-        elif told["ok"] == "look":
+        elif told["ok"] == "look":  # A reply to `see` doesn't say whether a move is chosen.
             self.chosen.pop(node, None)
 
     def check_move(self, node: int, at: int, told: dict[str, Any]) -> None:
         """Checks a request for a move of a node with the number `at` against what the program knew, and notes its
-        reply, of which the last parameter has the values. Records a fault in `wrong`."""
+        reply. The last parameter has the values of the reply, or none if it was lost. Records a fault in `wrong`."""
         if not told:
             self.unanswered.add((node, at))
         if (node, at) not in self.looked and (node, at) in self.before:
@@ -131,7 +132,8 @@ class Conduct:
             self.chosen[node] = at
 
     def forget_looks(self) -> None:
-        """Forgets all looks after the last connection has ended: a program has to look again."""
+        """Moves all looks to `before` after the program's last connection has ended. The program has to look again, so
+        `check_move` accepts only a few moves with the numbers of these looks."""
         self.before |= self.looked
         self.looked.clear()
 

@@ -167,8 +167,8 @@ def measure(tasks: list[tuple[Setting, list[int]]], at_once: int) -> Iterator[tu
 
 
 def save_counterexample(path: Path, row: Row, script: bytes) -> Path:
-    """Saves a run that exceeds a proved bound: its lab, script and row. Returns its folder, which is in a folder
-    beside the table at `path`."""
+    """Saves a run that exceeds a proved bound: its lab, script and row. Returns its folder, which is in a folder beside
+    the table at `path`. Raises `OSError` if a file can't be written."""
     folder = path.with_name(f"{path.stem}-broken") / f"{row.family.replace(':', '-')}-{row.nodes}-{row.daemon.replace(':', '-')}-{row.seed}"
     folder.mkdir(parents=True, exist_ok=True)
     how = Daemon.of(row.daemon)
@@ -197,9 +197,9 @@ class Progress:
 
 
 def table(rows: list[Row]) -> str:
-    """Returns the result of the runs in `rows` as a text. For each family, daemon and number of nodes, a line has the
-    number of runs, and the median, maximum and bound of the moves and of the rounds. For each family and daemon, one
-    more line names the runs that came closest to their bounds."""
+    """Returns the text that is printed about the runs in `rows`. For each family, daemon and number of nodes, a line
+    has the number of runs, and the median, maximum and bound of the moves and of the rounds. For each family and
+    daemon, one more line names the runs that came closest to their bounds."""
     lines = [f"{'family':10} {'daemon':14} {'nodes':>5} {'runs':>6}  moves: median, greatest, bound  rounds: median, greatest, bound"]
     groups: dict[tuple[str, str], list[Row]] = {}
     for row in rows:
@@ -246,9 +246,10 @@ def write_sorted(path: Path, rows: list[Row]) -> None:
 
 
 def merge(words: argparse.Namespace, asked: set[Key]) -> int:
-    """Joins the table with those that `--merge` names, writes the joined table, prints the result and draws the chart.
-    `asked` identifies the runs of the arguments. Returns the exit status. Raises `Fault` if a file is missing, isn't a
-    table or can't be written, or if two tables differ about the same run."""
+    """Joins the table with those that `--merge` names, and writes the joined table. Prints the result and draws the
+    chart of the runs of the arguments, which `asked` identifies. Returns the exit status, which is WARNED if one of
+    these runs is missing, or if any run exceeds a bound. Raises `Fault` if a file is missing, isn't a table or can't be
+    written, or if two tables differ about the same run."""
     rows: dict[Key, Row] = {key(row): row for row in read_rows(Path(words.csv))}
     for file in map(Path, words.merge):
         if not file.exists():
@@ -276,9 +277,9 @@ def missing(every: list[Setting], seeds: range, done: set[Key]) -> list[tuple[Se
 
 
 def print_results(own: list[Row], asked: int, words: argparse.Namespace, broken: list[Path]) -> None:
-    """Prints the text of the rows `own`, and whether all runs are within the proved bounds. Draws the chart if the
-    arguments ask for one. `asked` is the number of runs in all. `broken` has for each run that exceeds a bound its
-    folder, or after a merge its line of the table. Raises `Fault` if the chart can't be written."""
+    """Prints the result of the runs in the rows `own`, and whether all runs are within the proved bounds. Draws the
+    chart if the arguments ask for one. `asked` is the number of runs in all. `broken` has for each run that exceeds a
+    bound its folder, or after a merge its line of the table. Raises `Fault` if the chart can't be written."""
     if own:
         print(table(own))
     print(f"WARNING: {plural(len(broken), 'run')} exceeded a proved bound, which is an error of the program: please report it, with "
@@ -303,9 +304,10 @@ def naming_file(file: str, effect: str, remedy: str) -> Iterator[None]:
 
 
 def experiment(words: argparse.Namespace) -> int:
-    """Measures the runs that the table lacks, prints the results of all runs, and draws the chart; or joins tables if
-    the arguments have `--merge`. Returns the exit status. Raises `Fault` if the arguments can't be used, or if a file
-    can't be read or written."""
+    """Measures the runs of the arguments that the table lacks, or with `--part` only those of that part. Prints the
+    results, and draws the chart. With `--merge` measures nothing, and joins tables. After an interrupt, the table has
+    the runs that were measured. Returns the exit status. Raises `Fault` if the program isn't built, the arguments can't
+    be used, or a file can't be read or written."""
     host()
     every, path = settings(words), Path(words.csv)
     seeds = range(words.seed, words.seed + words.runs)

@@ -12,14 +12,15 @@ from classroom.core.explained import MARK
 
 def lines_of(playing: Playing, more: bytes = b"") -> list[list[str]]:
     """Returns the model's explanations for the script of a class up to now, followed by the lines `more` if they are
-    given. For each denied move: the number of its line in the script, its node and a text. For each node that could
-    move at the end: `now`, the node and a text. Returns nothing if the model doesn't answer."""
+    given. Each explanation is a list. For each denied move it has the number of its line in the script, its node and a
+    text. For each node that could move at the end it has `now`, the node and a text. Returns no explanations if the
+    model doesn't answer."""
     return explained.lines_of(playing.lab, playing.program.script() + (more + b"\n" if more else b""))
 
 
 def of_denial(playing: Playing, line: bytes) -> str:
     """Returns a semicolon and the explanation of why `line`, the last line of the class `playing`, is denied, or an
-    empty text if there is no explanation."""
+    empty text if there is no explanation. `line` begins with the number of its connection, as in a script."""
     found = [text for place, _, text in lines_of(playing, line) if place != "now"]
     return f"; {MARK}{found[-1]}" if found else ""
 

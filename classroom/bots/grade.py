@@ -65,7 +65,8 @@ def add_words(words: argparse.ArgumentParser) -> None:
 
 
 def folder_of(top: Path, bot: Bot, case: Case) -> Path:
-    """Returns the folder below `top` for the record of a bot in a case."""
+    """Returns the folder below `top` for the files of a bot in a case: one named after the case, in one named after the
+    bot. In both names a hyphen replaces each group of special characters."""
     plain = [re.sub(r"[^A-Za-z0-9._:-]+", "-", word).strip(".-") or "bot" for word in (bot.name, case.name())]
     return top / plain[0] / plain[1]
 
@@ -89,9 +90,10 @@ def own_room() -> Iterator[Path]:
 
 def results_of(bots: list[Bot], cases: list[Case], words: argparse.Namespace, top: Path, stop: threading.Event,
                seen_by: dict[str, Seen] | None = None) -> Iterator[Result]:
-    """Tries each bot in each case, and yields each result when its case ends. An interrupted case has no result. `top`
-    is the folder for the records, and `stop` is set by an interrupt. If `seen_by` has the files that each bot sees, by
-    the bot's name, the bots run side by side, and otherwise one after another."""
+    """Tries each bot in each case, and yields each result when its case ends. An interrupted case has no result.
+    `words` are the options, `top` is the folder for the files of all cases, and `stop` is set by an interrupt.
+    `seen_by` has the files that each bot sees, by the bot's name. If it is None, bots aren't kept apart, and one bot's
+    cases begin only when those of the bot before it have ended."""
     limits = Limits(words.timeout, words.memory, words.own_rule)
     at_once = words.at_once or min(MOST_AT_ONCE, 3 * (os.cpu_count() or 1))
 
@@ -121,8 +123,8 @@ def results_of(bots: list[Bot], cases: list[Case], words: argparse.Namespace, to
 
 def kept_apart(bots: list[Bot], words: argparse.Namespace, top: Path) -> dict[str, Seen] | None:
     """Returns the files that each bot sees, by the bot's name. If bots can't be kept apart or `--not-apart` is set,
-    prints a line and returns None. `top` is the folder for the records, which bots don't see. Raises `Fault` if
-    `--show` names a folder that can't be shown."""
+    prints a line and returns None. `top` is the folder for the files of this grade's cases, which bots don't see.
+    Raises `Fault` if `--show` names a folder that can't be shown."""
     why = "--not-apart" if words.not_apart else namespaces_refusal()
     if why:
         print(f"class: bots aren't isolated ({printable(why)}): they run one after another, with your rights, and can read your files "
@@ -139,6 +141,7 @@ def kept_apart(bots: list[Bot], words: argparse.Namespace, top: Path) -> dict[st
     found = {}
     for bot in bots:
         others = [other.words for other in bots if other is not bot]
+        # The files of earlier grades are hidden too, unless the bot's own files are in the same folder.
         results = top.resolve() if seen.contains_any(into, seen.files_of(bot.words)) else into
         found[bot.name] = seen.shown(bot.words, more), seen.hidden(bot.words, others, results)
     return found
@@ -180,7 +183,7 @@ class Written:
 
 def print_and_write(found: Iterator[Result], written: Written) -> None:
     """Prints each result in `found` as it comes, adds it to `written`, and so writes the files with all results so far.
-    The first time that the record of a bot in a case couldn't be kept, also prints why."""
+    The first time that the files of a case couldn't be kept, also prints why."""
     full = False
     for result in found:
         written.add(result)
@@ -221,7 +224,7 @@ def numbered(bots: list[Bot]) -> list[Bot]:
 def grade(words: argparse.Namespace) -> int:
     """Tries each bot in each case, prints the results, and writes them to the files that the options name. With
     `--merge` tries nothing, and joins the results of parts. Returns the exit status. Raises `Fault` if the proved
-    program isn't built or the options can't be used."""
+    program isn't built, the options can't be used, or the folder for the cases can't be made."""
     require_built()
     bots = numbered([Bot.of(word) for word in words.bots])
     faults: list[str] = []

@@ -24,7 +24,7 @@ def case_name(result: Result) -> str:
 
 
 def as_json(results: list[Result]) -> str:
-    """Returns the results as a JSON list of cases."""
+    """Returns the results as a JSON list with an object for each case, which has the values named in ABOUT."""
     cases = [{key: value for key, value in asdict(result).items() if key in ABOUT} for result in results]
     return json.dumps(cases, indent=1, ensure_ascii=False) + "\n"
 

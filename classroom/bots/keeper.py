@@ -50,7 +50,8 @@ class Plan:
 
     @staticmethod
     def read() -> Plan:
-        """Returns the plan in the first line of standard input. Exits if there is none."""
+        """Returns the plan in the first line of standard input. Exits with status 1 if standard input ends before
+        that."""
         line = b""
         while not line.endswith(b"\n"):
             more = os.read(0, 1 << 16)
@@ -103,8 +104,9 @@ def shared_memory() -> int:
 
 
 def size_of_folder(folder: str) -> int:
-    """Returns the size in bytes of all files in a folder. Doesn't follow links. A path that is too long counts as
-    more than the limit."""
+    """Returns the size in bytes of all files in a folder. Each file and folder counts as LEAST bytes at least. Doesn't
+    follow links. Stops as soon as the sum is more than FOLDER_MEGABYTES. A path that is too long counts as more than
+    that, and a folder that can't be read as empty."""
     total, left = 0, [folder]
     while left:
         try:
@@ -159,7 +161,7 @@ class Watch:
         standard error, since it doesn't count as memory."""
         self.plan = plan
         self.output = identity(os.fstat(2))  # the file of the output, which doesn't count as memory
-        self.seldom = 0.0
+        self.seldom = 0.0  # the time before which the folder isn't measured again
 
     def memory(self, every: set[int]) -> int:
         """Returns the memory in bytes that the processes with the numbers in `every` use, with shared memory and files
@@ -199,7 +201,7 @@ class Watch:
 
 def wait_for_end(process: subprocess.Popen[bytes], fault: Callable[[], str]) -> str:
     """Waits until a process ends, standard input ends, or `fault` returns a text, the reason to end the process.
-    Returns `ended STATUS` or `killed REASON`. Doesn't end the process."""
+    Returns `ended STATUS` or `killed REASON`. Only decides that the process is to be killed, and doesn't kill it."""
     while True:
         if select.select([sys.stdin], [], [], LOOK)[0] and not os.read(0, 4096):
             return "killed asked"
@@ -212,7 +214,7 @@ def wait_for_end(process: subprocess.Popen[bytes], fault: Callable[[], str]) -> 
 
 def keep(plan: Plan) -> str:
     """Runs the program of a plan within its limits, and kills all that it leaves running. Returns how it ended, `ended
-    STATUS` or `killed REASON`."""
+    STATUS` or `killed REASON`. If the program couldn't be started, the reason says why."""
     if plan.world:
         try:
             apart.enter(plan.world, plan.folder, FOLDER_MEGABYTES, plan.channel)
@@ -234,7 +236,7 @@ def main() -> None:
     for number in (signal.SIGINT, signal.SIGHUP, signal.SIGTERM):
         signal.signal(number, signal.SIG_IGN)
     said = os.dup(1)
-    os.dup2(2, 1)
+    os.dup2(2, 1)  # What the program prints goes to the keeper's standard error, the bot's output.
     how = keep(Plan.read())
     try:
         os.write(said, f"{how}\n".encode())

@@ -97,7 +97,7 @@ def run(bench: Bench, setting: Setting, made: labs.Lab, seed: int) -> Row:
 
 def runs(setting: Setting, seeds: list[int]) -> list[tuple[Row, bytes]]:
     """Runs the setting once for each seed. Returns the row of each run, with the run's script if it exceeds a bound,
-    and otherwise with no bytes. Raises `Fault` if the program denies or refuses a request."""
+    and otherwise with no bytes. Raises `Fault` if the program isn't built, denies or refuses a request, or ends."""
     bench: Bench | None = None
     rows: list[tuple[Row, bytes]] = []
     try:

@@ -74,8 +74,8 @@ def joined(files: Iterable[Path], order: Sequence[Case]) -> tuple[list[Result], 
 
 def merged(words: argparse.Namespace, order: Sequence[Case]) -> int:
     """Joins the results in the files that `--merge` names, and writes and prints them. `order` has all cases of the
-    grade. Returns the exit status. Raises `Fault` if a file can't be read or written, or if the files contradict each
-    other or the cases."""
+    grade. Returns the exit status, which is WARNED if the result of a case is missing, or if a case wasn't passed.
+    Raises `Fault` if a file can't be read or written, or if the files contradict each other or the cases."""
     results, missing = joined(map(Path, words.merge), order)
     for form in graded.FORMS:
         if getattr(words, form):

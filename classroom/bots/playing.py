@@ -47,13 +47,13 @@ class Heard:
     """The lines that one student's program sent, counted by their replies."""
 
     lines: int = 0
-    asked: int = 0
-    granted: int = 0
-    moved: int = 0
+    asked: int = 0  # requests for moves
+    granted: int = 0  # granted moves
+    moved: int = 0  # moves that steps applied
     rules: Counter[str] = field(default_factory=Counter)  # the granted moves, by rule
     wanted: set[str] = field(default_factory=set)  # the rules that it asked for
-    greeted: int = 0
-    denied: Counter[str] = field(default_factory=Counter)
+    greeted: int = 0  # granted hellos
+    denied: Counter[str] = field(default_factory=Counter)  # denials and refusals, by their word
     conduct: Conduct = field(default_factory=Conduct)
     last: str = ""  # the last line that came
     last_at: float = 0.0  # the time at which it came
@@ -61,13 +61,13 @@ class Heard:
 
 @dataclass(frozen=True)
 class NotGranted:
-    """A line that wasn't granted, and the reason."""
+    """A line that wasn't granted, and the reason. `word` is that of the denial or refusal, and `text` explains it."""
 
     who: str
     word: str
     text: str
     kind: str  # a text that is the same for all lines with the same explanation
-    line: bytes = b""  # the line after the number of its connection, as in a script
+    line: bytes = b""  # the line, with the number of its connection before it, as in a script
 
 
 @dataclass(frozen=True)
@@ -112,15 +112,15 @@ class Playing:
         """Begins the class of a lab, and opens its port, or any free one if `port` is 0. Students' programs play the
         students in `programs`, and the house plays all other students. `daemon` closes the steps, and `seed` determines
         all random choices. With `own_rule` no look shows a program the enabled rule. Raises `OSError` if the port is
-        taken."""
+        taken, and `Fault` if the proved program isn't built."""
         self.lab, self.programs, self.daemon = lab, programs, daemon
         self.chance, self.pace_chance = random.Random(f"{seed} daemon"), random.Random(f"{seed} house")
         self.adversary = Adversary(seed, max)
         self.heard = {name: Heard() for name in programs}
         self.hider = Hider({*lab.students.values(), lab.teacher[1]}, [*lab.students, lab.teacher[0]])
-        self.names: dict[int, str] = {}
-        self.chosen: dict[int, tuple[str, str]] = {}
-        self.conversation: list[str] = []
+        self.names: dict[int, str] = {}  # the student who has greeted on each connection
+        self.chosen: dict[int, tuple[str, str]] = {}  # by node: who asked for the chosen move there, and its rule
+        self.conversation: list[str] = []  # the programs' lines and their replies, as texts
         self.rows: list[Row] = []  # the lines that the programs' own pages show
         self.owners: list[str] = []  # the student whose program sent the line of each row
         self.on_no: Callable[[NotGranted], None] = lambda no: None
@@ -128,13 +128,13 @@ class Playing:
         self.own_rule = own_rule
         self.is_held = False  # whether steps stay open, regardless of the daemon
         self.links = lab.links  # the present links
-        self.overtakes = 0  # before each of this many next moves, a step is closed
+        self.overtakes = 0  # before each of this many next moves, a new configuration is made
         self.turns = 0  # before each of this many next moves, its node's registers are set so that another rule is enabled
         self.short: Counter[str] = Counter()  # how many of the next lines with a `do` are refused as if out of memory
         self.forestalls = False  # whether the house asks for the move of a shared node just before its other owner does
         self.loses, self.has_lost = False, False  # whether to drop the reply to the next granted move, and whether one was dropped
-        self.closes = self.moves = self.since_moves = 0
-        self.news = self.closed = self.paced = time.monotonic()
+        self.closes = self.moves = self.since_moves = 0  # closes, applied moves, and those since the last change
+        self.news = self.closed = self.paced = time.monotonic()  # the last event, close, and look of the house
         self.program = Answering(lab)
         try:
             self.program.greet(TEACHER, lab.teacher[0])
@@ -169,8 +169,9 @@ class Playing:
         return shown
 
     def speaker(self, connection: int, reply: dict[str, Any]) -> str:
-        """Returns the student who has greeted on a connection. Notes the name if this reply grants a hello, and counts
-        the hello. If nobody has greeted there, returns the first program's student."""
+        """Returns the student who has greeted on a connection, for whom its lines are counted. If nobody has greeted
+        there, returns the first program's student. If this reply grants a hello, notes the name and counts the
+        hello."""
         if reply.get("ok") == "hello":
             self.names[connection] = reply["who"]
             self.heard.setdefault(reply["who"], Heard()).greeted += 1
@@ -221,8 +222,8 @@ class Playing:
 
     def record_line(self, who: str, asked: dict[str, Any], sent: bytes, told: dict[str, Any]) -> None:
         """Counts a line of the program of the student `who` by its reply. Calls `on_no` if the line was denied or
-        refused. `asked` has the line's values, `sent` is the line after its connection's number, and the last parameter
-        has the reply's values."""
+        refused. `asked` has the line's values, and `sent` is the line, with the number of its connection before it. The
+        last parameter has the reply's values."""
         heard, line = self.heard[who], sent.partition(b" ")[2]
         self.note_row(who, sent, told)
         heard.lines += 1
@@ -246,8 +247,9 @@ class Playing:
 
     def note_row(self, who: str, sent: bytes, told: dict[str, Any]) -> None:
         """Appends a row about a line to `rows`, which the programs' own pages show, if a move was granted to it, or if
-        it was denied or refused. Appends nothing once there are KEPT_ROWS rows. `who` is the student, `sent` the line
-        after its connection's number, and the last parameter has the reply's values."""
+        it was denied or refused. Keys in the line are hidden. Appends nothing once there are KEPT_ROWS rows. `who` is
+        the student, and `sent` is the line, with the number of its connection before it. The last parameter has the
+        reply's values."""
         if told.get("ok") not in ("move", None) or len(self.rows) >= KEPT_ROWS:
             return
         connection, _, line = sent.partition(b" ")
@@ -289,7 +291,8 @@ class Playing:
 
     def last_words(self, who: str) -> str:
         """Returns a semicolon and a text about the program of the student `who`, which no longer sends lines. The text
-        has the time of its last line, the line, and the nodes at which it never looked."""
+        has the time of its last line, the line, and the nodes at which it never looked. If a rule was hidden from it,
+        the text also says so."""
         heard = self.heard[who]
         ago = time.monotonic() - heard.last_at
         never = [f"node {node}" for node in self.lab.nodes_of(who) if node not in heard.conduct.seen]
@@ -323,7 +326,8 @@ class Playing:
         self.report = self.program.ask(TEACHER, do="report")
 
     def fault(self, node: int, p: int | None, m: bool) -> None:
-        """Sets a node's registers to `p` and `m`, as the teacher does by a fault. This makes a new configuration."""
+        """Sets a node's registers to `p` and `m`, as the teacher does by a fault. This makes a new configuration, in
+        which no move is chosen."""
         self.program.ask(TEACHER, do="fault", node=node, p=p, m=m)
         self.since_moves = 0
         self.renew_report()
@@ -341,7 +345,7 @@ class Playing:
 
     def relink(self, do: str, a: int, b: int) -> None:
         """Adds the link between the nodes a and b if `do` is `link`, or removes it if `do` is `cut`. This makes a new
-        configuration."""
+        configuration, in which no move is chosen."""
         self.program.ask(TEACHER, do=do, a=a, b=b)
         ends = min(a, b), max(a, b)
         self.links = [*self.links, ends] if do == "link" else [link for link in self.links if set(link) != set(ends)]
@@ -356,7 +360,7 @@ class Playing:
 
     def next_configuration(self) -> None:
         """Makes a new configuration: closes a step with all chosen moves. If no move is chosen, makes a fault instead
-        that sets a node's registers to their present values."""
+        that sets a node's registers to their present values. The node is one that no program plays, if there is one."""
         if self.chosen:
             return self.close(list(self.chosen))
         node = next((each for each in self.lab.nodes if not set(each.owners) & set(self.programs)), self.lab.nodes[0])
@@ -385,8 +389,9 @@ class Playing:
         return next((name for name in self.lab.owners(node) if name not in self.programs), None)
 
     def move_house(self) -> None:
-        """Asks for moves of the privileged nodes that the house plays: for one if a close applies one move, and
-        otherwise for all. Asks only now and then for a node that a program plays too."""
+        """Asks for moves of the privileged nodes that the house plays. Under the central daemon, whose closes apply one
+        move, asks for one, and for none if a move is chosen already. Otherwise asks for all of them. Asks only now and
+        then for a node that a program plays too."""
         nodes = [node for node, _ in self.report["privileged"] if node not in self.chosen and self.house_owner(node)]
         own = [node for node in nodes if len(self.lab.owners(node)) == 1 or not set(self.lab.owners(node)) & set(self.programs)]
         shared = [node for node in nodes if node not in own and self.pace_chance.random() < SHARED]
@@ -415,8 +420,8 @@ class Playing:
             pass
 
     def turn(self) -> None:
-        """Runs the class for a few milliseconds: answers lines, moves the house, and closes a step if the daemon
-        does."""
+        """Runs the class for a few milliseconds: answers lines, asks for the moves of the house, and closes a step if
+        the daemon does. If `is_held` is set, closes no step."""
         self.relay.turn(PACE / 2)
         now = time.monotonic()
         if now - self.paced >= PACE:
@@ -431,7 +436,7 @@ class Playing:
             self.close(nodes)
 
     def present_lab(self) -> labs.Lab:
-        """Returns the network with its present registers and links."""
+        """Returns the network with its present registers and links, as a lab in which one student owns all nodes."""
         seen = [self.program.ask(TEACHER, do="see", node=node.id) for node in self.lab.nodes]
         return network([labs.Node(it["node"], [], it["p"], it["m"]) for it in seen], self.links)
 

@@ -81,7 +81,7 @@ def own_nodes(word: str | None, identifiers: list[int], bots: int, chance: rando
 
 def made(words: argparse.Namespace, names: list[str]) -> labs.Lab:
     """Returns the lab that the arguments describe. The students with these names get their nodes in turn, and the house
-    gets the others. Raises `Fault` if a student would get no node."""
+    gets the others. Raises `Fault` if a student would get no node, or if there is no such network or node."""
     chance = random.Random(f"practise {words.seed}")
     sized = words.family.startswith(("grid:", "random:"))
     nodes, links = networks.family(words.family, words.nodes or (None if sized else 7), 0, chance)
@@ -100,8 +100,8 @@ def made(words: argparse.Namespace, names: list[str]) -> labs.Lab:
 
 def opened(lab: labs.Lab, names: list[str], words: argparse.Namespace) -> Playing:
     """Returns the class of a lab, in which programs play the students in `names`, at its port. The port is that of the
-    arguments or the next free one. If the arguments have a bot but no port, it is any free one. Raises `Fault` if no
-    port is free."""
+    arguments, or 4711 if they have none, or the next free one after it. If the arguments have a bot but no port, it is
+    any free one. Raises `Fault` if no port is free."""
     def at(port: int) -> Playing | None:
         """Returns the class at that port, or None if the port is taken."""
         try:
@@ -145,7 +145,7 @@ class Practice:
             self.tell(f"{no.who}: this has happened {times} times so far: {no.kind}")
 
     def print_step(self, step: Step) -> None:
-        """Prints a closed step as a line."""
+        """Counts the moves and rounds of a closed step, and prints the step as a line."""
         privileged = [node for node, _ in step.report["privileged"]]
         self.recovery.step([node for node, _, _ in step.moved], privileged)
         moved = ", ".join(f"{rule} at node {node} ({who})" for node, who, rule in step.moved)
@@ -180,8 +180,9 @@ class Practice:
         return "".join(f"; {name}: {hint}" for name, hint in hints.items() if hint)
 
     def run(self) -> bool:
-        """Runs the class until it is stable. Ends earlier if nothing has happened for the time limit, if no bot is left
-        that could move, or if it is interrupted. Returns whether the class is stable."""
+        """Runs the class until it is stable, and a little longer to answer late lines. Ends earlier if nothing has
+        happened for the time limit, if no bot is left that could move, or if it is interrupted. Prints how bots have
+        ended, and after QUIET seconds without news, for whom the class waits. Returns whether the class is stable."""
         playing, news = self.playing, self.playing.news
         while not playing.is_stable() and not self.stop:
             self.turn()
@@ -209,8 +210,8 @@ class Practice:
 
 def write_run(playing: Playing, folder: Path, tell: Callable[[str], None]) -> None:
     """Writes the files of the run of the class `playing`, and a page for each program, into the folder. Calls the
-    callback with a line about them. Raises `Fault` if the page can't be made, and `OSError` if a file can't be
-    written."""
+    callback with a line that names the first page and the conversation. Raises `Fault` if a page can't be made, and
+    `OSError` if a file can't be written."""
     playing.write(folder)
     answer = call("script", folder / "lab.toml", folder / "script", folder / "journal")
     if answer.status != 0:

@@ -70,7 +70,9 @@ class Relay:
         self.selector.register(self.listener, selectors.EVENT_READ)
 
     def turn(self, seconds: float) -> None:
-        """Answers the lines that have come. If no line has come, waits for one, `seconds` at most."""
+        """Accepts new connections, answers the lines that have come, and sends the replies that are due. If there are
+        none of these, waits for the first, `seconds` at most. Counts a turn without a line for each caller that sends
+        none."""
         for each in list(self.callers):
             each.quiet += 1
             if each.held:
@@ -98,7 +100,7 @@ class Relay:
 
     def accept(self) -> None:
         """Accepts a connection if a number is free and the relay isn't `busy`. Otherwise sends the line `busy` and
-        closes it."""
+        closes it. Does nothing if the connection has gone already."""
         try:
             its, _ = self.listener.accept()
         except OSError:
@@ -119,7 +121,8 @@ class Relay:
 
     def read(self, caller: Caller) -> None:
         """Reads from a caller, and answers its complete lines. Marks the caller as leaving after a bye, after a line
-        that is too long, and at the end of its lines. Raises `OSError` if the connection is to be closed at once."""
+        that is too long, and at the end of its lines. Counts a bye and such an end in `quits`. Raises `OSError` if the
+        connection is broken, or if `answer` returns no bytes."""
         more = caller.socket.recv(MOST_WAITING)
         *lines, caller.rest = (caller.rest + more).split(b"\n")
         for line in lines:
@@ -139,8 +142,9 @@ class Relay:
         caller.is_leaving = caller.is_leaving or has_quit or is_overlong
 
     def send_replies(self, caller: Caller) -> None:
-        """Sends as much of a caller's replies as its socket takes, and chooses the events to wait for. Closes the
-        connection if the caller is leaving and has all its replies."""
+        """Sends as much of a caller's replies as its socket accepts, and chooses the events to wait for. If `piece`
+        isn't 0, sends at most that many bytes, and the next ones APART seconds later. Closes the connection if the
+        caller is leaving and has all its replies."""
         now = time.monotonic()
         if caller.out and now >= caller.held:
             try:
@@ -156,7 +160,8 @@ class Relay:
         self.selector.modify(caller.socket, wants, caller)
 
     def has_partial_line(self) -> bool:
-        """Returns whether a caller has sent a part of a line without its newline."""
+        """Returns whether a caller has sent a part of a line without its newline. That is also the case if such a part
+        was too long, so that its connection was closed."""
         return self.overlong or any(caller.rest for caller in self.callers)
 
     def hang_up(self, caller: Caller) -> None:
@@ -188,7 +193,8 @@ class Relay:
         self.pause()
 
     def pause(self) -> None:
-        """Stops listening, as if the server were gone. `resume` listens again at the same port."""
+        """Stops listening, as if the server were gone. Doesn't close connections. `resume` listens again at the same
+        port."""
         self.selector.unregister(self.listener)
         self.listener.shutdown(socket.SHUT_RDWR)
 

@@ -45,8 +45,10 @@ def is_private(folder: Path) -> bool:
 
 
 def with_needed(file: Path) -> list[Path]:
-    """Returns the paths to show for a program's file: its folder, or the whole installation if the folder is one of
-    programs such as `bin`. If the folder is private, returns only the file and the module that students use."""
+    """Returns the paths to show for a program's file. If the file is in a folder of programs such as `bin`, with
+    libraries beside that folder, this is the whole installation, the folder above. If the folder above is private,
+    returns the file's folder and those libraries instead. Without such libraries, returns only the file's folder. Of a
+    private folder, returns only the file and the module that students use."""
     folder = file.parent
     beside = [folder.parent / each for each in BESIDE if folder.name in OF_PROGRAMS and (folder.parent / each).is_dir()]
     if beside and not is_private(folder.parent):
@@ -56,7 +58,8 @@ def with_needed(file: Path) -> list[Path]:
 
 @cache
 def files_of(words: tuple[str, ...]) -> list[Path]:
-    """Returns the existing files and folders among the words of a command, and the targets of their links."""
+    """Returns the existing files and folders among the words of a command, and the targets of their links. Only
+    absolute paths count. A word may also contain several paths, as in `-cp=/a:/b`."""
     found: list[Path] = []
     for word in words:
         parts = word.translate({ord(each): "\n" for each in APART}).splitlines()
@@ -68,7 +71,8 @@ def files_of(words: tuple[str, ...]) -> list[Path]:
 
 @cache
 def common() -> list[Path]:
-    """Returns what every bot sees: the system's programs, those on the path, and the module that students use."""
+    """Returns what every bot sees: the system's programs, those in PATH with what they need, JAVA_HOME, and the folder
+    of the module that students use. Leaves out folders in PATH and JAVA_HOME that are private."""
     found = [Path(each) for each in SYSTEM] + [file for each in OF_ETC for file in Path("/etc").glob(each)]
     for each in os.environ.get("PATH", "").split(":"):
         if each.startswith("/") and Path(each).is_dir() and not is_private(Path(each)):

@@ -119,8 +119,10 @@ def dealt(count: int, links: networks.Links, own: list[int], shared: list[int]) 
 
 
 def choose_nodes(plan: Plan, count: int, links: networks.Links, chance: random.Random) -> list[int]:
-    """Returns the bot's nodes in the network of a plan, which has the nodes 1 to `count` and these links: first those
-    that the bot owns alone, and then those that it shares with the house. `chance` makes the random choices."""
+    """Returns the bot's nodes in the network of a plan, which has the nodes 1 to `count` and these links. Those that
+    the bot owns alone come before those that it shares with the house. If `plan.takes` is HUB, the first one is a node
+    with most neighbours. If it is LINKED, the first two are the ends of a link. `chance` chooses this link and all
+    other nodes."""
     nodes = list(range(1, count + 1))
     first: list[int] = []
     if plan.takes == HUB:

@@ -30,21 +30,22 @@ class Result:
     moves: int = 0  # the number of the bot's moves that steps applied
     denied: dict[str, int] = field(default_factory=dict)  # the number of its denied and refused lines, by their word
     seconds: float = 0.0  # the time that the case took
-    unkept: str = ""  # why its record isn't kept
+    unkept: str = ""  # why the files of the case aren't kept, or empty
     started: bool = True  # whether the bot could be started
 
 
 def try_bot(bot: Bot, case: Case, limits: Limits, own: Path, folder: Path, stop: threading.Event, seen: Seen | None = None) -> Result | None:
-    """Runs a bot in a case, with these limits, and writes the record into `folder`. `own` is the bot's own folder,
-    `seen` has the files that it sees if it is kept apart, and `stop` is set by an interrupt. Returns the result, or
-    None after an interrupt. Raises `OSError` or `Fault` if the case can't be begun."""
+    """Runs a bot in a case, with these limits, and writes the case's files into `folder`. `own` is the bot's own
+    folder, `seen` has the files that it sees if it is kept apart, and `stop` is set by an interrupt. Returns the
+    result, or None after an interrupt. Raises `OSError` or `Fault` if the case can't be begun."""
     with tempfile.TemporaryFile() as output:
         return run_attempt(Attempt(bot, case, limits, Surroundings(own, output, seen), stop), folder)
 
 
 def run_attempt(attempt: Attempt, folder: Path) -> Result | None:
-    """Runs a bot's attempt at a case to its end, closes it, and writes the record into `folder`. Returns the result, or
-    None after an interrupt, which leaves no record. If the record can't be written, the result's `unkept` says why."""
+    """Runs a bot's attempt at a case to its end, closes it, and writes the files of `Attempt.write_evidence` into
+    `folder`. Returns the result, or None after an interrupt, which leaves no files. If the files can't be written, the
+    result's `unkept` says why."""
     begun, case = time.monotonic(), attempt.case
     result = Result(attempt.bot.name, case.lab, case.daemon.spelled(), case.seed, False, "")
     try:

@@ -123,7 +123,8 @@ def cut(attempt: Attempt) -> None:
 
 def rest(attempt: Attempt, seconds: float = RESTING) -> None:
     """Runs the stable class for `seconds` seconds, and then makes a fault at a node of the bot. Raises `Fails` if the
-    bot didn't look at all its nodes meanwhile, or doesn't move the node."""
+    bot didn't look at all its nodes meanwhile, sent too many lines or requests for moves (`check_rest`), or doesn't
+    move the node."""
     attempt.doing = f", after the network was stable for some seconds{ON}"
     recent = attempt.heard.conduct.recent
     recent.clear()
@@ -137,8 +138,8 @@ def rest(attempt: Attempt, seconds: float = RESTING) -> None:
 
 
 def long_rest(attempt: Attempt) -> None:
-    """Runs the stable class for more than a minute, and then makes a fault at a node of the bot. Raises `Fails` like
-    `rest`."""
+    """Runs the stable class for more than a minute, and then makes a fault at a node of the bot. Raises `Fails` if the
+    bot does something wrong meanwhile, or doesn't move the node."""
     rest(attempt, LONGEST_REST)
 
 
@@ -170,8 +171,9 @@ def release(attempt: Attempt) -> None:
 
 
 def overtake(attempt: Attempt) -> None:
-    """Closes a step OVERTAKES times between the bot's look and its move, so that the move is stale. For that, makes
-    faults at nodes of the bot, ROUNDS at most. Raises `Fails` if the bot does something wrong or is too late."""
+    """Makes the bot's moves stale, OVERTAKES times. Each time, makes a new configuration between the bot's look and its
+    move: closes a step, or makes a fault if no move is chosen (`Playing.next_configuration`). So that the bot has to
+    move, makes faults at its nodes, ROUNDS at most. Raises `Fails` if the bot does something wrong or is too late."""
     attempt.doing = f", after a step was closed between its look and its move (`stale` is no error: look again){ON}"
     attempt.playing.overtakes = OVERTAKES
     for _ in range(ROUNDS):
@@ -256,8 +258,8 @@ def relink(attempt: Attempt) -> None:
 
 
 def memory(attempt: Attempt) -> None:
-    """Refuses a few of the bot's looks and moves with `memory`, as a server that is out of memory does. Raises `Fails`
-    if the bot does something wrong or is too late afterwards."""
+    """Makes a fault at a node of the bot. Then refuses two of the bot's looks and one request for a move with `memory`,
+    as a server that is out of memory does. Raises `Fails` if the bot does something wrong or is too late afterwards."""
     attempt.doing = f", after the refusal `memory`, which means: ask again a little later{ON}"
     attempt.playing.short.update({"look": 2, "move": 1})
     node = hurt(attempt)
@@ -391,6 +393,7 @@ def rules(attempt: Attempt) -> None:
     asks for the rule that the proved program reports, and for nothing if there is none. Raises `Fails` if it
     doesn't."""
     playing, links = attempt.playing, attempt.case.made.links
+    # The lowest node that has both a lower and a higher neighbour, if there is one, so that there are more kinds.
     node = max(attempt.nodes_owned_alone(), key=lambda node: (any(node == b for a, b in links) + any(node == a for a, b in links), -node))
     known: set[tuple[str | None, int, bool]] = set()
     playing.is_held = True

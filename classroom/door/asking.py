@@ -68,7 +68,8 @@ class RequestHead:
         return RequestHead(words[0], words[1], heads)
 
     def body_size(self) -> int:
-        """Returns the number of bytes that follow the head. Raises `BadRequest` if they are more than MOST_BODY."""
+        """Returns the number of bytes that follow the head, its `Content-Length`, or 0 without this header. Raises
+        `BadRequest` if it is more than MOST_BODY, or isn't a number of at most six digits."""
         size = self.heads.get("content-length", "0")
         if not re.fullmatch(r"\d{1,6}", size) or int(size) > MOST_BODY:
             raise BadRequest("413 Content Too Large", "this request is too large for the door")

@@ -20,7 +20,8 @@ PREFIX = 64  # the leading bits of an IPv6 address that count as one origin, sin
 
 
 def origin(address: str) -> str:
-    """Returns the origin of connections from an address."""
+    """Returns the origin of connections from an address. An IPv4 address that is written as an IPv6 address has the
+    same origin as otherwise. A text that isn't an address is its own origin."""
     try:
         it = ipaddress.ip_address(address.partition("%")[0])
     except ValueError:
@@ -39,7 +40,8 @@ class Meter:
         self.left, self.at = rate * BURST, now()
 
     def spend(self, count: int) -> float:
-        """Counts `count` bytes of traffic. Returns the seconds to wait before more bytes are passed on."""
+        """Counts `count` bytes of traffic, also if they exceed the limit. Returns the seconds to wait before more bytes
+        are passed on."""
         now = self.now()
         self.left = min(self.rate * BURST, self.left + (now - self.at) * self.rate) - count
         self.at = now
@@ -99,7 +101,8 @@ class Bounds:
             self.handshakes.remove(it)
 
     async def wait_for_rate(self, origin: str, count: int) -> None:
-        """Counts `count` bytes of an origin, and waits as long as its rate limit and the common one require."""
+        """Counts `count` bytes of an origin. Then waits as long as the origin's own rate limit and that of all origins
+        together require."""
         wait = max(self.all.spend(count), self.meters[origin].spend(count))
         if wait > 0:
             await asyncio.sleep(wait)

@@ -84,8 +84,8 @@ def fingerprint(file: Path) -> str:
 
 
 def context(file: Path) -> ssl.SSLContext:
-    """Returns the TLS settings of a door with the key and the certificate in a file. Raises `Fault` if the file has
-    none."""
+    """Returns the TLS settings of a door with the key and the certificate in a file. Raises `Fault` if the file lacks
+    one of them or can't be read, or if the two don't fit each other."""
     it = ssl.SSLContext(ssl.PROTOCOL_TLS_SERVER)
     it.minimum_version = ssl.TLSVersion.TLSv1_2
     it.options |= ssl.OP_NO_RENEGOTIATION | ssl.OP_NO_COMPRESSION

@@ -100,7 +100,7 @@ class OpenDoor:
                   f"The file {self.folder / 'door.txt'} has the reason")
 
     def close(self) -> None:
-        """Closes the door once the runs of all its networks have ended. Doesn't wait for that."""
+        """Makes the door close as soon as the runs of all its networks have ended. Doesn't wait for that."""
         self.closes.set()
         self.listener.close()
         if self.child.poll() is None:

@@ -149,7 +149,9 @@ class Passing:
     async def forward(self, port: int, first: bytes, is_one: bool = False) -> None:
         """Forwards bytes in both directions between the connection and a local port, until the port has sent all its
         answers. `first` has the bytes for the port that have come already. If `is_one` is set, forwards only these
-        bytes as one request, and ends if the other end closes the connection."""
+        bytes as one request, and ends if the other end closes the connection. Also ends if one direction fails. Raises
+        `OSError` if no connection to the port can be made, and `TimeoutError` if the port doesn't accept the first
+        bytes in time."""
         far, near = await asyncio.open_connection("127.0.0.1", port, limit=CHUNK)
         near.transport.set_write_buffer_limits(WAITING)
         try:
@@ -167,7 +169,7 @@ class Passing:
 
     async def send_to_port(self, near: asyncio.StreamWriter, content: bytes) -> None:
         """Sends the bytes `content` to a local port by the stream `near`. Raises `TimeoutError` if the port doesn't
-        take them in time."""
+        accept them within TAKING seconds."""
         near.write(content)
         async with asyncio.timeout(TAKING):
             await near.drain()

@@ -92,8 +92,9 @@ def announce_all(folder: Path, port: int, looks: str) -> None:
 
 
 def page_for_all(folder: Path) -> Record | None:
-    """Returns a record with the port and the token of the page for all networks, and no other port, from the door's
-    folder. Returns None if no process serves that page."""
+    """Returns a `Record` with the port and the token of the page for all networks, from the door's folder. A `Record`
+    otherwise has the content of a run's `run.json`; this one has no other port. Returns None if no process serves that
+    page."""
     try:
         it = json.loads(plain.read(folder / HALL, plain.MOST_KEPT))
         desk = Process(**it["process"])
@@ -104,7 +105,7 @@ def page_for_all(folder: Path) -> Record | None:
 
 
 def forget(folder: Path) -> None:
-    """Removes all routes from the folder of a door."""
+    """Removes all routes, and the file about the page for all networks, from the folder of a door."""
     for file in (*folder.glob(f"*{NETWORK}"), folder / HALL):
         file.unlink(missing_ok=True)
 
@@ -115,6 +116,7 @@ class Routes:
 
     folder: Path
     networks: dict[str, Route] = field(default_factory=dict)
+    # For each network, the content of its `run.json`, after the time of its last change and its inode.
     records: dict[str, tuple[tuple[int, int], Record | None]] = field(default_factory=dict)
 
     def reload(self) -> None:
@@ -124,8 +126,8 @@ class Routes:
 
     def running(self, name: str) -> Record | None:
         """Returns the content of the file `run.json` of the network `name`, which has the ports of the network's server
-        and pages. For the name ALL, returns a record with the port of the page for all networks. Returns None if there
-        is no such network or page, or if the run has ended."""
+        and pages. For the name ALL, returns the port of the page for all networks in the same form. Returns None if
+        there is no such network or page, or if the run has ended."""
         if name not in self.networks:
             self.reload()
         network = self.networks.get(name)

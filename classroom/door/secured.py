@@ -90,8 +90,8 @@ class Secured:
             await self.writer.drain()
 
     async def end(self, passes: Callable[[int], Awaitable[None]]) -> None:
-        """Tells the client that nothing more is sent. Closes the connection when the client has closed it, or after
-        LEAVING seconds. Drops the bytes that the client still sends, and awaits `passes` with their number."""
+        """Announces to the client that nothing more is sent. Closes the connection when the client has closed it, or
+        after LEAVING seconds. Drops the bytes that the client still sends, and awaits `passes` with their number."""
         try:
             self.tls.unwrap()
         except ssl.SSLError:  # The other end hasn't closed its side yet.

@@ -77,7 +77,7 @@ class PlayServer(Web):
                          if isinstance(token, str) and hmac.compare_digest(known.encode(), token.encode(errors="replace"))), None)
 
     def stop(self) -> None:
-        """Tells all pages to give up their seats, waits for that at most LAST_WORD seconds, and closes the port."""
+        """Makes all pages give up their seats, waits for that at most LAST_WORD seconds, and closes the port."""
         with self.turn:
             self.leaves = True
             self.turn.wait_for(lambda: not self.seats, LAST_WORD)
@@ -90,7 +90,8 @@ class PlayRequest(PageRequest):
     server: PlayServer
 
     def do_GET(self) -> None:
-        """Answers with the page, which is the same for every student, or with 404 for any other path than `/`."""
+        """Answers with the page, which is the same for every student, or with 404 for any other path than `/`. Answers
+        421 if the request names another host or another port."""
         if self.reject_foreign_host():
             return
         if self.path != "/":
@@ -100,7 +101,9 @@ class PlayRequest(PageRequest):
 
     def do_POST(self) -> None:
         """Handles a hello (`/enter`) or a move (`/move`), whose values are the JSON object in the request's body. The
-        answer to a hello ends only when the page is closed."""
+        answer to a hello ends only when the page is closed. Answers 404 for another path, or for a body that is too
+        large or whose size isn't a number. Answers 400 if the body isn't an object, and 421 if the request names
+        another host or another port."""
         if self.reject_foreign_host():
             return
         does = {"/enter": self.enter, "/move": self.move}.get(self.path)
@@ -125,7 +128,8 @@ class PlayRequest(PageRequest):
 
     def enter(self, asked: dict[str, Any]) -> None:
         """Connects to the class's server with the name and key in `asked`, and sends updates while the page is open. If
-        the hello isn't granted, or the student has no node, answers with the reason."""
+        the hello isn't granted, or the student has no node, answers with the reason. Answers 400 if the name or the key
+        isn't a text."""
         name, key = asked.get("name"), asked.get("key")
         if not isinstance(name, str) or not isinstance(key, str):
             return self.send_head(400)
@@ -145,7 +149,9 @@ class PlayRequest(PageRequest):
                 self.send_updates(seat)
 
     def send_updates(self, seat: Seat) -> None:
-        """Sends what a seat shows whenever it has changed, until the page, the connection or the run ends."""
+        """Sends what a seat shows whenever it has changed, until the page, the connection or the run ends. If nothing
+        changes, sends an empty row every STILL_HERE seconds. The last row has the reason for the end, unless the page
+        is gone."""
         before, due = None, 0.0
         while not self.server.leaves:
             try:
@@ -153,7 +159,7 @@ class PlayRequest(PageRequest):
             except (Closed, Denied) as error:
                 return self.send_row({"ended": str(error)})
             now = time.monotonic()
-            if row is not before or now >= due:
+            if row is not before or now >= due:  # `present` returns the same object if nothing has changed.
                 self.send_row(row if row is not before else {})
                 before, due = row, now + STILL_HERE
             if select.select([self.connection], [], [], PAUSE)[0]:

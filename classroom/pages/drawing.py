@@ -237,7 +237,8 @@ def describe_node(node: int, owners: list[str], pointer: int | None, m: bool, pa
 
 
 def owners_in_words(owners: list[str]) -> str:
-    """Returns the names of a node's owners as a text. Without the house, its nodes have no owner."""
+    """Returns the names of a node's owners as a text. A node of the house alone has no owners here, because
+    `Lab.without_house` leaves the house out."""
     return " and ".join(owners) or "the house"
 
 

@@ -120,8 +120,8 @@ class Looking(Replay):
 
 def frames_of(lab: Path, journal: Path) -> tuple[labs.Lab, Iterator[Frame]]:
     """Returns the lab, and an iterator of the frames of a journal, which computes each frame when it is taken. All
-    frames share one state, which changes when the next frame is taken. Raises `Fault` if the audit refuses the
-    journal."""
+    frames share one state, which changes when the next frame is taken. Raises `Fault` if the audit refuses the journal.
+    The iterator raises `Fault` if the journal can't be replayed."""
     answer = call("audit", lab, journal)
     if answer.status != 0:
         raise Fault(f"{journal}: {answer.error}", answer.status)

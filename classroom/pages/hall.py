@@ -85,7 +85,8 @@ class Page(AtAddress):
     server: Hall
 
     def do_GET(self) -> None:
-        """Answers with the page, the state or the events, as the path asks."""
+        """Answers with the page, the state or the events, as the path asks. Answers 404 for any other path, also one
+        with a wrong token, and 421 if the request names another host or another port."""
         token, asked = self.asked()
         if self.reject_foreign_host():
             return
@@ -109,7 +110,7 @@ class Page(AtAddress):
 
     def send_events(self, token: str) -> None:
         """Sends the state of the address with this token, and again whenever it has changed, until the class or the
-        page ends."""
+        page ends. Sends a comment line if nothing has changed for STILL_HERE seconds."""
         version, ended = 0, False
         while not ended:
             before = version

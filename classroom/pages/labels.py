@@ -72,7 +72,8 @@ class Form:
         return LINE * self.size + PILL_HIGH * self.pill + GAP
 
     def name(self, owners: list[str]) -> str:
-        """Returns the names of a node's owners as one text, which is cut if it has too many letters."""
+        """Returns the names of a node's owners as one text, which is cut if it has too many letters. The text is empty
+        if the form has no room for names."""
         whole = ", ".join(owners)
         return whole if len(whole) <= self.letters else whole[:self.letters - 1] + "…" if self.letters else ""
 
@@ -97,7 +98,8 @@ BARE = Form(0, 13, False)
 
 @dataclass(frozen=True)
 class Box:
-    """A rectangle with its edges parallel to those of the field."""
+    """A rectangle with its edges parallel to those of the field. Its methods measure by how much it is too close to
+    other things, which should be GAP away."""
 
     left: float
     top: float
@@ -105,22 +107,26 @@ class Box:
     bottom: float
 
     def shared(self, other: Box) -> float:
-        """Returns the area of the intersection with another box, as if it were wider and higher by GAP."""
+        """Returns the area of the intersection with another box, as if it were wider and higher by GAP. Returns 0 if
+        the boxes are at least GAP apart."""
         across = min(self.right, other.right) - max(self.left, other.left) + GAP
         down = min(self.bottom, other.bottom) - max(self.top, other.top) + GAP
         return across * down if across > 0 and down > 0 else 0.0
 
     def outside(self, field: Field) -> float:
-        """Returns how far the box reaches beyond the edges of a field, added up for the four edges."""
+        """Returns how far the box reaches beyond the edges of a field, or into the margin GAP along them, added up for
+        the four edges."""
         return sum(max(0.0, far) for far in (GAP - self.left, self.right - field.width + GAP, GAP - self.top, self.bottom - field.height + GAP))
 
     def in_disc(self, middle: Point, radius: float) -> float:
-        """Returns how far the box reaches into the disc with this middle and radius, or 0 if it doesn't."""
+        """Returns how far the box reaches into the disc with this middle and radius, which is made larger by GAP, or 0
+        if it doesn't."""
         x, y = min(max(middle[0], self.left), self.right), min(max(middle[1], self.top), self.bottom)
         return max(0.0, radius + GAP - math.dist((x, y), middle))
 
     def on_line(self, a: Point, b: Point) -> float:
-        """Returns the length of the part of the line from a to b that is inside the box."""
+        """Returns the length of the part of the line from a to b that is inside the box, which is made larger by GAP at
+        each edge."""
         begin, end = 0.0, 1.0
         for start, step, low, high in ((a[0], b[0] - a[0], self.left - GAP, self.right + GAP), (a[1], b[1] - a[1], self.top - GAP, self.bottom + GAP)):
             if not step:
@@ -163,7 +169,8 @@ class View:
 
     @property
     def identifier_size(self) -> float:
-        """Returns the size of the letters of the nodes' identifiers: the largest that fits into a disc."""
+        """Returns the size of the letters of the nodes' identifiers. It depends on the radius of a disc, and is at
+        least that of the smallest other letters if the longest identifier then fits into a disc."""
         radius, digits = self.layout.radius, max(len(str(node)) for node in self.layout.points)
         plain = BARE.size if text_width("8" * digits, BARE.size, True) <= 1.95 * radius else 0.0
         return round(max(plain, 0.92 * radius), 1)
@@ -177,7 +184,8 @@ class View:
 
 def view_of(owners: dict[int, list[str]], links: list[tuple[int, int]], field: Field) -> View:
     """Returns the layout of the network with these links in a field, with the largest labels for which there is room. A
-    narrow field has none. `owners` has the owners of each node."""
+    narrow field and a large network have none. Labels may cross links only in a network without a regular shape.
+    `owners` has the owners of each node."""
     shape = shape_for(owners, links, field)
     near = neighbours(owners, links)
     if field.width >= 500 and len(owners) <= MOST_NAMED and len(links) <= MOST_LINKS:
@@ -192,7 +200,8 @@ def view_of(owners: dict[int, list[str]], links: list[tuple[int, int]], field: F
 
 def corners_of(layout: Layout) -> dict[int, Point]:
     """Returns the middle of the frame of each node's rule, relative to the node's middle, for a layout without labels.
-    Frames avoid other nodes and other frames if possible."""
+    Frames avoid other nodes and other frames if possible. If the nodes are too small for frames, all have the same
+    corner."""
     radius, points = layout.radius, layout.points
     found, frames = {node: CORNERS[0] for node in points}, dict[int, Box]()
     for _ in range(TURNS if radius >= LEAST_FRAMED else 0):
@@ -238,7 +247,7 @@ def placed(layout: Layout, form: Form, owners: dict[int, list[str]], near: Near)
         discs = [point for other, point in layout.points.items() if other != node]
         for order, label in enumerate(candidates(node, layout, form, form.name(owners[node]), near[node])):
             upon = lies_upon(label.box, layout, discs, [other.box for other in labels.values()])
-            if upon <= least[0]:
+            if upon <= least[0]:  # Overlaps with discs, labels and edges count first, and then those with links.
                 along = sum(label.box.on_line(*line) for line in lines)
                 best, least = min((best, least), (label, (upon, along + 0.1 * order, along)), key=lambda it: it[1][:2])
             if least[0] == 0 and least[2] == 0:
@@ -257,8 +266,9 @@ def lies_upon(box: Box, layout: Layout, discs: list[Point], others: Iterable[Box
 
 
 def candidates(node: int, layout: Layout, form: Form, text: str, others: list[int]) -> Iterator[Label]:
-    """Yields possible labels with this text and form for a node of a layout, the best first: in the widest gap between
-    its links to the nodes in `others`, and then all around."""
+    """Yields possible labels with this text and form for a node of a layout, the best first. The first one is in the
+    widest gap between the node's links to the nodes in `others`, or in a grid at the lower right. The next ones are all
+    around the node."""
     first = math.pi / 4 if layout.kind == "grid" else widest_gap(layout, node, others)
     width = max(text_width(text, form.size), form.widest_pill)
     for angle in (first, *(eighths * math.pi / 4 for eighths in ANGLES)):

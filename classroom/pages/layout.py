@@ -77,7 +77,8 @@ def shape_for(nodes: Iterable[int], links: Iterable[tuple[int, int]], field: Fie
 
 def fitted(shape: Shape, field: Field, pads: Pads) -> Layout:
     """Returns the layout that results if a shape is moved and stretched into the part of a field between the margins
-    `pads`."""
+    `pads`. A path or tree fills this part. The ratio of the horizontal to the vertical stretching of other shapes is
+    limited (UNLIKE and EQUAL)."""
     xs, ys = zip(*shape.points.values())
     wide, high = max(xs) - min(xs), max(ys) - min(ys)
     across = (field.width - pads.left - pads.right) / wide if wide > 1e-9 else 0.0

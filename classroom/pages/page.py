@@ -121,7 +121,8 @@ class Frames:
         return runs
 
     def drawn_links(self, known: int = 0) -> list[list[int]]:
-        """Returns the indices of the ends of all links after the first `known` ones."""
+        """Returns the indices of the ends of all links in the list `links` after the first `known` ones. A page is sent
+        these once, since rows name links by their index."""
         return [[self.order[a], self.order[b]] for a, b in self.links[known:]]
 
 
@@ -129,7 +130,8 @@ class Played:
     """The drawing and the rows of a run, for one or several pages."""
 
     def __init__(self, lab: Lab, frames: Iterable[Frame]) -> None:
-        """Takes all frames of the lab's run, of which the first is the beginning."""
+        """Reads all frames of the lab's run, of which the first is the beginning, and makes the drawing of the first
+        and the data with a row for each."""
         each = iter(frames)
         first = next(each)
         self.drawing = drawing_of(lab.without_house(), first.state.links)
@@ -158,7 +160,7 @@ def live_page(title: str, drawing: Drawing, state: State, acts: bool) -> tuple[s
 
 
 def button(it: Button) -> str:
-    """Returns a button of the desk as an HTML element."""
+    """Returns the HTML element of a button by which the teacher acts on a page."""
     more = "".join(f' {name}="{escape(value)}"' for name, value in (("type", it.kind), ("title", it.title)) if value)
     return f'<button id="{it.name}"{more}>{escape(it.text)}</button>'
 
@@ -190,9 +192,9 @@ def drawing_page(name: str, title: str, drawing: Drawing, picture: str, data: st
 
 
 def assembled(name: str, parts: dict[str, str], more: str, styles: tuple[str, ...], programs: tuple[str, ...]) -> tuple[str, str]:
-    """Returns a page made of the template `name` and its parts, and the content policy that allows only its own styles
-    and scripts. `styles` and `programs` are the names of their files in this folder, and `more` is CSS that is added to
-    the styles."""
+    """Returns a page made of the template `name`, and the content policy that allows only its own styles and scripts.
+    `parts` has the texts for the names in the template, of which `TITLE` isn't yet escaped. `styles` and `programs` are
+    the names of their files in this folder, and `more` is CSS that is added to the styles."""
     style = "".join((FOLDER / file).read_text("utf-8") for file in styles) + more
     program = "".join((FOLDER / file).read_text("utf-8") for file in programs)
     page = fill_template(name, parts | {"TITLE": escape(parts["TITLE"]), "STYLE": style, "PROGRAM": program, "LEGEND": legend()})

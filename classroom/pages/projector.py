@@ -63,7 +63,8 @@ class Page(AtAddress):
     server: Pages
 
     def do_GET(self) -> None:
-        """Answers with the page or its events, as the path asks."""
+        """Answers with the page or its events, as the path asks. Answers 404 for any other path, also one with a wrong
+        token, and 421 if the request names another host or another port."""
         (token, asked), present = self.asked(), self.server.present
         if self.reject_foreign_host():
             return
@@ -85,7 +86,8 @@ class Page(AtAddress):
         return True
 
     def send_events(self, present: Present, token: str) -> None:
-        """Sends the present state, and then all changes, until the run or the page ends or the token is replaced."""
+        """Sends the present state, and then all changes, until the run or the page ends or the token is replaced. Sends
+        a comment line if nothing has changed for STILL_HERE seconds."""
         rows = Frames(self.server.drawing)
         before: Now | None = None
         while (before is None or not before.ended) and token in (self.server.looks, self.server.acts):

@@ -95,7 +95,8 @@ class Replay:
     def part(self, events: list[Event], is_first: bool) -> tuple[Script, list[Event]]:
         """Returns a script with as many of these events as fit into it, and the remaining events. If `is_first` is set,
         the script begins with the requests before the first event. The script has all events, or those up to an event
-        that made a configuration. Raises `Fault` if too many events come without a new configuration."""
+        that made a configuration. In the second case it ends by asking for all registers, with which the next part
+        begins. Raises `Fault` if too many events come without a new configuration."""
         script, fits, kept, named = Script(), 0, 0, set[int]()
         for line in HELLOS:
             script.ask(line)
@@ -168,28 +169,29 @@ def alone(nodes: list[labs.Node], links: list[tuple[int, int]], events: int) -> 
 
 
 def values_of(reply: str) -> dict[str, Any]:
-    """Returns the values of a script's reply, which begins with its connection number."""
+    """Returns the values of a script's reply, which begins with its connection number, a single digit, and a space."""
     told: dict[str, Any] = raw_decode(reply, 2)[0]
     return told
 
 
 def another(line: str, reply: str) -> Fault:
-    """Returns the fault to raise if the program answers a line that was granted in the run by `reply`, which doesn't
-    grant it."""
+    """Returns the fault to raise if the program doesn't grant a line again that was granted in the run. `reply` is its
+    reply to the line."""
     return Fault(f"the journal can't be replayed: the program answered the line {line[2:]} by {reply[2:]}. "
                  "This is an error of the program: report it to its developers", 4)
 
 
 def wrong_place(expected: int, place: int) -> Fault:
-    """Returns the fault to raise if the program gives the number `place` to the event of the journal with the number
-    `expected`."""
+    """Returns the fault to raise if the program counts the event of the journal with the number `expected` as event
+    `place`."""
     return Fault(f"the journal can't be replayed: the program counted its event {expected} as event {place}. "
                  "This is an error of the program: report it to its developers", 4)
 
 
 def report(lab: labs.Lab, lines: list[list[str]]) -> dict[str, Any]:
     """Returns the report after the events in these lines of a lab's journal. Each line is split into its words: the
-    place, the number of the configuration, and the event. Raises `Fault` if an event isn't granted again."""
+    place, the number of the configuration, and the event. Raises `Fault` if an event isn't granted again, or if the
+    program counts the events differently."""
     nodes = [labs.Node(node.id, [STUDENT], node.p, node.m) for node in lab.nodes]
     script = [*HELLOS, *(request(at, words) for _, at, *words in lines), REPORT]
     replies = all_of(alone(nodes, lab.links, max(1, len(lines))), script)

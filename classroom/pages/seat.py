@@ -48,7 +48,8 @@ class Seen(Drawing):
 
 
 def shown_part(name: str, looks: Looks) -> Lab:
-    """Returns the part of the network that the looks of the student `name` show, as a lab."""
+    """Returns the part of the network that the looks of the student `name` show, as a lab. In it, the student owns the
+    nodes of the looks, other neighbours have the owner NEIGHBOUR, and nodes beyond that part have no owner."""
     near = {each.node: each.p for look in looks.values() for each in look.near}
     beyond = {p for p in [*near.values(), *(look.p for look in looks.values())] if p is not None} - near.keys() - looks.keys()
     nodes = [Node(node, [name] if node in looks else [] if node in beyond else [NEIGHBOUR])
@@ -83,7 +84,8 @@ class Seat:
     """A student's connection. The page's thread and the threads of its moves use it one at a time."""
 
     def __init__(self, client: Client, name: str, nodes: list[int]) -> None:
-        """`nodes` are those of the student `name`, for whom the client has greeted."""
+        """Begins without looks. `nodes` are those of the student `name`, and `client` is a connection on which this
+        student has said hello."""
         self.client, self.name, self.nodes = client, name, nodes
         self.turn = threading.Lock()
         self.end_reason = ""  # why the connection has ended, or empty as long as it is open

@@ -42,7 +42,8 @@ def shape_of(nodes: list[int], links: Links, aspect: float) -> Shape:
 
 @lru_cache(maxsize=64)
 def kept_shape(nodes: tuple[int, ...], links: tuple[tuple[int, int], ...], aspect: float) -> Shape:
-    """Returns the same shape as `shape_of`. Computes it unless it is among the last results, which are cached."""
+    """Returns the shape of the network with these nodes and links, which are sorted, for a field with the ratio
+    `aspect` of width to height. Computes the shape unless it is among the last results, which are cached."""
     near = {node: sorted(set(others)) for node, others in neighbours(nodes, links).items()}
     found = plain_shape(near, aspect) or grid_shape(near)
     if found is None and is_tree(near):
@@ -138,7 +139,8 @@ def layers(near: Near, aspect: float) -> Points:
 
 
 def down(root: int, children: Near) -> Iterator[int]:
-    """Yields the nodes of a tree from its root on, each before its children, and from left to right."""
+    """Yields the nodes of a tree from its root on, each before its children, and from left to right. `children` has the
+    children of each node."""
     stack = [root]
     while stack:
         node = stack.pop()

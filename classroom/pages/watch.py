@@ -131,7 +131,8 @@ class Watch:
 
     def publish(self, report: Report, book: Book) -> None:
         """Publishes the state after the noted events, with the report after them and the counts in `book`. Publishes
-        nothing if the run has gone on meanwhile, since its next events come first."""
+        nothing if no event was noted. If the run has gone on meanwhile, the report or the looks show later events. Then
+        publishes nothing either, and the next call publishes the noted events too."""
         if not self.events:
             return
         last = self.events[-1]

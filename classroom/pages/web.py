@@ -55,8 +55,8 @@ class Web(ThreadingHTTPServer):
         self.server_close()
 
     def process_request(self, request: Any, client_address: Any) -> None:
-        """Serves the connection `request` in its own thread. Closes it if there are too many, or no thread can be
-        made."""
+        """Serves the connection `request` in its own thread. Closes it if there are CONNECTIONS others already, or if
+        no thread can be made."""
         if not self.free.acquire(blocking=False):
             return self.shutdown_request(request)
         try:
