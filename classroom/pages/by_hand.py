@@ -58,8 +58,8 @@ class PlayServer(Web):
 
     @contextmanager
     def keeping_seat(self, seat: Seat) -> Iterator[str]:
-        """Keeps a seat in the table of seats while its page is open. Yields the token by which that page names its
-        seat."""
+        """Keeps a seat in the table of seats, and its student's name in `names`, while its page is open. Yields the
+        token by which that page names its seat."""
         token, port = secrets.token_urlsafe(16), seat.client.own_port()
         with self.turn:
             self.seats[token], self.names[port] = seat, f"{seat.name}, by hand"

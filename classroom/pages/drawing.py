@@ -263,7 +263,7 @@ def standalone(drawing: Drawing, state: State, event: Event | None, theme: str =
     led to the state, if there is one, and `theme` names the colours: `light` or `dark`."""
     key, field = drawing.key(), drawing.view.layout.field
     head, tail = drawing.svg(state, event).split("<defs>", 1)
-    if key:
+    if key:  # The line that explains the letters needs more height.
         head = head.replace(f'{field.width:g} {field.height:g}"', f'{field.width:g} {field.height + KEY_HIGH:g}"', 1)
     tail = tail.removesuffix("</svg>")
     return (f'<?xml version="1.0" encoding="UTF-8"?>\n{head}{colours.style(theme=theme)}<rect class="ground" width="100%" height="100%"/>'

@@ -296,6 +296,7 @@ def label_at(middle: Point, radius: float, angle: float, form: Form, text: str, 
     x, y = level * REACH * radius, upright * REACH * radius
     anchor = "start" if level > SIDEWAYS else "end" if level < -SIDEWAYS else "middle"
     left = {"start": x, "end": x - width, "middle": x - width / 2}[anchor]
+    # A label in a diagonal direction is moved a little towards the height of its node.
     tucked = 0.0 if anchor == "middle" else SIDEWAYS * form.size
     is_above = upright < -SIDEWAYS
     top = y - tucked if upright > SIDEWAYS else y - form.high + tucked if is_above else y - form.high / 2
