@@ -64,7 +64,8 @@ class Answering:
 
     def answers(self, lines: list[tuple[int, bytes]]) -> list[bytes]:
         """Sends lines, each with the number of its connection. Returns the replies in the same order, without
-        connection numbers. Raises `Fault` if the program has ended."""
+        connection numbers. Sends only a few lines before it reads their replies: if the pipes of both processes were
+        full, each process would wait for the other. Raises `Fault` if the program has ended."""
         assert self.process.stdin is not None and self.process.stdout is not None
         replies: list[bytes] = []
         while len(replies) < len(lines):
@@ -98,16 +99,17 @@ class Answering:
                      "Try again. If it happens again, report it to the developers", 4)
 
     def answer(self, connection: int, line: bytes) -> dict[str, Any]:
-        """Sends a line on a connection, and returns the values of the JSON reply. Adds the line to the script of
-        granted lines, as `keep` does. Raises `Fault` if the program has ended."""
+        """Sends a line on a connection, and returns the values of the JSON reply. If the reply grants a hello or a bye,
+        or has a new event, adds the line to the script that repeats the run. Raises `Fault` if the program has ended,
+        and `NotReply` if it prints anything but a reply."""
         reply = reply_of(self.answers([(connection, line)])[0])
         self.keep(connection, line, reply)
         return reply
 
     def keep(self, connection: int, line: bytes, reply: dict[str, Any]) -> None:
-        """Adds a line of the connection with this number to `script`, which repeats the run, if `reply` grants a hello
-        or a bye, or has the place of a new event. Leaves the line out if the script would become larger than
-        MOST_SCRIPT. Also notes in `place` the place of the last event."""
+        """Adds a line of the connection with this number to the script that repeats the run. Does so only if `reply`
+        grants a hello or a bye, or has the place of a new event. Leaves the line out if the script would become larger
+        than MOST_SCRIPT. Also notes in `place` the place of the last event."""
         self.place = reply.get("place", self.place)
         if (reply.get("ok") in ("hello", "bye") or "place" in reply) and self.size + len(line) < MOST_SCRIPT:
             self.granted.append(b"%d %s\n" % (connection, line))
@@ -125,8 +127,8 @@ class Answering:
 
     def greet(self, connection: int, name: str) -> None:
         """Sends a hello with the key of the student or teacher `name`, and a bye before it if another name has greeted
-        on that connection. Does nothing if `name` has greeted there already. Raises `Denied`, `Refused` or `Fault` as
-        `ask` does."""
+        on that connection. Does nothing if `name` has greeted there already. Raises `Denied` or `Refused` if a reply
+        isn't `ok`, and `Fault` if the program has ended."""
         if self.names.get(connection) == name:
             return
         if connection in self.names:
@@ -136,7 +138,8 @@ class Answering:
         self.names[connection] = name
 
     def script(self) -> bytes:
-        """Returns the script that repeats the run: a list of request lines, with all lines that `keep` has added."""
+        """Returns the script that repeats the run, a list of request lines: the granted hellos and byes, and the lines
+        that made an event. Lines for which the script had no room are left out."""
         return b"".join(self.granted)
 
     def close(self) -> None:

@@ -22,7 +22,8 @@ ROOM = 4  # the most events of a run for each move that its bound allows: the mo
 
 def network(nodes: list[labs.Node], links: list[tuple[int, int]]) -> labs.Lab:
     """Returns a lab with these nodes and links, in which a student named `student` owns all nodes. The owners in
-    `nodes` are ignored."""
+    `nodes` are ignored. The lab allows as many events as a lab can. Raises `Fault` if the program isn't built, since it
+    prints that limit."""
     own = [labs.Node(node.id, ["student"], node.p, node.m) for node in nodes]
     return labs.Lab(limits.allowed().events, 2, ("teacher", "teacher"), {"student": "student"}, own, links)
 
@@ -41,18 +42,21 @@ class Bench:
         self.before = 0  # the number of the configuration at which the current run begins
 
     def has_room(self, made: labs.Lab) -> bool:
-        """Returns whether this process can also serve a run of the lab `made`: the lab has the same links, and enough
-        events are left."""
+        """Returns whether this process can also serve a run of the lab `made`. The lab has to have the same links.
+        Enough events have to be left for setting all registers, and for as many moves as the proved bound allows.
+        Raises `Fault` if the program isn't built."""
         most = ROOM * bounds.of_lab(made).moves + 2 * len(made.nodes)
         return made.links == self.made.links and self.events + most < self.made.events
 
     def asked(self, connection: int, requests: list[dict[str, Any]]) -> list[dict[str, Any]]:
-        """Sends requests on one connection, and returns their replies. Raises `Fault` if one isn't answered by `ok`."""
+        """Sends requests on one connection, and returns their replies. Raises `Fault` if a reply isn't `ok`, or if the
+        program has ended."""
         return self.all_asked([(connection, request) for request in requests])
 
     def all_asked(self, requests: list[tuple[int, dict[str, Any]]]) -> list[dict[str, Any]]:
-        """Sends requests, each on the connection with its number, and returns their replies. Raises `Fault` if one
-        isn't answered by `ok`."""
+        """Sends requests, each on the connection with its number, and returns their replies. Adds the requests to those
+        of the current run, and counts the events that they made. Raises `Fault` if a reply isn't `ok`, or if the
+        program has ended."""
         lines = [(connection, json.dumps(request, separators=(",", ":")).encode()) for connection, request in requests]
         replies: list[dict[str, Any]] = [json.loads(reply) for reply in self.program.answers(lines)]
         for (_, request), reply in zip(requests, replies):
@@ -65,7 +69,8 @@ class Bench:
 
     def begin(self, made: labs.Lab) -> dict[str, Any]:
         """Begins a run: sets the registers to those of the lab `made`, which has the same network as this process.
-        Returns the report on the configuration at which the run begins. Raises `Fault` like `asked`."""
+        Returns the report on the configuration at which the run begins. Raises `Fault` if a reply isn't `ok`, or if the
+        program has ended."""
         self.requests = []
         faults = [{"do": "fault", "node": node.id, "p": node.p, "m": node.m} for node in made.nodes]
         report = self.asked(TEACHER, [*faults, {"do": "report"}])[-1]
@@ -73,14 +78,16 @@ class Bench:
         return report
 
     def present(self) -> labs.Lab:
-        """Returns the network with its present registers, as a lab. Raises `Fault` like `asked`."""
+        """Returns the network with its present registers, as a lab. Raises `Fault` if a reply isn't `ok`, or if the
+        program has ended."""
         seen = self.asked(TEACHER, [{"do": "see", "node": node.id} for node in self.made.nodes])
         del self.requests[-len(seen):]  # The looks have no effect on the run.
         return network([labs.Node(it["node"], [], it["p"], it["m"]) for it in seen], self.made.links)
 
     def script(self) -> bytes:
-        """Returns the script, a list of request lines, that repeats the current run with a new lab of this network.
-        The script begins with the hellos and with setting all registers."""
+        """Returns the script, a list of request lines, that repeats the current run with a new lab of this network. The
+        script begins with the hellos and with setting all registers. Its moves name configurations by the numbers that
+        they have in a new process, in which no other run came before."""
         hello = [(TEACHER, {"do": "hello", "name": "teacher", "key": "teacher"}), (STUDENT, {"do": "hello", "name": "student", "key": "student"})]
         own = [(who, request | {"at": request["at"] - self.before} if "at" in request else request) for who, request in self.requests]
         return "".join(f"{who} {json.dumps(request)}\n" for who, request in [*hello, *own]).encode()
@@ -88,7 +95,7 @@ class Bench:
     def step(self, report: dict[str, Any], nodes: list[int], partner_of: Callable[[Sequence[int]], int]) -> dict[str, Any]:
         """Moves these nodes in one step, each by its enabled rule in `report`, the latest report. A node whose rule is
         `marriage` takes the partner that `partner_of` chooses among the nodes that point at it. Returns the report
-        after the step. Raises `Fault` like `asked`."""
+        after the step. Raises `Fault` if a reply isn't `ok`, or if the program has ended."""
         rules = dict(report["privileged"])
         suited = [node for node in nodes if rules[node] == "marriage"]
         looks = self.asked(STUDENT, [{"do": "look", "node": node} for node in suited])

@@ -11,13 +11,14 @@ from classroom.core.program import Fault, host
 from classroom.core.tally import Bounds
 
 MOVES = "3n + 2 min(L, n²/4)"
-NAME = "teacher", "teacher"
+NAME = "teacher", "teacher"  # the name and the key of the teacher in a lab that is only made for its bounds
 
 
 @functools.cache
 def of(nodes: int, links: int) -> Bounds:
     """Returns the bounds for a network with this number of nodes and links, which are the same for all such networks.
-    Raises `Fault` if the program isn't built or prints no bounds."""
+    Asks the program only once for each of these pairs of numbers. Raises `Fault` if the program isn't built or prints
+    no bounds."""
     found = tally.of_texts(labs.text(some(nodes, links)), "").bounds
     if not found.moves:
         raise Fault("the program mml is of an older version, which prints no bounds. Type `./mml build` to build the present version", 4)
@@ -25,7 +26,8 @@ def of(nodes: int, links: int) -> Bounds:
 
 
 def some(nodes: int, links: int) -> labs.Lab:
-    """Returns any lab with this number of nodes and links."""
+    """Returns a lab with this number of nodes and links. The links join any nodes, since the bounds depend on these
+    numbers only."""
     every = range(1, nodes + 1)
     joined = list(itertools.islice(itertools.combinations(every, 2), links))
     return labs.Lab(1, 1, NAME, {"student": "student"}, [labs.Node(node, ["student"]) for node in every], joined)
@@ -42,5 +44,6 @@ def told(nodes: int, links: int) -> Bounds | None:
 
 
 def of_lab(lab: labs.Lab) -> Bounds:
-    """Returns the bounds for a lab's network as it is at the beginning of a run. Raises `Fault` like `of`."""
+    """Returns the bounds for a lab's network as it is at the beginning of a run. Raises `Fault` if the program isn't
+    built or prints no bounds."""
     return of(len(lab.nodes), len(lab.links))

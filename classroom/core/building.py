@@ -47,7 +47,8 @@ class Signals:
 
 def build() -> int:
     """Runs `./mml build` to its end, and returns its exit status. If one of SIGNALS comes meanwhile, ends the build and
-    raises `SystemExit`."""
+    raises `SystemExit` with 128 and the signal's number added. After a Ctrl-C (SIGINT) the build first has PATIENCE
+    seconds to end by itself, since a terminal sends the signal to it too."""
     signals = Signals()
     try:
         process = subprocess.Popen([TOP / "mml", "build"], stdin=subprocess.DEVNULL, stdout=STDERR)

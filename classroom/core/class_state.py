@@ -90,8 +90,8 @@ def write(folder: Path, state: dict[str, Any]) -> None:
 
 
 def read(folder: Path) -> dict[str, Any] | None:
-    """Returns the state of a network from the folder of its run, or None if there is no such file or it isn't a JSON
-    object."""
+    """Returns the state of a network from the folder of its run. Returns None if there is no such file, if the file
+    can't be read or is too large, or if it isn't a JSON object."""
     try:
         it = json.loads(plain.read(folder / STATE, MOST))
     except (Fault, ValueError, RecursionError):

@@ -1,6 +1,8 @@
 """The folder of a class of several networks: `class.json` names them, and each network has the folder of its run in it.
 
-A *run* is one network's journal and other files, and a *lab* is the file that defines the network and its students.
+A *run* is one network's journal and other files, and a *lab* is the file that defines the network and its students. The
+*desk* of a network is the teacher's connection to its server. A *door* is a port at which students on other machines
+connect.
 """
 from __future__ import annotations
 
@@ -78,8 +80,8 @@ class Class:
         )
 
     def write(self, folder: Path) -> None:
-        """Writes the file into the folder of the class. If the file can't be written, as on a full disk, the old file
-        stays, and no error is raised."""
+        """Writes these values as `class.json` into the folder of the class. If the file can't be written, as on a full
+        disk, the old file stays, and no error is raised."""
         new = folder / f"{FILE}.new"
         try:
             new.write_text(json.dumps(asdict(self)) + "\n", encoding="utf-8")
@@ -96,13 +98,14 @@ def title(folder: Path) -> str:
 
 
 def is_class(folder: Path) -> bool:
-    """Returns whether a folder is the folder of a class."""
+    """Returns whether a folder is the folder of a class, that is, whether it has a file `class.json`."""
     return (folder / FILE).is_file()
 
 
 def name_of(files: Sequence[Path]) -> str:
-    """Returns the name of a class by the files of its labs: the common beginning of their names, without the number of
-    a group. Returns `class` if they have no common beginning."""
+    """Returns the name of a class by the files of its labs, such as `maths` for `maths-1.toml` and `maths-2.toml`. It
+    is the common beginning of the files' names. If that ends with a hyphen or a similar character, and perhaps a number
+    after it, these are left out. Returns `class` if the names have no common beginning."""
     common = os.path.commonprefix([file.stem for file in files])
     return re.sub(r"[-_. ]\d*$", "", common) or "class"
 

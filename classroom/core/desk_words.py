@@ -1,4 +1,4 @@
-"""The commands of a teacher's desk, which are typed or come from buttons: one table for all code that takes, runs,
+"""The commands of a teacher's desk, which are typed or come from buttons: one table for all code that parses, runs,
 shows, counts or replays a command."""
 from __future__ import annotations
 
@@ -41,8 +41,9 @@ class Action(Enum):
 
 @dataclass(frozen=True)
 class Button:
-    """A button of the page on which the teacher acts, and the line that it sends. `#seconds` stands for the value of
-    that field, and `#picked` for the node that was clicked."""
+    """A button of the page on which the teacher acts, and the line that it sends. In the line, a word such as
+    `#seconds` is replaced by the value of the page's field with this name, and `#picked` by the number of the clicked
+    node."""
 
     name: str
     text: str
@@ -123,5 +124,6 @@ def request(word: str, values: Sequence[str]) -> dict[str, Any]:
 
 
 def links_after(word: str) -> int:
-    """Returns by how much an event whose first word is `word` changes the number of links: 1, 0 or -1."""
+    """Returns by how much an event whose first word is `word` changes the number of links: 1 for a link, -1 for a cut,
+    and 0 for any other event."""
     return WORDS[word].links if word in WORDS else 0

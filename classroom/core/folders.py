@@ -1,7 +1,8 @@
 """The folders of runs: making a new one, the record of a run that continues, and the lab and journal of given runs.
 
 A *run* is a class with one network. The *lab* of a run defines the network and its students, and the *journal* has the
-run's events.
+run's events. The *record* here is the file `run.json` in the run's folder. The *desk* is the teacher's connection to
+the server. A *door* is a port at which students on other machines connect.
 """
 from __future__ import annotations
 
@@ -16,7 +17,7 @@ from classroom.core import plain
 from classroom.core.program import LAST_PORT, Fault
 
 MOST_SECONDS = 1e9
-Run = tuple[Path, Path]
+Run = tuple[Path, Path]  # the lab and the journal of a run
 RECORD = "run.json"
 CLASS = "class.json"  # the name of a file in the folder of a class of several networks
 STATE = "state.json"  # the name of a file in the folder of a run that belongs to a class
@@ -27,8 +28,8 @@ FILES = (RECORD, f"{RECORD}.new", STATE, f"{STATE}.new", LAYOUT, f"{LAYOUT}.new"
 
 def new_folder(into: Path, lab: Path) -> Path:
     """Makes a new folder below `into` that no other user can read, and returns it. The folder's name has the minute and
-    the name of the lab, but in the folder of a class only the lab's name. Raises `Fault` if the folder can't be
-    made."""
+    the name of the lab, but in the folder of a class only the lab's name. If there is such a folder already, the name
+    gets a number at its end. Raises `Fault` if the folder can't be made."""
     stamp = lab.stem if (into / CLASS).is_file() else f"{datetime.now():%Y-%m-%dT%H%M}-{lab.stem}"
     for number in range(1, 1000):
         folder = into / (stamp if number == 1 else f"{stamp}-{number}")
@@ -54,8 +55,10 @@ def of_folder(folder: Path) -> Run:
 
 
 def title(lab: Path, journal: Path, name: str = "") -> str:
-    """Returns a title for a run: the lab's name, or `name` if it is given, and the day of the run. Takes both from the
-    name of the run's folder, or else from the lab's file and the journal's last change."""
+    """Returns a title for a run: the lab's name, or `name` if it is given, and the day of the run. The day is that in
+    the name of the run's folder, or in a class that in the name of the class's folder. The lab's name is from
+    `run.json`, or else from the folder's name. For files in no such folder, the title has the name of the lab's file
+    and the day of the journal's last change."""
     own = lab.resolve().parent
     in_class = (own.parent / CLASS).is_file()
     found = re.fullmatch(r"(\d{4}-\d\d-\d\d)T\d{4}-(.+)", (own.parent if in_class else own).name)
@@ -80,6 +83,7 @@ class Process:
             stat = Path(f"/proc/{number}/stat").read_text(encoding="utf-8", errors="replace")
         except OSError:
             return Process(number, "")
+        # In `stat` (proc(5)), the start time is the field 22, and the state Z is that of a process that has ended.
         state, *rest = stat.rpartition(") ")[2].split()
         return Process(number, "" if state == "Z" else rest[18])
 
@@ -90,14 +94,13 @@ class Process:
 
 @dataclass(frozen=True)
 class Record:
-    """The file `run.json` in the folder of a run, from which other programs know how to reach the run, and how to
-    continue it."""
+    """The file `run.json` in the folder of a run, by which other programs can reach the run and continue it."""
 
     lab: str  # The path of the lab's file with which the run was begun.
     port: int  # The students' port.
     desk: int  # The teacher's port, or 0.
     page: int | None  # The port of the page that shows the run.
-    close: str  # How steps are closed, as the command `daemon` takes it.
+    close: str  # How steps are closed: the name of a daemon, such as `when-idle:2`.
     until: str | None  # `stable` if the run ends at a stable configuration.
     run: Process  # The process that holds the teacher's desk.
     server: Process
@@ -113,8 +116,8 @@ class Record:
 
     @staticmethod
     def read(folder: Path) -> Record | None:
-        """Returns the record in a folder, or None if the file is missing, can't be read, or isn't valid
-        (`is_valid`)."""
+        """Returns the record in a folder, or None if the file is missing or can't be read, or if one of its values
+        isn't valid."""
         try:
             it = json.loads(plain.read(folder / RECORD, plain.MOST_KEPT))
             made = Record(**it | {"run": Process(**it["run"]), "server": Process(**it["server"])})
@@ -145,8 +148,8 @@ class Record:
         return Record(lab=str(folder / "lab.toml"), port=port, desk=0, page=None, close="when-idle:2", until=None, run=nobody, server=nobody)
 
     def write(self, folder: Path) -> None:
-        """Writes the record into the folder. If the record can't be written, as on a full disk, the old file stays, and
-        no error is raised."""
+        """Writes the record as `run.json` into the folder. If the record can't be written, as on a full disk, the old
+        file stays, and no error is raised."""
         new = folder / f"{RECORD}.new"
         try:
             new.write_text(json.dumps(asdict(self)) + "\n", encoding="utf-8")
@@ -155,14 +158,14 @@ class Record:
             new.unlink(missing_ok=True)
 
     def goes_on(self) -> bool:
-        """Returns whether the run or its server is still running."""
+        """Returns whether the process that has the teacher's desk, or the server, is still running."""
         return self.run.lives() or self.server.lives()
 
 
 def going(into: Path, lab: Path) -> tuple[Path, Record] | None:
     """Returns the folder and the record of a run of the lab in the file `lab` that is still going on. If there is none,
     returns those of the lab's last run, unless that ended as it should. Otherwise returns None. `into` is the folder
-    with all runs."""
+    with all runs, in which the folder of a class has runs too."""
     files = sorted([*into.glob(f"*/{RECORD}"), *into.glob(f"*/*/{RECORD}")], key=lambda file: file.parent.stat().st_mtime)
     records = [(file.parent, Record.read(file.parent)) for file in files]
     same = [(folder, record) for folder, record in records if record is not None and record.lab == str(lab.resolve())]

@@ -8,7 +8,8 @@ from classroom import client
 from classroom.core.desk_words import EDITS, WORDS, links_after
 
 RULES = client.RULES
-NODES_AT = {"grant": (2, 1)} | {word: (1, it.nodes) for word, it in WORDS.items() if it.nodes}  # the first word that is a node, and the number of nodes
+# For each kind of event that names nodes: the index of the first word that is a node, and the number of nodes.
+NODES_AT = {"grant": (2, 1)} | {word: (1, it.nodes) for word, it in WORDS.items() if it.nodes}
 
 
 @dataclass(frozen=True)

@@ -28,7 +28,9 @@ class Node:
 
 @dataclass
 class Lab:
-    """The contents of a lab's file."""
+    """The values in a lab's file. `events` is the most events of a run, and `sessions` the most connections at the same
+    time. `teacher` is a name and a key, and `students` has the key of each name. `people` has the persons of the class
+    list, by the names of the students."""
 
     events: int
     sessions: int
@@ -112,7 +114,7 @@ def unread(path: Path, error: str) -> str:
 
 def read(path: Path) -> Lab:
     """Returns the lab in a file, after the proved program has checked the file. Raises `Fault` if the file can't be
-    read or the program refuses it."""
+    read, if the program refuses it, or if the program isn't built."""
     answer = call("check", path)
     if answer.status == 4:
         raise Fault(unread(path, answer.error), 4)
@@ -168,8 +170,8 @@ def text(lab: Lab) -> str:
 
 
 def write_new(path: Path, content: str) -> None:
-    """Writes a new file that no other user can read. Raises `Fault` if the file exists already, or can't be written
-    completely. In this case no file is left."""
+    """Writes a new file that no other user can read. Raises `Fault` if the file exists already, and then leaves it
+    unchanged. Also raises `Fault` if the file can't be written completely, and then removes it."""
     try:
         file = os.open(path, os.O_WRONLY | os.O_CREAT | os.O_EXCL, 0o600)
         try:

@@ -51,8 +51,8 @@ class Limits:
 
 def parsed(text: str) -> Limits:
     """Returns the limits in the program's output, lines of the form `NAME NUMBER UNIT`. Ignores lines with other names,
-    since later versions may have them. Raises `Fault` if a line has another form, if a name is repeated, or if a limit
-    or its line's end is missing."""
+    since later versions may have them. Raises `Fault` if a line has another form or another unit, if a name is
+    repeated, or if a limit or its line's end is missing."""
     found: dict[str, int] = {}
     for line in text.split("\n")[:-1]:
         it = LINE.fullmatch(line)
@@ -66,14 +66,15 @@ def parsed(text: str) -> Limits:
 
 
 def another(what: str) -> Fault:
-    """Returns the fault to raise if the program is of another version. `what` is what that version prints."""
+    """Returns the fault to raise if the program is of another version than this code. `what` is a text about what that
+    program prints, for the message."""
     return Fault(f"the program mml is of another version than ./class: `mml limits` prints {what}. Type `./mml build` to build the present version", FAILED)
 
 
 @cache
 def allowed() -> Limits:
-    """Returns the limits. Calls the program at the first call only. Raises `Fault` if the program isn't built or
-    prints something else."""
+    """Returns the limits. Calls the program at the first call only. Raises `Fault` if the program isn't built, or
+    prints no limits or another form of them."""
     answer = host_call("limits")
     if answer.status != 0:
         raise another("nothing")

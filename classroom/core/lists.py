@@ -29,7 +29,7 @@ class Person:
 
     written: str
     id: str = ""
-    email: str = field(default="", compare=False)  # A lab has neither the address nor the next field.
+    email: str = field(default="", compare=False)  # A lab has neither this field nor the next, so both aren't compared.
     group: str = field(default="", compare=False)
 
 
@@ -58,7 +58,8 @@ def add_words(words: argparse.ArgumentParser) -> None:
 
 def decoded(content: bytes) -> str:
     """Returns the text in a file's bytes. The encoding is UTF-8 or UTF-16, with or without a byte order mark, or else
-    Latin-1 as Windows uses it."""
+    Latin-1 as Windows uses it. Without a mark, many zero bytes show that it is UTF-16. Raises `UnicodeDecodeError` if
+    the bytes can't be read in the encoding that the mark or the zero bytes show."""
     for mark, encoding in MARKS:
         if content.startswith(mark):
             return content.decode(encoding)
@@ -74,7 +75,8 @@ def decoded(content: bytes) -> str:
 
 def read(path: Path, words: argparse.Namespace) -> People:
     """Returns the people in a file. `words` are the arguments of the command line, whose options may name the file's
-    columns. Raises `Fault` if the file can't be read or has no names."""
+    columns. The file is a table if an option names a column, if it is a .csv or .tsv file, or if its first line has a
+    tab or a semicolon. Otherwise it has one name per line. Raises `Fault` if the file can't be read or has no names."""
     try:
         content = path.read_bytes()
         if path.suffix.lower() in SHEETS or content.startswith(b"PK\x03\x04"):
@@ -99,8 +101,8 @@ def read(path: Path, words: argparse.Namespace) -> People:
 
 def table(path: Path, text: str, words: argparse.Namespace) -> People:
     """Returns the people of the table in a text, which is that of the file at `path`. `words` are the arguments of the
-    command line. Raises `Fault` if the text isn't CSV, has no column with names, or lacks a column that the options
-    name."""
+    command line. A row without a name has no person, nor has one that a learning platform adds. Raises `Fault` if the
+    text isn't CSV, has no column with names, or lacks a column that the options name."""
     delimiter = max(",;\t", key=text.partition("\n")[0].count)
     reader = csv.reader(io.StringIO(text, newline=""), delimiter=delimiter)
     try:
@@ -139,9 +141,9 @@ def columns_told(heads: list[str]) -> str:
 
 
 def column(path: Path, heads: list[str], asked: str | None, known: Iterable[str]) -> int | None:
-    """Returns the index of the column whose head is `asked`, or if that is None of the first column with one of the
-    `known` heads. Returns None if no head is known. Raises `Fault` if `asked` names a missing column. `path` is the
-    table's file, for the message."""
+    """Returns the index of the column whose head is `asked`, in capitals or not. If `asked` is None, returns that of
+    the first of the `known` heads that the table has, or None if it has none. Raises `Fault` if `asked` names a missing
+    column. `path` is the table's file, for the message."""
     lower = [head.lower() for head in heads]
     if asked is not None and asked.lower() not in lower:
         raise Fault(f"{path}: {columns_told(heads)}, and none of them is called {asked}. Name one of these columns in the command")

@@ -62,7 +62,8 @@ def random_links(count: int, links: int, chance: random.Random) -> Links:
 def family(word: str, count: int | None, students: int, chance: random.Random) -> tuple[int, Links]:
     """Returns the number of nodes and the links of the network that the argument `word` names, such as `cycle` or
     `grid:3x2`. The network's nodes are numbered from 1. If the argument has no size, there are `count` nodes, or as
-    many as `students` if `count` is None. `chance` makes random choices. Raises `Fault` if there is no such network."""
+    many as `students` if `count` is None. `chance` makes random choices. Raises `Fault` if there is no such network, or
+    if the argument has another size than `count`."""
     sized = re.fullmatch(r"grid:(?P<width>\d{1,3})x(?P<height>\d{1,3})|random:(?P<nodes>\d{1,3}):(?P<links>\d{1,5})", word)
     if sized and sized["width"]:
         width, height = int(sized["width"]), int(sized["height"])
@@ -82,7 +83,8 @@ def family(word: str, count: int | None, students: int, chance: random.Random) -
 
 
 def within(nodes: int) -> int:
-    """Returns `nodes`, a number of nodes. Raises `Fault` if a lab can't have this number of nodes."""
+    """Returns `nodes`, a number of nodes. Raises `Fault` if a lab can't have this number of nodes, or if the program
+    isn't built, since it prints that limit."""
     most = limits.allowed().nodes
     if not 1 <= nodes <= most:
         raise Fault(f"this network would have {nodes} nodes, but a lab can have 1 to {most}. Choose a network of another size")
@@ -114,9 +116,9 @@ def plain(word: str, nodes: int) -> Links:
 
 
 def from_file(path: Path, count: int | None) -> tuple[list[int], Links]:
-    """Returns the identifiers of nodes and the links in a file with one link per line, such as `1 2`. If `count` is
-    given, the identifiers from 1 to `count` are included. Raises `Fault` if the file can't be read, has a wrong line,
-    or has no or too many nodes."""
+    """Returns the identifiers of nodes and the links in a file with one link per line, such as `1 2`, `1,2` or `1-2`. A
+    `#` begins a comment. If `count` is given, the identifiers from 1 to `count` are included. Raises `Fault` if the
+    file can't be read, has a wrong line, or has no or too many nodes."""
     links: Links = []
     seen: dict[frozenset[int], int] = {}
     try:
@@ -155,8 +157,8 @@ def wrong_link(words: list[str], seen: dict[frozenset[int], int]) -> str | None:
 
 
 def option_for(word: str, nodes: int) -> str:
-    """Returns the option of `new` for a network of the family `word` that has at least this number of nodes. A grid
-    keeps its width, and a random network gets one more link for each node that is added."""
+    """Returns the option of the command `new` for a network of the family `word` that has at least this number of
+    nodes. A grid keeps its width, and a random network gets one more link for each node that is added."""
     if grid := re.fullmatch(r"grid:(?P<width>\d+)x\d+", word):
         width = int(grid["width"])
         return f"--family grid:{width}x{math.ceil(nodes / width)}"

@@ -33,7 +33,8 @@ def not_plain(path: Path) -> Fault:
 
 
 def read(path: Path, most: int) -> bytes:
-    """Returns the bytes of a plain file. Raises `Fault` if the file can't be read or has more than `most` bytes."""
+    """Returns the bytes of a plain file. Raises `Fault` if the file isn't plain, can't be opened, or has more than
+    `most` bytes."""
     with opened(path) as it:
         is_large = os.fstat(it.fileno()).st_size > most
         content = b"" if is_large else it.read(most + 1) or b""
@@ -43,8 +44,8 @@ def read(path: Path, most: int) -> bytes:
 
 
 def tail(path: Path, most: int) -> bytes:
-    """Returns the last `most` bytes of a plain file, or all bytes if there are fewer. Raises `Fault` if the file can't
-    be opened."""
+    """Returns the last `most` bytes of a plain file, or all bytes if there are fewer. Raises `Fault` if the file isn't
+    plain or can't be opened."""
     with opened(path) as it:
         it.seek(max(0, os.fstat(it.fileno()).st_size - most))
         return it.read(most) or b""

@@ -35,7 +35,8 @@ class Book:
 
     def step(self, word: str) -> list[tuple[int, str, str]]:
         """Updates the book by an event that makes a configuration: a close, a fault, a link or a cut, as `word` says.
-        Returns the moves that a close applied, in the form of `add`, and no moves for any other event."""
+        Returns the moves that a close applied, each with its node, student and rule, and no moves for any other event.
+        The other events drop all chosen moves."""
         moved = [(node, name, rule) for node, (name, rule) in sorted(self.chosen.items())] if word == "close" else []
         self.links += links_after(word)
         self.moves += len(moved)

@@ -31,9 +31,9 @@ def begin(words: Sequence[str | Path], **how: Any) -> subprocess.Popen[bytes]:
 
 
 def run(words: Sequence[str | Path], given: bytes = b"", seconds: float | None = None, **how: Any) -> subprocess.CompletedProcess[bytes]:
-    """Starts a process as `begin` does, with `given` as its input, waits for its end, and returns its status and its
-    output. If the process takes longer than `seconds`, kills it and raises `TimeoutExpired`. `how` has more arguments
-    of `Popen`."""
+    """Starts a process with these arguments, and lists it in OWN. `given` is its input. Waits for its end, and returns
+    its status and its output. If the process takes longer than `seconds`, kills it and raises `TimeoutExpired`. `how`
+    has more arguments of `Popen`."""
     source = subprocess.PIPE if given else subprocess.DEVNULL
     with begin(words, stdin=source, stdout=subprocess.PIPE, stderr=subprocess.PIPE, **how) as process:
         try:
@@ -80,7 +80,8 @@ def is_halted(process: int) -> bool:
 
 
 def end_below(process: int) -> None:
-    """Kills all descendants of a process, until only the process itself is left."""
+    """Kills all descendants of a process, again and again until none of them runs. Those that have ended and whose
+    parent hasn't waited for them yet may be left."""
     while left := {each for each in below(process) if state(each) not in (b"", b"Z", b"X")}:
         kill(left)
         time.sleep(PAUSE)
@@ -123,8 +124,8 @@ def end_strays() -> None:
 
 
 def end_at_once(status: int, folders: Iterable[Path]) -> None:
-    """Kills all descendants of this process, removes these folders, and exits with the status without waiting for
-    threads."""
+    """Kills all descendants of this process, for at most LAST seconds. Then removes these folders, and exits with the
+    status without waiting for threads."""
     try:
         STARTING.acquire(timeout=LAST)  # From now on nothing is started.
         end = time.monotonic() + LAST

@@ -86,8 +86,8 @@ def numbers(version: str) -> list[int]:
 
 
 def program(variable: str = "MML_PROGRAM") -> Path:
-    """Returns the path of the program, or of the one that an environment variable names. Raises `Fault` if it isn't
-    built, or if a release needs a newer C library."""
+    """Returns the path of the program, or of the one that the environment variable with the name `variable` names.
+    Raises `Fault` if there is no such program that can be run, or if a release needs a newer C library."""
     path = Path(os.environ.get(variable) or built())
     if not os.access(path, os.X_OK) or path.is_dir():
         raise Fault("the program mml isn't built. Type `./mml build` to build it; this needs `rt`, the command of the Rattle toolchain" if is_clone() else
@@ -97,7 +97,8 @@ def program(variable: str = "MML_PROGRAM") -> Path:
 
 def host() -> Path:
     """Returns the path of the program for the commands `host`, `resume`, `verify`, `tally`, `answer` and `limits`, for
-    which the environment variable MML_HOST can name another one. Raises `Fault` like `program`."""
+    which the environment variable MML_HOST can name another one. Raises `Fault` if it isn't built, or if a release
+    needs a newer C library."""
     return program("MML_HOST")
 
 
@@ -135,10 +136,12 @@ def host_call(*words: str | Path, files: tuple[int, ...] = ()) -> Answer:
 def answer_of(path: Path, *words: str | Path, files: tuple[int, ...] = ()) -> Answer:
     """Runs the program at a path with these arguments to its end. Returns its output and exit status. The program
     inherits the open files with these descriptors."""
+    # SIGXFSZ stays ignored, as it is here: if a file may not grow further, only a write fails, and nothing ends.
     done = run([path, *map(plain, words)], restore_signals=False, pass_fds=files)
     return Answer(done.returncode, done.stdout.decode(errors="replace"), done.stderr.decode(errors="replace").strip())
 
 
 def plain(word: str | Path) -> str:
-    """Returns an argument of a program. `./` is added before the name of a file that begins with `-`."""
+    """Returns an argument of a program. `./` is added before the name of a file that begins with `-`, so that it isn't
+    read as an option."""
     return f"./{word}" if str(word).startswith("-") else str(word)

@@ -55,6 +55,8 @@ class Reader:
     entry are skipped, since `verify` reports them."""
 
     def __init__(self) -> None:
+        """Begins at the beginning of a file. `rest` has the bytes after the last complete line, and `line` the request
+        whose reply hasn't come yet."""
         self.rest = b""
         self.line: bytes | None = None
 
@@ -67,8 +69,9 @@ class Reader:
                 yield entry
 
     def entry(self, line: bytes) -> Entry | None:
-        """Returns the entry of which this line is the last, or None if it completes none. An entry has one or two
-        lines, and the first of two is kept for the next call."""
+        """Returns the entry of which this line is the last, or None if it completes none. An entry is one line with a
+        mark, or two lines: a request after the sign `>`, and then its reply after `<`. The request is kept for the next
+        call."""
         words = line.split(b" ", 3)
         seat, place = (plain.number(word) for word in (words + [b"", b""])[:2])
         if len(words) < 3 or seat is None or place is None:
@@ -95,7 +98,7 @@ def seats(folder: Path) -> list[Path]:
 
 def begun(folder: Path) -> int:
     """Returns the number of events that the journal had before the record in a folder began. Raises `Fault` if the file
-    with this number is missing or wrong."""
+    `begun`, which has this number, can't be read or has no number."""
     number = plain.number(plain.read(folder / "begun", plain.MOST_KEPT).rstrip(b"\n"))
     if number is None:
         raise Fault(f"{folder / 'begun'}: this file is damaged. It should contain the number of events that came before the record. "

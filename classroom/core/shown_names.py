@@ -14,7 +14,8 @@ MOST = 24  # the most characters of a name that is shown
 
 
 def short(written: str) -> str:
-    """Returns the short form of a name in a class list: `Zoë M.` for `Zoë Müller` or `Müller, Zoë`."""
+    """Returns the short form of a name in a class list: `Zoë M.` for `Zoë Müller` or `Müller, Zoë`. A single word stays
+    as it is. The result has at most MOST characters, all of which can be printed."""
     last, comma, first = written.partition(",")
     words = f"{first} {last}".split() if comma else written.split()
     whole = " ".join(words) if len(words) < 2 else f"{words[0]} {words[-1][0]}."
@@ -62,7 +63,7 @@ class ShownNames:
         return self.names.get(name, name)
 
     def line(self, line: str) -> str:
-        """Returns a line in which each student's name is replaced."""
+        """Returns a line in which each student's name is replaced. A part of a longer word isn't a name."""
         return self.pattern.sub(lambda found: self.names[found[0]], line) if self.pattern else line
 
     def event(self, event: Event) -> Event:
@@ -72,6 +73,7 @@ class ShownNames:
         return replace(event, words=(event.words[0], self.names[event.student], *event.words[2:]))
 
     def lab(self, lab: Lab) -> Lab:
-        """Returns a lab in which each student's name is replaced, also that of an owner."""
+        """Returns a lab in which each student's name is replaced, also that of an owner. It lacks `people`, which has
+        the names in the class list."""
         nodes = [replace(node, owners=[self.name(owner) for owner in node.owners]) for node in lab.nodes]
         return replace(lab, students={self.name(name): key for name, key in lab.students.items()}, nodes=nodes, people={})

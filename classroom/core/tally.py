@@ -15,7 +15,7 @@ from classroom.core.program import Fault, host_call
 
 @dataclass
 class Marks:
-    """The marks of a student in a journal."""
+    """The marks of a student in a journal. `granted` and `applied` have the number of moves of each rule."""
 
     granted: Counter[str] = field(default_factory=Counter)
     applied: Counter[str] = field(default_factory=Counter)
@@ -47,7 +47,7 @@ class RecordCounts:
     moves: dict[int, dict[str, Counter[str]]] = field(default_factory=dict)
     # Whether the record is complete.
     whole: bool = True
-    # The names of the students whose lines are all recorded.
+    # The names of the students, and the teacher's, whose lines are all recorded; None if the program prints none.
     all_of: frozenset[str] | None = None
 
     def add(self, other: RecordCounts) -> None:
@@ -63,7 +63,8 @@ class RecordCounts:
 
 @dataclass
 class Tally:
-    """The numbers of a run by its journal, and by its record if one is given."""
+    """The numbers of a run by its journal, and in `asked` those by its record if one is given. `shared` has the granted
+    moves at nodes with two owners, by node, owner and rule."""
 
     events: int = 0
     configuration: int = 0
@@ -84,7 +85,8 @@ class Tally:
 
 def of(lab: Path, journal: Path, files: tuple[int, ...] = (), record: Path | None = None) -> Tally:
     """Returns the tally of the journal of a lab, and of its record if one is given. The program inherits the open files
-    with the descriptors `files`. Raises `Fault` if the journal doesn't pass the audit."""
+    with the descriptors `files`. Raises `Fault` if the journal doesn't pass the audit or the record its check, if a
+    file can't be read, or if the program isn't built."""
     answer = host_call("tally", lab, journal, *([] if record is None else [record]), files=files)
     if answer.status != 0:
         raise Fault(answer.error, answer.status)
@@ -106,7 +108,7 @@ def in_memory(text: str) -> Iterator[int]:
 
 def of_texts(lab: str, journal: str) -> Tally:
     """Returns the tally of a journal of a lab, both given as texts. Raises `Fault` if the journal doesn't pass the
-    audit."""
+    audit, or if the program isn't built."""
     with in_memory(lab) as first, in_memory(journal) as second:
         return of(Path(f"/dev/fd/{first}"), Path(f"/dev/fd/{second}"), (first, second))
 
@@ -144,7 +146,8 @@ def by_owner(words: list[str]) -> dict[str, Counter[str]]:
 
 
 def marks(words: list[str]) -> Marks:
-    """Returns the marks in a student's line, from its words after the name."""
+    """Returns the marks in a student's line, from its words after the name. They are the granted moves of each rule,
+    the applied moves of each rule, the steps, the first and the last granted move, and the shared moves."""
     steps, first, last, shared = words[8:]
     return Marks(by_rule(words[:4]), by_rule(words[4:8]), int(steps), place(first), place(last), int(shared))
 

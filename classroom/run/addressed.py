@@ -15,7 +15,8 @@ OWN = {
     f"{RESUME} NETWORK": "continue a network that is down, so that its server runs and takes commands again",
     f"{END} NETWORK": "end the run of a network; if the network is down, give it up",
 }
-BARE = {word for word, it in WORDS.items() if not it.form} | {RESUME}  # the commands after which the name of a network may stand
+# The commands after which the name of a network may come.
+BARE = {word for word, it in WORDS.items() if not it.form} | {RESUME}
 NAMING = {word for word, it in WORDS.items() if it.form == "NAME"}  # the words for one student
 HOW = "write a network's number or name before a command (`2 shake 3`, `maths-2: close`), or after a command that needs no further words " \
       "(`close 2`); with `all`, or without a network, the command is for every network"
@@ -27,8 +28,8 @@ def listed(names: Sequence[str]) -> str:
 
 
 def target(word: str, names: Sequence[str]) -> list[int] | None:
-    """Returns the indices of the networks that a word names: by a number from 1, by a name, or as `all`. Returns None
-    if the word names none."""
+    """Returns the indices of the networks that `word` names: by a number from 1, by a name, or as `all`. `names` are
+    the names of all networks, in their order. Returns None if the word names none."""
     if word == EVERY:
         return list(range(len(names)))
     if word in names:
@@ -37,8 +38,9 @@ def target(word: str, names: Sequence[str]) -> list[int] | None:
 
 
 def addressed(line: str, names: Sequence[str]) -> tuple[list[int], str]:
-    """Returns the indices of the networks that a line is for, and the command for them. A line that names no network is
-    for all of them. Raises `ValueError` if the line names a network that doesn't exist."""
+    """Returns the indices of the networks that a line is for, and the command for them. The network comes before the
+    command, with or without a colon, or after a command without arguments. A line that names no network is for all of
+    them. Raises `ValueError` if the line names a network that doesn't exist."""
     words = line.split()
     before = re.fullmatch(r"\s*(\S+?)\s*:\s*(.*?)\s*", line)
     if before and before[1] not in WORDS:
@@ -52,7 +54,8 @@ def addressed(line: str, names: Sequence[str]) -> tuple[list[int], str]:
 
 
 def wanted(word: str, names: Sequence[str]) -> list[int]:
-    """Returns the indices of the networks that a word names. Raises `ValueError` if the word names none."""
+    """Returns the indices of the networks that `word` names. `names` are the names of all networks, in their order.
+    Raises `ValueError` if the word names none."""
     found = target(word, names)
     if found is None:
         raise ValueError(f"this class has no network {word}. Its networks are: {listed(names)}")

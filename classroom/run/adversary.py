@@ -14,7 +14,7 @@ from classroom.core import lab as labs
 from classroom.core.bench import TEACHER, Bench
 from classroom.run.daemons import Daemon, Search
 
-# The order in which the schedule lets rules move, so that pairs form as late as possible, after all seductions.
+# The order in which the schedule applies the rules, so that pairs form as late as possible, after all seductions.
 ORDER = {"abandonment": 0, "update": 1, "seduction": 2, "marriage": 3}
 HIGHEST = ("seduction", "marriage")  # for these rules the node with the highest number is next, else the lowest
 FIRST = 7  # how many of the nodes that may move are tried
@@ -47,8 +47,9 @@ class Adversary:
         return lambda nodes: [scheduled(rules, nodes)] if how.kind == "schedule" else self.choose(seen(), nodes)
 
     def choose(self, made: labs.Lab, chosen: Sequence[int]) -> list[int]:
-        """Returns the nodes whose moves a close is to apply: one of those in `chosen`, or all of them. Nodes of which
-        no rule is enabled on the bench are left out. `made` is the network with its present registers."""
+        """Returns the nodes whose moves a close is to apply: one of those in `chosen`, or all of them. Tries some of
+        these choices on the bench, and returns the one after which the search finds the most moves. Nodes of which no
+        rule is enabled on the bench are left out. `made` is the network with its present registers."""
         if len(chosen) < 2:
             return list(chosen)
         bench = self.bench_over(made)

@@ -56,7 +56,8 @@ class Announcer:
 
     def announce_resumed(self) -> None:
         """Counts the moves and rounds of the present recovery in the past events, and prints the configuration from
-        which the class continues. Ends the run if all events of the lab are used."""
+        which the class continues. If all events of the lab are used, prints that and sets `over`, so that the run
+        ends."""
         self.recount()
         self.known.ask_report()
         self.tell(f"the class continues at configuration {self.known.report.at}; {self.events_used()}")
@@ -103,7 +104,8 @@ class Announcer:
                 self.tell_event(at, wording.edits(events))
 
     def check_limit(self) -> None:
-        """Prints a line if the lab has few events left, and ends the run after the last one."""
+        """Prints a line when the share MOST_TOLD of the events that the lab allows is used. After the last event,
+        prints that nothing more is granted, and sets `over`, so that the run ends."""
         if self.known.count == int(MOST_TOLD * self.lab.events) > 0:
             self.tell_edits()
             self.tell(f"the lab allows {self.lab.events} events, and {self.known.count} of them are used. After the last one the server grants nothing more")
@@ -157,8 +159,8 @@ class Announcer:
         self.tell(f"waiting for {', '.join(self.told_waiting) or 'no node'}")
 
     def end_by(self, word: str) -> None:
-        """Ends the run because nothing is granted any longer. `word` is the server's refusal, `full` or `journal`.
-        Prints the reason and the remedy. Does nothing if the run was ended before."""
+        """Sets `over` to `word`, so that the run ends, because nothing is granted any longer. `word` is the server's
+        refusal, `full` or `journal`. Prints the reason and the remedy. Does nothing if `over` was set before."""
         if self.over:
             return
         self.over = word
@@ -178,9 +180,10 @@ class Announcer:
         return f". Raise `events` in {self.folder}/lab.toml{most}, and then continue the run by {self.go_on} --again"
 
     def why_journal(self) -> str:
-        """Returns why the journal takes no more lines, and the remedy. Waits a few seconds for the server to report
-        what happened to the file. If the server reports nothing, no line could be written. If the file at the journal's
-        path is another one or gone, the remedy is in the line of `put_back`, which comes when the server has ended."""
+        """Returns why no more lines can be written to the journal, and the remedy. Waits a few seconds for the server
+        to report what happened to the file. If the server reports nothing, no line could be written. If the file at the
+        journal's path is another one or gone, another line has the remedy. That line is printed when the server has
+        ended."""
         for _ in range(LOOKS):
             lost = self.lost_journal()
             if lost:

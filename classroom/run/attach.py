@@ -31,9 +31,9 @@ def add_words(words: argparse.ArgumentParser) -> None:
 
 
 def wait_for_desk(folder: Path, record: Record) -> None:
-    """Waits until no process holds the desk of the run in a folder. `record` has the values of the folder's `run.json`.
-    Asks a process that has lost its terminal to leave the desk. Raises `Fault` if this process still holds the desk
-    after a minute, or if the process that holds the desk hasn't lost its terminal."""
+    """Waits until no process has the desk of the run in a folder. `record` has the values of the folder's `run.json`.
+    Asks a process that has lost its terminal, by a signal, to leave the desk. Raises `Fault` if this process still has
+    the desk after a minute, or if the process that has the desk hasn't lost its terminal."""
     holder = record.run
     if holder.lives() and not record.left:
         raise Fault(f"{folder}: another process (number {holder.number}) controls this run. Type your commands in its terminal. "

@@ -78,7 +78,8 @@ def limit_line(left: int, folder: Path) -> tuple[str, str]:
 
 
 def unlinked_file(folder: Path) -> IO[bytes] | None:
-    """Returns an open file without a name on the disk of a folder, or None if none can be made."""
+    """Returns an open file without a name on the disk of a folder, for a test whether the disk can be written to.
+    Returns None if no such file can be made."""
     try:
         return tempfile.TemporaryFile(buffering=0, dir=folder)
     except OSError:
@@ -109,7 +110,7 @@ class DiskRoom:
 
     def write_error(self) -> str:
         """Returns why a test write to the disk fails, for example because of a quota. Returns an empty text if it
-        succeeds."""
+        succeeds, or if there is no file for the test."""
         if self.file is None:
             return ""
         try:
@@ -150,10 +151,11 @@ class DiskRoom:
 
 
 def turn(desk: Desk, room: DiskRoom, until_stable: bool) -> str:
-    """Does what is due at the desk: reads new events, lets the house play, and prints what is new about connections,
-    the room for the journal (`room`), and the end of the lesson. If the desk's connection was lost, first connects
-    again, and does nothing else if that fails. Returns the reason if the run ends, and an empty text otherwise.
-    `until_stable` says whether the run ends as soon as its configuration is stable."""
+    """Does what is due at the desk: reads new events, makes the house play, and writes the state for the desk of a
+    class. Also prints what is new about connections, the room for the journal (`room`), and the end of the lesson. If
+    the desk's connection was lost, first connects again, and does nothing else if that fails. Returns `clock`,
+    `stable`, `full` or `journal` if the run ends for this reason, and an empty text otherwise. `until_stable` says
+    whether the run ends as soon as its configuration is stable."""
     if not desk.reconnect():
         return ""
     desk.read()
@@ -193,8 +195,9 @@ def next_typed(typed: Typed, seconds: float) -> str | None:
 
 def run_typed(desk: Desk, line: str | None, hung: Callable[[], None]) -> str:
     """Runs a line that was typed at the desk, and does nothing if `line` is None. Calls `hung` if the line says that
-    the terminal is closed. Returns the reason if the line ends the run, and an empty text otherwise. While the desk has
-    no connection, only `end` is run, and for other lines the reason is printed."""
+    the terminal is closed. Returns the reason if the line ends the run, `end` or `left`, and an empty text otherwise.
+    `left` means that another process takes over the desk. While the desk has no connection, only `end` is run, and for
+    other lines the reason is printed."""
     if line is None:
         return ""
     if line == HUNG:
@@ -212,9 +215,10 @@ def run_typed(desk: Desk, line: str | None, hung: Callable[[], None]) -> str:
 
 def attend(desk: Desk, it: Server, until_stable: bool, typed: Typed, room: DiskRoom, hung: Callable[[], None]) -> str:
     """Closes steps and runs typed commands until the run ends. Returns the reason: `stable`, `full`, `journal`, `end`,
-    `clock`, `left` (another process takes the desk) or `died` (the server `it` has ended). Calls `hung` if the terminal
-    is closed. `until_stable` says whether the run ends as soon as its configuration is stable. `room` checks the room
-    on the disk, and `typed` has the typed lines."""
+    `clock`, `left` (another process takes over the desk) or `died` (the server `it` has ended). If the desk's
+    connection fails while the server runs, connects again. Calls `hung` if the terminal is closed. `until_stable` says
+    whether the run ends as soon as its configuration is stable. `room` checks the room for the journal, and `typed` has
+    the typed lines."""
     with contextlib.closing(Striker()) as striker:
         while not it.has_ended():
             try:

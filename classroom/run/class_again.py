@@ -69,7 +69,8 @@ def hold_again(words: argparse.Namespace, folder: Path) -> int:
     members = members_of(folder, kept.networks, words, news)
 
     def start(several: Several) -> None:
-        """Takes the desk of each network, after starting its server if needed."""
+        """Takes the desk of each network, or notes why it can't. `run --resume` also starts the servers that have
+        ended."""
         for member in members:
             begin(member, several, again, starts)
 

@@ -9,7 +9,7 @@ from classroom.core.counts import plural
 from classroom.core.program import Fault
 
 WARNINGS = (10, 5, 1)  # minutes before the end
-LATEST = timedelta(hours=12)  # A time of day that has passed today stands for tomorrow's if that is at most so far away.
+LATEST = timedelta(hours=12)  # A time of day that has passed today means tomorrow's if that is at most so far away.
 
 
 def time_of_day(word: str) -> str:
@@ -21,8 +21,8 @@ def time_of_day(word: str) -> str:
 
 
 def next_time(word: str, now: datetime) -> datetime:
-    """Returns the first date from `now` on that has this time of day. Raises `ValueError` if it is more than LATEST
-    away."""
+    """Returns the first date and time after `now` with this time of day, today or tomorrow. Raises `ValueError` if it
+    is more than LATEST away, since the time of day has then passed today."""
     hours, minutes = map(int, word.split(":"))
     end = now.replace(hour=hours, minute=minutes, second=0, microsecond=0)
     end = end if end > now else end + timedelta(days=1)
@@ -43,8 +43,8 @@ def kept_end(text: str | None, now: datetime) -> datetime | None:
 
 def end_of(word: str | None, before: str | None = None) -> datetime | None:
     """Returns the end of the lesson: the one that the option `word` names, or else `before`, which the folder of a
-    continuing run keeps. Returns None if there is neither, or if `before` has come. Raises `Fault` if the time of the
-    option has passed."""
+    continuing run has. Returns None if there is neither, or if `before` isn't a time in the future. Raises `Fault` if
+    the time of the option has passed."""
     now = datetime.now()
     try:
         return next_time(word, now) if word else kept_end(before, now)

@@ -10,8 +10,8 @@ from classroom.core.statuses import FAILED
 from classroom.run.daemons import Daemon, daemon
 
 Closing = Daemon
-SECONDS = 2.0  # the seconds of a command that has no number of seconds
-mode = daemon
+SECONDS = 2.0  # the seconds of a daemon that is named without a number of seconds
+mode = daemon  # the parser of the option that names the daemon
 
 
 def closing(word: str) -> Closing:

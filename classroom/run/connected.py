@@ -112,8 +112,8 @@ class Connected:
         return lines
 
     def process(self, number: str | None) -> str:
-        """Returns a text with the process that has the socket with this number. If there is no such socket or process,
-        returns ELSEWHERE."""
+        """Returns a text with the process that has the socket with this number. Returns ELSEWHERE if there is no such
+        socket or process, or if only full seats are reported, so that nobody reads the text."""
         return owner(number) if self.tells and number is not None else ELSEWHERE
 
     def count(self) -> int:

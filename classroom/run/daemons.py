@@ -76,9 +76,10 @@ def heads(nodes: Sequence[int], probability: float, chance: random.Random) -> li
 
 def applied(how: Daemon, sight: Sight, chance: random.Random, patience: float, search: Search = list) -> list[int]:
     """Returns the nodes whose moves a close under the daemon `how` applies now, or none if no step is closed yet.
-    `sight` has what the daemon decides by. The other chosen moves are released before the close. The random daemon
-    tosses coins with `chance`, and the schedule and the adversary call `search`. These three wait until each privileged
-    node has a chosen move, or none was granted for `patience` seconds."""
+    `sight` has what the daemon decides by. The other chosen moves are released before the close. The central daemon
+    applies the move that was granted first. The random daemon tosses coins with `chance`, and the schedule and the
+    adversary call `search`. These three wait until each privileged node has a chosen move, or none was granted for
+    `patience` seconds. Under `by-hand` only the teacher closes steps."""
     if not sight.chosen:
         return []
     if how.kind == "central":

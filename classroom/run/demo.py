@@ -33,7 +33,8 @@ def bots_of(lab: labs.Lab, port: int, room: Path) -> list[subprocess.Popen[bytes
 
 def demo(words: argparse.Namespace) -> int:
     """Runs the cycle of `examples/` by `class run`, with a bot for each of its four students, until it is stable.
-    Returns the exit status of `run`. Raises `Fault` if there are no `examples/`, or if the server isn't built."""
+    Passes on the signals in SIGNALS to this run. Returns the exit status of `run`. Raises `Fault` if there are no
+    `examples/`, or if the server isn't built."""
     if not LAB.exists():
         raise Fault("the archive for students has no finished bots, so there is nothing to show. To try your own bot, type: ./class practise 'python3 bot.py'")
     server.require_built(False)

@@ -48,8 +48,8 @@ class Desk:
         self.known = Follower(lab, journal, client)
         self.announcer = Announcer(lab, journal.parent, self.known, tell)
         self.watch: Watch | None = None
-        self.another_page: Callable[[], None] | None = None  # gives the page to act another address
-        self.another_key: Callable[[str], None] | None = None  # gives the student of this name another key
+        self.another_page: Callable[[], None] | None = None  # changes the address of the page to act
+        self.another_key: Callable[[str], None] | None = None  # changes the key of the student of this name
         self.connected: Connected | None = None
         self.house: House | None = None
         self.heard: Heard | None = None
@@ -92,7 +92,8 @@ class Desk:
         return True
 
     def use_connection(self, client: Client) -> None:
-        """Makes the desk, its page and its list of connections use `client`, another connection to the desk's port."""
+        """Makes the desk, its page and its list of connections use `client`, another connection to the desk's port. The
+        report counts as old from now on, so that it is asked for again."""
         self.known.client = client
         if self.watch:
             self.watch.client = client
@@ -143,7 +144,7 @@ class Desk:
         return self.watch
 
     def stand_in(self) -> None:
-        """Lets the house ask for moves that the class waits for. Under the central daemon, which applies one move in a
+        """Makes the house ask for moves that the class waits for. Under the central daemon, which applies one move in a
         step, the house asks for one, and only if no move is chosen. Does nothing without a house, while the report is
         old, or once nothing more is granted."""
         if self.house is None or self.known.is_old or self.announcer.over:
@@ -155,7 +156,8 @@ class Desk:
 
     def close(self) -> None:
         """Closes a step. If no move is chosen, prints for whom the class waits. If no more events are granted, ends the
-        run. Ignores any other refusal, since the close is asked for again."""
+        run. Ignores any other refusal, since the close is asked for again. Raises `Denied` if the close is denied for
+        another reason than that no move is chosen."""
         try:
             self.client.close()
         except Denied as denied:
@@ -229,7 +231,7 @@ class Desk:
             self.tell(self.house.told())
 
     def house_for(self, name: str) -> House:
-        """Returns the house, for a command that lets it play the nodes of the student `name`. Raises `ValueError` with
+        """Returns the house, for a command about its playing the nodes of the student `name`. Raises `ValueError` with
         the reason if there is no house or it can't play."""
         if self.house is None and self.lab.held():
             raise ValueError("the house can't play, because this run was started with --serve. Start the next run without it")
@@ -242,13 +244,14 @@ class Desk:
         return [node.id for node in self.lab.nodes]
 
     def present_lab(self) -> labs.Lab:
-        """Returns the network with its present registers, as a lab."""
+        """Returns the network with its present registers and links, as a lab. Asks the server for the registers of each
+        node. Raises `Closed` or `Refused` if the server doesn't show them, and `Fault` if the program isn't built."""
         seen = [self.client.see(node) for node in self.nodes()]
         return network([labs.Node(it.node, [], it.p, it.m) for it in seen], pairs_of(self.announcer.comeback.links))
 
     def renew_page(self) -> None:
-        """Moves the page on which the teacher acts to another address. Requests at the old one are refused from then
-        on. Raises `ValueError` if the run has no page."""
+        """Changes the address of the page on which the teacher acts. Requests at the old one are refused from then on.
+        Raises `ValueError` if the run has no page."""
         if self.another_page is None:
             raise ValueError("this run has no page. Start a run with --page if you want one")
         self.another_page()

@@ -80,7 +80,8 @@ class Follower:
         return self.book.add(event)
 
     def news(self) -> Iterator[News]:
-        """Yields each new event of the journal after counting it. Asks for the report after it unless it is a grant."""
+        """Yields each new event of the journal after counting it. Asks for the report after each event except a grant.
+        If the last request for a report was refused, first asks again."""
         if self.is_old:
             self.ask_report()
         more = self.journal.read()

@@ -86,8 +86,8 @@ class Heard:
         self.due = self.last = time.monotonic()
 
     def catch_up(self, step: int) -> None:
-        """Counts what the record has already, so that later lines are only about what is new. `step` is the place of
-        the last step."""
+        """Counts what the record has already, so that later lines are only about what is new. Forgets an earlier
+        refusal as `full` or `journal`, since the run continues. `step` is the place of the last step."""
         while self.read():
             pass
         self.forget_before(step)
@@ -130,7 +130,7 @@ class Heard:
 
     def take(self, seat: Seat, entry: Entry) -> None:
         """Counts an entry in the file of a seat, and notes from it the name with which the seat's connection greets, or
-        that the connection has ended."""
+        that the connection has ended. Requests at the desk, and those of the teacher, don't count as denied."""
         who = seat.name or NOBODY
         if entry.mark == ENDED:
             seat.name = None
@@ -193,8 +193,8 @@ class Heard:
                 if self.note_if_news(("wrong", name), count, 1)]
 
     def denied(self) -> list[tuple[str, str, int]]:
-        """Returns who was denied since the last step: for each the name, the word of the denial or refusal, and the
-        count."""
+        """Returns who was denied since the last step: for each student and each kind of denial the name, the word of
+        the denial or refusal, and the count."""
         return [(name, word, at.total()) for (name, word), at in self.vain.items() if at.total()]
 
     def in_vain(self) -> list[str]:

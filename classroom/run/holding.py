@@ -68,10 +68,10 @@ class Running:
     ends: datetime | None = None  # when the lesson ends
     anonymous: bool = False  # Whether the pages show numbers in place of names.
     door: str | None = None  # The folder of the door that leads to the run.
-    typed: Typed = field(default_factory=queue.SimpleQueue)
-    pages: projector.Pages | None = None
-    hands: by_hand.PlayServer | None = None
-    terminal: Terminal | None = None
+    typed: Typed = field(default_factory=queue.SimpleQueue)  # the queue of typed lines
+    pages: projector.Pages | None = None  # the server of the pages for the projector and for the teacher
+    hands: by_hand.PlayServer | None = None  # the server of the page on which students play
+    terminal: Terminal | None = None  # the terminal at which lines are typed, if there is one
 
     def record(self, it: server.Server) -> Record:
         """Returns the record to write into the folder of the run while it continues on the server `it`."""
@@ -93,7 +93,8 @@ class Running:
         return is_class(self.folder.absolute().parent)
 
     def update_record(self, **other: Any) -> None:
-        """Changes these values of the record in the run's folder. Does nothing if there is no record."""
+        """Changes these values of the record in the run's folder. Does nothing if the record is missing or isn't
+        valid."""
         record = Record.read(self.folder)
         if record is not None:
             replace(record, **other).write(self.folder)
@@ -103,7 +104,8 @@ class Running:
         return title(self.folder / "lab.toml", self.folder / "journal", self.lab_file.stem)
 
     def hung(self) -> None:
-        """Notes in the record that the terminal is closed, so that the run continues without one."""
+        """Notes in the record that the terminal is closed, so that the run continues without one. Also writes a line
+        that says how to control it again, which is kept in `run.txt`."""
         self.update_record(left=True)
         self.tell.around = str
         self.tell(f"the terminal was closed, and the run continues. To control it again, type: {CLASS} attach {self.folder}")
@@ -130,6 +132,7 @@ def open_desk(it: server.Server, run: Running) -> Desk:
         desk.keep_state = lambda: state.write_if_changed(desk)
     if run.goes_on:
         desk.catch_up()
+    # If this process has started the server, students who were connected to an earlier one aren't connected any longer.
     if desk.heard and it.child is not None:
         desk.heard.begin()
     if desk.house and desk.heard and not desk.heard.came and desk.house.waits():
@@ -252,7 +255,8 @@ def leave(it: server.Server, run: Running) -> None:
 def take_leave(it: server.Server, desk: Desk, why: str, run: Running) -> int | None:
     """Ends the server `it` of a run, and prints how the run ended. `why` is the reason, a word that `attend` returns.
     Says bye at the desk, which ends a hosted server. After `died` says no bye, and after `left` only closes the
-    connection, since another process takes over the desk. Returns the exit status, or None if the server continues."""
+    connection, since another process takes over the desk. If the server has failed, saves the journal if its file is
+    gone, and prints how to continue. Returns the exit status, or None if the server continues."""
     tell = run.tell
     if why == "left":
         desk.client.hang_up()
@@ -299,7 +303,7 @@ def wait_for_server(it: server.Server, run: Running) -> bool:
 def to_the_end(run: Running, start: Callable[[], server.Server]) -> int:
     """Opens the pages of a run, and runs the desk of the server that `start` returns. At the end, writes marks and
     pages into the folder. Returns the exit status, which is FAILED, without marks and pages, if the run continues
-    without this process."""
+    without this process. Raises `Fault` if a page can't be opened, or if `start` raises it."""
     try:
         if run.page is not None:
             kept_layout.load(run.folder)

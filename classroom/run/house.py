@@ -18,7 +18,7 @@ HOW = "With --stand-in, `./class new` makes a lab in which the house is the seco
 
 
 def require_house(lab: Lab, file: object) -> None:
-    """Raises `Fault`, which names the lab's file, if the lab has no house."""
+    """Raises `Fault`, which names the lab's file `file`, if the lab has no house."""
     if not lab.held():
         raise Fault(f"{file}: the house can't play in this lab, since no node has `{HOUSE}` as its second owner. {HOW}")
 
@@ -40,19 +40,19 @@ class House:
         self.played, self.keep = {name for name in played if name in self.students}, keep
         self.since: dict[int, float] = {}  # for each node, the time from which the class waits for it
         self.student_came = False  # Whether a student has come. Until then, the house waits.
-        self.again = 0.0
-        self.told_busy = False
+        self.again = 0.0  # the time before which the house doesn't connect again
+        self.told_busy = False  # Whether a line has said that no seat is free for the house.
 
     def play(self, name: str) -> str:
-        """Lets the house play the nodes of the student `name` from now on, without waiting. Returns the line that
+        """Makes the house play the nodes of the student `name` from now on, without waiting. Returns the line that
         reports it. Raises `ValueError` if there is no such student."""
         self.played.add(self.student(name))
         self.keep(sorted(self.played))
         return f"the house now plays for {name}, at {named(sorted(self.students[name]))}"
 
     def stop(self, name: str) -> str:
-        """Ends what `play` began for the student `name`. Returns the line that reports it. Raises `ValueError` if the
-        house doesn't play for this student."""
+        """Ends the house's playing for the student `name`. Returns the line that reports it. Raises `ValueError` if
+        there is no such student, or if the house doesn't play for this student."""
         if self.student(name) not in self.played:
             raise ValueError(f"there is nothing to stop: the house doesn't play for {name}")
         self.played.discard(name)

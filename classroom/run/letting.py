@@ -60,8 +60,8 @@ def door_lines(opened: opening.OpenDoor, labs: list[Path], file: Path) -> Iterat
 
 
 def route_to(folder: str | None, lab: Path, run: Path) -> None:
-    """Makes the door forward connections for the network of the lab in a file to the run in the folder `run`. `folder`
-    is the door's. Does nothing without a door."""
+    """Makes the door, whose folder is `folder`, forward connections for a network to the run in the folder `run`. The
+    network is that of the lab in the file `lab`. Does nothing without a door."""
     if folder is not None:
         opening.route_to(Path(folder), lab, run)
 
@@ -80,8 +80,8 @@ def page_lines(folder: str | None, lab: Path, looks: str | None) -> Iterator[str
 
 def place_of(folder: str | None, lab: Path) -> Place | None:
     """Returns the address and port of the door whose folder is `folder`. Returns None if `folder` is None, or if it
-    lacks the door's data. The address is the one in the slips of the lab in a file, or if they name none, that of the
-    door or the name of this machine."""
+    lacks the door's data. The address is the one in the slips of the lab in the file `lab`. If they name none, it is
+    that of the door or the name of this machine."""
     kept = DoorData.read(Path(folder)) if folder is not None else None
     if kept is None:
         return None

@@ -70,7 +70,7 @@ class Member:
 
     def start(self, hear: Callable[[Member, str], None], ended: Callable[[Member], None]) -> None:
         """Starts the process that runs the desk: of a new run, of one that continues, or of a server that is still
-        running. Queues a call of `hear` for each line of its output, and a call of `ended` for its end."""
+        running. Queues a call of `hear` for each line of its output, and then a call of `ended`."""
         record = Record.read(self.folder)
         if record is None:
             words = ["run", self.network.lab, "--into", str(self.folder.parent), "--beside", *self.more]
@@ -87,8 +87,8 @@ class Member:
         threading.Thread(target=self.follow, args=[self.child, hear, ended], daemon=True).start()
 
     def resume_words(self, *but: str) -> list[str]:
-        """Returns the arguments for a run that continues. These arguments are those of the network without its port,
-        its folder, `--serve` and `--beside`. The options in `but` are also left out, each with its value."""
+        """Returns the arguments for a run that continues: those of the network without its port, its folder, `--serve`
+        and `--beside`, which are only for a new run. The options in `but` are also left out, each with its value."""
         words = list(self.more)
         for word in ("--port", "--into", *but):
             if word in words:
@@ -106,7 +106,9 @@ class Member:
 
     def note_line(self, line: str) -> bool:
         """Notes what a line that the process has printed says: a fact, that the process accepts commands, or why it
-        ends. Returns whether the class's desk prints the line."""
+        ends. Returns whether the class's desk prints the line. While the network starts, the desk doesn't print lines
+        whose content its table of networks has. Later it doesn't print lines that it prints itself, once for all
+        networks."""
         fact, value = fact_in(line)
         is_new = fact != "" and fact not in self.facts
         if fact:
@@ -150,6 +152,7 @@ class Member:
             what = "the process that controlled it has ended, but its server keeps running"
         else:
             what = self.why or f"its process has ended, {how_ended(self.code)}"
+        # If the desk was used and there is no record, the run can't be resumed, and a new one would be begun.
         self.alarm = f"{what}; {self.remedy(record is not None or not self.has_desk)}"
 
     def remedy(self, can_resume: bool = True) -> str:
@@ -186,8 +189,8 @@ class Member:
         return self.facts.get("act", "") if acts else self.facts.get("look_from", self.facts.get("page", ""))
 
     def shown(self, acts: bool = False) -> NetworkState:
-        """Returns the state of the network as the page for all networks shows it. `acts` selects the address of its own
-        page."""
+        """Returns the state of the network as the page for all networks shows it. The state has the address of the
+        network's own page: the one to act at if `acts` is set, and otherwise the one to look at."""
         port = int(self.facts["port"]) if "port" in self.facts else None
         page = self.page(acts) if self.status in (STARTS, RUNS) else ""
         return NetworkState(self.number, self.name, self.network.room, port, page, self.lab.sessions - 1, len(self.lab.students),

@@ -40,7 +40,8 @@ def now_table(networks: Sequence[NetworkState]) -> str:
 
 
 def now_row(it: NetworkState) -> list[str]:
-    """Returns the cells of a network for the table with the present states."""
+    """Returns the cells of a network for the table with the present states. The status of a network that runs is the
+    number of its privileged nodes, or `stable`."""
     state = it.state or {}
     status = ("stable" if state.get("stable") else plural_privileged(len(state.get("privileged", [])))) if state and it.status == RUNS \
         else "DOWN" if it.status == DOWN else it.status

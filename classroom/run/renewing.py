@@ -26,7 +26,7 @@ PATIENCE = 60.0  # seconds that a killed process has to disappear
 def renew(folder: Path, lab: labs.Lab, it: server.Server, desk: Desk, name: str) -> None:
     """Changes the key of the student `name` in the lab and the slips, and kills the server `it`. Starts a new one,
     whose values replace those in `it`. The caller has to connect to the desk again. Raises `ValueError` if there is no
-    such student, and `Fault` if the class can't continue."""
+    such student. Raises `Fault` if the key can't be changed, or if the server doesn't end or can't be started again."""
     if name not in lab.without_house().students:
         raise ValueError(f"there is no student {name}. The students are: {', '.join(lab.without_house().students)}")
     kept = Record.read(folder)
@@ -49,7 +49,8 @@ def renew(folder: Path, lab: labs.Lab, it: server.Server, desk: Desk, name: str)
 
 def follow(folder: Path, lab: labs.Lab, it: server.Server, desk: Desk) -> None:
     """Makes the desk follow the record in the run's folder from its beginning again, as the new server `it` writes it.
-    Makes the desk's list of connections and the house use the port of this server."""
+    That a student has come already isn't forgotten. Makes the desk's list of connections and the house use the port of
+    this server."""
     if desk.heard is not None:
         came, desk.heard = desk.heard.came, Heard(folder / record.FOLDER, lab)
         desk.heard.came = came

@@ -38,7 +38,7 @@ def port(word: str) -> int:
 
 def seconds_with_unit(word: str) -> float:
     """Returns the number of seconds in an argument, such as `20s` or `20`. Raises `ArgumentTypeError` for any other
-    text."""
+    text, and for 0."""
     return seconds(word.removesuffix("s"))
 
 
@@ -113,7 +113,7 @@ def check_stand_in(words: argparse.Namespace, lab: labs.Lab, file: Path) -> None
 def resume(words: argparse.Namespace) -> int:
     """Continues the run, or the class of several runs, in the folder of `--resume`, with its lab, journal, ports, page
     and daemon. Options of the command line override these. Returns the exit status. Raises `Fault` if the run is still
-    going on, or was ended on purpose."""
+    going on, if it was ended on purpose and `--again` isn't given, or if it can't be continued."""
     folder = Path(words.resume)
     if is_class(folder):
         return class_again.hold_again(words, folder)

@@ -51,8 +51,8 @@ class Server:
         return True
 
     def status(self) -> int:
-        """Returns the exit status of a server that has ended. If another process started it, the status is 0 or 4, as
-        its last line shows."""
+        """Returns the exit status of a server that has ended. If another process started it, the status isn't known. It
+        is then 0 if the last line of the output says that the server is done, and otherwise 4."""
         if self.child is not None:
             return self.child.wait()
         return 0 if self.printed().rpartition("\n")[2].startswith("done: ") else 4
@@ -106,7 +106,8 @@ def first_line(process: subprocess.Popen[bytes], output: Path, before: int, wait
 
 
 def require_built(by_number: bool) -> None:
-    """Raises `Fault` if the program isn't built. A server that counts its connections (`by_number`) needs no host."""
+    """Raises `Fault` if the program isn't built. If `by_number` is set, the server is to be `mml serve`, which serves a
+    number of connections and needs no host."""
     program()
     if not by_number:
         host()

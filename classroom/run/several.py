@@ -57,10 +57,12 @@ class Several:
         self.lines: list[str] = []
         self.is_told = False  # Whether the table was printed.
         self.is_left = False  # Whether another process takes the desks.
+        # When alarms were last printed again, and when the page was last updated.
         self.reminded = self.looked = time.monotonic()
 
     def say(self, line: str, private: bool = False) -> None:
-        """Prints a line, and shows it on the page unless it is private."""
+        """Prints a line, and keeps it for the page unless it is private. If the terminal is closed, prints nothing and
+        raises no error."""
         line = printable(line)
         if not private:
             self.lines = [*self.lines, line][-hall.LISTED:]
@@ -78,7 +80,8 @@ class Several:
             self.say(f"{member.name}: {line}", is_private_line)
 
     def note_end(self, member: Member) -> None:
-        """Handles the end of the process of the network `member`. Prints the alarm if the network is down now."""
+        """Handles the end of the process of the network `member`. Prints the alarm if the network is down now, unless
+        another process takes over the desks."""
         member.note_end()
         if member.status == DOWN and not self.is_left:
             self.say(self.alarm(member))
@@ -253,7 +256,8 @@ class Several:
         return max(member.code for member in self.members)
 
     def end(self) -> None:
-        """Ends the run of each network that is running, and stops waiting for those that are down."""
+        """Ends the run of each network that is running. Also stops waiting for those that are down, unless the class
+        has a page, on which they can still be resumed. The exit status of those isn't 0."""
         for member in self.members:
             member.terminate()
         self.is_typed = False
@@ -270,7 +274,7 @@ class Several:
                 member.child.wait()
 
     def hung(self) -> None:
-        """Notes in the folder that the terminal is closed. The class continues without one."""
+        """Notes in the file `class.json` that the terminal is closed. The class continues without one."""
         found = Class.read(self.folder)
         if found is not None:
             replace(found, left=True).write(self.folder)

@@ -53,8 +53,8 @@ class StateFile:
         }
 
     def waiting(self, desk: Desk) -> list[dict[str, Any]]:
-        """Returns the nodes that, as the desk knows, are privileged and have no chosen move, each with its owners and
-        its rule."""
+        """Returns the nodes that are privileged and have no chosen move, by the desk's latest report, each with its
+        owners and its rule."""
         owners = desk.announcer.shown.owners
         return [{"node": node, "owners": [self.names.name(name) for name in owners(node)], "rule": rule}
                 for node, rule in desk.known.waiting()]

@@ -23,7 +23,7 @@ class Striker:
         """`seed` determines the random choices of daemons."""
         self.chance, self.adversary = random.Random(seed), Adversary(str(seed), max)
         self.how: Closing | None = None
-        self.closed = 0.0
+        self.closed = 0.0  # the time of the last close, or of the last change of the daemon
 
     def strike(self, desk: Desk) -> None:
         """Closes a step if the desk's daemon decides so, after releasing the chosen moves that the close mustn't apply.

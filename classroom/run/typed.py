@@ -50,16 +50,17 @@ class Terminal:
 
         self.words, self.readline = words, readline
         self.prompt = self.PROMPT
-        self.reads = False
+        self.reads = False  # Whether a line is being typed.
         self.before = termios.tcgetattr(sys.stdin)
         readline.set_completer_delims(" ")
         readline.set_completer(self.complete)
         readline.parse_and_bind("tab: complete")
 
     def complete(self, text: str, state: int) -> str | None:
-        """Returns the completion of a text with the index `state`, or None after the last one."""
+        """Returns the completion of a text with the index `state`, or None after the last one. The first word of a line
+        is completed to a command, and a later one to a name or number."""
         before = self.readline.get_line_buffer()[:self.readline.get_begidx()]
-        first = re.fullmatch(r"\s*(\d+\s+|\S+\s*:\s*)?", before) is not None  # A network may stand before it.
+        first = re.fullmatch(r"\s*(\d+\s+|\S+\s*:\s*)?", before) is not None  # A network may come before it.
         found = [f"{word} " for word in (WORDS if first else self.words) if word.startswith(text)]
         return found[state] if state < len(found) else None
 

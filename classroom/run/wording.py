@@ -22,7 +22,8 @@ def moves(moved: Sequence[tuple[int, str, str]]) -> str:
 
 
 def edit(event: Event) -> str:
-    """Returns a text for an event other than a grant and a close."""
+    """Returns a text for an event other than a grant and a close. For an event of an unknown kind, the text is the
+    words of its line."""
     if event.kind in ("link", "cut"):
         return f"{'added' if event.kind == 'link' else 'removed'} the link between {event.words[1]} and {event.words[2]}"
     if event.kind == "release":
@@ -34,7 +35,8 @@ def edit(event: Event) -> str:
 
 
 def edits(events: Sequence[Event]) -> str:
-    """Returns one text for several events of one kind, with their number."""
+    """Returns one text for several events of one kind, which are faults, links or cuts. The text has their number and
+    the nodes."""
     nodes = sorted({node for event in events for node in event.nodes})
     return f"{plural(len(events), KINDS[events[0].kind])} at {named(nodes)}"
 
