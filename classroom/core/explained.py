@@ -15,10 +15,10 @@ LIMIT = 60.0  # seconds after which a search for an explanation is given up
 
 
 def lines_of(made: labs.Lab, script: bytes) -> list[list[str]]:
-    """Returns the explanations of the model for a script, a list of request lines for a lab. Each is a list of three
-    texts. For each denied move they are the number of its line in the script, its node and the reason. For each node
-    that could move at the end they are `now`, the node and the line that a bot should send. Returns an empty list if
-    there is no model, or if it hasn't answered after LIMIT seconds."""
+    """Returns the explanations of the model for a script, a list of request lines for the lab `made`. Each is a list of
+    three texts. For each denied move they are the number of its line in the script, its node and the reason. For each
+    node that could move at the end they are `now`, the node and the line that a bot should send. Returns an empty list
+    if there is no model, or if it hasn't answered after LIMIT seconds."""
     with tempfile.TemporaryDirectory() as room:
         lab, lines = Path(room, "lab.toml"), Path(room, "script")
         lab.write_text(labs.text(made), encoding="utf-8")

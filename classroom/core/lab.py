@@ -170,8 +170,8 @@ def text(lab: Lab) -> str:
 
 
 def write_new(path: Path, content: str) -> None:
-    """Writes a new file that no other user can read. Raises `Fault` if the file exists already, and then leaves it
-    unchanged. Also raises `Fault` if the file can't be written completely, and then removes it."""
+    """Writes `content` into a new file that no other user can read. Raises `Fault` if the file exists already, and then
+    leaves it unchanged. Also raises `Fault` if the file can't be written completely, and then removes it."""
     try:
         file = os.open(path, os.O_WRONLY | os.O_CREAT | os.O_EXCL, 0o600)
         try:

@@ -51,7 +51,8 @@ class RecordCounts:
     all_of: frozenset[str] | None = None
 
     def add(self, other: RecordCounts) -> None:
-        """Adds the numbers of a further record of the same run."""
+        """Adds the numbers of a further record of the same run. The result is whole only if both records are.
+        Afterwards `all_of` has only the names that are in that of both."""
         for name, counts in other.denied.items():
             self.denied.setdefault(name, Counter()).update(counts)
         for node, owners in other.moves.items():

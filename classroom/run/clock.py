@@ -21,8 +21,8 @@ def time_of_day(word: str) -> str:
 
 
 def next_time(word: str, now: datetime) -> datetime:
-    """Returns the first date and time after `now` with this time of day, today or tomorrow. Raises `ValueError` if it
-    is more than LATEST away, since the time of day has then passed today."""
+    """Returns the first date and time after `now` with the time of day `word`, such as `10:45`, today or tomorrow.
+    Raises `ValueError` if it is more than LATEST away, since the time of day has then passed today."""
     hours, minutes = map(int, word.split(":"))
     end = now.replace(hour=hours, minute=minutes, second=0, microsecond=0)
     end = end if end > now else end + timedelta(days=1)

@@ -161,9 +161,9 @@ class Call:
 def start(folder: Path, lab: Path, port: int, journal: Path, by_number: int | None = None,
           resumed: Record | None = None) -> Server:
     """Starts a host for a lab at `port` or the next free port, with its output and record in the folder, and returns
-    it. If `resumed` is given, the host continues the run with that record, if possible at its own ports. If `by_number`
-    is given, starts `mml serve` instead for that number of connections, one of which is the teacher's. Raises `Fault`
-    if no server can be started."""
+    it. The server writes the events to the file `journal`. If `resumed` is given, the host continues the run with that
+    record, if possible at its own ports. If `by_number` is given, starts `mml serve` instead for that number of
+    connections, one of which is the teacher's. Raises `Fault` if no server can be started."""
     require_built(by_number is not None)
     call = Call(folder, lab, journal, by_number, resumed is not None, folder / record.FOLDER)
     again = call.at(resumed.port, resumed.desk) if resumed is not None else None

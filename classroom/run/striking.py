@@ -66,7 +66,8 @@ class Striker:
 
     def release_others(self, desk: Desk, but: set[int]) -> None:
         """Releases the chosen moves of all nodes that aren't in `but`, also those that are granted meanwhile. A move
-        that is granted after the last check is applied too, since only the server could prevent that."""
+        that is granted after the last check is applied too, since only the server could prevent that. Stops if nothing
+        more is granted, and raises `Denied` if a release is denied for another reason than that no move is chosen."""
         for _ in range(LOOKS):
             others = sorted(desk.known.book.chosen.keys() - but)
             for node in others:
