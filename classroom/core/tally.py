@@ -52,7 +52,7 @@ class RecordCounts:
 
     def add(self, other: RecordCounts) -> None:
         """Adds the numbers of a further record of the same run. The result is whole only if both records are.
-        Afterwards `all_of` has only the names that are in that of both."""
+        Afterwards `all_of` has the names that are in that of both, or if one of them is None, those of the other."""
         for name, counts in other.denied.items():
             self.denied.setdefault(name, Counter()).update(counts)
         for node, owners in other.moves.items():
