@@ -165,7 +165,7 @@ class Seated(Cycle):
         tess.hang_up()
         again.until("^the desk is now connected to the server$")
         again.until("^commands: ")
-        self.assertEqual(sum("tried again" in line for line in again.lines), 1, again.lines)
+        self.assertEqual(sum("trying to connect again" in line for line in again.lines), 1, again.lines)
         self.goes_on(again, 1)
 
     def test_a_server_that_was_found_is_not_ended(self) -> None:
