@@ -110,14 +110,14 @@ class Builds(InClone):
         each = {crate: int(processors) for crate, _, processors in told[1:]}
         self.assertEqual((each["low"], each["left"], each["right"]), (2 * number, 2 * number, number))
 
-    def test_the_last_proof_is_given_twice_the_memory(self) -> None:
-        """The last proof, beside which no other can run, is given twice the memory, and every other one the memory that
-        there is."""
-        self.assertEqual(self.call("./mml", "build").returncode, 0)
+    def test_a_proof_that_runs_alone_is_given_twice_the_memory(self) -> None:
+        """A proof beside which no other can run is given twice the memory, and every other one the memory that there is."""
+        self.set("meets", "left right")
+        self.assertEqual(self.call("./mml", "build", RT_JOBS="2").returncode, 0)
         there = int(re.search(r"MemTotal:\s+(\d+)", Path("/proc/meminfo").read_text(encoding="ascii"))[1])
         told = [line.split() for line in (self.room / "memory").read_text(encoding="utf-8").splitlines()]
         each = {crate: int(memory) for crate, _, memory in told[1:]}
-        self.assertEqual(each, {"low": there, "left": there, "right": there, "mml_host": 2 * there})
+        self.assertEqual(each, {"low": 2 * there, "left": there, "right": there, "mml_host": 2 * there})
 
     def test_in_a_git_clone_the_proofs_run_in_a_folder_of_git(self) -> None:
         """In a Git clone, the build makes its repository on the clone's disk, in a folder that no check reads. The

@@ -129,9 +129,13 @@ class Proving:
         for crate in self.progress.next():
             if not self.runs or has_memory():
                 place = self.room.place(with_those_below([crate], self.crates))
-                is_alone = len(self.progress.proved) + 1 == len(self.crates)
-                self.runs[crate] = Run(place, self.progress.is_first(crate), is_alone=is_alone)
+                self.runs[crate] = Run(place, self.progress.is_first(crate), is_alone=self.is_alone(crate))
                 self.progress.begun[crate] = time.monotonic()
+
+    def is_alone(self, crate: str) -> bool:
+        """Returns whether no other crate can be proved beside this one, because all that remain use it."""
+        left = [it for it in self.crates if it not in self.progress.proved]
+        return all(crate in with_those_below([it], self.crates) for it in left)
 
     def outcome(self, run: Run, crates: list[str] | Uses) -> Path | None:
         """Copies the results of an ended run, which was to prove these crates, into the clone. Returns the log if the

@@ -98,7 +98,7 @@ class Run:
     def __init__(self, place: Place, is_first: bool = True, is_whole: bool = False, is_alone: bool = False) -> None:
         """Starts `rt ci` in a repository. If `is_first` is set, the run has the usual priority, and otherwise a lower
         one. If `is_first` is set and `is_whole` isn't, the run gets all processors. `is_whole` says that the run proves
-        all crates. If `is_alone` is set, no other crate is left, and the run may use twice as much memory."""
+        all crates. If `is_alone` is set, no other crate is proved beside, and the run may use twice as much memory."""
         self.place, self.read = place, 0
         wide = [sys.executable, "-B", str(WIDE), *[ALONE] * is_alone]
         words = ["rt"] if is_whole or not is_first else wide
