@@ -12,7 +12,7 @@ from client import Client, Closed, Denied, NoSlip, Refused, Slip, again, enter, 
 
 def ask(me: Client, nodes: tuple[int, ...], patience: float) -> None:
     """Looks at each node again and again, and asks for its enabled rule. Returns if no new configuration came for
-    `patience` seconds. Raises the denials and refusals after which a bot doesn't go on."""
+    `patience` seconds. Prints each denial and refusal, and raises those after which a bot doesn't go on."""
     newest, since = -1, time.monotonic()
     while time.monotonic() - since < patience:
         for node in nodes:

@@ -30,8 +30,9 @@ def owned(names: list[str] | None) -> str:
 
 
 def close_steps(me: Client, owners: dict[int, list[str]]) -> None:
-    """Closes a step every PAUSE seconds until no node is privileged. Prints for whom each step waits: the privileged
-    nodes without a chosen move, with their owners."""
+    """Closes a step every PAUSE seconds until no node is privileged. Before that, prints the privileged nodes without a
+    chosen move, with their owners, if they aren't those of the last time. Goes on after the denial `empty` (no move is
+    chosen), and raises any other."""
     report, told = me.report(), ""
     while not report.stable:
         time.sleep(PAUSE)

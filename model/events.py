@@ -20,7 +20,7 @@ def reply_values(world: World, asked: Request) -> dict[str, Any]:
 
 
 def apply(world: World, asked: Request) -> None:
-    """Applies the event of a granted request to the world, and gives the event the next place."""
+    """Applies the event of a granted request to the world. The place of the world becomes that of the event."""
     world.place += 1
     if asked.do == "move":
         world.chosen[asked.node] = asked.move

@@ -53,7 +53,7 @@ class Node(NamedTuple):
 
     id: int
     owners: list[str]
-    has_both: bool
+    has_both: bool  # whether it has both `owner` and `owners`
     p: int | None
     m: bool
 
@@ -72,7 +72,7 @@ def is_within(value: Any, depth: int = 0) -> bool:
 
 
 def document(content: bytes) -> dict[str, Any]:
-    """Returns the table of a TOML document. Raises `Fault` if it isn't one."""
+    """Returns the table of a TOML document. Raises `Fault` if it isn't one, or a value is too great or too deep."""
     try:
         found = tomllib.loads(content.decode("utf-8").removeprefix("\ufeff"))
         if is_within(found):

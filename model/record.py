@@ -1,6 +1,5 @@
 """The record: each line with its reply, in a file for each seat, and its verification with a journal. A *seat* serves
-one connection after another, and an *entry* is a line with its reply, or a mark. A *place* is the number of an
-event."""
+one connection after another, and an *entry* is a line with its reply, or a mark. A *place* is an event's number."""
 import re
 from dataclasses import dataclass, field
 from pathlib import Path
@@ -106,7 +105,7 @@ class Seat:
         apply(self.world, self.events[self.world.place].asked)
 
     def take(self, entry: Entry) -> str | None:
-        """Checks the next entry of the seat. Returns the reason why it can't be there, or None if it can."""
+        """Reads the next entry, with the events before it. Returns why it can't be there, or None if it can."""
         if entry.seen < self.world.place:
             return "goes back"
         if entry.seen > len(self.events):
@@ -161,7 +160,7 @@ class Seat:
         return why
 
     def check(self, entry: Entry) -> str | None:
-        """Checks the reply in an entry. Returns the reason why it isn't the reply that the rules give, or None if it is."""
+        """Checks the reply in an entry, and applies an event that it grants. Returns why it is wrong, or None."""
         place = self.world.place
         found = answer(self.lab, self.world, self.known, entry.line)
         said = Said(self.known, entry.line, entry.reply)
@@ -203,8 +202,9 @@ class Seat:
 
 
 def check_places(record: Record, events: int) -> None:
-    """Raises `Fault` if the seats' replies grant a place from before the record, or a place twice; or if the record is whole
-    and a place after its beginning, up to `events`, is granted by no reply. The journal has `events` events."""
+    """Raises `Fault` if the seats' replies grant a place from before the record, or a place twice. If the record is
+    whole, also raises it for a place after its beginning that no reply grants. The journal has `events` events, with
+    the places from 1."""
     seen: set[int] = set()
     for place in record.granted:
         if place <= record.begun or place in seen:

@@ -81,7 +81,7 @@ def depth(text: str) -> int:
 
 
 def document(line: bytes) -> dict[str, Any]:
-    """Returns the object in a line of strict JSON. Raises `Malformed` if the line has another form."""
+    """Returns the object in a line of strict JSON. Raises `Malformed` or another `ValueError` for any other line."""
     text = line.decode("utf-8")
     if depth(text) > DEEPEST:
         raise Malformed("nested too deep")

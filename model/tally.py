@@ -27,9 +27,9 @@ class Student:
 
     granted: dict[str, int] = field(default_factory=none)
     applied: dict[str, int] = field(default_factory=none)
-    closes: int = 0
-    places: list[int] = field(default_factory=list)
-    shared: int = 0
+    closes: int = 0  # how many of them applied a move of the student
+    places: list[int] = field(default_factory=list)  # of the granted moves
+    shared: int = 0  # applied moves at nodes with two owners
 
     def words(self) -> list[object]:
         """Returns the student's columns in the tally. The places of the first and the last granted move are `-` if there is none."""
@@ -44,9 +44,9 @@ class Count:
         """Begins with the lab's students, before the first event."""
         self.students = {name: Student() for name in lab.students()}
         self.shared = {i: {name: none() for name in owners} for i, owners in lab.shared().items()}
-        self.chosen: dict[int, tuple[str, str]] = {}
-        self.words = dict.fromkeys(("move", "release", "close", *CHANGES), 0)
-        self.moves = self.moves_since = self.closes_since = 0
+        self.chosen: dict[int, tuple[str, str]] = {}  # for each node the student and the rule
+        self.words = dict.fromkeys(("move", "release", "close", *CHANGES), 0)  # how often each event occurred
+        self.moves = self.moves_since = self.closes_since = 0  # all, and those since the last fault, link or cut
 
     def take(self, event: Event) -> None:
         """Counts the next event."""
@@ -120,8 +120,8 @@ def lines_by_reply(lab: Lab, said: list[Said], word: str, key: str, columns: tup
 
 
 def bounds(world: World) -> list[object]:
-    """Returns the tally's line `bounds` with the most moves, rounds, and grants and closes until a network is stable:
-    3n + 2 min(L, n²/4), 2n (one round fewer if n is odd), and twice the moves."""
+    """Returns the tally's line `bounds`, with limits for a run until its network is stable: the most moves, 3n + 2
+    min(L, n²/4), the most rounds, 2n (or 2n - 1 if n is odd), and the most grants and closes, twice the moves."""
     nodes, links = len(world.links), sum(map(len, world.links.values())) // 2
     moves = 3 * nodes + 2 * min(links, nodes * nodes // 4)
     return ["bounds", moves, 2 * nodes - nodes % 2, 2 * moves]

@@ -2,10 +2,16 @@
 
     python3 -B -m tests.record [SEED | WORD..]
 
-The records are those written by hand, with each reason to refuse one; a short record with one byte changed at each
-position; and the records of random runs of many clients: unchanged, changed, cut off, beside another journal, and with
-an impossible entry of each kind that a careless verifier would accept. Then a host records classes: one is killed, and
-one meets a full disk.
+Some records are written by hand, with each reason to refuse one. Others are a short record with one byte changed, at
+each position in turn. All others are those of random runs of many clients: unchanged, changed, cut off, or with a
+journal that lacks its last event. Some of these have an impossible entry that a careless verifier would accept. Then a
+host (the server of a class) records classes: one is killed, and one meets a full disk.
+
+A record has a text for each *seat* of the server, which serves one connection after another. An *entry* is a line with
+its reply, or a mark. The mark `.` ends a session, and `!` says that lines may be missing up to the session's end. The
+mark `-` says that recording pauses, and `+ N` that it resumes after N lines. Each line of an entry begins with the
+number of its seat, and the number of events that the seat had read before. The *verdict* on a record is what `verify`
+prints about it.
 
 With a number, only the run of that seed is verified, and its files are left in the working folder. With words, only the
 classes whose tests' names contain one of them are recorded.
@@ -31,11 +37,11 @@ from tests.record.drawn import drawn_run
 from tests.record.recording import Recording, whole_line
 from tests.record.slips import check_kinds, drawn_hurts, shared_lab
 
-SEEDS = range(1, 201)
-SLIPS = range(1, 61)
-HURTS = 6
-BYTES = b" 03-eA\n\xff>.!<+"
-# The lines of the seats in the short run, one after another. Most are denied.
+SEEDS = range(1, 201)  # the seeds of the random runs whose records are changed at random
+SLIPS = range(1, 61)  # the seeds of the random runs whose records get impossible entries
+HURTS = 6  # the number of random changes of each record
+BYTES = b" 03-eA\n\xff>.!<+"  # the bytes that replace others
+# The lines of the short run in their order, each with its seat. Only the two faults become events.
 TALK = [
     (1, b'{"do":"hello","name":"tess","key":"chalk"}'),
     (2, b'{"do":"hello","name":"ana","key":"wrong"}'),
@@ -51,43 +57,48 @@ TALK = [
 
 
 class Files:
-    """A lab, a journal and a record in a folder, and the verdict of the program and the model on them."""
+    """A lab, a journal and a record in a folder. Methods return the verdict of the program and of the model on them."""
 
     def __init__(self, room: Path, lab: str) -> None:
-        """Writes the lab with this text into the folder `room`."""
+        """Writes the lab with the text `lab` into the folder `room`, with an empty journal and a folder for the
+        record."""
         self.lab, self.journal, self.folder = room / "lab.toml", room / "run.journal", room / "record"
         self.lab.write_text(lab, encoding="ascii")
         self.folder.mkdir(exist_ok=True)
         self.journal.write_bytes(b"")
 
     def write(self, journal: bytes, texts: dict[int, bytes], begun: int = 0) -> None:
-        """Writes a journal, and a record with a text for each seat, into the folder. `begun` is the number of events
-        before the record."""
+        """Writes a journal, and the texts of these seats into the record. The files of other seats stay as they are.
+        `begun` is the number of events before the record."""
         self.journal.write_bytes(journal)
         (self.folder / "begun").write_text(f"{begun}\n", encoding="ascii")
         for seat, text in texts.items():
             (self.folder / f"{seat}.record").write_bytes(text)
 
     def ended(self, what: str) -> Ended:
-        """Returns the verdict of the program on the files. Fails if that of the model differs. `what` names the
-        files."""
+        """Returns the program's verdict on the files. Fails if the model's verdict differs. `what` names the files in
+        an error."""
         return agreed(what, "verify", self.lab, self.journal, self.folder)
 
     def verified(self, what: str, journal: bytes, texts: dict[int, bytes], begun: int = 0) -> Ended:
-        """Writes a journal and a record, and returns the verdict on them. `what` names them."""
+        """Writes a journal and a record, and returns the program's verdict on them. Fails if the model's verdict
+        differs. `texts` has the texts of seats, and `begun` is the number of events before the record. `what` names the
+        files in an error."""
         self.write(journal, texts, begun)
         return self.ended(what)
 
     def wants(self, what: str, journal: bytes, texts: dict[int, bytes], line: str, begun: int = 0) -> None:
-        """Writes a journal and a record, and fails if the verdict on them has another line than this. `what` names
-        them."""
+        """Writes a journal and a record. Fails if the verdict of the program or of the model on them isn't `line`. If
+        `line` begins with `ok: `, it is the output, and otherwise the error line. `texts` has the texts of seats, and
+        `begun` is the number of events before the record. `what` names the files in an error."""
         found = self.verified(what, journal, texts, begun)
         if found != said(line):
             fail(f"{what}: {found}, not {line!r}")
 
 
 def short_run(lab: Lab) -> Recording:
-    """Returns a run with two seats that has each kind of reply, and few grants."""
+    """Returns a run in which two seats get the lines of `TALK`. It has two events, both of them faults by the teacher.
+    The session in seat 2 ends by a bye, and that in seat 1 without one."""
     run = Recording(lab)
     for seat, line in TALK:
         run.answer(seat, line)
@@ -96,32 +107,33 @@ def short_run(lab: Lab) -> Recording:
 
 
 def see_reply(lab: Lab) -> str:
-    """Returns the reply to ana's `see` of node 1 at the beginning."""
+    """Returns the reply to ana's `see` of node 1 at the beginning of a run."""
     return answer(lab, lab.opening(), "ana", b'{"do":"see","node":1}').reply
 
 
 def replaced(text: bytes, old: bytes, new: bytes) -> bytes:
-    """Returns a text in which the part `old`, which occurs once, is replaced."""
+    """Returns a text in which `new` replaces `old`. Fails if `old` doesn't occur exactly once in the text."""
     if text.count(old) != 1:
         fail(f"{old!r} stands {text.count(old)} times in the short record")
     return text.replace(old, new)
 
 
 def in_seat(seat: int, other: int, text: bytes) -> bytes:
-    """Returns the record `text` of a seat with the number of another one."""
+    """Returns the text of the seat `seat` as if it were that of the seat `other`, with this number at the beginning of
+    each line."""
     return re.sub(rb"(?m)^%d " % seat, b"%d " % other, text)
 
 
 def pauses(lab: Lab, run: Recording) -> list[tuple[str, dict[int, bytes], str]]:
-    """Returns rows with pauses in a third seat, after the short record. A row has a name, the text of each seat, and
-    the verdict."""
+    """Returns rows about pauses. In each, seats 1 and 2 have their texts of the short run `run`, and seat 3 pauses or
+    resumes. A row has a name, the text of each seat, and the verdict: the output, or the error without `verify: `."""
     ana = b'3 2 > {"do":"hello","name":"ana","key":"a-key"}\n3 2 < {"ok":"hello","who":"ana"}\n'
     again = ana.replace(b'{"ok":"hello","who":"ana"}', b'{"clause":1,"deny":"greeted","text":"this connection has a name already"}')
     noise = b'3 2 > x\n3 2 < {"refuse":"malformed"}\n'
 
     def told(sessions: int, lines: int, *lacking: str) -> str:
-        """Returns the verdict on a record that has `sessions` sessions and `lines` lines more than the short one. Lines
-        of the names in `lacking` are missing in it."""
+        """Returns the output about a record that has `sessions` sessions and `lines` lines more than the short one.
+        Lines of the names in `lacking` are missing in it."""
         first = f"ok: {run.sessions + sessions} sessions, {run.lines + lines} lines, 2 events, not whole"
         return f"{first}\n{whole_line(lab, lacking=lacking)}"
 
@@ -150,16 +162,17 @@ def pauses(lab: Lab, run: Recording) -> list[tuple[str, dict[int, bytes], str]]:
 
 
 def risen(run: Recording) -> list[tuple[str, dict[int, bytes], str]]:
-    """Returns rows with events that a third seat has seen, after the short record. A row has a name, the text of each
-    seat, and the verdict."""
+    """Returns rows about the number of events that a seat has read. In each, seats 1 and 2 have their texts of the
+    short run `run`. In seat 3 the number rises from 0 to 2, which is possible only at some entries. A row has a name,
+    the text of each seat, and the verdict: the output, or the error without `verify: `."""
     ana = b'3 %d > {"do":"hello","name":"ana","key":"a-key"}\n3 %d < {"ok":"hello","who":"ana"}\n'
     noise, bye = b'3 %d > x\n3 %d < {"refuse":"malformed"}\n', b'3 %d > {"do":"bye"}\n3 %d < {"ok":"bye"}\n'
     first, later = (0, 0), (2, 2)
     ahead = "seat 3, line %d: goes ahead"
 
     def told(sessions: int, lines: int, rest: str = f"\n{whole_line(run.lab)}") -> str:
-        """Returns the verdict on a record that has `sessions` sessions and `lines` lines more than the short one.
-        `rest` is the verdict's end."""
+        """Returns the output about a record that has `sessions` sessions and `lines` lines more than the short one.
+        `rest` is what follows the number of events."""
         return f"ok: {run.sessions + sessions} sessions, {run.lines + lines} lines, 2 events{rest}"
 
     cut, paused = f", not whole\n{whole_line(run.lab, cut=True)}", f", not whole\n{whole_line(run.lab)}"
@@ -185,8 +198,9 @@ def risen(run: Recording) -> list[tuple[str, dict[int, bytes], str]]:
 
 
 def halted(lab: Lab, run: Recording) -> list[tuple[str, dict[int, bytes], str]]:
-    """Returns rows in which a line of the first seat is refused with `journal`. A row has a name, the text of each seat,
-    and the verdict."""
+    """Returns rows in which a line of seat 1 is refused with `journal`. After this refusal a server grants nothing
+    more. So events that follow it make a record impossible, unless a mark `!` is between. `run` is the short run. A row
+    has a name, the text of each seat, and the verdict: the output, or the error without `verify: `."""
     lines = run.texts[1].splitlines(keepends=True)
     hello, first, rest, end = (b"".join(it) for it in (lines[:2], lines[:4], lines[4:-1], lines[-1:]))
     halt = b'1 1 > {"do":"fault","node":1,"p":2,"m":false}\n1 1 < {"refuse":"journal"}\n'
@@ -225,7 +239,9 @@ def halted(lab: Lab, run: Recording) -> list[tuple[str, dict[int, bytes], str]]:
 
 
 def without_a_node(room: Path, lab: str) -> int:
-    """Checks records of a student without a node, who can only see events by a command. Returns their number."""
+    """Checks records of eve, a student who owns no node and so is never granted a view. Therefore the number of events
+    that her seat has read may rise only at a command (a request other than a hello or a bye). `lab` is the text of the
+    lab to which she is added. Fails if a verdict is wrong. Returns the number of records."""
     lab += '\n[[student]]\nname = "eve"\nkey = "e-key"\n'
     files, run = Files(room, lab), short_run(read_lab(lab.encode("ascii")))
     eve = b'3 0 > {"do":"hello","name":"eve","key":"e-key"}\n3 0 < {"ok":"hello","who":"eve"}\n'
@@ -242,7 +258,8 @@ def without_a_node(room: Path, lab: str) -> int:
 
 
 def by_hand(files: Files, lab: Lab) -> int:
-    """Checks the short record, complete and with one change each. Returns the number of records."""
+    """Checks the short record, complete and with one change each, and the rows of `halted`, `pauses` and `risen`. Fails
+    if a verdict isn't the expected one. Returns the number of records."""
     run = short_run(lab)
     journal, one, two = run.journal, run.texts[1], run.texts[2]
     rest = {seat: b"" for seat in run.texts}
@@ -298,7 +315,8 @@ def by_hand(files: Files, lab: Lab) -> int:
 
 
 def other_files(files: Files, lab: Lab) -> None:
-    """Checks missing files, files of no class, and wrong arguments."""
+    """Checks records with wrong, missing or too large files, and a call that names no record. Fails unless each gets
+    its error. A file `begun` without a newline at its end must be accepted."""
     run = short_run(lab)
     fault = Ended(4, b"", b"read fault: record\n")
     files.wants("a torn journal", run.journal[:-1], run.texts, "audit: line 2: torn")
@@ -331,7 +349,8 @@ def other_files(files: Files, lab: Lab) -> None:
 
 
 def most_held(files: Files) -> int:
-    """Returns the maximum memory of the program in kB, measured when it prints its line and the pipe is full."""
+    """Verifies the files, and returns the greatest memory of the program in kB. The output goes to a full pipe, so the
+    program waits before it prints, and its memory can be read while it runs. Fails if the record doesn't pass."""
     call: list[str | Path] = [HOST, "verify", files.lab, files.journal, files.folder]
     reader, writer = os.pipe()
     os.set_blocking(writer, False)
@@ -355,15 +374,17 @@ def most_held(files: Files) -> int:
 
 
 def waits(process: int) -> bool:
-    """Returns whether a process waits for room in a pipe: it sleeps, and has read its whole record."""
+    """Returns whether the process with this number sleeps, and has no file of a record open. Then it has read its whole
+    record, and waits until it can write to a full pipe."""
     stat = Path(f"/proc/{process}/stat").read_text(encoding="ascii", errors="replace")
     files = {os.readlink(it) for it in Path(f"/proc/{process}/fd").iterdir() if it.is_symlink()}
     return stat.rpartition(") ")[2][:1] == "S" and not any(it.endswith(".record") for it in files)
 
 
 def by_pieces(files: Files, lab: Lab) -> None:
-    """Checks a record of 5 MB, complete, torn at its end and changed in its middle. The program needs less memory
-    than its size."""
+    """Checks a record of 5 MB, complete, torn at its end and changed in its middle. Fails if a verdict is wrong. The
+    program has to read records in pieces, so it also fails if this record needs over 4 MB more memory than the short
+    one."""
     run = short_run(lab)
     entries = [b'1 2 > %s\n1 2 < {"refuse":"malformed"}\n' % (b"x" * (at % 3000)) for at in range(4000)]
     last, middle = run.texts[1].count(b"\n"), 2500
@@ -381,7 +402,8 @@ def by_pieces(files: Files, lab: Lab) -> None:
 
 
 def at_each_byte(files: Files, lab: Lab) -> int:
-    """Checks the short record with each of its bytes changed in turn. Returns the number of records."""
+    """Checks the short record with each byte of seats 1 and 2 replaced in turn. Fails if the program and the model
+    disagree. Returns the number of records."""
     run = short_run(lab)
     texts = dict(run.texts)
     count = 0
@@ -398,8 +420,8 @@ def at_each_byte(files: Files, lab: Lab) -> int:
 
 
 def hurt(rng: Random, run: Recording) -> dict[int, bytes]:
-    """Returns the records of a run with a byte, a line or an entry changed, left out or doubled, or with two of
-    them exchanged or made equal."""
+    """Returns the texts of a run's seats after one random change. It exchanges two texts or copies one to another seat,
+    leaves out or doubles lines, cuts a text off, or replaces a byte. The change may have no effect."""
     texts = dict(run.texts)
     seat = rng.choice([seat for seat, text in texts.items() if text])
     text = texts[seat]
@@ -425,7 +447,10 @@ def hurt(rng: Random, run: Recording) -> dict[int, bytes]:
 
 
 def compare(room: Path, seed: int) -> Counter[str]:
-    """Checks the records of a seed's run. Returns a count of the verdicts."""
+    """Checks the record of a seed's random run: unchanged, with `HURTS` random changes, and with a journal that lacks
+    its last event. Fails if the unchanged record doesn't pass, or the program and the model disagree. Returns how often
+    each verdict occurred, `ok` or the reason of an error, without the verdict on the shorter journal. The files are
+    written into `room`."""
     rng = Random(seed)
     document = drawn_lab(rng)
     lab = read_lab(document.encode("ascii"))
@@ -443,7 +468,8 @@ def compare(room: Path, seed: int) -> Counter[str]:
 
 
 def drawn(room: Path) -> Counter[str]:
-    """Checks all random runs. The usual verdicts on changed records have to occur."""
+    """Checks the random runs of all `SEEDS`, with files in the folder `room`. Fails if one of four usual reasons to
+    refuse a changed record never occurs. Returns how often each verdict occurred."""
     told: Counter[str] = Counter()
     for seed in SEEDS:
         told += compare(room, seed)
@@ -455,7 +481,9 @@ def drawn(room: Path) -> Counter[str]:
 
 
 def slipped(room: Path) -> int:
-    """Checks random records with one impossible entry each. Returns their number."""
+    """Checks records of the random runs of `SLIPS`, with one impossible entry in each. Fails if one isn't refused for
+    its own reason, or if a kind of entry occurs fewer times than a quarter of the runs. Returns the number of
+    records."""
     count: Counter[str] = Counter()
     for seed in SLIPS:
         rng = Random(seed)
@@ -470,9 +498,9 @@ def slipped(room: Path) -> int:
 
 
 def work(room: Path) -> str:
-    """Compares the verdicts of the program and of the model on these records: those written by hand, incomplete and
-    long ones, those with a changed byte, and those of random runs, some of them with an impossible entry. Then checks
-    classes that a host records. Returns a line with the numbers of records and classes."""
+    """Compares the verdicts of the program and of the model on records. They are written by hand, incomplete, long,
+    changed in one byte, or those of random runs, some with an impossible entry. Then checks classes that a host
+    records. Returns a line with the numbers of records and classes. `room` is a folder for files."""
     lab_file = lab_of(room, 4, 100)
     document = lab_file.read_text(encoding="ascii")
     lab = read_lab(document.encode("ascii"))

@@ -1,5 +1,10 @@
-"""Classes that a host records, as their user runs it: the contents of their files, also after a kill or a failed
-write."""
+"""Tests of classes that a host (the server of a class) records: the contents of the files, also after a kill or a
+failed write.
+
+Students connect to the host's port, and the teacher tess to its desk. A record has a file for each seat, which serves
+one connection (a session) after another. The mark `.` ends a session, and `!` says that lines may be missing up to the
+session's end.
+"""
 import resource
 import subprocess
 from collections.abc import Sequence
@@ -45,8 +50,8 @@ TESS = b"""\
 
 
 def verified(lab: Path, journal: Path, record: Path, line: bytes) -> None:
-    """Checks the output of `verify` for a record: its first line, the line with those whose lines are all recorded, and
-    the number of earlier events. If the record isn't complete, the second line names nobody."""
+    """Fails unless `verify` accepts a record, and prints `line` first. Then it must print the names of those whose
+    lines are all recorded, and the number in the file `begun`. If `line` says `not whole`, it must name nobody."""
     begun = int((record / "begun").read_bytes())
     line += f"{whole_line(read_lab(lab.read_bytes()), b'not whole' in line, begun=begun)}\n".encode("ascii")
     call: list[str | Path] = [HOST, "verify", lab, journal, record]
@@ -56,7 +61,8 @@ def verified(lab: Path, journal: Path, record: Path, line: bytes) -> None:
 
 
 def texts(record: Path) -> dict[str, bytes]:
-    """Returns the contents of a record's files, by their names. Checks that other users can't read them."""
+    """Returns the contents of a record's files, by their names. Fails unless the permissions are 700 for the folder and
+    600 for each file, since other users mustn't read them."""
     found = {file.name: file.read_bytes() for file in record.iterdir()}
     modes = {file.stat().st_mode & 0o777 for file in record.iterdir()}
     if record.stat().st_mode & 0o777 != 0o700 or modes != {0o600}:
@@ -65,7 +71,8 @@ def texts(record: Path) -> dict[str, bytes]:
 
 
 def wants(record: Path, lab: Path, said: dict[int, bytes]) -> None:
-    """Checks that the files of a record have these lines of the seats, from the class's beginning."""
+    """Fails unless a record has exactly its usual files. These seats must have the texts in `said`, and all other seats
+    an empty file. `begun` must contain 0, and `lab` a copy of the lab."""
     wanted = {f"{seat}.record": said.get(seat, b"") for seat in range(1, SEATS + 1)}
     found = texts(record)
     if found != {**wanted, "begun": b"0\n", "lab": lab.read_bytes()}:
@@ -73,7 +80,8 @@ def wants(record: Path, lab: Path, said: dict[int, bytes]) -> None:
 
 
 def begin(host: Host) -> tuple[Caller, Caller]:
-    """Returns the connection of ana after a move, and that of the teacher tess after a hello."""
+    """Connects ana, whose wrong hello is denied, whose hello and move are granted, and whose second move is denied.
+    Then connects the teacher tess, who says hello. Returns both connections. Fails if ana's replies are wrong."""
     ana, reply = let_in(host.port, WRONG)
     said = [reply, ana.ask(hello("ana")), ana.ask(MOVE), ana.ask(MOVE)]
     tess, _ = let_in(host.desk, hello("tess"))
@@ -83,8 +91,8 @@ def begin(host: Host) -> tuple[Caller, Caller]:
 
 
 def whole_class(room: Path) -> tuple[Path, Path, Path]:
-    """Checks that a class is recorded from beginning to end, except for views. Returns its lab, journal and
-    record."""
+    """Checks that a class is recorded from beginning to end, except for granted views, which have no entry. Returns the
+    paths of its lab, journal and record."""
     lab, journal, record = lab_of(room, SEATS), room / "whole.journal", room / "whole record"
     with Host(lab, 0, 0, journal, record) as host:
         tess, _ = let_in(host.desk, hello("tess"))
@@ -105,7 +113,8 @@ def whole_class(room: Path) -> tuple[Path, Path, Path]:
 
 
 def killed_and_resumed(room: Path) -> None:
-    """Replies before a kill are in the record. The record marks each seat as possibly incomplete."""
+    """Checks that the record of a killed class has all its replies. When the class is resumed, the record must go on,
+    and mark each seat as possibly incomplete."""
     lab, journal, record = lab_of(room, SEATS), room / "killed.journal", room / "killed"
     with Host(lab, 0, 0, journal, record) as host:
         callers = begin(host)
@@ -128,8 +137,8 @@ def killed_and_resumed(room: Path) -> None:
 
 
 def torn_entries(room: Path) -> None:
-    """When a class is resumed, an incomplete entry at the end of a seat's file is removed and reported: a line
-    without its reply, or a part of either. Nothing else is removed."""
+    """Checks that an incomplete entry at the end of a seat's file is removed and reported when the class is resumed. It
+    is a line without its reply, or the beginning of a line or a reply. Nothing else may be removed."""
     lab, journal, record = lab_of(room, SEATS), room / "torn.journal", room / "torn"
     with Host(lab, 0, 0, journal, record) as host:
         callers = begin(host)
@@ -153,8 +162,8 @@ def torn_entries(room: Path) -> None:
 
 
 def full_disk(room: Path) -> None:
-    """If a seat's file can't grow, the class goes on, and the host reports it at its end. The limit is there from
-    the beginning, or comes within an entry, like a full disk."""
+    """Checks a class in which no file can have more than 1 kB, as on a full disk. The class must go on, and the host
+    must report the fault at its end. This limit is set before the host starts, or when it already listens."""
     lab = lab_of(room, SEATS)
     for name, start in (("before", "ulimit -f 1"), ("later", 'trap "" XFSZ')):
         journal, record = room / f"{name}.journal", room / f"full {name}"
@@ -165,7 +174,8 @@ def full_disk(room: Path) -> None:
 
 
 def fills(host: Host, name: str) -> None:
-    """Plays a class on a host whose record is cut off, to its end. `name` is that of the limit, for errors."""
+    """Plays a class to its end, in which the file of ana's seat gets full. Fails if a reply, or the end of the host, is
+    wrong. `name` is that of the limit, for errors."""
     ana, tess = begin(host)
     for _ in range(20):
         if b'"chosen"' not in ana.ask(MOVE):
@@ -180,8 +190,8 @@ def fills(host: Host, name: str) -> None:
 
 
 def cut(lab: Path, journal: Path, record: Path) -> None:
-    """Checks that the file of a full seat ends with the mark `!`, and that `verify` reports the record as
-    incomplete."""
+    """Fails unless the file of the full seat begins with ana's entries and ends with the mark `!`, and `verify` reports
+    the record as incomplete."""
     text = texts(record)[f"{STUDENT}.record"]
     entries = text.splitlines(keepends=True)
     if len(text) > 1024 or b"".join(entries[:8]) != b"".join(ANA.splitlines(True)[:8]) or entries[-1] != b"%d 1 !\n" % STUDENT:
@@ -192,8 +202,8 @@ def cut(lab: Path, journal: Path, record: Path) -> None:
 
 
 def kept_and_held(room: Path) -> None:
-    """An older record is kept beside the next one, which only one host can write. A record of another lab isn't
-    continued."""
+    """Checks that an older record is kept beside the next one, and that only one host at a time can write a record.
+    When a class is resumed with another lab, its record must not be continued, but kept."""
     lab, journal, record = whole_class(room)
     before = texts(record)
     with Host(lab, 0, 0, room / "next.journal", record) as host:
@@ -216,7 +226,8 @@ def kept_and_held(room: Path) -> None:
 
 
 def hosted(room: Path, words: Sequence[str] = ()) -> int:
-    """Runs all tests of classes, or those whose names contain an argument. Returns their number."""
+    """Runs all tests of classes, or only those whose names contain one of `words`. `room` is a folder for their files.
+    Returns the number of tests."""
     tests = [kept_and_held, killed_and_resumed, torn_entries, full_disk, flooded, outsiders_first, *PLACES]
     chosen = [test for test in tests if not words or any(word in test.__name__ for word in words)]
     for test in chosen:

@@ -9,7 +9,8 @@ LINES = 60
 
 
 def drawn_run(rng: Random, lab: Lab) -> Recording:
-    """Returns a random run with several seats. Some sessions end and others follow."""
+    """Returns a random run with at most `LINES` lines in up to four seats. Sessions may end without a bye, and others
+    follow in the same seat. At the end, all sessions end. `rng` makes all random choices."""
     run = Recording(lab)
     drawing = Drawing(rng, lab)
     drawing.model = run.model

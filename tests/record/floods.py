@@ -1,5 +1,6 @@
-"""Floods, which a host records up to a budget. A client that floods, with or without a hello, doesn't use up the
-record of others."""
+"""Tests of floods: clients that send very many lines. A host records the lines of each account up to a number of bytes,
+its *budget*, and so it does for all connections without a granted hello together. So a flood doesn't use up the record
+of others."""
 import subprocess
 from dataclasses import dataclass
 from pathlib import Path
@@ -27,7 +28,8 @@ MARKS = (b"!\n", b"-\n", b"+", b".\n")
 
 @dataclass
 class Session:
-    """A session in the record: its lines and replies, its marks, and the number of lines that weren't recorded."""
+    """A session in the record. `said` has its lines and replies in turn, and `marks` its marks. `missed` is the number
+    of lines that weren't recorded."""
 
     said: list[bytes]
     marks: list[bytes]
@@ -43,7 +45,7 @@ class Session:
 
 
 def sessions_in(record: Path) -> list[Session]:
-    """Returns the sessions in all seats' files. Each has an end."""
+    """Returns the sessions in the files of all seats. Fails if the last one of a seat has no end."""
     found = []
     for seat in range(1, SEATS + 1):
         session = Session([], [])
@@ -81,7 +83,8 @@ def leave(caller: Caller) -> None:
 
 
 def whole_visit(host: Host, name: str) -> None:
-    """Connects as a student, asks without success, and says bye."""
+    """Connects as the student `name`, asks for a close, which is denied, and says bye. Fails if the replies are
+    wrong."""
     caller, reply = let_in(host.port, hello(name))
     said = caller.ask(CLOSE)
     if b'"ok":"hello"' not in reply or b'"deny"' not in said:
@@ -90,8 +93,8 @@ def whole_visit(host: Host, name: str) -> None:
 
 
 def unknown_flood(host: Host, lines: int, at_once: int) -> int:
-    """Sends `lines` lines without a hello, on as many connections as that takes, `at_once` at the same time. Returns
-    the number of answered lines."""
+    """Sends long malformed lines without a hello, on one connection after another, and at most `at_once` on each. Goes
+    on until `lines` lines are answered. Returns the number of answered lines."""
     done = 0
     while done < lines:
         caller, reply = let_in(host.port, LONG)
@@ -101,21 +104,23 @@ def unknown_flood(host: Host, lines: int, at_once: int) -> int:
 
 
 def wants_budget(who: str, sessions: list[Session]) -> None:
-    """Checks that the sessions of `who` are recorded up to the budget, and not beyond."""
+    """Fails unless these sessions of `who` together fill the budget, up to two entries, and don't exceed it."""
     size = sum(session.size() for session in sessions)
     if not BUDGET - 2 * ENTRY < size <= BUDGET:
         fail(f"record: {size} bytes are recorded of {who}, who may have {BUDGET}")
 
 
 def wants_whole(name: str, found: list[Session], count: int) -> None:
-    """Checks that `count` sessions of a student who doesn't flood are recorded, each of them completely."""
+    """Fails unless `found` has exactly `count` sessions of a student who doesn't flood, each with all its lines,
+    replies and its end."""
     visits = [session for session in found if session.is_of(name)]
     if len(visits) != count or any((len(v.said), v.marks) != (6, [b".\n"]) for v in visits):
         fail(f"record: beside a flood {name}'s visits are recorded as {[(len(v.said), v.marks) for v in visits]}")
 
 
 def verified(lab: Path, journal: Path, record: Path, found: list[Session], lacking: tuple[str, ...] = ()) -> None:
-    """Checks the verdict on the record: it isn't complete, and only the lines of `lacking` are missing."""
+    """Fails unless `verify` accepts the record, as one that isn't complete. It must count the sessions in `found` with
+    their lines, and one event. Only the lines of the names in `lacking` may be missing."""
     lines = sum(len(session.said) // 2 for session in found)
     call: list[str | Path] = [HOST, "verify", lab, journal, record]
     done = subprocess.run(
@@ -128,9 +133,9 @@ def verified(lab: Path, journal: Path, record: Path, found: list[Session], lacki
 
 
 def flooded(room: Path) -> None:
-    """A student floods, and then a client without a hello. Each has one budget for all seats together, and the
-    record has a mark at the place at which this budget is used up. The lines of others are all recorded, in the same
-    seats too."""
+    """Checks a class in which a student floods, and then a client without a hello. Each has one budget for all seats
+    together, and a mark must show that recording paused when it was used up. The lines of others must all be recorded,
+    in the same seats too."""
     lab, journal, record = lab_of(room, SEATS), room / "flood.journal", room / "flood"
     with Host(lab, 0, 0, journal, record) as host:
         tess, _ = let_in(host.desk, hello("tess"))
@@ -166,15 +171,17 @@ def flooded(room: Path) -> None:
 
 
 def asks_in_vain(caller: Caller) -> None:
-    """Asks often without success, and then is granted a move."""
+    """Asks `DENIED` times for a move in a configuration that isn't the current one, and then for a move that is
+    granted. Fails if a reply is wrong."""
     said = [caller.ask(seduction(7)) for _ in range(DENIED)]
     if any(b'"deny":"stale"' not in reply for reply in said) or b'"place":1' not in caller.ask(MOVE):
         fail(f"record: after outsiders a student is answered {said[-1]!r}")
 
 
 def outsiders_first(room: Path) -> None:
-    """Clients without a hello use up their common budget. Then a student's session begins with a malformed line.
-    From the hello on all lines are recorded, the number of missing lines is recorded, and no name lacks a line."""
+    """Checks a class in which clients without a hello use up their common budget. Then a student's session begins with
+    a malformed line, which isn't recorded. From the hello on all lines must be recorded, and the record must count the
+    missing ones. No name may lack a line."""
     lab, journal, record = lab_of(room, SEATS), room / "outsiders.journal", room / "outsiders"
     with Host(lab, 0, 0, journal, record) as host:
         tess, _ = let_in(host.desk, hello("tess"))

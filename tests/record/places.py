@@ -1,4 +1,5 @@
-"""The folders in which a record can be begun. Other files there stay as they are."""
+"""Tests of the folders in which a host (the server of a class) can begin a record. All other folders and files must
+stay as they are."""
 import os
 from pathlib import Path
 
@@ -13,15 +14,17 @@ Kept = dict[str, tuple[int, bytes]]
 
 
 def listed(room: Path) -> Kept:
-    """Returns the contents of a folder: for each path its inode, and the content of the file or the target of the
-    link."""
+    """Returns what is in a folder, at any depth. For each path this is its inode, and the content of the file, the
+    target of the link, or `folder` for anything else."""
     found = [(path, path.lstat()) for path in sorted(room.rglob("*"))]
     return {str(path.relative_to(room)): (it.st_ino, os.readlink(path).encode() if path.is_symlink() else
                                           path.read_bytes() if path.is_file() else b"folder") for path, it in found}
 
 
 def refuses(room: Path, lab: Path, record: object, ended: Ended = REFUSED, journal: object = "", start: str = "") -> None:
-    """Checks that a host refuses a path for its record with this end, and changes nothing in the folder `room`."""
+    """Fails unless a host that should keep its record at `record` ends with the result `ended`, and nothing in the
+    folder `room` is changed. The host runs in `room`, after the shell command `start`. Its journal is `journal`, or
+    `run.journal` in `room` if that is empty."""
     before = listed(room)
     call = ["bash", "-c", f'cd "$0" && {start or "true"} && exec "$@"', str(room)]
     with Host(lab, 0, 0, journal or room / "run.journal", record, before=call) as host:
@@ -33,7 +36,9 @@ def refuses(room: Path, lab: Path, record: object, ended: Ended = REFUSED, journ
 
 
 def takes(room: Path, lab: Path, record: Path) -> None:
-    """Checks that a host keeps its record in a folder."""
+    """Fails unless a host keeps its record in the folder `record`. The folder must then have exactly the files of a
+    record, and be open to its owner alone. Removes the journal and its copy of the lab afterwards, for the next
+    host."""
     with Host(lab, 0, 0, room / "run.journal", record) as host:
         if not host.listens:
             fail(f"record: with {record} the host ends with {host.end()}")
@@ -46,7 +51,8 @@ def takes(room: Path, lab: Path, record: Path) -> None:
 
 
 def filled(folder: Path, *names: str) -> Path:
-    """Makes a folder with files of these names."""
+    """Makes a folder with files of these names, each of which contains its name. A name can have a folder before it.
+    Returns the path of the new folder."""
     folder.mkdir(parents=True)
     for name in names:
         (folder / name).parent.mkdir(exist_ok=True)
@@ -55,7 +61,8 @@ def filled(folder: Path, *names: str) -> Path:
 
 
 def other_folders_stay(room: Path) -> None:
-    """A folder without a record is refused, under each of its names, and so is anything that isn't a folder."""
+    """Checks that a host doesn't keep its record in a folder with other files, under any of its names. The host must
+    also refuse anything that isn't a folder, and change nothing."""
     lab, here = lab_of(room, SEATS), room / "others"
     filled(here / "Documents", "thesis", "record/1.record", "lab")
     (here / "link").symlink_to("Documents")
@@ -70,8 +77,8 @@ def other_folders_stay(room: Path) -> None:
 
 
 def old_records_give_way(room: Path) -> None:
-    """An older record is renamed, whichever name leads there, and so is one without its beginning. An empty or
-    missing folder is used."""
+    """Checks that a host renames an older record before it begins the next one, whichever name leads there. It must do
+    so even if the file `begun` is missing. An empty folder must be used, and a missing one must be made."""
     lab, here = lab_of(room, SEATS), filled(room / "places")
     record, link = here / "record", here / "link"
     link.symlink_to("record")
@@ -91,11 +98,13 @@ def old_records_give_way(room: Path) -> None:
 
 
 def failures_rename_nothing(room: Path) -> None:
-    """If the files of a record or the journal can't be made, the older record keeps its name."""
+    """Checks that an older record keeps its name if the files of a record or of a journal can't be made. An empty
+    folder must stay empty."""
     lab, here = lab_of(room, SEATS), filled(room / "failing")
     takes(here, lab, here / "record")
     (here / "empty").mkdir()
     inodes = listed(here)
+    # The host copies the lab to `run.lab` beside the journal `run`. If that is the lab itself, no journal can be made.
     own = here / "run.lab"
     own.write_bytes(lab.read_bytes())
     for record in ("record", "none"):

@@ -19,8 +19,8 @@ OTHER_REPLY, OTHER_EVENT, BACK = "not the reply of the rules at place %d", "not 
 
 @dataclass(frozen=True)
 class Told:
-    """An entry in a seat's text: its first byte, the name that its connection had at that time, and for a line the
-    reply of the rules."""
+    """An entry in the text of a seat. It begins at the offset `start`, and `known` is the name that its connection had
+    before. `found` is the answer of the rules to the entry's line, or `None` for a mark."""
 
     seat: int
     start: int
@@ -44,7 +44,8 @@ class Drawn:
 
 @dataclass(frozen=True)
 class Hurt:
-    """An impossible entry: the seat's text with it, and the reason why it is refused."""
+    """A record with an impossible entry: the seat, the seat's text with this entry, and the error line with which the
+    record must be refused."""
 
     seat: int
     text: bytes
@@ -57,7 +58,7 @@ def stamped(seat: int, seen: int, line: bytes, reply: bytes) -> bytes:
 
 
 def read(run: Recording) -> Drawn:
-    """Returns a run with its entries, each with the reply of the rules."""
+    """Returns a run with the events of its journal and its entries, each with the answer of the rules to its line."""
     _, events = audit(run.lab, run.journal)
     told = []
     for number, text in run.texts.items():
@@ -76,7 +77,8 @@ def read(run: Recording) -> Drawn:
 
 
 def changed(drawn: Drawn, it: Told, text: bytes, why: str) -> Hurt:
-    """Returns the record in which the text of an entry is replaced, with the reason for which it has to be refused."""
+    """Returns the record in which `text` replaces the text of the entry `it`. `why` is the reason for which it has to
+    be refused at this entry."""
     whole = drawn.run.texts[it.seat]
     line = 1 + whole.count(b"\n", 0, it.start)
     return Hurt(it.seat, whole[: it.start] + text + whole[it.entry.end :], f"verify: seat {it.seat}, line {line}: {why}")
@@ -93,17 +95,19 @@ def has_event(it: Told) -> bool:
 
 
 def replied(reply: bytes, is_granted: bool) -> Callable[[Drawn, Told], Iterator[Hurt]]:
-    """Returns a function that yields seats in which a grant, or a denial, is recorded as this refusal."""
+    """Returns a function for `KINDS`. It yields a record in which the refusal `reply` replaces the reply of an entry.
+    It does so for granted events if `is_granted` is set, and otherwise for denials."""
     def hurts(drawn: Drawn, it: Told) -> Iterator[Hurt]:
-        """Yields the seat in which the reply of an entry is replaced by the refusal."""
+        """Yields the record in which the refusal replaces the reply of the entry `it`, if this entry is of the right
+        kind."""
         if it.found is not None and it.found.event is not None if is_granted else is_denied(it):
             yield changed(drawn, it, stamped(it.seat, it.entry.seen, it.entry.line, reply), OTHER_REPLY % it.entry.seen)
     return hurts
 
 
 def of_other_owner(drawn: Drawn, it: Told) -> Iterator[Hurt]:
-    """Yields the text of a seat with the hello of another owner, if the first line after that hello is a move at a
-    shared node."""
+    """Yields records in which the hello before the entry `it` is that of another owner of a node. The entry must be a
+    move of this node, right after the hello. The rules grant it to each owner, but the journal names another one."""
     before = drawn.before(it)[-2:]
     is_first = len(before) == 1 or len(before) == 2 and before[0].entry.mark == b"."
     if not is_first or it.found is None or it.found.event is None or it.found.event.do != "move":
@@ -119,8 +123,8 @@ def of_other_owner(drawn: Drawn, it: Told) -> Iterator[Hurt]:
 
 
 def of_other_event(drawn: Drawn, it: Told) -> Iterator[Hurt]:
-    """Yields a seat in which the teacher's event is recorded as a close or a release that the rules would grant
-    there."""
+    """Yields records in which the teacher's event in the entry `it` is replaced by a close or a release. The rules
+    would grant it there, but it isn't the event that the journal has at this place."""
     lab = drawn.run.lab
     if it.found is None or it.found.event is None or it.known != lab.teacher:
         return
@@ -136,7 +140,8 @@ def of_other_event(drawn: Drawn, it: Told) -> Iterator[Hurt]:
 
 
 def earlier(drawn: Drawn, it: Told) -> Iterator[Hurt]:
-    """Yields a seat in which an entry after a denial or a session's end names one event less."""
+    """Yields the record in which the entry `it` has a number of events that is less by one than in the entry before.
+    The entry is a malformed line or a session's end, and comes after a denial or a session's end."""
     is_same = it.entry.mark == b"." or it.entry.reply == MALFORMED
     last = drawn.before(it)[-1:]
     if is_same and it.entry.seen and last and last[0].entry.seen == it.entry.seen and (last[0].entry.mark == b"." or is_denied(last[0])):
@@ -146,8 +151,8 @@ def earlier(drawn: Drawn, it: Told) -> Iterator[Hurt]:
 
 
 def after_halt(drawn: Drawn, it: Told) -> Iterator[Hurt]:
-    """Yields a seat in which the grant before this one is recorded as the refusal `journal`, after which a server grants
-    nothing."""
+    """Yields the record in which the last grant before the entry `it`, in the same seat, is a refusal with `journal`.
+    The entry must be a grant too, and after this refusal a server grants nothing."""
     granted = [other for other in (*drawn.before(it), it) if has_event(other)]
     if len(granted) > 1 and granted[-1] is it:
         last, whole = granted[-2], drawn.run.texts[it.seat]
@@ -158,8 +163,8 @@ def after_halt(drawn: Drawn, it: Told) -> Iterator[Hurt]:
 
 
 def before_others(drawn: Drawn, it: Told) -> Iterator[Hurt]:
-    """Yields a seat in which, after its last grant, a fault by the teacher is recorded as refused with `journal`, though
-    other seats are granted events later."""
+    """Yields the record with one more entry before `it`: a fault by the teacher that is refused with `journal`. The
+    entry `it` must be after the last grant in its seat, while other seats are granted events later."""
     lab, seen = drawn.run.lab, it.entry.seen
     rest = [other for other in drawn.told if other.seat == it.seat and other.start >= it.start]
     if it.known == lab.teacher and it.found is not None and seen < len(drawn.events) and not any(has_event(other) for other in rest):
@@ -186,7 +191,8 @@ KINDS: dict[str, Callable[[Drawn, Told], Iterator[Hurt]]] = {
 
 
 def shared_lab(rng: Random) -> tuple[str, Lab]:
-    """Returns a random lab with a shared node, and room for a run."""
+    """Returns the text of a random lab, and the lab. It allows at least ten events, and has at most eight nodes, of
+    which at least one has two owners."""
     while True:
         document = drawn_lab(rng)
         lab = read_lab(document.encode("ascii"))
@@ -195,7 +201,8 @@ def shared_lab(rng: Random) -> tuple[str, Lab]:
 
 
 def drawn_hurts(rng: Random, lab: Lab) -> tuple[Recording, list[tuple[str, Hurt]]]:
-    """Returns a random run, and one impossible entry of each kind that it allows."""
+    """Returns a random run of a lab. Also returns the names of the kinds of impossible entries that fit it, each with
+    one record."""
     drawn, found = read(drawn_run(rng, lab)), []
     for kind, hurts in KINDS.items():
         some = [hurt for it in drawn.told for hurt in hurts(drawn, it)]
@@ -204,7 +211,7 @@ def drawn_hurts(rng: Random, lab: Lab) -> tuple[Recording, list[tuple[str, Hurt]
 
 
 def check_kinds(count: dict[str, int], least: int) -> None:
-    """Fails if a kind of impossible entry occurs too seldom."""
+    """Fails if a kind of impossible entry occurs fewer than `least` times. `count` says how often each kind occurs."""
     missing = [kind for kind in KINDS if count.get(kind, 0) < least]
     if missing:
         fail(f"too few records are drawn in which there is {missing}: {count}")

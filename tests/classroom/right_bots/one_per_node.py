@@ -13,7 +13,7 @@ from classroom.client import Client, Closed, Denied, Refused, Slip, again, enter
 
 
 def ask(me: Client, node: int) -> None:
-    """Looks at a node again and again, and asks for its enabled rule."""
+    """Looks at a node again and again, and asks for its enabled rule. Raises a denial that shows a mistake."""
     while True:
         look = me.look(node)
         try:
@@ -26,7 +26,8 @@ def ask(me: Client, node: int) -> None:
 
 
 def play(slip: Slip, node: int) -> None:
-    """Plays a node until the class is over, which ends the program."""
+    """Plays a node on a connection of its own. Ends the program when the class is over, or at a denial that shows a
+    mistake."""
     try:
         me = enter(slip)
         while True:

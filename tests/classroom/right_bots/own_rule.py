@@ -14,7 +14,7 @@ class Over(Exception):
 
 
 class Lost(Exception):
-    """The connection has ended."""
+    """The connection has ended, or the server has refused it."""
 
 
 class Connection:
@@ -22,7 +22,7 @@ class Connection:
 
     def __init__(self, slip: dict[str, str]) -> None:
         """Connects to a server, and says hello. `slip` has the port, name and key of a slip. Raises `Lost` if no server
-        accepts the connection or the connection ends, and `Over` if the class is over."""
+        accepts the connection, the server refuses it or it ends, and `Over` if the class is over."""
         try:
             self.socket = socket.create_connection(("127.0.0.1", int(slip["port"])), timeout=30)
         except OSError:
@@ -31,8 +31,8 @@ class Connection:
         self.ask(do="hello", name=slip["name"], key=slip["key"])
 
     def ask(self, **request: object) -> dict[str, Any]:
-        """Sends a request with these values, and returns the values of the reply. Raises `Over` if the class is over,
-        and `Lost` if the connection has ended."""
+        """Sends a request with these values, and returns the values of the reply. Raises `Over` if the class is over.
+        Raises `Lost` if the connection has ended, or the server ends it with a refusal: `busy`, `late` or `long`."""
         try:
             self.socket.sendall(json.dumps(request).encode() + b"\n")
         except OSError:
@@ -71,7 +71,7 @@ def rule_of(look: dict[str, Any]) -> dict[str, object] | None:
 
 
 def play(it: Connection, nodes: list[int]) -> None:
-    """Looks at each node, computes its move, and asks for it."""
+    """Looks at each node again and again, computes its move, and asks for it. Exits if a denial shows a mistake."""
     while True:
         for node in nodes:
             look = it.ask(do="look", node=node)
@@ -86,7 +86,8 @@ def play(it: Connection, nodes: list[int]) -> None:
 
 
 def main() -> None:
-    """Plays until the class is over."""
+    """Plays until the class is over. Connects again after a second if the connection is lost, and exits with an error
+    when 60 connections were lost."""
     with open(sys.argv[1], encoding="utf-8") as file:
         slip = dict(line.rstrip("\n").split(" ", 1) for line in file if not line.startswith("#"))
     nodes = [int(node) for node in slip["nodes"].split(",")]

@@ -11,7 +11,8 @@ from classroom.client import Client, Closed, Denied, Moving, Refused, Slip, agai
 
 
 def ask(me: Client, nodes: tuple[int, ...]) -> None:
-    """Looks at all nodes in one configuration, asks for all enabled rules, and waits."""
+    """Looks at all nodes in one configuration, asks for all enabled rules, and waits. Looks again if the configuration
+    changes meanwhile. Raises a denial that shows a mistake."""
     while True:
         try:
             for look in me.snapshot(nodes).values():

@@ -17,13 +17,14 @@ class Bot:
     """The data that both threads share."""
 
     def __init__(self, slip: Slip) -> None:
+        """Connects and says hello, by a slip."""
         self.slip, self.lock = slip, threading.Lock()
         self.me: Client = enter(slip)
         self.looks: queue.Queue[Look] = queue.Queue()
 
     def looking(self) -> None:
-        """Looks at each node, and queues the looks with an enabled rule. Waits until each queued look has been
-        handled."""
+        """Looks at each node, and queues the looks with an enabled rule. Waits until each queued look has been handled,
+        and begins again."""
         while True:
             for node in self.slip.nodes:
                 with self.lock:
@@ -34,7 +35,7 @@ class Bot:
             time.sleep(0.05)
 
     def asking(self) -> None:
-        """Asks for the move of each queued look."""
+        """Asks for the move of each queued look. Raises a denial that shows a mistake."""
         while True:
             look = self.looks.get()
             try:
@@ -47,8 +48,8 @@ class Bot:
                 self.looks.task_done()
 
     def lasting(self, work: str) -> None:
-        """Calls the function `work` of this bot until the class is over. If the connection is lost, the first thread
-        that notices it connects again."""
+        """Calls the method with the name `work` until the class is over, which ends the program. If the connection is
+        lost, the first thread that notices it connects again."""
         while True:
             me = self.me
             try:

@@ -26,7 +26,7 @@ class AsksAgainWhileChosen(Bot):
 
 
 class StopsAtStale(Bot):
-    """Takes `stale` for an error."""
+    """Ends at the denial `stale`, as if it were an error."""
 
     def denied(self, denied: Denied, look: Look, rule: Rule) -> bool:
         if denied.name == "stale":
@@ -35,7 +35,7 @@ class StopsAtStale(Bot):
 
 
 class StopsAtChosen(Bot):
-    """Takes `chosen` for an error."""
+    """Ends if a move is chosen at its node for which it didn't ask, as if that were an error."""
 
     def at(self, look: Look) -> None:
         """Exits if the node has a chosen move for which this bot didn't ask. Otherwise asks for its enabled rule."""
@@ -44,7 +44,7 @@ class StopsAtChosen(Bot):
         super().at(look)
 
     def ask(self, look: Look, rule: Rule) -> bool:
-        """Asks for the move, and notes that this bot did. Returns whether it was granted."""
+        """Notes the node and the configuration, and asks for the move. Returns whether it was granted."""
         self.__dict__.setdefault("mine", set()).add((look.node, look.at))
         return super().ask(look, rule)
 
@@ -71,7 +71,7 @@ class TakesTheNumberOfADenial(Bot):
 
 
 class TakesTheNewestNumber(Bot):
-    """Asks with the newest number of any look, even if the look at this node has another."""
+    """Asks with the newest number that it sees in a turn, even if the look at this node has another."""
 
     def turn(self) -> None:
         looks = [self.me.look(node) for node in self.slip.nodes]
@@ -102,7 +102,7 @@ class WaitsForTheStep(Bot):
 
 
 class TakesAGrantForAStep(Bot):
-    """Believes that a granted move has changed its register at once, and asks for what would follow."""
+    """Believes that a granted marriage has changed p at once, and asks for the update that would follow."""
 
     def ask(self, look: Look, rule: Rule) -> bool:
         granted = super().ask(look, rule)
@@ -119,7 +119,7 @@ class PlaysOneNode(Bot):
 
 
 class LeavesTheMarriedAlone(Bot):
-    """Never looks again at a node that is married."""
+    """Never looks again at a node that was married and had m true."""
 
     def turn(self) -> None:
         done = self.__dict__.setdefault("done", set())
@@ -130,11 +130,11 @@ class LeavesTheMarriedAlone(Bot):
                 if look.m and self.is_married(look):
                     done.add(node)
         if len(done) == len(self.slip.nodes):
-            self.me.see(self.slip.nodes[0])
+            self.me.see(self.slip.nodes[0])  # so that it notices the end of its connection
 
 
 class TakesTheEldestNumber(Bot):
-    """Asks with the number of its first look."""
+    """Asks always with the number of its first look, whichever node that was at."""
 
     def at(self, look: Look) -> None:
         first = self.__dict__.setdefault("first", look.at)
@@ -167,7 +167,7 @@ class NeverPauses(Bot):
 
 
 class SendsNumbersAsTexts(Bot):
-    """Puts the node's number into quotes."""
+    """Puts the node's number into quotes in each look, and ignores the reply."""
 
     def turn(self) -> None:
         for node in self.slip.nodes:
@@ -176,7 +176,7 @@ class SendsNumbersAsTexts(Bot):
 
 
 class MarriesWithoutAName(Bot):
-    """Leaves out the partner of a marriage."""
+    """Asks for each move without a partner, for a marriage too."""
 
     def ask(self, look: Look, rule: Rule) -> bool:
         try:

@@ -12,16 +12,19 @@ PAUSE = 0.05
 
 
 class Bot:
-    """A correct bot."""
+    """A correct bot. `slip` names its nodes, and `me` is its connection."""
 
     def __init__(self, slip: Slip) -> None:
+        """Makes a bot for the nodes of a slip. `play` connects it."""
         self.slip = slip
         self.me: Client
 
     # The connection.
 
     def play(self) -> None:
-        """Greets, and plays until the class is over."""
+        """Greets, and plays until the class is over. Connects again if the connection is lost, or is ended by the
+        refusal `busy`. Goes on after the refusal `memory`. Raises any other refusal, each denial that `denied` raises,
+        and what `again` raises at the end."""
         self.me = self.enter()
         while True:
             try:
@@ -33,15 +36,17 @@ class Bot:
                     raise
 
     def enter(self) -> Client:
-        """Connects and greets. Tries again each second if no seat is free."""
+        """Connects and greets. Tries again each second, for a minute, while no seat is free or the server is out of
+        memory."""
         return enter(self.slip)
 
     def again(self, lost: Closed | Refused) -> Client:
-        """Connects again after the connection was lost. Exits if the class is over."""
+        """Connects again after the error `lost` has ended a connection, and tries this for a minute. Raises `lost` if
+        it doesn't succeed, or the class is over."""
         return again(self.slip, lost)
 
     def loop(self) -> None:
-        """Looks at its nodes again and again."""
+        """Looks at its nodes again and again, with a pause after each turn. Ends only by an error."""
         while True:
             self.turn()
             time.sleep(PAUSE)
@@ -52,14 +57,14 @@ class Bot:
             self.at(self.me.look(node))
 
     def at(self, look: Look) -> None:
-        """Asks for the enabled rule of a node, unless its move is chosen already."""
+        """Asks for the enabled rule of the node of `look`, unless a move of this node is chosen already."""
         rule = self.rule(look)
         if rule and look.chosen is None:
             self.ask(look, rule)
 
     def ask(self, look: Look, rule: Rule) -> bool:
-        """Asks for a move by the rule at the node of `look`. Returns whether it was granted. If a step was closed
-        meanwhile, returns false."""
+        """Asks for a move by the rule at the node of `look`. Returns whether it was granted. If it was denied, returns
+        or raises what `denied` does."""
         try:
             self.me.move(look, rule, self.partner(look))
         except Denied as denied:
@@ -68,7 +73,7 @@ class Bot:
 
     def denied(self, denied: Denied, look: Look, rule: Rule) -> bool:
         """Handles the denial of the move by `rule` at the node of `look`. Returns false, so that the bot looks again.
-        Raises a denial that a correct bot doesn't get."""
+        Raises any denial that a correct bot doesn't get, all but `stale` and `chosen`."""
         if denied.name not in ("stale", "chosen"):
             raise denied
         return False
@@ -102,10 +107,10 @@ class Bot:
         return [near.node for near in look.near if near.node > look.node and near.p is None and not near.m]
 
     def pointed(self, look: Look) -> Near:
-        """Returns the neighbour that the node points at."""
+        """Returns the neighbour that the node points at. The node must point at one."""
         return next(near for near in look.near if near.node == look.p)
 
     def gives_up(self, look: Look) -> bool:
-        """Returns whether the node abandons the neighbour that it points at."""
+        """Returns whether the node abandons the neighbour that it points at. The node must point at one."""
         it = self.pointed(look)
         return it.p != look.node and (it.m or it.node < look.node)

@@ -35,7 +35,8 @@ class RepeatsTheLostLine(Bot):
 
 
 class MixesItsConnections(Bot):
-    """Looks at all its nodes, then connects anew if its connection is lost, and goes on with those looks."""
+    """Looks at all its nodes, and waits for a second. Then it asks by these looks, on a new connection if the old one
+    was lost."""
 
     def turn(self) -> None:
         looks = [self.me.look(node) for node in self.slip.nodes]
@@ -68,7 +69,8 @@ class SeesNoNewNeighbours(Bot):
         super().at(replace(look, near=tuple(near for near in look.near if near.node in ids)))
 
     def gives_up(self, look: Look) -> bool:
-        """Returns false if the node points at a neighbour that was dropped."""
+        """Returns false if the node points at a neighbour that was dropped. Otherwise returns whether it abandons the
+        neighbour that it points at."""
         return any(near.node == look.p for near in look.near) and super().gives_up(look)
 
 
@@ -128,7 +130,7 @@ class TakesTheLookBefore(Bot):
 
 
 class WaitsForNews(Bot):
-    """When there is nothing to ask, waits for a line of the server, as if it sent lines by itself."""
+    """Reads a line without a request after some turns with nothing to ask, as if the server sent lines by itself."""
 
     def loop(self) -> None:
         calm = 0
@@ -138,7 +140,7 @@ class WaitsForNews(Bot):
                 self.at(look)
             calm = calm + 1 if not any(self.rule(look) or look.chosen for look in looks) else 0
             if calm > 3:
-                self.me.limit = 1000.0
+                self.me.limit = 1000.0  # the seconds for which it waits
                 self.me._line()
             time.sleep(PAUSE)
 
@@ -175,14 +177,14 @@ class EndsAfterHalfAMinute(EndsAfterTenSeconds):
 
 
 class EndsWhenClosed(Bot):
-    """Ends when its connection was closed."""
+    """Ends when its connection is lost."""
 
     def again(self, lost: Closed | Refused) -> Client:
         raise lost
 
 
 class EndsWhenNobodyListens(Bot):
-    """Connects again once, and ends if nobody listens."""
+    """Connects again once, after a second, and ends if nobody listens."""
 
     def again(self, lost: Closed | Refused) -> Client:
         if isinstance(lost, Over):
@@ -205,7 +207,7 @@ class GivesUpAfterThreeSeconds(Bot):
 
 
 class ComesAgainTwice(Bot):
-    """Connects again twice in all."""
+    """Connects again twice in all, and ends when its connection is lost for the third time."""
 
     def again(self, lost: Closed | Refused) -> Client:
         self.__dict__["lost"] = self.__dict__.get("lost", 0) + 1

@@ -132,21 +132,21 @@ class AbandonsAtOnce(Bot):
 
 
 class ComparesTexts(Bot):
-    """Compares identifiers as texts, so that 10 is less than 9."""
+    """Compares identifiers as texts when it seduces, so that 10 is less than 9."""
 
     def candidates(self, look: Look) -> list[int]:
         return [near.node for near in look.near if str(near.node) > str(look.node) and near.p is None and not near.m]
 
 
 class LeavesOutItsOwn(Bot):
-    """Never seduces nodes of its own."""
+    """Never seduces a node of its own student."""
 
     def candidates(self, look: Look) -> list[int]:
         return [node for node in super().candidates(look) if node not in self.slip.nodes]
 
 
 class RemembersTheNeighbours(Bot):
-    """Uses the neighbours' registers of its first look at a node for ever."""
+    """Uses for ever the registers that the neighbours had in its first look at a node."""
 
     def at(self, look: Look) -> None:
         first = self.__dict__.setdefault("first", {}).setdefault(look.node, look)

@@ -20,7 +20,7 @@ class PollsBusily(Bot):
 
 
 class LeavesConnectionsOpen(Bot):
-    """Connects anew now and then, and leaves the old connection open."""
+    """Connects anew each second, and leaves the old connections open."""
 
     def turn(self) -> None:
         if time.monotonic() - self.__dict__.setdefault("since", time.monotonic()) > 1:
@@ -55,7 +55,7 @@ class ComesTooOftenWhenBusy(Bot):
 
 
 class MovesOneNode(Bot):
-    """Looks at all its nodes, and asks for the last one alone."""
+    """Looks at all its nodes, and asks for moves of the last one alone."""
 
     def at(self, look: Look) -> None:
         if look.node == self.slip.nodes[-1]:
@@ -63,7 +63,8 @@ class MovesOneNode(Bot):
 
 
 class WatchesOneNode(Bot):
-    """Looks at the first node of its slip, and at the others only if the number has changed."""
+    """Looks at the first node of its slip, and at the others only if the number has changed since there was nothing to
+    do."""
 
     def turn(self) -> None:
         first = self.me.look(self.slip.nodes[0])

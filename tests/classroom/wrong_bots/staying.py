@@ -13,7 +13,7 @@ from tests.classroom.wrong_bots.base import PAUSE, Bot
 
 
 class EndsWhenStable(Bot):
-    """Ends when no rule is enabled at its nodes for a moment."""
+    """Ends after four turns in which no rule is enabled at its nodes, and no move is chosen."""
 
     def loop(self) -> None:
         calm = 0
@@ -56,7 +56,7 @@ class EndsWhileAStepIsOpen(Bot):
 
 
 class GivesUpWhenBusy(Bot):
-    """Ends if no seat is free."""
+    """Ends if no seat is free, with the error for that."""
 
     def enter(self) -> Client:
         return Client.of(self.slip)
@@ -110,7 +110,7 @@ class ConnectsForEachLook(Bot):
 
 
 class TakesAllSeats(Bot):
-    """Opens connections until no seat is left."""
+    """Opens connections until no seat is left, and then plays on the first one."""
 
     def loop(self) -> None:
         kept = []
@@ -130,7 +130,7 @@ class GreetsTwice(Bot):
 
 
 class Reads(Bot):
-    """Reads replies incorrectly."""
+    """A bot that reads replies incorrectly. Each bot of this kind has its own `reading`."""
 
     def enter(self) -> Client:
         """Connects and greets. Returns a connection that reads incorrectly."""
@@ -142,7 +142,8 @@ class Reads(Bot):
         return self.reading(super().again(lost))
 
     def reading(self, it: Client) -> Client:
-        """Returns a connection that reads in this way."""
+        """Makes the connection `it` read lines incorrectly, and returns it. Each bot of this kind does so in its own
+        way."""
         raise NotImplementedError
 
 
@@ -163,7 +164,7 @@ class ReadsOnce(Reads):
 
 
 class ReadsAKilobyte(Reads):
-    """Reads a kilobyte of a reply, and drops the rest."""
+    """Uses the first kilobyte of a reply, and drops the rest."""
 
     def reading(self, it: Client) -> Client:
         whole = it._line
@@ -176,7 +177,7 @@ class ForgetsTheNewline(Bot):
 
     def turn(self) -> None:
         self.me._socket.sendall(b'{"do":"look","node":%d}' % self.slip.nodes[0])
-        self.me.limit = 1000.0
+        self.me.limit = 1000.0  # the seconds for which it waits
         self.me._line()
 
 

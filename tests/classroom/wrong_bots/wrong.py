@@ -17,7 +17,7 @@ from tests.classroom.wrong_bots.staying import STAYING  # noqa: E402
 
 
 def named(kind: type[Bot]) -> str:
-    """Returns the name of a bot: `never-updates` for the class `NeverUpdates`."""
+    """Returns the name of a bot on the command line, such as `never-updates` for the class `NeverUpdates`."""
     return re.sub("(?!^)([A-Z])", r"-\1", kind.__name__).lower()
 
 

@@ -28,8 +28,8 @@ fn is_read(found: Result<Vec<u8>, Fault>, wanted: Result<&[u8], Fault>) -> bool 
     }
 }
 
-/// Opens a journal at a path, and begins it by `begin_journal_with`, with the number 7 as what is needed. Returns
-/// whether the number is returned, and the journal's sink takes a whole line.
+/// Opens a journal at a path, and begins it by `begin_journal_with`, which also returns what else a task needs. Here
+/// that is the number 7. Returns whether this number is returned, and the journal's sink stores a whole line.
 fn is_begun(rt: &HostRuntime, path: &str) -> bool {
     let Ok(journal) = OpenJournal::open(rt, path, &[]) else {
         return false;
