@@ -43,7 +43,8 @@ class Lab:
         return [name for name in self.keys if name != self.teacher]
 
     def shared(self) -> dict[int, list[str]]:
-        """Returns the nodes with two owners, each with its owners. Nodes are in the order of the file's nodes, and owners in that of its students."""
+        """Returns the nodes with two owners in rising order, each with its owners in the order of the file's
+        students."""
         both = {i: owners for i, owners in sorted(self.owners.items()) if len(owners) == 2}
         return {i: [name for name in self.students() if name in owners] for i, owners in both.items()}
 

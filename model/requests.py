@@ -62,7 +62,8 @@ def check_letters(value: Any) -> None:
 
 
 def members(items: Iterable[tuple[str, Any]]) -> dict[str, Any]:
-    """Returns an object's members from its keys and values. If a key occurs twice, the last value counts. Raises `Malformed` like `check_letters`."""
+    """Returns an object's members from its keys and values. If a key occurs twice, the last value counts. Raises
+    `Malformed` if a string in them contains half of a surrogate pair."""
     found = {}
     for key, value in items:
         check_letters(key)

@@ -120,8 +120,8 @@ def lines_by_reply(lab: Lab, said: list[Said], word: str, key: str, columns: tup
 
 
 def bounds(world: World) -> list[object]:
-    """Returns the tally's line `bounds`, with limits for a run until its network is stable: the most moves, 3n + 2
-    min(L, n²/4), the most rounds, 2n (or 2n - 1 if n is odd), and the most grants and closes, twice the moves."""
+    """Returns the tally's line `bounds`, with the greatest numbers until a network is stable: 3n + 2 min(L, n²/4)
+    moves, 2n rounds (one fewer if n is odd), and twice as many grants and closes together as moves."""
     nodes, links = len(world.links), sum(map(len, world.links.values())) // 2
     moves = 3 * nodes + 2 * min(links, nodes * nodes // 4)
     return ["bounds", moves, 2 * nodes - nodes % 2, 2 * moves]

@@ -20,6 +20,7 @@ def drawn_run(rng: Random, lab: Lab) -> Recording:
         if rng.random() < 0.03:
             run.leave(seat)
         asked = drawing.drawn(seat)
+        # A request with a newline would be more than one line.
         if b"\n" not in asked:
             run.answer(seat, asked)
     for seat in seats:

@@ -146,7 +146,7 @@ class WaitsForNews(Bot):
 
 
 class EndsWhenMarried(Bot):
-    """Ends when its nodes are married and know it."""
+    """Ends when all its nodes are married and have m true."""
 
     def turn(self) -> None:
         super().turn()

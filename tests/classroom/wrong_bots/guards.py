@@ -9,7 +9,7 @@ from tests.classroom.wrong_bots.base import Bot
 
 
 class NeverUpdates(Bot):
-    """Knows only three of the four rules, without the update."""
+    """Never asks for an update, and asks for nothing at a node that needs one."""
 
     def rule(self, look: Look) -> Rule | None:
         return None if look.m != self.is_married(look) else super().rule(look)
