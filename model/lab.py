@@ -43,8 +43,7 @@ class Lab:
         return [name for name in self.keys if name != self.teacher]
 
     def shared(self) -> dict[int, list[str]]:
-        """Returns the nodes with two owners in rising order, each with its owners in the order of the file's
-        students."""
+        """Returns the nodes with two owners in rising order, each with its owners in the order of the students."""
         both = {i: owners for i, owners in sorted(self.owners.items()) if len(owners) == 2}
         return {i: [name for name in self.students() if name in owners] for i, owners in both.items()}
 
