@@ -186,7 +186,7 @@ class Slip:
 
     @staticmethod
     def read(path: str | Path) -> Slip:
-        """Returns the slip in a file, or for `-` the slip in the environment. Raises NoSlip if it can't be read or isn't a slip."""
+        """Returns the slip in a file, or for `-` that in the environment variable CENDUWA_SLIP. Raises NoSlip if it can't be read or isn't a slip."""
         lines = [line.split(None, 1) for line in text_of(path, SLIP).splitlines() if not line.startswith("#")]
         it = {words[0]: words[1].strip() for words in lines if len(words) == 2}
         if missing := [word for word in ("port", "name", "key") if word not in it]:
@@ -199,7 +199,7 @@ class Slip:
 
     @staticmethod
     def of(words: list[str]) -> tuple[Slip, list[str]]:
-        """Returns the slip that the arguments name, SLIP or PORT NAME KEYFILE NODE,.., and the arguments after it. Raises NoSlip if they name none."""
+        """Returns a slip by the arguments SLIP, or PORT NAME KEYFILE and perhaps NODE,.., and the arguments after these. Raises NoSlip if they are wrong."""
         if words and not words[0].isdecimal():
             return Slip.read(words[0]), words[1:]
         if len(words) < 3:
@@ -209,7 +209,7 @@ class Slip:
 
 
 def text_of(path: str | Path, variable: str = "") -> str:
-    """Returns the text of a file. If a variable is given, `-` stands for its value in the environment. Raises NoSlip if the text can't be read."""
+    """Returns the text of a file, or for `-` the value of the environment variable `variable`, if one is named. Raises NoSlip if the text can't be read."""
     if variable and str(path) == "-":
         if variable not in os.environ:
             raise NoSlip(f"the environment variable {variable} isn't set")
@@ -221,7 +221,7 @@ def text_of(path: str | Path, variable: str = "") -> str:
 
 
 def key_of(word: str) -> str:
-    """Returns the key in the file `word`, which has only the key or is a slip, or for `-` the key in the environment. Raises NoSlip if there is none."""
+    """Returns the key in the file `word`, which is a slip or has only the key, or for `-` the value of CENDUWA_KEY. Raises NoSlip if it can't be read."""
     text = text_of(word, KEY)
     found = word != "-" and re.search(r"^key\s+(.+)$", text, re.MULTILINE)
     return found[1] if found else text if word == "-" else text.strip()
@@ -278,7 +278,7 @@ def connected(port: int, limit: float, slip: Slip | None = None, host: str = "12
         if it is not None:
             it.close()
             if isinstance(error, ConnectionError) or type(error).__name__ in ("SSLEOFError", "SSLZeroReturnError"):
-                raise Refused("busy") from None
+                raise Refused("busy") from None  # A full door accepts a connection, and closes it at once.
         where = f"door at {slip.door}" if slip and slip.door else f"server at port {port}"
         raise error if isinstance(error, NoDoor) else NoServer(f"no {where}: {error}") from None
 
@@ -383,7 +383,7 @@ class Client:
         raise Moving(f"in {tries} attempts the configuration changed between two looks: try again")
 
     def move(self, look: Look, rule: Rule | None = None, partner: int | None = None) -> Move:
-        """Asks for a move by the look's rule, or by `rule`. Marries `partner`, or the highest node that points here. Raises Malformed if there is none."""
+        """Asks for a move by `rule` or the look's rule. Marries `partner`, or the highest node that points here. Raises Malformed without a rule or partner."""
         if rule is None and look.rule is None:
             raise Malformed(f"the look at node {look.node} shows no rule: ask for no move there, or name a rule")
         request: dict[str, object] = {"do": "move", "node": look.node, "at": look.at, "rule": rule or look.rule}
@@ -482,7 +482,7 @@ def goes_on(error: Denied | Refused) -> bool:
 
 
 def enter(slip: Slip, patience: float = 60.0) -> Client:
-    """Returns a connection by a slip, after its hello. While no seat is free or the server is out of memory, retries each second, for `patience` seconds."""
+    """Returns a connection by a slip, after its hello. If no seat or memory is free, retries each second, and raises Refused after `patience` seconds."""
     end = time.monotonic() + patience
     while True:
         try:
@@ -508,7 +508,7 @@ def again(slip: Slip, lost: Closed | Refused, patience: float = 60.0) -> Client:
 
 
 def run(program: Callable[[list[str]], None], usage: str) -> None:
-    """Calls `program` with the command line's arguments, or exits with `usage` if there are none. On an error of this module, prints a line and exits."""
+    """Calls `program` with the command line's arguments. Exits with `usage` for no arguments or --help, and with a line for an error of this module."""
     words = sys.argv[1:]
     if not words or words[0] in ("-h", "--help"):
         sys.exit(usage)
@@ -596,7 +596,7 @@ def hint_for_json(line: str, error: json.JSONDecodeError) -> str:
 
 
 def meant(word: str, known: Iterable[str]) -> str:
-    """Returns the known word that is most similar to another, as a question in parentheses, or an empty text."""
+    """Returns the word of `known` that is most similar to `word`, as a question in parentheses, or an empty text if none is similar."""
     found = difflib.get_close_matches(word.lower(), list(known), 1, 0.6)
     return f" (did you mean {found[0]}?)" if found else ""
 
@@ -619,7 +619,7 @@ def hint_for_value(kind: str, value: object) -> str:
 
 
 def hint_for_key(key: str, asked: dict[str, Any]) -> str:
-    """Returns a guess, in parentheses, which of the keys of `asked` was written in place of the missing key, or an empty text."""
+    """Returns a hint, in parentheses or empty, about the missing key `key` of `asked`: the key that was perhaps written instead, or what `with` means."""
     if key == "do" and (word := next((each for each in asked if each in KEYS), None)):
         return f' (write {{"do":"{word}"}} for {word})'
     near = next((each for each in asked if each not in ("do", key) and (each.lower() == key or meant(each, [key]))), None)
@@ -637,7 +637,7 @@ def whole(text: str) -> int | float:
 
 
 def wrong_value(value: object, deep: int = 1) -> str | None:
-    """Returns what is wrong with a value under any key, at most DEEPEST levels deep, or None if nothing is. `deep` is the level of the value itself."""
+    """Returns what is wrong with a value under any key, or None: half a surrogate pair, infinity, or more than DEEPEST levels. `deep` is its own level."""
     if isinstance(value, str) and any("\ud800" <= char <= "\udfff" for char in value):
         return "a text has only half of a surrogate pair"
     if isinstance(value, float) and abs(value) == float("inf"):
@@ -651,7 +651,7 @@ def wrong_value(value: object, deep: int = 1) -> str | None:
 
 
 def wrong_keys(asked: object) -> str | None:
-    """Returns what is wrong with the keys of a request, or None if nothing is."""
+    """Returns what is wrong with a request's keys or with the kinds of their values, or None if nothing is. `asked` may be any JSON value."""
     if not isinstance(asked, dict):
         return f"the line is {said(asked)}, not an object"
     if "do" not in asked:
@@ -696,7 +696,7 @@ class ByHand:
         print(f"client: {text}", file=sys.stderr, flush=True)
 
     def send(self, line: str, typed: bool = True) -> None:
-        """Sends a line and prints the reply. If the line was `typed` by a person and is wrong, prints why before that. No key is written to the log."""
+        """Sends a line, prints the reply, and sets `ended` at the connection's end. First prints what is wrong with a line if it was `typed`. Logs no key."""
         if typed and (note := wrong(line)):
             self.note(note)
             self.keep(f"! {note}")
@@ -740,7 +740,7 @@ async def carry(reader: Any, writer: Any) -> None:
 
 
 async def tunnel(slip: Slip, port: int) -> None:
-    """Listens on a local port, and forwards each connection through the slip's door, until interrupted. Raises NoSlip if the port can't be used, or what `connected` raises."""
+    """Listens on a local port, and forwards each connection through the slip's door. Raises NoSlip if the port can't be used, or what `connected` raises."""
     import asyncio
 
     async def lead(reader: Any, writer: Any) -> None:

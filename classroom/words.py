@@ -171,7 +171,8 @@ def parser(asked: str | None = None) -> argparse.ArgumentParser:
 
 def main(words: list[str] | None = None) -> int:
     """Runs the subcommand that the arguments name, those of the command line if `words` is None. Returns the exit
-    status. Raises `SystemExit` if the arguments are wrong or ask for help."""
+    status. If the subcommand fails, prints a line about the error, unless only its output was closed by a reader.
+    Raises `SystemExit` if the arguments are wrong or ask for help."""
     given = sys.argv[1:] if words is None else words
     if given[:1] == ["--version"]:
         print(f"class {version()}")

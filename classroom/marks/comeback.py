@@ -24,7 +24,8 @@ class Comeback:
     """A counter of recoveries, event by event."""
 
     def __init__(self, lab: labs.Lab) -> None:
-        """Begins with the network of a lab, as it is before the first event."""
+        """Begins with the network of a lab, as it is before the first event. `hurt` notes whether an edit has come, and
+        `missed` whether the counts of the present recovery aren't known (`miss`)."""
         self.nodes = len(lab.nodes)
         self.links = {frozenset(link) for link in lab.links}
         self.recovery: Recovery | None = None
@@ -43,8 +44,9 @@ class Comeback:
         self.missed = True
 
     def close(self, moved: Collection[int], before: Collection[int], after: Collection[int]) -> str:
-        """Counts a close, by the nodes that moved and the nodes that were privileged before and after it. Returns the
-        line with the counts if no node is privileged any longer, and an empty text otherwise."""
+        """Counts a close, by the nodes that moved and the nodes that were privileged before and after it. Returns an
+        empty text if a node is still privileged. Otherwise returns the line about the recovery, with its counts unless
+        they aren't known (`miss`)."""
         if self.recovery is None:
             self.recovery = Recovery(before)
         self.recovery.step(moved, after)
@@ -96,8 +98,8 @@ class Recount(Replay):
         return takes
 
     def counts(self) -> list[int]:
-        """Takes all events of the journal in turn, and counts its recoveries. Returns the places of the closes after
-        which no node was privileged."""
+        """Replays all events of the journal, and counts its recoveries. Returns the places of the closes after which no
+        node was privileged."""
         for _ in self.replies():
             pass
         return self.rests

@@ -31,7 +31,7 @@ class Hider:
 
     def without_keys(self, text: str) -> str:
         """Returns the text of a JSON object without keys. Replaces each value of `key`, and each text that contains
-        somebody's key."""
+        somebody's key. If a value of `key` isn't a text, hides it and all that follows."""
         pieces: list[str] = []
         at, hides = 0, False
         for found in TEXT.finditer(text):
@@ -56,10 +56,12 @@ class Hider:
         found = [at for at in (plain.find(unescaped(key)) for key in self.keys) if at >= 0]
         if not found:
             return None
+        # The position in `plain` counts only characters that aren't backslashes, so these are counted in `text` too.
         return next(islice((at for at, char in enumerate(text) if char != ESCAPE), min(found), None), len(text))
 
     def beginning(self, text: str) -> str:
-        """Returns the part of a text before the first place at which a key may be."""
+        """Returns the part of a text before the first place at which a key may be. If that isn't the whole text, adds
+        how many characters are hidden."""
         found = re.search(r"key|\\u", text, re.IGNORECASE)
         shown = text[:found.start()] if found else text
         shown = shown[:self.first_key(shown)]

@@ -44,7 +44,8 @@ Said = tuple[Vouched, Session, set[str]]  # a session with its record, and the n
 @dataclass(frozen=True)
 class Row:
     """One row of a history: a line with its reply, the end of a connection, or an event. `place` is the number of
-    events up to it, including an event itself."""
+    events up to it, including an event itself. `denied` is the name of the denial or refusal in the reply. `event` is a
+    text about what else happened."""
 
     place: int
     seat: int = 0
@@ -107,8 +108,8 @@ def sessions_of(parts: list[Vouched]) -> list[Said]:
 
 def rows_of(every: list[Said], name: str, hider: Hider) -> list[Row]:
     """Returns the rows of all sessions of the student or teacher `name`, in the order of their places. `every` has the
-    sessions of all, and `hider` hides keys. At one place, the part of a session up to its hello is listed before other
-    rows."""
+    sessions of all, and `hider` hides keys. Rows with the same place stay in the order of the sessions and of their
+    entries."""
     found: list[Row] = []
     for number, (part, said, _) in enumerate((each for each in every if name in each[2]), 1):
         count, latest = beginning(said)
@@ -236,8 +237,8 @@ def guarded_rows(rows: list[Row]) -> list[tuple[int, str]]:
 
 def own_page(title: str, name: str, lab_file: Path, journal: Path, told: list[str], lines: list[Row]) -> str:
     """Returns the page of the run with this lab and journal for the student `name`, as HTML. Beside the player it has
-    the given lines, which are about the records, and the rows in `lines`, which have what the student sent. Each denial
-    is at its moment, with the part of the guard that failed. `title` is the page's title."""
+    the given lines, which are about the records, and the rows in `lines`, which have what the student sent. A denial by
+    a guard has the part of the guard that failed beside it. `title` is the page's title."""
     kept_layout.load(lab_file.parent)
     lab, frames = frames_of(lab_file, journal)
     happened = events(journal.read_text(encoding="ascii"))
@@ -248,6 +249,7 @@ def own_page(title: str, name: str, lab_file: Path, journal: Path, told: list[st
 def with_steps(lab: labs.Lab, journal: list[Event], name: str, lines: list[Row]) -> list[Row]:
     """Returns the rows `lines`, which have what the student `name` sent, in one order with rows for the steps between
     them, which are in `journal`."""
+    # An entry's place counts the events before it. If its reply has a place, the entry granted the next event.
     own = {row.place + 1 for row in lines if '"place":' in row.reply}
     return merged(lines, [*steps(lab, journal, name, own)])
 
@@ -261,8 +263,8 @@ def hider_of(parts: list[Vouched], lab: labs.Lab) -> Hider:
 
 
 def history(words: argparse.Namespace) -> int:
-    """Prints what a student's connections sent, or writes it as a page. Returns the exit status. Raises `Fault` if
-    `verify` refuses a record."""
+    """Prints what a student's connections sent, as text or as CSV, or writes it as a page. Returns the exit status.
+    Raises `Fault` if the run has no record, or no student or teacher of that name, or if `verify` refuses a record."""
     name = words.name
     run = classes.run_of(Path(words.folder), name)
     lab_file, journal = folders.of_folder(run)

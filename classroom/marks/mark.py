@@ -56,7 +56,8 @@ NONE = Recorded("this run has no record, so requests and denials aren't known")
 
 @dataclass(frozen=True)
 class Run:
-    """A journal that the audit accepts, with its tally and the verdicts on its records."""
+    """A journal that the audit accepts, with its lab, its tally, the pairs at its end, and the verdicts on its
+    records."""
 
     lab_file: Path
     journal: Path
@@ -227,8 +228,9 @@ def shared(run: Run) -> list[str]:
 
 
 def text(runs: list[Run], rule: Rule | None = None) -> str:
-    """Returns the marks as text for people: for each run a line about it, its table, and its recoveries. The table has
-    the results of the rule if one is given."""
+    """Returns the marks as text for people: for each run a line about it, the verdicts on its records, its table, its
+    shared nodes and its recoveries. The table has the results of the rule if one is given. At the end are the notes in
+    UNTOLD."""
     lines = []
     for run in runs:
         table = [[*row[1:NETWORK], *row[NETWORK + 1:]] for row in rows([run], rule)]
@@ -245,8 +247,9 @@ def as_json(runs: list[Run], rule: Rule | None = None) -> str:
 
 
 def mark(words: argparse.Namespace) -> int:
-    """Prints the marks of all runs that the arguments name, in the chosen form. Returns the exit status. Raises `Fault`
-    if a run can't be marked."""
+    """Prints the marks of all runs that the arguments name, in the chosen form, or only explains the columns. Returns
+    the exit status. The status is WARNED if a record is refused, if the class list lacks a student, or if the second
+    count differs. Raises `Fault` if a run can't be marked."""
     if words.columns:
         print(columns.listing(), end="")
         return 0

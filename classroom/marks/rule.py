@@ -129,7 +129,7 @@ def line_of(tokens: list[tuple[str, str]], number: int, known: Sequence[str]) ->
 
 def tokens_of(text: str) -> list[tuple[str, str]]:
     """Returns the tokens of a line, each as its kind and its text. Ignores a comment, which begins with `#`. Raises
-    `Wrong` if a character fits no token."""
+    `Wrong` if a character fits no token, or a number has more than MOST_DIGITS digits."""
     found, at = list[tuple[str, str]](), 0
     while text[at:].strip() and not text[at:].lstrip().startswith("#"):
         token = TOKEN.match(text, at)
@@ -162,7 +162,8 @@ class Parser:
         self.tokens, self.names, self.depth = tokens, names, 0
 
     def take(self, *texts: str) -> str:
-        """Removes the next token and returns its text, if it is one of these texts. Returns an empty text otherwise."""
+        """Removes the next token and returns its text, if it is one of these texts. Otherwise, also for a quoted text,
+        returns an empty text."""
         if self.tokens and self.tokens[0][0] != "text" and self.tokens[0][1] in texts:
             return self.tokens.pop(0)[1]
         return ""
@@ -173,7 +174,8 @@ class Parser:
             raise Wrong(f"{text!r} is missing {f'before {self.tokens[0][1]!r}' if self.tokens else 'at the end'}")
 
     def choice(self) -> Expression:
-        """Reads `A if CONDITION else B`, or an expression without `if`."""
+        """Reads `A if CONDITION else B`, or an expression without `if`. Also raises `Wrong` if more than MOST_DEPTH
+        such expressions are inside each other."""
         self.depth += 1
         if self.depth > MOST_DEPTH:
             raise Wrong(f"there are more than {MOST_DEPTH} parentheses or conditions inside each other")
@@ -256,7 +258,8 @@ class Parser:
         return self.call_of(text) if text in FUNCTIONS else self.named(text)
 
     def call_of(self, name: str) -> Expression:
-        """Reads the arguments of the function with that name. Returns the expression that calls it."""
+        """Reads the arguments of the function with that name, whose token is already removed. Returns the expression
+        that calls it."""
         self.expect("(")
         given = [self.choice()]
         while self.take(","):
@@ -267,7 +270,8 @@ class Parser:
         return called(name, given)
 
     def named(self, name: str) -> Expression:
-        """Returns the expression for the column or earlier line with that name."""
+        """Returns the expression for the column or earlier line with that name, whose token is already removed. Raises
+        `Wrong` if there is none."""
         if name not in self.names:
             raise Wrong(f"there is no column or earlier line called {name}; `class mark --columns` lists the columns")
         return lambda row: row[name]
@@ -336,8 +340,8 @@ def of_two(left: Expression, right: Expression, made: Callable[[Known, Known], K
 
 
 def comparison(sign: str, left: Expression, right: Expression) -> Expression:
-    """Returns the expression that compares two values by this sign. `==` and `!=` take two values of one kind, and the
-    other signs two numbers."""
+    """Returns the expression that compares two values by this sign. `==` and `!=` compare two values of one kind, and
+    the other signs two numbers."""
     def holds(one: Known, other: Known) -> bool:
         """Returns whether the comparison of two values by `sign` is true. Raises `Wrong` if they can't be compared
         so."""

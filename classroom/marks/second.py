@@ -36,7 +36,8 @@ def difference(word: str, *files: Path) -> str:
 def differences(lab: Path, journal: Path) -> list[str]:
     """Returns a line for each difference in a run: in its tally, and in each record in its folder.
 
-    Copies the journal first, since both programs must read the same bytes while the run continues."""
+    Copies the journal first, since both programs must read the same bytes while the run continues. Leaves out a record
+    that can't be copied."""
     found = []
     with tempfile.TemporaryDirectory() as room:
         copy = Path(room) / "journal"

@@ -84,8 +84,9 @@ Runs = list[Marked]
 
 
 def summed(runs: Runs) -> dict[str, tuple[Person, Total]]:
-    """Returns each person with the totals over all runs, by a text that identifies the person. Two students of
-    different labs are the same person if they have the same identifier, or without one the same name in the lab."""
+    """Returns each person with the totals over all runs, by a text that identifies the person. Leaves out the house.
+    Two students of different labs are the same person if they have the same identifier, or without one the same name in
+    the lab."""
     found: dict[str, tuple[Person, Total]] = {}
     for run in runs:
         lab, asked = run.lab, run.asked
@@ -116,8 +117,8 @@ def by_labs(runs: Runs, rule: Rule | None = None) -> list[list[str]]:
 
 def by_roster(runs: Runs, roster: People, rule: Rule | None = None) -> tuple[list[list[str]], list[str]]:
     """Returns the table of the class list `roster`, with the totals over these runs, and the results of a rule, after
-    each of its rows. Also returns the names, as in the class list of the labs, of the persons in the labs whom `roster`
-    lacks."""
+    each of its rows. A row without a person gets empty cells there. Also returns the names, as in the class list of the
+    labs, of the persons in the labs whom `roster` lacks."""
     left = summed(runs)
     heads, names = roster.heads or ["name"], rule.names if rule else []
     rows = [[*heads, *HEADS, *names]]

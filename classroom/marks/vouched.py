@@ -28,7 +28,8 @@ UNENDED = "the server is still running or was killed, so the last entries of thi
 
 @dataclass(frozen=True)
 class Vouched:
-    """A copy of a record with its lab and the journal, and the verdict on it."""
+    """A copy of a record with its lab and the journal, and the verdict on it: a status, which is 0 if the record is
+    accepted, and the line that says why."""
 
     record: Path
     copy: Path
@@ -114,8 +115,8 @@ def is_open(seat: Path) -> bool:
 
 
 def mark_incomplete(into: Path) -> None:
-    """Marks the copy of a record as one in which entries may be missing. Appends a session that was cut off to a seat,
-    if possible to one without an open session."""
+    """Marks the copy of a record as one in which entries may be missing, so that `verify` accepts events that no entry
+    grants. Appends a session that was cut off to a seat, if possible to one without an open session."""
     events = (into / "journal").read_bytes().count(b"\n")
     for file in sorted(seats(into), key=is_open)[:1]:
         seat = file.name.partition(".")[0]
@@ -140,8 +141,8 @@ def vouched(run: Path) -> Iterator[list[Vouched]]:
 def vouch(record: Path, into: Path, journal: bytes, is_whole: bool, lives: bool) -> Vouched:
     """Copies a record with the text `journal` into the new folder `into`, verifies the copy, and returns it with the
     verdict. The verdict is a refusal if the record can't be read or has another lab than the run's. `is_whole` says
-    whether the server ended as it should; otherwise the record may lack its last entries. `lives` says whether the
-    server is running."""
+    whether the server ended as it should. Otherwise the record may lack its last entries, so a copy that is refused is
+    verified again as an incomplete one. `lives` says whether the server is running."""
     into.mkdir()
     try:
         copy_record(record, into, journal)
@@ -166,7 +167,8 @@ def verdict(answer: Answer) -> str:
 
 
 def has_lab_of(run: Path, copy: Path) -> bool:
-    """Returns whether the lab of a copy agrees with the run's lab in all that a journal refers to."""
+    """Returns whether the lab of a copy agrees with the run's lab in all that a journal refers to. Returns False if the
+    labs differ as files and one of them is refused. Raises `Fault` if the run's lab can't be read."""
     if (copy / "lab").read_bytes() == plain.read(run / "lab.toml", limits.allowed().lab):
         return True
     try:
@@ -176,5 +178,5 @@ def has_lab_of(run: Path, copy: Path) -> bool:
 
 
 def verified(copy: Path) -> Answer:
-    """Returns the output and status of the command `verify` for the copy of a record."""
+    """Runs the command `verify` for the copy of a record. Returns its output and status."""
     return host_call("verify", copy / "lab", copy / "journal", copy)

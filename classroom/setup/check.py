@@ -26,8 +26,8 @@ KNOWN = {
     "student": ("name", "key", "written", "id"),
     "node": ("id", "owner", "owners", "p", "m"),
 }
-ABOVE = "above"  # stands for an advice: to write a key of the document above all tables
-MOST_LISTED = 8
+ABOVE = "above"  # in place of a similar key: the key belongs above all tables
+MOST_LISTED = 8  # the most nodes that a warning names
 ENOUGH_BITS = 64  # the bits that a key needs if a person may have chosen it
 ENOUGH_DRAWN = keys.bits_of(keys.WORDS_EACH, keys.DIGITS)  # the bits that a key needs if it was drawn by lot, as `new` does
 KINDS = (string.ascii_lowercase, string.ascii_uppercase, string.digits, string.punctuation)  # the kinds of characters of which a key is taken to be drawn
@@ -57,8 +57,8 @@ def suggestion(key: str, meant: str) -> str:
 
 
 def hint_of(error: str) -> str:
-    """Returns what the format allows, for an error of the program that doesn't say it, or an empty text. Without the
-    limits of the program there is none."""
+    """Returns what the format allows, for an error of the program that doesn't say it. Returns an empty text for any
+    other error, or if the program doesn't print its limits."""
     most = limits.known()
     what = re.sub(r"^lab: (?:\w+ \d+: )?", "", error)
     hints = {} if most is None else {
@@ -145,8 +145,8 @@ def nearest(key: str, known: Iterable[str]) -> str | None:
 
 
 def is_drawn(key: str) -> bool:
-    """Returns whether a person's key looks like one that `new` has drawn at random, with at least as many words of the
-    list."""
+    """Returns whether a person's key looks like one that `new` has drawn at random: it consists of words of the list
+    and numbers, and has at least as many words as such a key."""
     parts = keys.count_parts(key)
     return parts is not None and parts[0] >= keys.WORDS_EACH
 
@@ -161,15 +161,17 @@ def bits(key: str) -> float:
 
 
 def bits_of_letters(key: str) -> float:
-    """Returns an upper bound on the bits of a person's key by its length, the kinds of its letters, and the number of
-    different letters."""
+    """Returns an upper bound on the bits of a person's key by its length, the kinds of its characters, and the number
+    of different ones."""
     letters = set(key)
+    # Each character counts as drawn from its kinds, but from at most twice as many characters as the key has different
+    # ones. If all characters are the same, each adds almost nothing.
     return len(key) * math.log2(max(2, min(letters_of_kinds(letters), 2 * len(letters))) if len(letters) > 1 else 1.01)
 
 
 def letters_of_kinds(letters: set[str]) -> int:
-    """Returns how many letters the kinds of these letters have together: lower case, upper case, digits and
-    punctuation. OTHERS is added if one of these letters, such as a space, is of no kind."""
+    """Returns how many characters the kinds of these characters have together. The kinds are lower case, upper case,
+    digits and punctuation. OTHERS is added if one of these characters, such as a space, is of no kind."""
     others = letters.difference(*KINDS)
     return sum(len(kind) for kind in KINDS if letters.intersection(kind)) + (OTHERS if others else 0)
 
@@ -185,7 +187,8 @@ def effort(key: str) -> str:
 
 
 def example_keys() -> set[str]:
-    """Returns the keys of all persons in the example labs and in the program's own lab, which are public."""
+    """Returns the keys of all persons in the example labs and in the lab that is built into the program. These keys are
+    public."""
     found = {"chalk", "a-key", "b-key", "c-key"}
     for path in (TOP / "examples").glob("*.toml"):
         it = labs.document(path)
@@ -289,8 +292,9 @@ def size_line(path: Path, told: str) -> str:
 
 
 def check(words: argparse.Namespace) -> int:
-    """Prints the program's verdict on a lab, and warnings. Returns 0, 5 if there are warnings, or the program's
-    status if it refuses the lab."""
+    """Prints the program's verdict on a lab, and warnings. If the program refuses the lab, prints the line of the error
+    instead, and hints. Returns 0, 5 if there are warnings, or the program's status if it refuses the lab or can't read
+    it."""
     path = Path(words.lab)
     answer: Answer = call("check", path)
     if answer.status != 0:

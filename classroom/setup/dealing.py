@@ -33,7 +33,8 @@ def in_groups(people: list[str], count: int) -> list[list[str]]:
 
 
 def require_students(count: int, students: int) -> None:
-    """Raises `Fault` unless there can be `count` groups, each with one of this number of students."""
+    """Raises `Fault` unless this number of students can be divided into `count` groups with at least one student
+    each."""
     if not 1 <= count <= students:
         raise Fault(f"--groups {count}: each of the groups needs a student. Write a number from 1 to {students}")
 
@@ -83,7 +84,7 @@ def deal(identifiers: list[int], students: list[str], each: int) -> list[labs.No
 
 
 def counts(made: labs.Lab) -> str:
-    """Returns how many students of a lab have how many nodes, as a text."""
+    """Returns how many students of a lab have how many nodes, as a text. The house isn't counted."""
     shown = made.without_house()
     found = Counter(len(shown.nodes_of(name)) for name in shown.students)
     told = (f"{students} with {plural(nodes, 'node')}" for nodes, students in sorted(found.items(), reverse=True))
@@ -91,8 +92,9 @@ def counts(made: labs.Lab) -> str:
 
 
 def table(labs_of: dict[str, labs.Lab], rooms: dict[str, str]) -> Iterator[str]:
-    """Yields the lines of a table with all students: their names in the list and in the lab, network, room and nodes.
-    `labs_of` has the lab of each network, and `rooms` its room."""
+    """Yields the lines of a table with all students but the house: their names in the list and in the lab, network,
+    room and nodes. `labs_of` has the lab of each network, and `rooms` its room. If no network has a room, the table has
+    no column for rooms."""
     has_rooms = any(rooms.values())
     lines = [["student", "name", "network", *(["room"] if has_rooms else []), "nodes"]]
     for network, made in labs_of.items():

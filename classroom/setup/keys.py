@@ -22,12 +22,14 @@ def for_people() -> str:
 
 
 def for_programs() -> str:
-    """Returns a new random key that nobody types."""
+    """Returns a new random key of 32 hexadecimal digits, for the teacher or the house. Nobody has to type it, since a
+    file contains it."""
     return secrets.token_hex(KEY_BYTES)
 
 
 def count_parts(key: str) -> tuple[int, int] | None:
-    """Returns the numbers of words and of digits in a key, or None if the key has other parts."""
+    """Returns the number of words of the list in a key, and the number of digits in its other parts. Returns None if
+    the key has parts of another kind."""
     parts = key.split("-")
     digits = [part for part in parts if part.isascii() and part.isdecimal()]
     words = [part for part in parts if part in KNOWN]

@@ -20,6 +20,7 @@ SPELLED |= dict(zip(
 SPELLED |= dict(zip(
     "αβγδεζηθικλμνξοπρσςτυφχψω", "a v g d e z i th i k l m n x o p r s s t y f ch ps o".split(" "), strict=True,
 ))
+# The beginnings of names of letters in Unicode whose last word says how the letter sounds, as `KATAKANA LETTER KA`.
 NAMED = ("HIRAGANA LETTER", "KATAKANA LETTER", "HANGUL SYLLABLE", "GEORGIAN LETTER", "ARMENIAN SMALL LETTER")
 # Letters whose name says how they sound, as `ARABIC LETTER MEEM`.
 SOUNDS = {
@@ -30,6 +31,7 @@ SOUNDS = {
     "feh": "f", "qaf": "q", "lam": "l", "meem": "m", "noon": "n", "heh": "h", "waw": "w", "yeh": "y", "peh": "p", "gaf": "g",
     "hamza": "", "marbuta": "a", "maksura": "a",
 }
+# Scripts whose letters have such names too, as `TAMIL LETTER KA` and `TAMIL VOWEL SIGN AA`.
 SYLLABLES = ("DEVANAGARI", "BENGALI", "GURMUKHI", "GUJARATI", "TAMIL", "TELUGU", "KANNADA", "MALAYALAM", "SINHALA")
 
 
@@ -59,14 +61,15 @@ def sounds(named: list[str]) -> str | None:
         return next((SOUNDS[word.lower()] for word in reversed(named) if word.lower() in SOUNDS), None)
     if named[0] in SYLLABLES and (named[1] == "LETTER" or named[1:3] == ["VOWEL", "SIGN"]):
         return named[-1].lower() if named[-1].isalpha() else None
-    if named[:2] == ["THAI", "CHARACTER"]:
+    if named[:2] == ["THAI", "CHARACTER"]:  # For example, THAI CHARACTER SARA I, or THAI CHARACTER KO KAI.
         return named[-1].lower() if named[2] == "SARA" else named[2].lower().removesuffix("o")
     return None
 
 
 def lab_name(name: str) -> str:
-    """Returns a name as a lab has it: `zoe-mueller` for `Zoë Müller` and for `Müller, Zoë`. The result is empty if none
-    of the name's letters is known. Different persons may get the same name."""
+    """Returns a name as a lab has it: `zoe-mueller` for `Zoë Müller` and for `Müller, Zoë`. If the result would begin
+    with a digit, it gets `s-` before it. It is cut if it is longer than a name may be. The result is empty if none of
+    the name's letters is known. Different persons may get the same name."""
     last, comma, first = name.partition(",")
     folded = unicodedata.normalize("NFC", f"{first} {last}" if comma and "," not in first else name).lower()
     spelled = "".join("-" if char.isspace() or char in "-_.,/" else letters(char) for char in folded)
@@ -81,8 +84,9 @@ def with_end(short: str, end: str) -> str:
 
 
 def all_of(people: Iterable[Person], taken: Iterable[str] = ()) -> dict[str, Person]:
-    """Returns these people by their names in the lab, which all differ and aren't in `taken`. If two persons would have
-    the same name, the person's identifier or a number is added. A person whose name has no known letter is called `s-`
+    """Returns these people by their names in the lab, which all differ and aren't in `taken`. If several persons would
+    have the same name, or one that is in `taken`, the identifier of each is added to it. A name that is still used by
+    another person, as without an identifier, also gets a number. A person whose name has no known letter is called `s-`
     with an identifier or a number."""
     listed = list(people)
     forms = [lab_name(person.written) for person in listed]

@@ -27,7 +27,8 @@ from classroom.setup.slips import Way
 
 def start(made: labs.Lab, word: str, chance: random.Random) -> None:
     """Sets the registers of a lab at the beginning, as `word` says: `clean`, all `random`, random at one node in three
-    (`hurt`), or `worst`, the worst known start. `chance` makes the random choices."""
+    (`hurt`), or `worst`, the worst known start. With `hurt`, p isn't null if the node has a neighbour. `chance` makes
+    the random choices."""
     if word == "worst":
         registers = {node: (p, m) for node, p, m in shaking.longest_start([node.id for node in made.nodes], made.links)}
         for node in made.nodes:
@@ -65,8 +66,8 @@ def make(words: argparse.Namespace, people: dict[str, Person], chance: random.Ra
 
 
 def require_limits(words: argparse.Namespace, students: int) -> None:
-    """Raises `Fault` if a lab can't have this number of students, or the events or seats that the arguments `words` ask
-    for."""
+    """Raises `Fault` if a lab can't have this number of students, to which the house is added with `--stand-in`, or the
+    events or seats that the arguments `words` ask for."""
     most = limits.allowed()
     everybody, house = students + bool(words.stand_in), ", one of them the house" if words.stand_in else ""
     if everybody > most.students:
@@ -172,9 +173,10 @@ def new(words: argparse.Namespace) -> int:
 
 
 def write_all(words: argparse.Namespace, made: list[Made], rooms: list[str], merge: Path) -> list[Way]:
-    """Writes the labs in `made` and all their slips, and the table for a mail merge into the file `merge`. `words` are
-    the arguments, and `rooms` has the room of each lab. Writes nothing, and raises `Fault`, if one of the files can't
-    be written. Returns the way into each network."""
+    """Writes the labs in `made` and all their slips, and the table for a mail merge into the file `merge`. With
+    `--door`, also makes the door's certificate if it is missing. `words` are the arguments, and `rooms` has the room of
+    each lab. Returns the way into each network. If one of the files can't be written, removes the others and raises
+    `Fault`."""
     with all_or_none() as done:
         file = words.certificate or certificate.beside(made[0].file)
         is_new = bool(words.door) and not os.path.lexists(file)
@@ -227,8 +229,8 @@ def tell_seats(made: labs.Lab, everybody: int, words: argparse.Namespace) -> Non
 
 
 def tell_few(made: labs.Lab) -> None:
-    """Prints a note if the events of a lab may run out before its network is stable. The highest limit is enough for
-    each network."""
+    """Prints a note if the events of a lab may run out before its network is stable. Prints none if the lab has as many
+    events as a lab may have, which are enough for each network."""
     if made.events == limits.allowed().events:
         return
     least = bounds.of_lab(made).events

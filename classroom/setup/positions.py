@@ -79,7 +79,8 @@ def table(text: str, name: str, index: int) -> Table | None:
 
 def link(text: str, index: int) -> int | None:
     """Returns the number of the line of `text`, a lab's file, with the link that has this index, counted from 0.
-    Returns None if there is none."""
+    Returns None if the file has no links. If it has some, but fewer than this, the result may be the line of a later
+    bracket, since the end of the list isn't looked for."""
     inside, seen = False, 0
     for number, whole in enumerate(text.splitlines(), 1):
         line = without_texts(whole)

@@ -50,11 +50,12 @@ def has_squares(way: Way) -> bool:
 
 
 def square(content: str) -> str:
-    """Returns a QR code with this content as SVG. Passes the content by standard input, because other users could read
-    arguments. Raises `Fault` if qrencode fails."""
+    """Returns a QR code with this content as SVG. Passes the content to qrencode by standard input, because other users
+    could read arguments. Raises `Fault` if qrencode fails."""
     done = run(["qrencode", "-t", "ASCII", "-m", "0", "-l", "M"], given=content.encode())
     if done.returncode != 0:
         raise Fault(f"qrencode couldn't make a QR code. It printed: {done.stderr.decode(errors='replace').strip() or 'nothing'}", FAILED)
+    # qrencode prints each square of the code as two equal characters.
     rows = [line[::2] for line in done.stdout.decode("ascii").splitlines() if line]
     dark = "".join(f"M{x} {y}h1v1h-1z" for y, row in enumerate(rows) for x, cell in enumerate(row) if cell == "#")
     size = len(rows) + 4

@@ -69,8 +69,9 @@ class Changed:
 
 
 def change(word: str, name: str) -> Changed:
-    """Changes the key of the student `name` in the lab, in a run's copy of it, and on the slips. `word` names the lab's
-    file or the folder of a run. Raises `Fault` if the lab has no such student, or a file can't be read or changed."""
+    """Changes the key of the student `name` in the lab's file and in the run's copy of it, and writes the student's
+    slip and the page with all slips again. `word` names the lab's file or the folder of a run. Raises `Fault` if the
+    lab has no such student, or a file can't be read or changed."""
     files, own, record = files_of(word)
     labs.read(files[0])
     key = keys.for_people()

@@ -23,7 +23,8 @@ def pairs_of(links: Iterable[Collection[int]]) -> list[tuple[int, int]]:
 
 def shaken(nodes: list[int], links: Iterable[Collection[int]], word: str, seed: int | None) -> list[Registers]:
     """Returns random registers for random nodes of the network with these nodes and links, drawn with the seed. `word`
-    is the number of nodes to draw, or `all`. Raises `Fault` if there are fewer nodes than that."""
+    is the number of nodes to draw, or `all`. Raises `Fault` if that number is 0, or greater than the number of
+    nodes."""
     count = len(nodes) if word == "all" else int(word)
     if not 1 <= count <= len(nodes):
         raise Fault(f"shake {word}: this network has {len(nodes)} nodes. Write a number from 1 to {len(nodes)}, or all")

@@ -30,7 +30,8 @@ class Way:
     ssh: str = ""
 
     def lines(self) -> list[str]:
-        """Returns the lines of a slip that have these values, without the port. Those of a door are last."""
+        """Returns the lines of a slip that have these values, without the port and without empty values. Those of a
+        door are last."""
         told = {"network": self.network, "room": self.room, "page": str(self.page), "ssh": self.ssh, "door": self.door,
                 "fingerprint": self.fingerprint}
         return [f"{word} {value}" for word, value in told.items() if value]
@@ -80,7 +81,8 @@ def text(made: Lab, name: str, way: Way) -> str:
 
 def write_all(made: Lab, way: Way, folder: Path) -> None:
     """Writes a slip for each student of the lab `made` into a new folder that no other user can read. `way` is the way
-    into the lab's network. Raises `Fault` if one of them can't be written, and leaves no folder then."""
+    into the lab's network. Raises `Fault` if the folder exists already, or if it or one of the slips can't be written.
+    In this case no new folder is left."""
     try:
         folder.mkdir(mode=0o700)
     except OSError as error:
@@ -94,8 +96,8 @@ def write_all(made: Lab, way: Way, folder: Path) -> None:
 
 
 def replace(path: Path, content: str) -> None:
-    """Replaces a file by a new one with this content that no other user can read. Raises `Fault` if it can't be
-    written."""
+    """Writes a file that no other user can read, with this content. An older file at `path` stays until the new one is
+    complete. Raises `Fault` if the new one can't be written."""
     other = path.with_name(f".{path.name}.{os.getpid()}")
     write_new(other, content)
     other.replace(path)

@@ -43,7 +43,8 @@ class Room:
     count: int = 0
 
     def place(self, crates: Uses) -> Place:
-        """Makes a new repository with these crates, as their sources were at the beginning of the build."""
+        """Makes a new repository with these crates, as their sources were at the beginning of the build. The first call
+        needs all crates of the build, because it keeps a copy of their sources for the later calls."""
         self.count += 1
         place = Place(self.folder / str(self.count), self.temporary, self.folder / f"{self.count}.log")
         fill(place.repository, crates, self.folder / "sources" if self.count > 1 else TOP)

@@ -51,7 +51,7 @@ def at_once_of(number: int) -> int:
 
 
 def has_memory() -> bool:
-    """Returns whether the free memory is enough for one more proof."""
+    """Returns whether the free memory is enough for one more proof, or isn't known."""
     free = re.search(r"MemAvailable:\s+(\d+)", Path("/proc/meminfo").read_text(encoding="ascii"))
     return free is None or 1024 * int(free[1]) >= MEMORY
 

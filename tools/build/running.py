@@ -69,10 +69,12 @@ class Screen:
 
     def __init__(self) -> None:
         self.is_terminal = sys.stderr.isatty()
+        # The last line, when it was printed, and whether more has been proved since.
         self.shown, self.at, self.is_new = "", 0.0, True
 
     def show(self, progress: Progress) -> None:
-        """Prints the progress, at most once a second."""
+        """Prints the progress, at most once a second. If the output isn't a terminal, prints nothing unless more has
+        been proved."""
         now = time.monotonic()
         if now >= self.at + 1 and (self.is_new or self.is_terminal):
             self.put(progress.line(now))
@@ -140,8 +142,8 @@ class Run:
         return False
 
     def end(self) -> None:
-        """Ends `rt ci` and the processes of its group. Other processes that it started are ended by a guard of its
-        own."""
+        """Ends `rt ci` and the processes of its group, and waits for its end. Kills them if they don't end within
+        PATIENCE seconds. Other processes that it started are ended by a guard of its own."""
         if not self.has_ended():
             os.killpg(self.process.pid, signal.SIGTERM)
             try:

@@ -55,7 +55,7 @@ def sum_of_sources(name: str) -> str:
 
 
 def sum_of_program(name: str) -> str:
-    """Returns a hash of a program that is built."""
+    """Returns a hash of a program that is built. Raises `OSError` if it isn't built."""
     return hashlib.sha256(program_of(name).read_bytes()).hexdigest()
 
 

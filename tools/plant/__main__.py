@@ -32,7 +32,7 @@ TOP = Path(__file__).resolve().parents[2]
 PROGRAM = "mml_host"
 TESTS = ("mml_tests", "mml_fakes")  # the beginnings of the names of crates that are tests
 LIMIT = 900.0  # seconds that a test may take
-LAST = 300  # how many of the last characters of a test's output are kept
+LAST = 300  # the most characters of a line of a test's output that are printed
 
 
 def words() -> argparse.Namespace:
@@ -48,7 +48,8 @@ def words() -> argparse.Namespace:
 
 
 def all_plants(tree: Tree) -> list[Plant]:
-    """Returns the plants of all crates, in the order of `crates.txt`."""
+    """Returns the plants of all crates, in the order of `crates.txt`. Raises `PlantFault` if a file isn't a plant or
+    doesn't fit the sources."""
     return [plant for crate in tree.uses for plant in plants_of(crate, tree.folder(crate))]
 
 
@@ -62,8 +63,9 @@ def chosen(every: list[Plant], names: list[str]) -> list[Plant]:
 
 
 def sees(plant: Plant, program: Path) -> tuple[bool, str]:
-    """Runs the test of a plant (a planted bug) with the program that has the plant. Returns whether the test fails, as
-    it should, and the last line that it prints about a failure."""
+    """Runs the test of a plant (a planted bug) with the program that has the plant. Returns whether the test fails with
+    a line `FAILED: ..`, as it should. Also returns the last such line, or the last line of all if there is none. Raises
+    `TimeoutExpired` after LIMIT seconds."""
     given = {**os.environ, "MML_HOST": str(program)}
     done = subprocess.run([sys.executable, "-B", "-m", plant.module, plant.test], cwd=TOP, env=given, stdin=subprocess.DEVNULL,
                           stdout=subprocess.PIPE, stderr=subprocess.STDOUT, text=True, errors="replace", timeout=LIMIT, check=False)
@@ -73,7 +75,7 @@ def sees(plant: Plant, program: Path) -> tuple[bool, str]:
 
 def try_each(tree: Tree, plants: list[Plant]) -> int:
     """Builds the program with each plant in turn that names a test, runs the test, and prints the result. Returns the
-    exit status: 1 if a test doesn't fail."""
+    exit status: 1 if a test doesn't fail. Raises `PlantFault` if a program doesn't compile."""
     missed, tested = 0, [plant for plant in plants if plant.test]
     with tempfile.TemporaryDirectory(prefix="mml-plant-") as room:
         for plant in tested:
@@ -98,9 +100,9 @@ def try_proofs(tree: Tree, plants: list[Plant]) -> int:
 
 
 def try_drawn(tree: Tree, crates: list[str], number: int, seed: int) -> int:
-    """Draws plants in `number` functions of these crates, by the seed. If `crates` is empty, takes all crates that
-    aren't tests. Prints the prover's verdict on each function. Returns the exit status: 1 if the prover accepts a plant
-    or doesn't decide. Raises `PlantFault` if there is no such crate."""
+    """Draws plants in `number` functions of these crates, by the seed. If `crates` is empty, draws them in all crates
+    that aren't tests. Prints the prover's verdict on each function. Returns the exit status: 1 if the prover accepts a
+    plant or doesn't decide. Raises `PlantFault` if there is no such crate."""
     if unknown := [crate for crate in crates if crate not in tree.uses]:
         raise PlantFault(f"{unknown[0]}: there is no such crate")
     counts = Counter[str]()

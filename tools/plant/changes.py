@@ -34,7 +34,7 @@ def is_balanced(text: str) -> bool:
 
 def exchanges(line: str) -> Iterator[str]:
     """Yields all lines that one replacement of EXCHANGED makes of a line. Such a replacement puts the opposite, or
-    something similar, in place of an operator, a truth value or a method such as `is_some`."""
+    something similar, in place of an operator, a truth value or a method such as `is_some`. Strings aren't changed."""
     code = code_of(line)
     for old, new in EXCHANGED:
         for found in re.finditer(re.escape(old), code):
@@ -43,8 +43,9 @@ def exchanges(line: str) -> Iterator[str]:
 
 
 def spans(line: str, variants: dict[str, list[str]]) -> Iterator[tuple[int, int, str]]:
-    """Yields replacements of single parts of a line, each as the part's beginning, its end, and the new text.
-    `variants` has the variants without values of each enum."""
+    """Yields replacements of single parts of a line, each as the part's beginning, its end, and the new text. A number
+    is increased by one, a condition is negated, the two names in a pair are exchanged, and a variant is replaced by
+    another one. `variants` has the variants without values of each enum."""
     code = code_of(line)
     for found in NUMBER.finditer(code):
         yield found.start(), found.end(), str(int(found[0]) + 1)
@@ -59,8 +60,9 @@ def spans(line: str, variants: dict[str, list[str]]) -> Iterator[tuple[int, int,
 
 
 def changes_of(line: str, variants: dict[str, list[str]]) -> list[str]:
-    """Returns all lines that one small change makes of a line. `variants` has the variants without values of each
-    enum."""
+    """Returns all lines that one small change makes of a line. If the line is a whole statement, one of them is empty,
+    which removes the statement. Returns none for lines that aren't code. `variants` has the variants without values of
+    each enum."""
     if not line.strip() or line.strip().startswith(ASIDE):
         return []
     found = [*exchanges(line), *(line[:begin] + new + line[end:] for begin, end, new in spans(line, variants))]

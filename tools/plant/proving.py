@@ -14,7 +14,7 @@ from tools.wrong.outputs import Told, read_output
 from tools.wrong.saved import find_name, hand_on
 
 REFUSED, LET_THROUGH, UNDECIDED = "refused", "let through", "undecided"
-ANY = "any"
+ANY = "any"  # in place of a goal, because no particular goal has to be left open
 
 
 def verdict(function: str, told: Told) -> str:
@@ -27,8 +27,9 @@ def verdict(function: str, told: Told) -> str:
 
 def prove_crate(tree: Tree, crate: str, plants: list[Plant], kept: str, running: Running) -> Iterator[tuple[Plant, str]]:
     """Yields each of these plants of a crate that names its function, and the prover's verdict on it. `kept` is the
-    name of the folder in which the prover saves checked modules. Raises `PlantFault` if a library below the crate isn't
-    built, or if a check doesn't finish or has an error that belongs to no goal."""
+    name of the folder in which the prover saves checked modules, or an empty text if it isn't known. Raises
+    `PlantFault` if a library below the crate isn't built, or if a check doesn't finish or has an error that belongs to
+    no goal."""
     if missing := tree.missing(crate):
         raise PlantFault(f"{crate}: these libraries aren't built: {', '.join(dict.fromkeys(missing))}. `rt ci` or `rt check` builds them")
     named = {plant.edit.name: plant for plant in plants if plant.function}
@@ -45,8 +46,8 @@ def prove_crate(tree: Tree, crate: str, plants: list[Plant], kept: str, running:
 
 
 def prove_all(tree: Tree, plants: list[Plant]) -> Iterator[tuple[Plant, str]]:
-    """Yields each plant that names its function, and the prover's verdict on it, crate by crate. Raises `PlantFault`
-    like `prove_crate`."""
+    """Yields each plant that names its function, and the prover's verdict on it, crate by crate. Leaves out other
+    plants. Raises `PlantFault` like `prove_crate`."""
     running, kept = Running(), find_name(tree)
     for crate in dict.fromkeys(plant.crate for plant in plants if plant.function):
         yield from prove_crate(tree, crate, [plant for plant in plants if plant.crate == crate], kept, running)

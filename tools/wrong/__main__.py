@@ -62,7 +62,7 @@ def crates_of(tree: Tree, names: list[str]) -> list[str]:
 
 
 def say_rounds(tree: Tree, crates: list[str]) -> None:
-    """Prints for these crates which edits are tried together."""
+    """Prints for these crates which edits are tried together, and which files can't be applied as edits."""
     for crate in crates:
         edits, faults = read_edits(tree.folder(crate))
         for number, it in enumerate(rounds_of(edits, tree.folder(crate)), 1):

@@ -1,4 +1,4 @@
-"""Trying crates while `rt ci` proves them, with the processors that it leaves idle."""
+"""Tries the wrong bodies of crates while `rt ci` proves the crates, with the processors that it leaves idle."""
 from __future__ import annotations
 
 import contextlib
@@ -10,13 +10,13 @@ from pathlib import Path
 from tools.wrong.checks import Running
 from tools.wrong.libraries import Tree
 
-LAST_IN_TURN = 19
-FIRST_TO_END = 500
+LAST_IN_TURN = 19  # the lowest priority, as a niceness
+FIRST_TO_END = 500  # is added to the score by which the system chooses the process to end if memory runs out
 
 
 def give_way() -> None:
-    """Lowers the priority of this process for processors. Also makes it the first to be ended if the system runs out of
-    memory."""
+    """Gives this process the lowest priority for processors. Also makes it one of the first to be ended if the system
+    runs out of memory."""
     os.nice(LAST_IN_TURN)
     changes = {"oom_score_adj": FIRST_TO_END}
     if os.getsid(0) == os.getpid():
@@ -29,7 +29,8 @@ def give_way() -> None:
 
 def keep_library(tree: Tree, crate: str) -> None:
     """Keeps a copy of a crate's library in the tree's folder of libraries, because `rt ci` puts the older library back
-    at its end. Does nothing if the crate has no library."""
+    at its end. Keeps only a link to the library if the folders are on different disks. Does nothing if the crate has no
+    library."""
     if not (tree.left(crate) / "format").is_file():
         return
     try:
@@ -41,7 +42,8 @@ def keep_library(tree: Tree, crate: str) -> None:
 
 def as_proved(tree: Tree, crates: list[str], names: Iterable[str], running: Running) -> Iterator[str]:
     """Yields each of these crates once the crate and all below it are proved, and the others at the end. `names` are
-    the names of proved crates, as they come, until all proofs have ended. Then lets `running` use all processors."""
+    the names of proved crates, as they come, until all proofs have ended. After that, the checks of `running` may use
+    all processors."""
     left, proved = [*crates], set[str]()
     for name in map(str.strip, names):
         if name in tree.uses and name not in proved:

@@ -38,7 +38,8 @@ class Ended:
 @dataclass
 class Running:
     """The checks that are running. `beside` is the most checks that may run while proofs run too, or None once no
-    proofs are running. While proofs run, no check begins if memory is short."""
+    proofs are running. While proofs run, no check begins if memory is short. `is_over` is set once `stop` was
+    called."""
 
     beside: int | None = None
     lock: threading.Condition = field(default_factory=threading.Condition)
@@ -95,7 +96,7 @@ def copy_crate(folder: Path, to: Path, texts: dict[str, str]) -> None:
 
 def try_round(tree: Tree, crate: str, tried: Round, room: Path, running: Running) -> Ended:
     """Checks a copy of a crate with the edits of a round, and returns the result. If the check is killed, most likely
-    because memory ran out, it is run once more without proofs beside it. The folder `room` has what earlier rounds
+    because memory ran out, it is run once more when no proofs are running. The folder `room` has what earlier rounds
     proved."""
     copy, kept = room / "copy", room / "kept"
     kept.mkdir(exist_ok=True)

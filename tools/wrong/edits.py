@@ -95,7 +95,7 @@ def round_of(name: str, text: str) -> int:
 
 def parse_pairs(name: str, text: str) -> tuple[Pair, ...]:
     """Returns the replacements in the text of an edit's file. `name` is that of the edit, for an error. Raises
-    `EditFault` if the text has another form."""
+    `EditFault` if the text has another form, or replaces nothing in src/."""
     pairs: list[Pair] = []
     file, old = "", ""
     for line in text.split("\n"):
@@ -131,8 +131,9 @@ def parse_edit(name: str, text: str) -> Edit:
 
 
 def apply_edit(edit: Edit, texts: Mapping[str, str], folder: Path) -> dict[str, str]:
-    """Returns the texts of a crate's files after an edit. Files that aren't in `texts` are read from the crate's
-    folder. Raises `EditFault` if the edit doesn't fit."""
+    """Returns the changed texts of a crate's files after an edit, by their paths. `texts` has those that earlier edits
+    changed. Other files are read from the crate's folder. Raises `EditFault` if the edit names another file than one of
+    src/ and proofs/, or if a text doesn't occur exactly once."""
     after = dict(texts)
     for pair in edit.pairs:
         if pair.file not in after:
@@ -178,7 +179,8 @@ def joined(into: Round, edit: Edit, folder: Path) -> bool:
 
 def rounds_of(edits: Iterable[Edit], folder: Path) -> list[Round]:
     """Returns the rounds for these edits of the crate in a folder. Each edit is in the first round that is allowed for
-    it and has room for it. Raises `EditFault` if an edit doesn't fit the sources."""
+    it and has room for it. If there is none yet, a round is added for the edit, even if the round's number is lower
+    than the allowed one. Raises `EditFault` if an edit doesn't fit the sources."""
     rounds: list[Round] = []
     for edit in sorted(edits, key=lambda it: it.first):
         if not any(joined(it, edit, folder) for it in rounds[edit.first - 1 :]):

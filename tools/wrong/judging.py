@@ -8,7 +8,7 @@ from dataclasses import dataclass, field
 from tools.wrong.edits import Edit, Refusal
 from tools.wrong.outputs import Told
 
-LONGEST = 300
+LONGEST = 300  # the most characters of a line of the prover's output in an error text
 
 
 @dataclass
@@ -85,7 +85,8 @@ def judge_counts(named: set[str], told: Told) -> list[str]:
 
 
 def judge(edits: list[Edit], status: int, told: Told) -> Judged:
-    """Returns the verdict on a round with these edits, from its check's status and output."""
+    """Returns the verdict on a round with these edits, from its check's status and output. The check has to end with
+    status 1, as it does if the prover refuses a function."""
     named = {function for edit in edits for function in edit.functions()}
     faults = [f"an error that belongs to no goal: {line[:LONGEST]}" for line in told.errors]
     faults += judge_others(named, told)

@@ -18,8 +18,8 @@ from tools.wrong.edits import Round
 from tools.wrong.libraries import Tree
 
 HERE = Path(__file__).resolve().parent
-MOST_FILES = 5000
-PARTS = ("src", "specs", "proofs")
+MOST_FILES = 5000  # the most results that are kept
+PARTS = ("src", "specs", "proofs")  # the folders of a crate that a check reads
 
 
 def folder_of_user() -> Path:

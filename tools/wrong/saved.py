@@ -20,12 +20,13 @@ TEXT = "#![tactic(auto)]\n\n/// Does nothing.\npub fn nothing() {}\n"
 
 def find_name(tree: Tree) -> str:
     """Returns the name of the folder in which this prover saves checked modules, or an empty text if it can't be found
-    out. Runs a check of a small crate at once, without waiting for other checks."""
+    out. To find the name, runs a check of a small crate at once, without waiting for other checks."""
     with tempfile.TemporaryDirectory(prefix="mml-wrong-") as room:
         alone, kept = Tree(Path(room), tree.kit, {NOTHING: []}), Path(room) / "kept"
         (alone.folder(NOTHING) / "src").mkdir(parents=True)
         (alone.folder(NOTHING) / "src/lib.rt").write_text(TEXT, encoding="utf-8")
         kept.mkdir()
+        # With an empty name after `--only`, the prover proves no function.
         Running().run([*check_words(alone, NOTHING, set(), kept), "--only", ""], alone.folder(NOTHING))
         names = [it.name for it in kept.iterdir() if it.is_dir()]
     return names[0] if len(names) == 1 else ""
@@ -33,7 +34,7 @@ def find_name(tree: Tree) -> str:
 
 def hand_on(library: Path, to: Path) -> None:
     """Writes the checked modules that a library contains into the folder `to`, one file each. Leaves no folder if the
-    library has none, or has them in a form that isn't known."""
+    library has none, has them in a form that isn't known, or if they can't be written."""
     listed, modules = (library / "toolchain" / it for it in ("checked.json", "checked.a"))
     if not (listed.is_file() and modules.is_file()):
         return

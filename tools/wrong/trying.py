@@ -19,7 +19,9 @@ from tools.wrong.saved import find_name, hand_on
 
 @dataclass
 class Tried:
-    """The result of trying a crate's edits."""
+    """The result of trying a crate's edits: the number of checks, and of the edits that were refused as they should be
+    (`passed`), of those of them that an earlier run tried (`known`), and of the others (`failed`). `seconds` is the
+    processor time of the checks."""
 
     crate: str
     checks: int = 0
@@ -63,8 +65,9 @@ class Results:
 
 
 def try_crate(tree: Tree, crate: str, running: Running, results: Results = Results(), saved: Future[str] | None = None) -> Tried:
-    """Tries the edits of a crate, except for rounds that were refused in earlier runs. Returns the result. If `saved`
-    has the name of the folder for saved modules, copies the library's modules there before each round."""
+    """Tries the edits of a crate, except for rounds that were refused in earlier runs. Returns the result. All edits
+    fail if a library below the crate isn't built. The result of `saved` is the name of the folder for saved modules. If
+    that name is known, copies the library's modules there before each round."""
     folder, tried = tree.folder(crate), Tried(crate)
     edits, tried.faults = read_edits(folder)
     tried.failed = len(tried.faults)
@@ -87,6 +90,7 @@ def try_crate(tree: Tree, crate: str, running: Running, results: Results = Resul
             ended = try_round(tree, crate, it, Path(room), running)
             tried.checks += 1
             tried.seconds += ended.seconds
+            # If a file has changed meanwhile, it isn't known which content was checked, so nothing is kept.
             if tried.add_round(it, ended.status, ended.output) and key == name_of(tree, crate, it):
                 results.kept.keep(key)
             if results.logs:
@@ -95,7 +99,8 @@ def try_crate(tree: Tree, crate: str, running: Running, results: Results = Resul
 
 
 def try_crates(tree: Tree, crates: Iterable[str], lanes: int, results: Results, running: Running) -> Iterator[Tried]:
-    """Tries the edits of crates, at most `lanes` crates side by side, and yields the result of each as it is done."""
+    """Tries the edits of crates, at most `lanes` crates side by side, and yields the result of each as it is done. Ends
+    all checks if the caller stops or an error is raised."""
     with ThreadPoolExecutor(lanes) as pool:
         try:
             saved = pool.submit(find_name, tree)
