@@ -22,7 +22,7 @@ def free_port() -> int:
 
 def ask(port: int, burst: int, bursts: int, begin: Barrier, results: "multiprocessing.Queue[set[bytes]]") -> None:
     """Greets at a port, waits at `begin` until all clients have greeted, and sends `bursts` bursts of `burst` requests.
-    Puts the set of different replies into `results`."""
+    Puts the set of different replies into `results`, and says bye."""
     with socket.create_connection(("127.0.0.1", port)) as it, it.makefile("rb") as lines:
         it.setsockopt(socket.IPPROTO_TCP, socket.TCP_NODELAY, 1)
         it.sendall(HELLO)

@@ -11,6 +11,7 @@ from typing import NoReturn, Union
 TOP = Path(__file__).resolve().parents[1]
 PROGRAM = Path(os.environ.get("MML_PROGRAM") or TOP / "crates/mml_host/out/mml_host")
 HOST = Path(os.environ.get("MML_HOST") or TOP / "crates/mml_host/out/mml_host")
+# The program that is written by hand, without proofs, to which this one is compared.
 TYPED = Path(os.environ.get("MML_TYPED") or TOP / "bench/typed/out/typed")
 BUILT_IN = TOP / "crates/mml_program/src/built_in.rt"
 Words = Sequence[Union[str, Path]]
@@ -58,8 +59,9 @@ def replies(words: Words, stdin: Path) -> bytes:
 
 
 def instructions(words: Words, stdin: Path) -> int:
-    """Returns the number of instructions that the run of a command line takes, with a file as standard input. The
-    number doesn't depend on what else runs on the machine. Raises `CalledProcessError` if the command fails."""
+    """Returns the number of instructions in a run of a command line, with a file as standard input. The number doesn't
+    depend on what else runs on the machine. Raises `CalledProcessError` if the command fails. Exits with an error line
+    if callgrind prints no number."""
     call = ["valgrind", "--tool=callgrind", "--callgrind-out-file=/dev/null", *words]
     with stdin.open("rb") as lines:
         run = subprocess.run(call, stdin=lines, stdout=subprocess.DEVNULL, stderr=subprocess.PIPE, check=True)

@@ -59,7 +59,8 @@ class Counter:
 
     def call(self, row: Row, index: int) -> Words:
         """Returns the command line of a program for a row. With index 0 it is this project's program, and with index 1
-        the program that is written by hand. For a piped row the first takes no arguments and uses its built-in lab."""
+        the program that is written by hand. For a piped row the first gets no arguments, so it reads standard input and
+        uses its built-in lab."""
         program = self.programs[index]
         if row.words == PIPED:
             return [program] if index == 0 else [program, "script", self.lab, "/dev/stdin"]

@@ -29,8 +29,8 @@ PAIRS: list[tuple[str, str, str, str]] = [
 
 
 def count(program: Path, before: str, line: str, script: Path) -> tuple[float, bytes]:
-    """Returns the instructions that a program takes for each `line` of a script, and the reply to it. `before` has the
-    lines at the beginning of the script, and the file `script` is overwritten. Exits if the replies differ."""
+    """Returns the number of instructions of a program for each `line` of a script, and the reply to it. `before` has
+    the lines at the beginning of the script, and the file `script` is overwritten. Exits if the replies differ."""
     script.write_text(before, encoding="ascii")
     begun = instructions([program], script)
     script.write_text(before + line * LINES, encoding="ascii")

@@ -22,8 +22,8 @@ Timed = tuple[float, Optional[bytes]]
 
 
 def time_serve(lab: Path) -> Timed:
-    """Returns the seconds that the clients take with `mml serve` and the lab in the file `lab`, and the reply that all
-    of them got, or None if the replies differ."""
+    """Returns the seconds that the clients need with `mml serve` and the lab in the file `lab`. Also returns the reply
+    that all of them got, or None if the replies differ."""
     port = free_port()
     words: Words = [built(PROGRAM), "serve", lab, str(port), str(CONNECTIONS)]
     with subprocess.Popen(words, stdout=subprocess.PIPE) as server:
@@ -35,8 +35,8 @@ def time_serve(lab: Path) -> Timed:
 
 
 def time_host(lab: Path) -> Timed:
-    """Returns the seconds that the clients take with the host and the lab in the file `lab`, and the reply that all of
-    them got, or None if the replies differ. The teacher's bye at the desk ends the host."""
+    """Returns the seconds that the clients need with the host and the lab in the file `lab`. Also returns the reply
+    that all of them got, or None if the replies differ. The teacher's bye at the desk ends the host."""
     with subprocess.Popen([built(HOST), "host", lab, "0", "0"], stdout=subprocess.PIPE) as server:
         assert server.stdout is not None
         port, desk = map(int, re.findall(rb"\d+", server.stdout.readline()))
@@ -49,7 +49,8 @@ def time_host(lab: Path) -> Timed:
 
 
 def main() -> None:
-    """Times `serve` and the host in turn, and prints the medians."""
+    """Times `serve` and the host in turn, and prints the requests per second by the medians. Exits with an error line
+    if the replies differ."""
     ways: dict[str, Callable[[Path], Timed]] = {"serve": time_serve, "host": time_host}
     times: dict[str, list[float]] = {name: [] for name in ways}
     seen: set[Optional[bytes]] = set()

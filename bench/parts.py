@@ -20,8 +20,8 @@ FOUND = re.compile(r"^\s*([\d,]+)\s+(?:\(\s*[\d.]+%\)\s+)?\S*?:(\S.*?)(?: \[[^]]
 
 def by_function(words: Words, stdin: Path, room: Path) -> dict[str, int]:
     """Returns the number of instructions of each function in the run of the command line `words`, with a file as
-    standard input. Instructions of the functions that it calls don't count. `room` is a folder for callgrind's
-    output."""
+    standard input. Instructions of the functions that it calls don't count. `room` is a folder for callgrind's output.
+    Raises `CalledProcessError` if a command fails. Exits with an error line if no function is found."""
     kept = room / "counts"
     call = ["valgrind", "--tool=callgrind", f"--callgrind-out-file={kept}", *words]
     with stdin.open("rb") as lines:
@@ -34,8 +34,9 @@ def by_function(words: Words, stdin: Path, room: Path) -> dict[str, int]:
 
 
 def parts_of(row: Row, counter: Counter, room: Path) -> dict[str, float]:
-    """Returns the instructions of each function per line of a row, by the function's name. `counter` writes the row's
-    files, and `room` is a folder for callgrind's output."""
+    """Returns the instructions of each function of this program per line of a row, by the function's name. They come
+    from the difference of a longer and a shorter run. `counter` writes the row's files, and `room` is a folder for
+    callgrind's output."""
     counter.lab.write_text(row.lab(), encoding="ascii")
     less = counter.write(row, row.few)
     before = by_function(counter.call(row, 0), counter.text, room)

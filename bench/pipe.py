@@ -38,7 +38,8 @@ def time_pipe(script: Path, replies: Path) -> float:
 
 
 def main() -> None:
-    """Times both ways in turn, and prints the medians."""
+    """Times both ways in turn, and prints the medians and their ratio. Exits with an error line if the replies differ
+    or a line isn't granted."""
     built(PROGRAM)
     with tempfile.TemporaryDirectory() as folder:
         lab, script, by_file, by_pipe = (Path(folder, name) for name in ("lab", "script", "file", "pipe"))

@@ -58,7 +58,8 @@ def servers(lab: Path) -> dict[str, tuple[Words, int]]:
 
 
 def main() -> None:
-    """Measures the servers in turn, and prints the medians."""
+    """Measures the servers in turn, ROUNDS times each, and prints the medians. Exits with an error line if their
+    replies differ."""
     burst = int(sys.argv[1]) if len(sys.argv) > 1 else 1
     built(PROGRAM), built(TYPED)
     figures: dict[str, list[Served]] = {}

@@ -61,7 +61,8 @@ def median_and_99th(times: list[float]) -> str:
 
 
 def main() -> None:
-    """Times the requests of the teacher and of the student, which are sent at the same time, and prints both."""
+    """Starts the host. Times the requests of the teacher and of the student, which are sent at the same time, and
+    prints both."""
     with tempfile.TemporaryDirectory(dir=sys.argv[1] if sys.argv[1:] else None) as folder:
         lab = Path(folder, "lab")
         lab.write_text(built_in(events=EVENTS), encoding="ascii")

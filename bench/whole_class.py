@@ -46,8 +46,8 @@ def connection_to(slip: Slip, number: int) -> socket.socket:
 
 
 def greet(slip: Slip, number: int) -> Client:
-    """Returns a connection by a slip after its hello. If the class has no room, tries again each second, like a bot.
-    Through a door, the student connects from an address that `number` determines."""
+    """Returns a connection by a slip after its hello. If that fails, as while no seat is free, tries again each second
+    without end, like a bot. Through a door, the student connects from an address that `number` determines."""
     while True:
         try:
             return Client(slip.port, slip.name, slip.key, limit=LIMIT, connection=connection_to(slip, number))
@@ -56,8 +56,9 @@ def greet(slip: Slip, number: int) -> Client:
 
 
 def play(slip: Slip, number: int, times: Times) -> None:
-    """Plays the first node of a slip until the class is over. Appends to `times` the seconds that each hello and each
-    move took. `number` determines the address from which the student connects through a door."""
+    """Plays the first node of a slip until the connection ends, as it does when the class is over. Appends to `times`
+    the seconds that each hello and each move took, also those of a denied move. `number` determines the address from
+    which the student connects through a door."""
     begun = time.perf_counter()
     me = greet(slip, number)
     times.append(("hello", time.perf_counter() - begun))
@@ -100,7 +101,8 @@ def memory_and_time(process: int) -> tuple[float, float]:
 
 
 def processes(folder: Path) -> dict[str, list[int]]:
-    """Returns the numbers of the processes of the class in a folder, by their roles."""
+    """Returns the numbers of the processes of the class in a folder, by their roles. The folder has the file
+    `class.json`, and a folder for the run of each network."""
     kept = json.loads((folder / "class.json").read_text(encoding="utf-8"))
     records = [record for run in sorted(folder.iterdir()) if (record := Record.read(run)) is not None]
     found = {"servers": [it.server.number for it in records], "desks": [it.run.number for it in records], "the class's desk": [kept["desk"]["number"]]}
@@ -139,7 +141,8 @@ def measure(desk: "subprocess.Popen[str]", folder: Path, seconds: float) -> None
 
 
 def main() -> None:
-    """Starts a class with the networks and students that the arguments ask for, measures it, and prints the results."""
+    """Starts a class with the networks and students that the arguments ask for, measures it, prints the results, and
+    ends it. Exits with an error line if there are less than two networks."""
     parser = argparse.ArgumentParser(prog="bench.whole_class")
     parser.add_argument("--networks", type=int, default=20)
     parser.add_argument("--each", type=int, default=15)
@@ -173,7 +176,8 @@ def run_class(desk: "subprocess.Popen[str]", room: Path, slips: list[tuple[int, 
         time.sleep(0.1)
     print(f"all networks serve after {time.monotonic() - begun:.1f} seconds", flush=True)
     folder, = (file.parent for file in (room / "runs").glob("*/class.json"))
-    ports = {run.name: record.port for run in folder.iterdir() if (record := Record.read(run)) is not None}  # another program may have a slip's
+    # A server uses another port than its slips name if that one is taken. So the ports are those of the servers.
+    ports = {run.name: record.port for run in folder.iterdir() if (record := Record.read(run)) is not None}
     slips = [(number, replace(slip, port=ports[slip.network])) for number, slip in slips]
     every: "multiprocessing.Queue[int]" = multiprocessing.Queue()
     results: "multiprocessing.Queue[Times]" = multiprocessing.Queue()

@@ -83,5 +83,5 @@ def with_more(first: dict[str, Value], counts: Mapping[str, int], denied: Mappin
 
 
 def known(count: int | None) -> Fraction | None:
-    """Returns a count as a value of a rule. None, which stands for unknown, stays None."""
+    """Returns a count as a value of a rule. Returns None if the count is None, that is, unknown."""
     return None if count is None else Fraction(count)

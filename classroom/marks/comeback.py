@@ -72,7 +72,7 @@ class Recount(Replay):
         self.rests: list[int] = []
 
     def ask(self, script: Script, event: Event | None, named: set[int]) -> None:
-        """Appends the request for the report to the script if `event` made a configuration, or is None, which stands
+        """Appends the request for the report to the script if `event` made a configuration. If `event` is None, does so
         for the beginning of the run. Doesn't use `named`."""
         if event is None or event.makes_configuration:
             script.ask(REPORT, self.report_taker(event))

@@ -148,9 +148,9 @@ def row_of(entry: Entry, session: int, hider: Hider) -> Row:
 
 
 def steps(lab: labs.Lab, journal: list[Event], name: str, own: set[int]) -> Iterator[Row]:
-    """Yields a row for each event in `journal` of three kinds: each closed step, each other event that made a
-    configuration, and each other event at the nodes of the student `name` in `lab`. Leaves out the events whose places
-    are in `own`, because the student's lines show them already."""
+    """Yields a row for each closed step in `journal`, for each other event that made a configuration, and for each
+    other event at the nodes of the student `name` in `lab`. Leaves out the events whose places are in `own`, because
+    the student's lines show them already."""
     book, nodes = Book(list(lab.students)), set(lab.nodes_of(name))
     for event in journal:
         moved = book.add(event)
@@ -218,7 +218,8 @@ def section(title: str, told: list[str], rows: list[Row], why: dict[tuple[int, s
 
 
 def item(row: Row, count: int) -> str:
-    """Returns the text of a row as HTML. `count` is the number of equal rows that it stands for."""
+    """Returns the text of a row as HTML. `count` is the number of equal rows that follow each other, of which this is
+    the first."""
     if row.event:
         return escape(row.event if not row.seat else f"seat {row.seat}: {row.event}")
     reply = f"<strong>{escape(row.reply)}</strong>" if row.denied else escape(row.reply)

@@ -28,8 +28,8 @@ UNENDED = "the server is still running or was killed, so the last entries of thi
 
 @dataclass(frozen=True)
 class Vouched:
-    """A copy of a record with its lab and the journal, and the verdict on it: a status, which is 0 if the record is
-    accepted, and the line that says why."""
+    """A copy of a record with its lab and the journal, and the verdict on it. The verdict is a status, which is 0 if
+    the record is accepted, and a line that says why."""
 
     record: Path
     copy: Path
@@ -93,7 +93,7 @@ def granted_place(sign: bytes, reply: bytes) -> int:
 
 def goes_on(run: Path) -> bool:
     """Returns whether the server of the run in a folder is still running."""
-    record = Record.read(run)
+    record = Record.read(run)  # This is the content of the file run.json, not a record of lines.
     return record is not None and record.server.lives()
 
 
@@ -126,8 +126,9 @@ def mark_incomplete(into: Path) -> None:
 
 @contextmanager
 def vouched(run: Path) -> Iterator[list[Vouched]]:
-    """Yields the records of a run's folder with their verdicts, the oldest first. The copies of the records are removed
-    at the end of the block. Raises `Fault` if the journal, or the beginning of a record, can't be read."""
+    """Yields the records of a run's folder with their verdicts, the oldest first. Each is verified with the journal up
+    to the place at which the next record begins. The copies of the records are removed at the end of the block. Raises
+    `Fault` if the journal, or the beginning of a record, can't be read."""
     is_whole, lives = has_ended(run), goes_on(run)
     lines = plain.read(run / "journal", limits.allowed().journal).split(b"\n")[:-1]
     records = kept(run)

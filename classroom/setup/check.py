@@ -145,8 +145,8 @@ def nearest(key: str, known: Iterable[str]) -> str | None:
 
 
 def is_drawn(key: str) -> bool:
-    """Returns whether a person's key looks like one that `new` has drawn at random: it consists of words of the list
-    and numbers, and has at least as many words as such a key."""
+    """Returns whether a person's key looks like one that `new` has drawn at random. Such a key consists of words of the
+    list and numbers, and has at least WORDS_EACH words."""
     parts = keys.count_parts(key)
     return parts is not None and parts[0] >= keys.WORDS_EACH
 

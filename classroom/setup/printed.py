@@ -44,8 +44,8 @@ def address(way: Way, name: str, key: str) -> str:
 
 
 def has_squares(way: Way) -> bool:
-    """Returns whether slips for this way into a network can have QR codes: the way has a door, since no other address
-    works on another machine, and the program qrencode is installed."""
+    """Returns whether slips for this way into a network can have QR codes. The way needs a door, since no other address
+    works on another machine, and the program qrencode has to be installed."""
     return bool(way.door) and shutil.which("qrencode") is not None
 
 

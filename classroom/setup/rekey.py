@@ -48,8 +48,9 @@ def changed(path: Path, name: str, key: str) -> str:
 
 def files_of(word: str) -> tuple[list[Path], Path, Record | None]:
     """Returns three values about the lab that `word` names, by its file or the folder of a run. The values are all
-    files with a copy of the lab, the file beside which its slips are, and the record of the run. The record is None if
-    `word` names a lab's file or the run has none. Raises `Fault` if the folder isn't that of a run."""
+    files with a copy of the lab, the file beside which its slips are, and the content of the run's file `run.json`. The
+    last value is None if `word` names a lab's file or the run has no such file. Raises `Fault` if the folder isn't that
+    of a run."""
     path = Path(word)
     if not path.is_dir():
         return [path], path, None

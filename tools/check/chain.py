@@ -61,8 +61,8 @@ def saved_spans(file: Path = KEPT) -> Spans:
 
 
 def chain(spans: Spans, crate: str) -> list[str]:
-    """Returns the crates for which a crate waited, the first one first, and the crate itself. In the result, the crate
-    before another is the one of those it uses whose proof ended last. `spans` has the times of the proofs."""
+    """Returns the crates for which a crate waited, the first one first, and the crate itself at the end. In the result,
+    the crate before another is the one of those it uses whose proof ended last. `spans` has the times of the proofs."""
     found, every = [crate], uses()
     while below := [it for it in every.get(found[0], []) if it in spans]:
         found.insert(0, max(below, key=lambda it: spans[it].end))
@@ -93,7 +93,8 @@ def chain_tables(spans: Spans, crates: list[str]) -> str:
 
 
 def short(spans: Spans) -> str:
-    """Returns the chain to the crate that was proved last as one line. `spans` has the times of the proofs."""
+    """Returns one line about the chain to the crate that was proved last, with the seconds of each proof of the chain.
+    `spans` has the times of the proofs."""
     crates = chain(spans, [*spans][-1])
     each = ", ".join(f"{it} {spans[it].end - spans[it].begin:.0f}" for it in crates)
     return f"the longest chain, in seconds: {each}; it ended after {spans[crates[-1]].end:.0f}: ./check chain prints each proof"

@@ -68,8 +68,9 @@ class Count:
         return [it for it in parts if not set(it.needs) & set(lacks)]
 
     def close(self, crew: Crew) -> int:
-        """Prints the parts that were left out, the processor times, and the last line. `crew` ran the parts. Returns
-        the exit status: 1 if a test failed or none ran."""
+        """Prints the parts that were left out, the processor times, the longest chain of proofs, and the last line.
+        `crew` ran the parts. Saves the times of proofs for `./check chain`. Returns the exit status: 1 if a test failed
+        or none ran."""
         for line in self.left_out:
             tell(f"left out: {line}")
         tell(figures(crew.checks, self.minutes).rstrip("\n"))

@@ -39,8 +39,8 @@ def guarded(work: Callable[[Path], int]) -> int:
 
 
 def work_below(guard: int, room: Path, work: Callable[[Path], int]) -> None:
-    """Calls `work` with the folder `room` in this process, the child, in a session of its own, and exits with the
-    status that it returns. `guard` is the number of the parent process."""
+    """Calls `work` with the folder `room` in this process, the child, in a session of its own. Exits with the status
+    that `work` returns, or with 1 if it raises an error. `guard` is the number of the parent process."""
     status = 1
     try:
         os.setsid()

@@ -15,7 +15,7 @@ class Taken(Exception):
 
 @contextmanager
 def alone() -> Iterator[None]:
-    """Holds a lock on the tree's file `check` during a block. Raises `Taken` if another process holds it. The system
+    """Locks the tree's file `check` during a block. Raises `Taken` if another process has locked it. The system
     releases the lock if this process ends."""
     file = os.open(TOP / "check", os.O_RDONLY | os.O_CLOEXEC)
     try:

@@ -47,8 +47,8 @@ class Checks:
         self.looked = 0.0  # the time of the last look
 
     def look(self, parts: dict[int, str]) -> None:
-        """Reads the processor times of all checks. Does nothing if less than PAUSE seconds have passed since the last
-        call that did. `parts` has the name of each running part, by its process."""
+        """Reads the processor times and the memory of all checks. Does nothing if less than PAUSE seconds have passed
+        since the last call that did. `parts` has the name of each running part, by its process."""
         if time.monotonic() < self.looked + PAUSE:
             return
         self.looked = time.monotonic()
@@ -93,9 +93,10 @@ class Checks:
 
 
 def check_above(pid: int, found: dict[int, Process], parts: dict[int, str]) -> tuple[Check | None, str]:
-    """Returns the check to which the process `pid` belongs, and the name of its part. The check is None if the process
-    is in a part but in no check. Returns None and an empty text if it belongs to no part. `found` has the data of all
-    processes, and `parts` the name of each part, by its process."""
+    """Returns the check to which the process `pid` belongs, and the name of its part. A check is the topmost process
+    called `rattle` above `pid`, or `pid` itself. The check is None if the process is in a part but in no check. Returns
+    None and an empty text if it belongs to no part. `found` has the data of all processes, and `parts` the name of each
+    part, by its process."""
     check = None
     while pid in found and pid not in parts:
         if found[pid].name == "rattle":

@@ -50,7 +50,8 @@ def installed(*packages: str) -> Callable[[], bool]:
 
 @cache
 def is_built(program: str = "mml_host") -> bool:
-    """Returns whether a program, or the one that people run, is built from these sources."""
+    """Returns whether a program is built from these sources. By default it is `mml_host`, the one that people run. The
+    result is kept until `missing` is called."""
     call = ("python3", "-B", "-m", "tools.build", "--built", program)
     return subprocess.run(call, cwd=TOP, capture_output=True, check=False).returncode == 0
 
@@ -113,22 +114,23 @@ def apt(*words: str) -> bool:
 
 
 def missing(parts: list[Part]) -> dict[str, Need]:
-    """Returns the needs of these parts that aren't met, by their names. Needs of only a few tests of a part count
-    too."""
+    """Returns the needs of these parts that aren't met, by their names. Needs of only a few tests of a part (`likes`)
+    count too."""
     is_built.cache_clear()
     names = dict.fromkeys(name for part in parts for name in (*part.needs, *part.likes))
     return {name: NEEDS[name] for name in names if not NEEDS[name].is_there()}
 
 
 def instruction(need: Need) -> str:
-    """Returns a text that says what a need asks for, with the missing Debian packages that provide it."""
+    """Returns a text that says what a need asks for, with those of its Debian packages that are missing. If none is
+    missing, although the need isn't met, the text has all of its packages."""
     lacking = [it for it in need.packages if not is_installed(it)] or [*need.packages]
     return f"{need.what} (Debian's {' '.join(lacking)})" if lacking else need.what
 
 
 def install(parts: list[Part]) -> None:
-    """Tries to install the packages that these parts or a few of their tests need. Does nothing if this process isn't
-    that of root."""
+    """Tries to install the packages that these parts or a few of their tests need, except for NEVER_INSTALLED. Does
+    nothing if this process isn't that of root."""
     needs = [NEEDS[name] for part in parts for name in (*part.needs, *part.likes) if NEEDS[name].packages]
     packages = {it for need in needs if not need.is_there() for it in need.packages if not is_installed(it)}
     if packages and os.geteuid() == 0 and apt("update"):
@@ -136,7 +138,8 @@ def install(parts: list[Part]) -> None:
 
 
 def fetch(folder: Path) -> None:
-    """Downloads the package NEVER_INSTALLED, with its dependencies, into a folder. Exits if that isn't possible."""
+    """Downloads the package NEVER_INSTALLED, with its dependencies, into a folder. Exits with an error line if that
+    isn't possible."""
     (folder / "partial").mkdir(parents=True, exist_ok=True)
     words = ["-o", f"Dir::Cache::archives={folder}", "-o", "APT::Sandbox::User=root", "--download-only", "install", NEVER_INSTALLED]
     if not (apt(*words) or apt("update") and apt(*words)):

@@ -60,7 +60,8 @@ LAST_CRATES = 5  # minutes of the wrong bodies of the crates that are proved las
 
 
 def classroom() -> Iterator[Part]:
-    """Yields a part for each module of tests/classroom. Most of them start servers of their own, and some a browser."""
+    """Yields a part for each module of tests/classroom. Most of them start servers of their own, and some a browser.
+    What a part needs is found out from the text of its module."""
     for it in sorted((TOP / "tests/classroom").glob("test_*.py")):
         text = it.read_text(encoding="utf-8")
         needs = (*BUILT, "python3", *["browser"] * ("tests.classroom.browser" in text), *["pictures"] * ('"rsvg-convert"' in text))

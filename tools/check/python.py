@@ -30,6 +30,7 @@ def python_files() -> list[str]:
 
 def faults_of(command: list[str]) -> list[str]:
     """Runs the command line of a tool. Returns the lines that it has printed if it failed, and none if it succeeded."""
+    # Bots import the client as the module `client`, as if it were beside them.
     environment = {**os.environ, "MYPYPATH": "classroom"} if command[-1].startswith(("examples", "student")) else None
     done = subprocess.run(command, cwd=TOP, capture_output=True, text=True, check=False, env=environment)
     return [line for line in (done.stdout + done.stderr).splitlines() if line] if done.returncode else []

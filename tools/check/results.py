@@ -20,8 +20,8 @@ class Result:
 
 
 def of_cases(output: str) -> str | None:
-    """Returns the line that sums up a run of test cases, without the skipped ones. Returns None if the output isn't
-    that of such a run."""
+    """Returns a line that sums up a run of test cases: their number, without the skipped ones, and the time. Returns
+    None if the output isn't that of such a run."""
     ran = re.search(r"^Ran (\d+) tests? in (.*)$", output, re.MULTILINE)
     if ran is None:
         return None
@@ -35,13 +35,14 @@ def last_line(output: str) -> str:
 
 
 def result(done: Done) -> Result:
-    """Returns the result of a part that has ended. A part fails if its status isn't 0, or if its output reports no
-    test."""
+    """Returns the result of a part that has ended. A part fails if its status isn't 0, or if the line that sums up its
+    output has no number of tests above 0."""
     line = of_cases(done.output) or last_line(done.output)
     counted = SUM.fullmatch(line)
     passed, failed = (int(counted[1]), int(counted[2])) if counted else (int(done.status == 0), 0)
     if done.status != 0:
         return Result(passed if counted else 0, max(failed, 1), line or f"status {done.status}")
+    # The line has to contain a whole number above 0, that of the tests.
     if not re.search(r"(?<![\w.])[1-9]\d*(?![\w.]*\d)", line):
         return Result(0, 1, f"no test ran: {line}")
     return Result(passed, failed, line)

@@ -85,7 +85,8 @@ class Crew:
         return part.is_beside or taken + min(part.width, self.processors) <= self.processors
 
     def begin(self, part: Part) -> None:
-        """Starts a part with its own folder for temporary files, and its output in a file."""
+        """Starts a part with its own folder for temporary files, and its output in a file. A signal to this process
+        waits until the part is noted as running, so that the part can be ended then."""
         self.begun += 1
         folder = self.room / str(self.begun)
         folder.mkdir(mode=0o711)
@@ -119,7 +120,8 @@ class Crew:
 
     def show(self, of: Running, is_last: bool = False) -> None:
         """Prints those new lines of the running part `of` that match its `shows`. Sends what matches its `hands_on` in
-        the new lines to the parts that run beside. If `is_last` is set, closes their inputs after that."""
+        the new lines to the parts that run beside. If `is_last` is set, closes the standard inputs of these parts after
+        that."""
         words = of.show()
         for it in self.running.values():
             if words or is_last:
@@ -143,7 +145,8 @@ class Crew:
                 time.sleep(POLL)
 
     def end(self) -> list[str]:
-        """Ends the parts that are still running. Returns the names of these parts."""
+        """Ends the parts that are still running, and all other processes below this one. Returns the names of these
+        parts."""
         names = [it.part.name for it in self.running.values()]
         end_all([*self.running], PATIENCE)
         return names

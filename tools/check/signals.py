@@ -23,7 +23,7 @@ class SignalHandler:
 
     def __init__(self) -> None:
         self.is_held = False
-        self.came = 0
+        self.came = 0  # the number of the last signal that came, or 0
 
     def __call__(self, number: int, _: FrameType | None) -> None:
         """Notes a signal. Raises `Killed`, unless signals are held at the moment."""

@@ -20,7 +20,7 @@ LEFT_OUT = {
 
 
 def taking(least: float) -> str:
-    """Returns a text with the time, `least` minutes on four processors, that a subcommand takes."""
+    """Returns a text that says how long a subcommand runs: `least` minutes on four processors, rounded."""
     return f"about {least + 0.5:.0f} minutes on four processors"
 
 
@@ -78,7 +78,8 @@ def stages_of(word: str | None, names: list[str]) -> tuple[Stages, list[str]]:
 
 
 def main(words: list[str] | None = None) -> int:
-    """Runs the subcommand that the arguments name, those of the command line if `words` is None. Returns the status."""
+    """Runs the subcommand that the arguments name, those of the command line if `words` is None. Returns the status,
+    which is TAKEN if another check runs in this tree. Exits with status 2 if the command line is wrong."""
     every = parser()
     asked = every.parse_args(words)
     names: list[str] = getattr(asked, "names", [])

@@ -1,6 +1,6 @@
-"""Draws random plants, one small change in each of many functions, and asks the prover about them. The same seed
-draws the same plants. If a change doesn't compile, or the prover can't decide about it, the next one of the same
-function takes its place."""
+"""Draws random plants, one small change in each of many functions, and asks the prover about them. The same seed draws
+the same plants. If a change doesn't compile, or the prover can't decide about it, the next change of the same function
+is tried."""
 from __future__ import annotations
 
 import random

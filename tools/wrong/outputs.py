@@ -19,10 +19,10 @@ ENDING = re.compile(r"only=(\d+) proved=(\d+)")
 
 @dataclass
 class Told:
-    """The contents of a check's output: the functions with a line, the proved ones, the open goals by function, the
-    functions that depend on unproved ones, and errors that belong to no goal. `ending` has the two numbers with which a
-    check ends: of the functions that it had to prove, and of those that it proved. It is None if the check didn't
-    finish. `last` is the last line that isn't empty."""
+    """The contents of a check's output. These are the functions with a line, the proved ones, the open goals by
+    function, the functions that depend on unproved ones (`resting`), and errors that belong to no goal. `ending` has
+    the two numbers with which a check ends: of the functions that it had to prove, and of those that it proved. It is
+    None if the check didn't finish. `last` is the last line that isn't empty."""
 
     functions: set[str] = field(default_factory=set)
     proved: set[str] = field(default_factory=set)

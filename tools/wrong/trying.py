@@ -19,9 +19,9 @@ from tools.wrong.saved import find_name, hand_on
 
 @dataclass
 class Tried:
-    """The result of trying a crate's edits: the number of checks, and of the edits that were refused as they should be
-    (`passed`), of those of them that an earlier run tried (`known`), and of the others (`failed`). `seconds` is the
-    processor time of the checks."""
+    """The result of trying a crate's edits. `passed` is the number of edits that were refused as they should be,
+    `known` of which an earlier run tried. `failed` is the number of the others. `checks` is the number of checks, and
+    `seconds` their processor time."""
 
     crate: str
     checks: int = 0
