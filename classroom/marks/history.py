@@ -148,9 +148,9 @@ def row_of(entry: Entry, session: int, hider: Hider) -> Row:
 
 
 def steps(lab: labs.Lab, journal: list[Event], name: str, own: set[int]) -> Iterator[Row]:
-    """Yields a row for each closed step in `journal`, for each other event that made a configuration, and for each
-    other event at the nodes of the student `name` in `lab`. Leaves out the events whose places are in `own`, because
-    the student's lines show them already."""
+    """Yields a row for each event in `journal` of one of three kinds. These are closed steps, other events that made a
+    configuration, and other events at the nodes of the student `name` in `lab`. Leaves out the events whose places are
+    in `own`, because the student's lines show them already."""
     book, nodes = Book(list(lab.students)), set(lab.nodes_of(name))
     for event in journal:
         moved = book.add(event)
