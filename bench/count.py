@@ -20,7 +20,8 @@ from bench.common import PROGRAM, TYPED, Words, built_in, instructions, require_
 @dataclass(frozen=True)
 class Row:
     """A measurement: its lab, a function that returns the lines of a number of turns, and two such numbers, `few` and
-    `many`. `words` is the command line, and `lines` is the number of lines that count as one."""
+    `many`. A turn is a few lines that are repeated. `words` is the command line, and `lines` is the number of lines
+    that count as one."""
 
     name: str
     lab: Callable[[], str]

@@ -15,7 +15,7 @@ from classroom.marks.vouched import vouched
 from classroom.pages.frames import frames_of
 from classroom.pages.page import Played
 
-FOLDER = "students"
+FOLDER = "students"  # the name of the folder with these pages in a run's folder
 MOST = 64 << 20  # the most bytes of all pages together
 
 

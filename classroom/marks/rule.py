@@ -21,7 +21,7 @@ Known = Fraction | bool | str
 Value = Known | None  # None is unknown
 Row = Mapping[str, Value]
 Expression = Callable[[Row], Value]
-MOST_BYTES, MOST_LINES, MOST_DEPTH, MOST_DIGITS = 1 << 16, 100, 50, 12
+MOST_BYTES, MOST_LINES, MOST_DEPTH, MOST_DIGITS = 1 << 16, 100, 50, 12  # of a file, a file, an expression and a number
 TOKEN = re.compile(r"\s*(?:(?P<number>\d+(?:\.\d+)?)|(?P<name>[A-Za-z_]\w*)|(?P<text>\"[^\"\n]*\"|'[^'\n]*')|(?P<sign><=|>=|==|!=|[-+*/()<>,=]))",
                    re.ASCII)
 UNKNOWN = "-"
@@ -68,7 +68,8 @@ class Rule:
 
     def cells(self, row: Row) -> list[str]:
         """Returns the value of each line of the rule for a row of marks, as the cells of a table. A value that a
-        spreadsheet would take for a formula is guarded by an apostrophe. Raises `Fault` like `values`."""
+        spreadsheet would take for a formula is guarded by an apostrophe, but not the `-` of an unknown value. Raises
+        `Fault` like `values`."""
         return [value if value == UNKNOWN else guarded(value) for value in self.values(row)]
 
 

@@ -20,6 +20,7 @@ from classroom.core.program import TOP, Answer, Fault, call
 from classroom.core.statuses import WARNED
 from classroom.setup import keys, positions
 
+# The keys that the format has in each table, by the table's name. That of the document itself is empty.
 KNOWN = {
     "": ("events", "sessions", "teacher", "student", "node", "links"),
     "teacher": ("name", "key"),

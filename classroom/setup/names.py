@@ -9,6 +9,7 @@ from collections.abc import Iterable
 from classroom.core import limits
 from classroom.core.lists import Person
 
+# Letters, and their spelling in letters a to z.
 SPELLED = {
     "ä": "ae", "ö": "oe", "ü": "ue", "ß": "ss", "æ": "ae", "œ": "oe", "ø": "oe", "å": "aa", "ł": "l", "đ": "d", "ð": "d",
     "þ": "th", "ı": "i", "ħ": "h", "ŋ": "ng", "ə": "e",

@@ -12,7 +12,7 @@ from classroom.core.lab import Lab, write_new
 from classroom.core.program import Fault
 from classroom.door.routes import network
 
-FIRST_PORT, FIRST_PAGE = 4711, 4790
+FIRST_PORT, FIRST_PAGE = 4711, 4790  # the usual ports of a network's server and of its page to play
 
 
 @dataclass(frozen=True)

@@ -26,7 +26,7 @@ NOT_SOURCES = shutil.ignore_patterns(".*", "*~")
 
 @dataclass(frozen=True)
 class Place:
-    """A repository, a folder for temporary files, and the file with the output of `rt ci` there."""
+    """A repository, a folder for temporary files, and the path of the file with the output of `rt ci` there."""
 
     repository: Path
     temporary: Path

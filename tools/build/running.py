@@ -98,9 +98,10 @@ class Run:
     """A run of `rt ci` in a repository."""
 
     def __init__(self, place: Place, is_first: bool = True, is_whole: bool = False, is_alone: bool = False) -> None:
-        """Starts `rt ci` in a repository. If `is_first` is set, the run has the usual priority, and otherwise a lower
-        one. If `is_first` is set and `is_whole` isn't, the run gets all processors. `is_whole` says that the run proves
-        all crates. If `is_alone` is set, no other crate is proved beside, and the run may use twice as much memory."""
+        """Starts `rt ci` in the repository of `place`. If `is_first` is set, the run has the usual priority, and
+        otherwise a lower one. If `is_first` is set and `is_whole` isn't, the run gets all processors. `is_whole` says
+        that the run proves all crates. If `is_alone` is set, no other crate is proved beside, and the run may use twice
+        as much memory."""
         self.place, self.read = place, 0
         wide = [sys.executable, "-B", str(WIDE), *[ALONE] * is_alone]
         words = ["rt"] if is_whole or not is_first else wide

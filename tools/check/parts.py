@@ -110,7 +110,7 @@ QUICK = [
 
 
 def uses() -> dict[str, list[str]]:
-    """Returns all crates, each with the crates that it uses."""
+    """Returns all crates, each with the crates and the toolchain's libraries that it uses."""
     lines = re.findall(r"(?m)^(\w+):(.*)$", (TOP / "crates.txt").read_text(encoding="utf-8"))
     return {crate: used.split() for crate, used in lines}
 

@@ -12,7 +12,7 @@ TICKS = os.sysconf("SC_CLK_TCK")
 PAGE = os.sysconf("SC_PAGE_SIZE")
 PR_SET_PDEATHSIG = 1
 PR_SET_CHILD_SUBREAPER = 36
-PAUSE = 0.05
+PAUSE = 0.05  # seconds between two looks at the processes
 
 
 @dataclass(frozen=True)

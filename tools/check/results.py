@@ -1,4 +1,4 @@
-"""The result of a part, from its exit status and its output."""
+"""The result of a part of a check, from its exit status and its output."""
 from __future__ import annotations
 
 import re
@@ -30,7 +30,7 @@ def of_cases(output: str) -> str | None:
 
 
 def last_line(output: str) -> str:
-    """Returns the last line of an output that isn't blank, or an empty text."""
+    """Returns the last line of an output that isn't blank, or an empty text if all lines are."""
     return next((line for line in reversed(output.splitlines()) if line.strip()), "")
 
 

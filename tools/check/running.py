@@ -1,4 +1,5 @@
-"""Runs parts side by side, each in its own session and with its own folder."""
+"""Runs parts of a check side by side, each in its own session and with its own folder. A part that runs *beside* uses
+only the processors that the others leave idle. It reads words from the outputs of other parts on its standard input."""
 from __future__ import annotations
 
 import contextlib
@@ -15,7 +16,7 @@ from tools.check.parts import TOP, Part
 from tools.check.processes import end_all
 from tools.check.signals import HANDLER
 
-POLL = 0.1
+POLL = 0.1  # seconds between two looks at the running parts
 PATIENCE = 8.0  # seconds that parts have to clear up if they are ended
 
 
@@ -42,7 +43,8 @@ class Running:
 
     def show(self) -> list[str]:
         """Reads the complete lines that are new in the output, and prints those that match the part's `shows`. Returns
-        the words in these lines that match `hands_on`, for the parts that run beside."""
+        the words in these lines that match the part's `hands_on`, for the parts that run beside. Does nothing if the
+        part has no `shows`."""
         if not self.part.shows:
             return []
         with self.output.open("rb") as output:

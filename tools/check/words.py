@@ -12,8 +12,8 @@ from tools.check.guard import guarded
 from tools.check.lock import Taken, alone
 from tools.check.parts import PROOFS, QUICK, WRONG, minutes, minutes_of, proofs_of, uses, wrong_beside, wrong_of
 
-TAKEN = 3
-LEFT_OUT = {
+TAKEN = 3  # the status if another check runs in this tree
+LEFT_OUT = {  # texts about the parts that `./check quick` leaves out
     "proofs": "proofs and the tests inside the crates: ./check proofs",
     "wrong": "wrong bodies: ./check wrong",
 }

@@ -159,8 +159,8 @@ def asked_once(tree: Tree, crate: str, drawn: list[list[Plant]], kept: str, runn
 
 
 def proved(tree: Tree, crate: str, plants: list[Plant], kept: str, running: Running) -> Told:
-    """Returns the prover's output about the functions with these plants, which are all in one copy of the crate. `kept`
-    is the name of the folder in which the prover saves checked modules, and `running` runs the check."""
+    """Returns what the prover says about the functions with these plants, which are all in one copy of the crate.
+    `kept` is the name of the folder in which the prover saves checked modules, and `running` runs the check."""
     edits = [replace(plant.edit, wanted=(Refusal(plant.function, ANY),)) for plant in plants]
     texts: dict[str, str] = {}
     for edit in edits:

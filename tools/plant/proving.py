@@ -1,4 +1,5 @@
-"""The prover's verdicts on plants. One check of a crate tries all plants that are in different functions and texts."""
+"""The prover's verdicts on plants, bugs that are put into bodies of the crates. One check of a crate tries all plants
+that are in different functions and texts."""
 from __future__ import annotations
 
 import tempfile

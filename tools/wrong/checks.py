@@ -1,4 +1,5 @@
-"""Checks of crates by the prover that run side by side, and are ended by a signal to this process."""
+"""Checks of crates by the prover that run side by side, and are ended by a signal to this process. A *round* is a check
+of a crate with several of its wrong bodies, the edits."""
 from __future__ import annotations
 
 import os
