@@ -36,8 +36,9 @@ Times = list[tuple[str, float]]
 
 
 def connection_to(slip: Slip, number: int) -> socket.socket:
-    """Returns a connection to the port of a slip, before the hello. If the slip has a door, connects through it, from
-    an address of this machine that depends on `number`."""
+    """Returns a connection to the port of a slip, before the hello. If the slip has a door, connects through it without
+    checking its certificate. There, the connection comes from an address of this machine that depends on `number`,
+    because a door limits the connections of each address. Raises `Closed` or `OSError` if no connection can be made."""
     if not slip.door:
         return connected(slip.port, LIMIT)
     plain = socket.create_connection(door_of(slip.door), LIMIT, (f"127.1.{number // 250}.{number % 250 + 1}", 0))

@@ -757,7 +757,7 @@ async def tunnel(slip: Slip, port: int) -> None:
             print(f"client: can't connect through the door at {slip.door}: {error}", file=sys.stderr, flush=True)
         writer.close()
 
-    connected(port, 30.0, slip).close()
+    connected(port, 30.0, slip).close()  # Fails at once if the door can't be reached.
     try:
         server = await asyncio.start_server(lead, "127.0.0.1", port)
     except OSError as error:

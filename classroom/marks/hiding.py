@@ -62,6 +62,7 @@ class Hider:
     def beginning(self, text: str) -> str:
         """Returns the part of a text before the first place at which a key may be. If that isn't the whole text, adds
         how many characters are hidden."""
+        # A key may follow the word `key`, which may be spelled with escapes such as \u006b.
         found = re.search(r"key|\\u", text, re.IGNORECASE)
         shown = text[:found.start()] if found else text
         shown = shown[:self.first_key(shown)]

@@ -102,8 +102,9 @@ class Crew:
             self.running[process.pid] = Running(part, process, output)
 
     def ended(self) -> Iterator[Done]:
-        """Yields the parts that have ended since the last call. Also collects the statuses of other processes that they
-        have left."""
+        """Yields the parts that have ended since the last call, after showing the rest of their outputs. After the end
+        of a part with `hands_on`, no more words come, so closes the inputs of the parts that run beside. Also collects
+        the statuses of other processes that the parts have left."""
         while True:
             try:
                 pid, status, used = os.wait4(-1, os.WNOHANG)

@@ -71,7 +71,8 @@ def culprits(plants: list[Plant], bodies: list[Body], errors: list[str]) -> list
 
 def sift(tree: Tree, crate: str, plants: list[Plant], running: Running) -> Iterator[tuple[Plant, bool]]:
     """Yields each of these plants of a crate, and whether the crate with this plant passes the check of names and
-    types."""
+    types. Checks all plants together. After an error, checks the others without those that caused it, or each half if
+    it isn't known which did."""
     todo, bodies = [plants], bodies_of(tree.folder(crate))
     while todo:
         tried = todo.pop()

@@ -48,7 +48,8 @@ class Running:
     is_over: bool = False
 
     def may_begin(self) -> bool:
-        """Returns whether another check may begin now."""
+        """Returns whether another check may begin now: no proofs are running, or fewer checks than `beside` are running
+        and there is enough memory for a proof and a check."""
         return self.beside is None or len(self.checks) < self.beside and free_memory() > MOST_HELD + LEFT_FREE
 
     def go_on_alone(self) -> None:
