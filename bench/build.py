@@ -18,8 +18,8 @@ WRAPPER = Path("/usr/share/cargo/bin/cargo")
 
 
 def variables() -> dict[str, str]:
-    """Returns the environment for Debian's wrapper of cargo. The wrapper works only if CARGO_HOME ends in this
-    way."""
+    """Returns the environment for Debian's wrapper of cargo. The wrapper works only if CARGO_HOME ends in
+    `debian/cargo_home`."""
     home = OUT / "debian/cargo_home"
     flags = {name: "" for name in ("CFLAGS", "CXXFLAGS", "CPPFLAGS", "LDFLAGS")}
     target = {"DEB_HOST_GNU_TYPE": "x86_64-linux-gnu", "DEB_HOST_RUST_TYPE": "x86_64-unknown-linux-gnu"}

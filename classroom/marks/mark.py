@@ -102,8 +102,8 @@ class Run:
         return [None if asked is None else asked.denied.get(name, Counter())[clause] for clause in DENIED]
 
     def by_column(self, name: str) -> dict[str, int | None]:
-        """Returns the numbers that `denied` returns for the student `name`, by their columns. Each is None if there is
-        no record or one is refused."""
+        """Returns how many lines of the student `name` each clause denied, and how many were malformed, by the names of
+        the columns. Each number is None if there is no record or one is refused."""
         return dict(zip(DENIED, self.denied(name)))
 
     def table(self, rule: Rule | None = None) -> dict[str, Any]:

@@ -69,7 +69,7 @@ class Rule:
     def cells(self, row: Row) -> list[str]:
         """Returns the value of each line of the rule for a row of marks, as the cells of a table. A value that a
         spreadsheet would take for a formula is guarded by an apostrophe, but not the `-` of an unknown value. Raises
-        `Fault` like `values`."""
+        `Fault` if a line can't be computed for this row."""
         return [value if value == UNKNOWN else guarded(value) for value in self.values(row)]
 
 

@@ -118,7 +118,8 @@ def identifier(text: str, table: positions.Table) -> str:
 
 def line_of_key(text: str, key: str) -> tuple[int | None, str]:
     """Returns the number of the line with the key that an error names, such as `teacher.name`. The number is None
-    unless exactly one table of that name has the key. Also returns an empty text, as `place_of_error` does."""
+    unless exactly one table of that name has the key. Also returns an empty text, because `place_of_error` needs a text
+    to print after the number."""
     table, _, word = key.rpartition(".")
     lines = [each.keys[word] for each in positions.tables(text) if each.name == table and word in each.keys]
     return (lines[0], "") if len(lines) == 1 else (None, "")

@@ -41,9 +41,9 @@ def require_students(count: int, students: int) -> None:
 
 def parts(people: People, count: int | None, column: str | None) -> list[Part]:
     """Returns the students of each network. Without a `column` there are `count` networks, or one if that is None. If
-    `column` names the column with rooms, each room has networks of its own, as `networks_of` says. `people` are the
-    students by their names in the lab. Raises `Fault` if there are fewer students than networks, or fewer networks than
-    rooms, or if a student has no room."""
+    `column` names the column with rooms, each room has networks of its own. In this case there are `count` in all, or
+    enough to give each student a seat. `people` are the students by their names in the lab. Raises `Fault` if there are
+    fewer students than networks, or fewer networks than rooms, or if a student has no room."""
     if column is None:
         return [Part(names) for names in in_groups([*people], count or 1)]
     lost = [person.written for person in people.values() if not person.group]

@@ -52,7 +52,7 @@ def own_host_name() -> str:
 
 
 def add_way(words: argparse.ArgumentParser) -> None:
-    """Adds the arguments about the way in for students to a parser."""
+    """Adds the options about the way into a network to a parser: its ports, its door and its account for ssh."""
     words.add_argument("--port", type=port, help=f"the port on the slips; of several labs, the port of the first ({FIRST_PORT})")
     words.add_argument("--page-port", type=port, metavar="PORT",
                        help=f"the port of the page for playing by hand; of several labs, the port of the first ({FIRST_PAGE})")
@@ -112,8 +112,8 @@ def rewrite_slips(made: labs.Lab, way: Way, lab: Path) -> None:
 
 def remake_slips(words: argparse.Namespace) -> int:
     """Makes the slips of the labs in the arguments again, with the way in that the arguments name, or else with that of
-    the earlier slips. Prints the files. Returns the exit status. Raises `Fault` if a lab can't be read, or like
-    `ways`."""
+    the earlier slips. Prints the files. Returns the exit status. Raises `Fault` if a lab can't be read, two networks
+    have the same name, a port is too high, or the door's certificate can't be made."""
     files = [Path(lab) for lab in words.labs]
     every = [labs.read(file) for file in files]
     before = [Way.read(file) for file in files]

@@ -86,9 +86,9 @@ def with_end(short: str, end: str) -> str:
 
 def all_of(people: Iterable[Person], taken: Iterable[str] = ()) -> dict[str, Person]:
     """Returns these people by their names in the lab, which all differ and aren't in `taken`. If several persons would
-    have the same name, or one that is in `taken`, the identifier of each is added to it. A name that is still used by
-    another person, as without an identifier, also gets a number. A person whose name has no known letter is called `s-`
-    with an identifier or a number."""
+    have the same name, or one that is in `taken`, the identifier of each is added to it. A name that is still taken, as
+    without an identifier, also gets a number. A person whose name has no known letter is called `s-` with an identifier
+    or a number."""
     listed = list(people)
     forms = [lab_name(person.written) for person in listed]
     ids = [re.sub("[^a-z0-9]+", "-", person.id.lower()).strip("-") for person in listed]

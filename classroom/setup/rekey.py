@@ -91,7 +91,8 @@ def change(word: str, name: str) -> Changed:
 
 def rekey(words: argparse.Namespace) -> int:
     """Gives a student another key, prints the files that have it, and returns the exit status. A run that is going on
-    still accepts only the old key. Raises `Fault` like `change`."""
+    still accepts only the old key. Raises `Fault` if the lab has no such student, if several networks of a class have
+    one, or if a file can't be read or changed."""
     words.lab = str(classes.run_of(Path(words.lab), words.name))
     it, record = change(words.lab, words.name), files_of(words.lab)[2]
     print(f"{words.name} has a new key in {', '.join(map(str, it.files))}. The new slip is {it.slip}")

@@ -115,7 +115,8 @@ def tell_built(programs: list[str]) -> int:
 
 
 def main(words: list[str]) -> int:
-    """Does what these words ask for, and returns the exit status. A signal stops a build and then ends this process."""
+    """Builds the programs that these words name, or with `--built` only prints their paths. Returns the exit status. A
+    signal stops a build and then ends this process."""
     if words[:1] == ["--built"]:
         return tell_built(words[1:])
     end_with_parent()

@@ -115,7 +115,8 @@ def try_drawn(tree: Tree, crates: list[str], number: int, seed: int) -> int:
 
 
 def main() -> int:
-    """Does what the arguments ask for. Returns the status. Exits with an error line if that isn't possible."""
+    """Does what the arguments ask for. Returns the status. Exits with an error line if the toolchain isn't found, if
+    there is no such plant or crate, or if a plant can't be tried."""
     asked = words()
     try:
         tree = tree_at(TOP)

@@ -140,8 +140,8 @@ def asked(tree: Tree, crate: str, drawn: list[list[Plant]], kept: str, running: 
 
 def asked_once(tree: Tree, crate: str, drawn: list[list[Plant]], kept: str, running: Running) -> Iterator[tuple[Plant, str]]:
     """Yields for each function its first plant that compiles, or its last one, and the prover's verdict on it. `drawn`
-    and `kept` are those of `asked`. One check of names and types and one proof are enough if each plant compiles, and
-    none hinders another."""
+    has the plants of each function, and `kept` the name of the folder in which the prover saves checked modules. One
+    check of names and types and one proof are enough if each plant compiles, and none hinders another."""
     sifted = [*programs(tree, crate, drawn, running)]
     yield from ((plant, NO_PROGRAM) for plant, is_program in sifted if not is_program)
     todo = [[plant for plant, is_program in sifted if is_program]]

@@ -48,7 +48,8 @@ def prove_crate(tree: Tree, crate: str, plants: list[Plant], kept: str, running:
 
 def prove_all(tree: Tree, plants: list[Plant]) -> Iterator[tuple[Plant, str]]:
     """Yields each plant that names its function, and the prover's verdict on it, crate by crate. Leaves out other
-    plants. Raises `PlantFault` like `prove_crate`."""
+    plants. Raises `PlantFault` if a library isn't built, or if a check doesn't finish or has an error that belongs to
+    no goal."""
     running, kept = Running(), find_name(tree)
     for crate in dict.fromkeys(plant.crate for plant in plants if plant.function):
         yield from prove_crate(tree, crate, [plant for plant in plants if plant.crate == crate], kept, running)

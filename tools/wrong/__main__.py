@@ -104,7 +104,8 @@ def try_all(tree: Tree, crates: list[str], asked: argparse.Namespace) -> int:
 
 
 def main() -> int:
-    """Prints which edits are tried together, or tries them, as the arguments say. Returns the status."""
+    """Prints which edits are tried together, or tries them, as the arguments say. Returns the status. Exits with an
+    error line if the toolchain isn't found."""
     asked = words()
     for it in (signal.SIGINT, signal.SIGTERM, signal.SIGHUP):
         signal.signal(it, lambda number, _: sys.exit(128 + number))
