@@ -167,9 +167,9 @@ def main() -> None:
 
 
 def run_class(desk: "subprocess.Popen[str]", room: Path, slips: list[tuple[int, Slip]], seconds: float) -> None:
-    """Starts all bots, measures for `seconds` seconds, ends the class, and prints how long hellos and moves took.
-    `desk` is the process of the class's desk, the folder `room` has the class, and each slip has the number of its
-    student."""
+    """Starts all bots, measures for `seconds` seconds, ends the class, and prints how long hellos and moves took. Exits
+    with the class's output if the class ends before it serves. `desk` is the process of the class's desk, the folder
+    `room` has the class, and each slip has the number of its student."""
     begun = time.monotonic()
     while "\ncommands: " not in (room / "prints").read_text(encoding="utf-8"):
         if desk.poll() is not None:

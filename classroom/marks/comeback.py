@@ -119,7 +119,8 @@ def told(lab: labs.Lab, events: list[Event]) -> str:
 
 def recoveries(lab: labs.Lab, events: list[Event]) -> list[str]:
     """Returns a line for each recovery in a run of the lab, whose events are these. The line begins with the place at
-    which the recovery ended. If the run has more than MOST_COUNTED edits, returns a single line that says so."""
+    which the recovery ended. If the run has more than MOST_COUNTED edits, returns a single line that says so. Raises
+    `Fault` if the program is too old to count rounds, or doesn't grant an event again."""
     edits = sum(event.is_edit for event in events)
     if edits > MOST_COUNTED:
         return [f"there were {edits} faults and changes of links. How the class became stable again is printed only if there are at most {MOST_COUNTED}"]

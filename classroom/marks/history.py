@@ -257,7 +257,7 @@ def with_steps(lab: labs.Lab, journal: list[Event], name: str, lines: list[Row])
 
 def hider_of(parts: list[Vouched], lab: labs.Lab) -> Hider:
     """Returns the object that hides all keys of `lab`, and those of the labs in `parts`, the run's records. Such a lab
-    may have earlier keys."""
+    may have earlier keys. Raises `Fault` if one of these labs is refused."""
     every = [lab, *(labs.read(part.lab) for part in parts)]
     keys = {key for each in every for key in (*each.students.values(), each.teacher[1])}
     return Hider(keys, [*lab.students, lab.teacher[0]])

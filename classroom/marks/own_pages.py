@@ -21,7 +21,8 @@ MOST = 64 << 20  # the most bytes of all pages together
 
 def rows_by_student(folder: Path, lab: labs.Lab) -> tuple[list[str], dict[str, list[Row]]]:
     """Returns the lines about the records in a run's folder and their verdicts, and the rows of each student of the lab
-    who sent something. Returns two empty values if a record is refused."""
+    who sent something. Returns two empty values if a record is refused. Raises `Fault` if the journal or the beginning
+    of a record can't be read."""
     with vouched(folder) as parts:
         if any(part.status for part in parts):
             return [], {}

@@ -209,7 +209,7 @@ class Parser:
         return inner if count == 0 else negation(inner, count % 2 == 1)
 
     def compared(self) -> Expression:
-        """Reads a comparison such as `A < B`, or a sum."""
+        """Reads a comparison such as `A < B`, or a sum. Also raises `Wrong` for two comparisons in a row."""
         left = self.summed()
         sign = self.take("<", "<=", ">", ">=", "==", "!=")
         found = comparison(sign, left, self.summed()) if sign else left
@@ -298,7 +298,8 @@ def truth(value: Value) -> bool | None:
 
 
 def conditional(condition: Expression, first: Expression, other: Expression) -> Expression:
-    """Returns the expression `first if condition else other`."""
+    """Returns the expression `first if condition else other`. Its evaluation raises `Wrong` if the value of the
+    condition is a number or a text."""
     def value(row: Row) -> Value:
         """Returns the value of the conditional expression for a row of marks, or None if its condition is unknown."""
         holds = truth(condition(row))
@@ -309,7 +310,8 @@ def conditional(condition: Expression, first: Expression, other: Expression) -> 
 
 def logical(left: Expression, right: Expression, is_or: bool) -> Expression:
     """Returns the expression `left or right` if `is_or` is set, and otherwise `left and right`. The value of this
-    expression is known if one side decides it."""
+    expression is known if one side decides it. Its evaluation raises `Wrong` if the value of a side is a number or a
+    text."""
     def value(row: Row) -> Value:
         """Returns the value of the expression with `or` or `and` for a row of marks, or None if it is unknown."""
         sides = truth(left(row)), truth(right(row))
@@ -342,7 +344,7 @@ def of_two(left: Expression, right: Expression, made: Callable[[Known, Known], K
 
 def comparison(sign: str, left: Expression, right: Expression) -> Expression:
     """Returns the expression that compares two values by this sign. `==` and `!=` compare two values of one kind, and
-    the other signs two numbers."""
+    the other signs two numbers. For other values, its evaluation raises `Wrong`."""
     def holds(one: Known, other: Known) -> bool:
         """Returns whether the comparison of two values by `sign` is true. Raises `Wrong` if they can't be compared
         so."""
@@ -357,7 +359,8 @@ def comparison(sign: str, left: Expression, right: Expression) -> Expression:
 
 
 def arithmetic(sign: str, left: Expression, right: Expression) -> Expression:
-    """Returns the expression that adds, subtracts, multiplies or divides two values, as the sign says."""
+    """Returns the expression that adds, subtracts, multiplies or divides two values, as the sign says. Its evaluation
+    raises `Wrong` if a value isn't a number, or for a division by 0."""
     def result(one: Known, other: Known) -> Fraction:
         """Returns the sum, difference, product or quotient of two values. Raises `Wrong` if one isn't a number, or for
         a division by 0."""
@@ -371,7 +374,7 @@ def arithmetic(sign: str, left: Expression, right: Expression) -> Expression:
 
 def called(name: str, given: Sequence[Expression]) -> Expression:
     """Returns the expression that calls the function `name` of FUNCTIONS on these arguments. The value of the call is
-    unknown if that of an argument is."""
+    unknown if that of an argument is. Otherwise its evaluation raises `Wrong` if an argument isn't a number."""
     def value(row: Row) -> Value:
         """Returns the value of the call for a row of marks, or None if an argument is unknown. Raises `Wrong` if an
         argument isn't a number."""
