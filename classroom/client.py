@@ -287,7 +287,7 @@ class Client:
     """A connection after its hello. Not for several threads at once."""
 
     def __init__(self, port: int, name: str, key: str, host: str = "127.0.0.1", limit: float = 30.0, connection: socket.socket | None = None) -> None:
-        """Says hello by name and key on `connection`, or a new one. A reply may take `limit` seconds. Raises Closed, Denied or Refused."""
+        """Says hello by name and key on `connection`, or a new one to `port` of `host`. A reply may take `limit` seconds. Raises Closed, Denied or Refused."""
         self.name, self.port, self.limit, self._rest, self._ended = name, port, limit, b"", False
         self._socket = connection or connected(port, limit, host=host)
         try:

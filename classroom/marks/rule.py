@@ -346,8 +346,8 @@ def comparison(sign: str, left: Expression, right: Expression) -> Expression:
     """Returns the expression that compares two values by this sign. `==` and `!=` compare two values of one kind, and
     the other signs two numbers. For other values, its evaluation raises `Wrong`."""
     def holds(one: Known, other: Known) -> bool:
-        """Returns whether the comparison of two values by `sign` is true. Raises `Wrong` if they can't be compared
-        so."""
+        """Returns whether the comparison of two values by `sign` is true. Raises `Wrong` for values of different kinds,
+        and for an order of values that aren't numbers."""
         if sign in ("==", "!="):
             if isinstance(one, bool) != isinstance(other, bool) or isinstance(one, str) != isinstance(other, str):
                 raise Wrong(f"the values {shown(one)!r} and {shown(other)!r} are of different kinds, and can't be compared")

@@ -46,9 +46,9 @@ def parser() -> argparse.ArgumentParser:
 
 
 def tell_chain(names: list[str], is_table: bool) -> int:
-    """Prints the tables of the chains of proofs to these crates (`chain_tables`) in the last run that proved something.
-    If `is_table` is set, prints the text of `tools/build/seconds.txt` instead, the time of each proof. Returns the exit
-    status, which is 1 if no run has proved anything."""
+    """Prints the tables of the chains of proofs to these crates in the last run that proved something, or to the crate
+    that was proved last. If `is_table` is set, prints the text of `tools/build/seconds.txt` instead, the time of each
+    proof. Returns the exit status, which is 1 if no run has proved anything."""
     spans = chain.saved_spans()
     if not spans:
         print("check: no ./check has proved anything in this tree", file=sys.stderr)
@@ -58,8 +58,8 @@ def tell_chain(names: list[str], is_table: bool) -> int:
 
 
 def unknown(word: str | None, names: list[str]) -> str:
-    """Returns an error text about the first of these names that isn't known, or an empty text if all are. With the
-    subcommand `quick` they have to be names of parts, and otherwise names of crates."""
+    """Returns an error text about the first of these names that isn't known, or an empty text if all are. `word` is the
+    subcommand, or None. With `quick` the names have to be those of parts, and otherwise those of crates."""
     known = [it.name for it in QUICK] if word == "quick" else [*uses()] if names else []
     wrong = [it for it in names if it not in known]
     return f"there is no {'part' if word == 'quick' else 'crate'} {wrong[0]}; there are: {', '.join(known)}" if wrong else ""

@@ -54,8 +54,8 @@ def all_plants(tree: Tree) -> list[Plant]:
 
 
 def chosen(every: list[Plant], names: list[str]) -> list[Plant]:
-    """Returns the plants (planted bugs) with these names. A name is that of a plant, or of a crate, if all its plants
-    are meant. Raises `PlantFault` if a name is neither."""
+    """Returns those of the plants (planted bugs) in `every` that have these names. A name is that of a plant, or of a
+    crate, if all its plants are meant. Raises `PlantFault` if a name is neither."""
     for name in names:
         if not any(name in (it.name, it.crate) for it in every):
             raise PlantFault(f"{name}: there is no plant of this name, and no crate of this name has a plant; --list prints all plants")

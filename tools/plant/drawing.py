@@ -1,6 +1,6 @@
 """Draws random plants, one small change in each of many functions, and asks the prover about them. The same seed draws
 the same plants. If a change doesn't compile, or the prover can't decide about it, the next change of the same function
-is tried."""
+is tried. In all functions here, `running` runs the checks."""
 from __future__ import annotations
 
 import random
@@ -38,7 +38,7 @@ def candidates(body: Body, lines: list[str], variants: dict[str, list[str]]) -> 
 
 def drawn_in(crate: str, folder: Path, chance: random.Random) -> list[list[Plant]]:
     """Returns up to TRIES plants for each function of a crate that can be changed, a list for each function, in random
-    order."""
+    order. `folder` is the crate's folder, and `chance` makes the random choices."""
     texts = {body.file: (folder / body.file).read_text(encoding="utf-8") for body in bodies_of(folder)}
     variants = {name: kinds for text in texts.values() for name, kinds in variants_of(text).items()}
     drawn = []
@@ -173,8 +173,8 @@ def proved(tree: Tree, crate: str, plants: list[Plant], kept: str, running: Runn
 
 
 def ask_all(tree: Tree, drawn: list[list[Plant]]) -> Iterator[tuple[Plant, str]]:
-    """Yields for each function one of its plants, and the prover's verdict on it, crate by crate. Raises `PlantFault`
-    at the beginning if a library isn't built."""
+    """Yields for each function one of its plants, and the prover's verdict on it, crate by crate. `drawn` has the
+    plants of each function. Raises `PlantFault` at the beginning if a library isn't built."""
     crates = list(dict.fromkeys(plants[0].crate for plants in drawn))
     if missing := list(dict.fromkeys(name for crate in crates for name in tree.missing(crate))):
         raise PlantFault(f"these libraries aren't built: {', '.join(missing)}. `rt ci` or `rt check` builds them")

@@ -19,8 +19,9 @@ ANY = "any"  # in place of a goal, because no particular goal has to be left ope
 
 
 def verdict(function: str, told: Told) -> str:
-    """Returns the verdict on the plant (the planted bug) in a function, from the output of a check: REFUSED if a goal
-    of the function is open, LET_THROUGH if the function is proved, and otherwise UNDECIDED."""
+    """Returns the verdict on the plant (the planted bug) in a function. The verdict is REFUSED if a goal of the
+    function is open, LET_THROUGH if the function is proved, and otherwise UNDECIDED. `told` has the contents of the
+    check's output."""
     if function in told.open_goals:
         return REFUSED
     return LET_THROUGH if function in told.proved else UNDECIDED
@@ -28,9 +29,9 @@ def verdict(function: str, told: Told) -> str:
 
 def prove_crate(tree: Tree, crate: str, plants: list[Plant], kept: str, running: Running) -> Iterator[tuple[Plant, str]]:
     """Yields each of these plants of a crate that names its function, and the prover's verdict on it. `kept` is the
-    name of the folder in which the prover saves checked modules, or an empty text if it isn't known. Raises
-    `PlantFault` if a library below the crate isn't built, or if a check doesn't finish or has an error that belongs to
-    no goal."""
+    name of the folder in which the prover saves checked modules, or an empty text if it isn't known. `running` runs the
+    checks. Raises `PlantFault` if a library below the crate isn't built, or if a check doesn't finish or has an error
+    that belongs to no goal."""
     if missing := tree.missing(crate):
         raise PlantFault(f"{crate}: these libraries aren't built: {', '.join(dict.fromkeys(missing))}. `rt ci` or `rt check` builds them")
     named = {plant.edit.name: plant for plant in plants if plant.function}
