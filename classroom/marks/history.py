@@ -2,7 +2,7 @@
 
 A *record* has the lines and replies of all connections, as entries. A *session* is one connection's entries, and a
 *seat* serves one session after another. A *place* is the number of an event in the journal. Keys are hidden in all
-texts. A parameter `said` is a session, and a parameter `told` has a line about each record, with its verdict.
+texts. A parameter `said` is a session.
 """
 from __future__ import annotations
 
@@ -175,8 +175,8 @@ def merged(lines: list[Row], between: list[Row]) -> list[Row]:
 
 
 def text(told: list[str], rows: list[Row]) -> str:
-    """Returns the history as text for people: first the lines `told`, which are about the records, and then the
-    rows."""
+    """Returns the history as text for people: first the given lines, which are about the records and their verdicts,
+    and then the rows."""
     lines = [*told]
     for row, count in grouped(rows):
         head = f"  {row.after()}, seat {row.seat}{times(count)}"

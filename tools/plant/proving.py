@@ -19,9 +19,9 @@ ANY = "any"  # in place of a goal, because no particular goal has to be left ope
 
 
 def verdict(function: str, told: Told) -> str:
-    """Returns the verdict on the plant (the planted bug) in a function. The verdict is REFUSED if a goal of the
-    function is open, LET_THROUGH if the function is proved, and otherwise UNDECIDED. `told` has the contents of the
-    check's output."""
+    """Returns the verdict on the plant (the planted bug) in a function, from the contents of a check's output. The
+    verdict is REFUSED if a goal of the function is open, LET_THROUGH if the function is proved, and otherwise
+    UNDECIDED."""
     if function in told.open_goals:
         return REFUSED
     return LET_THROUGH if function in told.proved else UNDECIDED

@@ -1,6 +1,6 @@
 """Judges whether a check refused each wrong body of a round at its own goal, and nothing else. A *round* is a check of
-a crate with several edits, each of which has to be refused at certain goals of certain functions. In all functions
-here, `told` has the contents of the check's output."""
+a crate with several edits, each of which has to be refused at certain goals of certain functions. The functions here
+get the contents of the check's output as a `Told`."""
 from __future__ import annotations
 
 from collections.abc import Iterable
