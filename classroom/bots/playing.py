@@ -221,9 +221,10 @@ class Playing:
             self.conversation += [f"{connection} > {line.decode(errors='backslashreplace')}", f"{connection} < {reply.decode() or '(lost)'}"]
 
     def record_line(self, who: str, asked: dict[str, Any], sent: bytes, told: dict[str, Any]) -> None:
-        """Counts a line of the program of the student `who` by its reply. Calls `on_no` if the line was denied or
-        refused. `asked` has the line's values, and `sent` is the line, with the number of its connection before it. The
-        last parameter has the reply's values."""
+        """Counts a line of the program of the student `who` by its reply, and keeps a row about the line (`note_row`).
+        If a move was granted, also notes that its node is chosen. Calls `on_no` if the line was denied or refused.
+        `asked` has the line's values, and `sent` is the line, with the number of its connection before it. The last
+        parameter has the reply's values."""
         heard, line = self.heard[who], sent.partition(b" ")[2]
         self.note_row(who, sent, told)
         heard.lines += 1

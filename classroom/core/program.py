@@ -60,8 +60,9 @@ def built() -> Path:
 
 @cache
 def old_library() -> str:
-    """Returns the error line that `mml` prints if a release needs a newer C library than the system has, or an empty
-    text if it doesn't. The message of the system's loader doesn't help users."""
+    """Returns an error line if the system has an older C library than this release needs, or one that isn't the GNU C
+    library. Otherwise returns an empty text. Without this line, users would get the message of the system's loader,
+    which doesn't help them. The script `mml` prints the same line."""
     proved = TOP / "PROVED"
     wanted = re.search(r"(?m)^# wants glibc ([0-9.]+)$", proved.read_text(encoding="utf-8")) if proved.exists() else None
     here = library() if wanted else ""

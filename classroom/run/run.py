@@ -170,8 +170,8 @@ def start_server(run: Running, port_asked: int, record: Record | None = None) ->
 
 def ports_for(asked: int | None, default: int, known: Sequence[int | None]) -> list[int]:
     """Returns a port for each lab. If `asked` isn't None, these are consecutive ports from `asked` on. Otherwise the
-    ports are those in `known` if all differ, or else consecutive ports from `default` on. `known` has for each lab the
-    port on its slips, or None."""
+    ports are those in `known` if each lab has one and all differ, or else consecutive ports from `default` on. `known`
+    has for each lab the port on its slips, or None if that isn't known."""
     ports = [port for port in known if port is not None]
     if asked is None and len(set(ports)) == len(known):
         return ports

@@ -20,9 +20,10 @@ class Striker:
     """The part of a desk that closes steps when the desk's daemon decides so."""
 
     def __init__(self, seed: int = 1) -> None:
-        """`seed` determines the random choices of daemons."""
+        """`seed` determines the random choices of daemons. The adversary assumes that a node chooses the highest of
+        several possible partners (`max`), as a student's client does."""
         self.chance, self.adversary = random.Random(seed), Adversary(str(seed), max)
-        self.how: Closing | None = None
+        self.how: Closing | None = None  # the desk's daemon when `strike` was last called
         self.closed = 0.0  # the time of the last close, or of the last change of the daemon
 
     def strike(self, desk: Desk) -> None:
