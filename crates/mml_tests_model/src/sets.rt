@@ -156,8 +156,9 @@ fn first_unlike_lists() -> Option<(u64, u64, u64)> {
     None
 }
 
-/// Checks that seven sets have the ranks in their lists, that pseudo-random sets have the ranks for which `is_drawn` is
-/// true, and that 192 ranks are above 63.
+/// Checks that the seven sets in `results_of_sets` have the ranks in their lists, and that 192 ranks are above 63. For
+/// each row of `SEEDS`, also checks a pseudo-random set, its intersection with another one, its ranks that the other
+/// one doesn't have, and the set of all ranks above a rank.
 #[test]
 fn sets_of_ranks(rt: HostRuntime) {
     assert_eq!(rt;
