@@ -252,8 +252,9 @@ impl<H: House> Window<H> {
     }
 
     /// Reads the published data until the window has seen the board that `press`, the writer, has published last, and
-    /// events that lead to this board. Waits for a reader's slot if the window has none and none is free. With a slot,
-    /// one reading is enough, since nothing is published while `press` is borrowed.
+    /// events that lead to this board. `Desk::ask` calls this before it decides an act, so that the window has seen the
+    /// board on which the act is decided. Waits for a reader's slot if the window has none and none is free. With a
+    /// slot, one reading is enough, since nothing is published while `press` is borrowed.
     pub(crate) fn read_until_board<R: Wait>(&mut self, rt: &R, press: &Press<H>)
         ensures on { SeesOn H.lab self.old self.new }
         ensures world { world_in H.lab self.new.seen ≡ press.now.desk.shown.value.board }
@@ -265,7 +266,7 @@ impl<H: House> Window<H> {
     }
 
     /// Reads the published data until the window has seen all events that `press`, the writer, has published. Waits for
-    /// a slot as `read_until_board` does.
+    /// a slot as `read_until_board` does. `Book::show_all` calls this for each window when a house ends.
     pub(crate) fn read_until_all<R: Wait>(&mut self, rt: &R, press: &Press<H>)
         ensures window { self.new ≡ window_with press.now.desk.shown.value.events.items
             self.old.places self.old.refused self.old.halts self.old.spare }

@@ -25,9 +25,10 @@ const WELCOME: &str = "{\"ok\":\"hello\",\"who\":\"tess\"}\n";
 const LOOK: &str =
     "{\"at\":0,\"chosen\":null,\"m\":false,\"near\":[{\"m\":false,\"node\":5,\"p\":3}],\"node\":9,\"ok\":\"look\",\"p\":null,\"rule\":null}\n";
 
-/// Returns the line of the reply to a request on the first connection, with its newline. If memory runs out, the line
-/// is that of the refusal `memory`. Returns an empty list if the hall's lab allows no session. That is tested, since
-/// the contract of `Hall::answer` requires that the connection exists.
+/// Returns the line of the reply to a request on the first connection, with its newline. Returns an error if there is
+/// no memory for the buffer of the line. If memory runs out later, the line is that of the refusal `memory`. Returns an
+/// empty list if the hall's lab allows no session. The function checks this, since the contract of `Hall::answer`
+/// requires that the connection exists.
 fn answer(alloc: Global, hall: &mut Hall<NullSink>, line: &str) -> Result<Vec<u8>, Fail> {
     let mut out = Vec::with_capacity(alloc, REPLY_ROOM)?;
     if hall.lab().sessions() < 1 {
