@@ -67,7 +67,8 @@ class Record:
         return not self.is_cut and not self.is_paused
 
     def whole(self, lab: Lab) -> list[str]:
-        """Returns the word `whole` and the names of those whose lines are all recorded, the teacher first."""
+        """Returns the words of the line `whole`, which `verify` and `tally` print: this word, and the names of those
+        whose lines are all recorded, the teacher first. If `is_cut` is set, there are no such names."""
         return ["whole", *(name for name in lab.keys if not self.is_cut and name not in self.lacking)]
 
 

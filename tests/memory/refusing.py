@@ -34,8 +34,9 @@ def done_line(audited: bytes) -> bytes:
 
 
 def whole(words: list[str], given: bytes = b"", program: Path = PROGRAM) -> Use:
-    """Returns the use with these arguments and this input. Each run has to print the same as a run without refusals, or
-    only the error `out of memory`."""
+    """Returns the use with these arguments and this input. First runs it once without refusals, and fails if this run
+    doesn't end well. Each run with refusals has to end and print like this one, or print only the error `out of
+    memory`."""
     wanted = good(words, given, program)
 
     def use(variables: dict[str, str]) -> Tried:

@@ -270,7 +270,7 @@ class Reading(unittest.TestCase):
         self.assertEqual([[it.name for it in one.edits] for one in rounds], [["b.edit"], ["c.edit", "a.edit"], ["d.edit"]])
 
     def test_comments_in_the_list_of_crates_are_left_out(self) -> None:
-        """The kind of a crate before its name is left out too."""
+        """The kind of a crate, a word after its name, is left out too."""
         self.assertEqual(parse_uses("# all\nlow: io # words\n\nffi staticlib: low\n"), {"low": ["io"], "ffi": ["low"]})
 
 

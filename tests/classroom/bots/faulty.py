@@ -23,7 +23,7 @@ OWN = Path(sys.argv[-1])
 SLIP = Slip.read(OWN)
 GIVEN = [bytes.fromhex(word).decode() for word in sys.argv[2:-1]]  # given in hexadecimal digits, so that no command line contains these texts
 PAUSE = 0.05
-SLEEP = "98765.25"  # the variable by which the test finds the processes that are left over
+SLEEP = "98765.25"  # an argument of the processes that are left running, by which the tests find them
 
 
 def ask(me: Client, look: Look) -> bool:
@@ -95,7 +95,7 @@ def marries_anyone(me: Client, look: Look) -> None:
 
 
 def asks_always(me: Client, look: Look) -> None:
-    """Asks for the right move, and also for one under a number that doesn't exist."""
+    """Asks for the right move, and then for an update in a configuration that doesn't exist yet, which is denied."""
     right(me, look)
     try:
         me.ask(do="move", node=look.node, at=look.at + 1000, rule="update")
@@ -136,7 +136,7 @@ def ignores_faults() -> None:
 
 
 def needs_order(me: Client, look: Look) -> None:
-    """Takes a grant for a step: waits for the next number before it looks at another node."""
+    """Acts as if a grant ended the step: waits for the next configuration before it looks at another node."""
     if look.rule and not look.chosen:
         ask(me, look)
         while me.look(look.node).at == look.at:
