@@ -266,7 +266,8 @@ impl<H: House> Window<H> {
     }
 
     /// Reads the published data until the window has seen all events that `press`, the writer, has published. Waits for
-    /// a slot as `read_until_board` does. `Book::show_all` calls this for each window when a house ends.
+    /// a slot as `read_until_board` does. `Book::show_all` calls this for each window when a resumed house is opened,
+    /// and when a house ends.
     pub(crate) fn read_until_all<R: Wait>(&mut self, rt: &R, press: &Press<H>)
         ensures window { self.new ≡ window_with press.now.desk.shown.value.events.items
             self.old.places self.old.refused self.old.halts self.old.spare }
