@@ -57,6 +57,7 @@ class Several:
         self.lines: list[str] = []
         self.is_told = False  # Whether the table was printed.
         self.is_left = False  # Whether another process takes the desks.
+        self.is_ended = False  # Whether a signal has ended the class.
         # When alarms were last printed again, and when the page was last updated.
         self.reminded = self.looked = time.monotonic()
 
@@ -231,8 +232,9 @@ class Several:
         return ClassState(title(self.folder), [member.shown(acts) for member in self.members], self.lines, ended)
 
     def goes_on(self) -> bool:
-        """Returns whether any network is running, or is down and can still be resumed by a line or by the page."""
-        can_be_told = self.is_typed or self.hall is not None
+        """Returns whether any network is running, or is down and can still be resumed by a line or by the page. After a
+        signal, neither can resume a network."""
+        can_be_told = not self.is_ended and (self.is_typed or self.hall is not None)
         return any(member.status in (STARTS, RUNS) or member.status == DOWN and can_be_told for member in self.members)
 
     def attend(self) -> int:
@@ -256,8 +258,9 @@ class Several:
         return max(member.code for member in self.members)
 
     def end(self) -> None:
-        """Ends the run of each network that is running. Also stops waiting for those that are down, unless the class
-        has a page, on which they can still be resumed. The exit status of those isn't 0."""
+        """Ends the run of each network that is running, because of a signal. Also stops waiting for those that are down.
+        The exit status of those isn't 0."""
+        self.is_ended = True
         for member in self.members:
             member.terminate()
         self.is_typed = False

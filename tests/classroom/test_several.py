@@ -17,7 +17,7 @@ from classroom.core.program import host
 from classroom.run.addressed import addressed
 from classroom.run.member import DIED
 from classroom.run.network_table import now_table, start_table
-from tests.classroom.help import CLASS, LIMIT, wait_until, words
+from tests.classroom.help import CLASS, LIMIT, a_port, wait_until, words
 from tests.classroom.several import Classes, GoingClass
 from tests.common.limits import MOST
 
@@ -169,6 +169,14 @@ class OneDesk(Classes):
         again = words("run", "--resume", desk.folder)
         self.assertEqual((again.returncode, again.stderr), (1, f"class: {desk.folder}: all runs of this class were ended. To continue them, "
                                                                f"type: {CLASS} run --resume {desk.folder} --again\n"))
+
+    def test_a_signal_ends_a_class_with_a_page_and_a_network_that_is_down(self) -> None:
+        """The page, on which this network could be resumed, doesn't keep the class from ending."""
+        desk = self.begin("--close", "by-hand", "--page", str(a_port()))
+        desk.kill("maths-2")
+        desk.until("^ALARM maths-2 is down: ")
+        desk.process.send_signal(signal.SIGTERM)
+        self.assertEqual(desk.ends(), 4, desk.lines)
 
     def test_attach_takes_over_a_class_whose_desk_was_killed(self) -> None:
         """One of the two servers is killed too, so `attach` prints an alarm. A second `attach` is refused. The taken
