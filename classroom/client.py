@@ -508,9 +508,7 @@ def again(slip: Slip, lost: Closed | Refused, patience: float = 60.0) -> Client:
 
 
 def run(program: Callable[[list[str]], None], usage: str) -> None:
-    """Calls `program` with the command line's arguments. For no arguments or --help, exits with the text `usage` and
-    status 1 instead. If `program` raises Denied, Refused, Closed or NoSlip, prints the message that `stop` returns, and
-    exits with its status. Exits with status 130 after an interrupt, and with 141 if nobody reads the output."""
+    """Calls `program` with the arguments, or exits with `usage` for none or --help. Exits with a line and a status after Denied, Refused, Closed or NoSlip."""
     words = sys.argv[1:]
     if not words or words[0] in ("-h", "--help"):
         sys.exit(usage)
