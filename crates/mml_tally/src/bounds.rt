@@ -22,12 +22,12 @@ pub struct Bounds {
     pub moves: u64,
     /// The rounds until no node is privileged.
     pub rounds: u64,
-    /// The grants and closes until no node is privileged.
+    /// The grants and closes until no node is privileged, if there is no release.
     pub events: u64,
 }
 
 /// Returns the most moves, rounds and events that may still come until no node is privileged, from the state of a board
-/// on. Assumes that no fault, link or cut comes.
+/// on. Assumes that no fault, link or cut comes. The bound on events also assumes that no release comes.
 pub fn bounds_of(board: &Board) -> Bounds
     ensures { result ≡ bounds_of board.now }
 {
@@ -35,8 +35,8 @@ pub fn bounds_of(board: &Board) -> Bounds
 }
 
 /// Returns the most moves, rounds and events that may come until no node is privileged, on `nodes` nodes, at most 256,
-/// with `links` links. Assumes that no fault, link or cut comes. Each move takes at most two events, its grant and a
-/// close.
+/// with `links` links. Assumes that no fault, link or cut comes. Without releases, each move takes at most two events,
+/// its grant and a close.
 fn bounds_for(nodes: u64, links: u64) -> Bounds
     requires { nodes ≤ MAX_NODES }
     ensures { result ≡ bounds_for nodes links }

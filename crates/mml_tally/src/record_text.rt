@@ -136,8 +136,8 @@ fn put_denials(out: &mut Vec<u8>, name: &str, denied: &Denials) -> Result<(), Me
     put(out, &[Piece::Text("\n")])
 }
 
-/// Appends a line for each node that several students own, by rank: how many moves of each rule each owner asked for
-/// there. `asks` has the lines of the record. Returns `Memory` if memory runs out.
+/// Appends a line for each node that several students own, in the order of the identifiers: how many moves of each rule
+/// each owner asked for there. `asks` has the lines of the record. Returns `Memory` if memory runs out.
 fn put_asked(out: &mut Vec<u8>, alloc: Global, lab: &Lab, asks: &[Ask]) -> Result<(), Memory>
     ensures { OnOk result (out.new.items
         ≡ out.old.items ++ asked_text lab.now asks.now (length lab.now.ids)) }

@@ -18,8 +18,8 @@ use mml_lab::Lab;
 use mml_rules::Scene;
 use std::alloc::Global;
 
-/// Appends the line `rounds`: how many rounds of a lab's run ended since its last fault, link or cut. The events must
-/// be legal. Returns `Memory` if memory runs out.
+/// Appends the line `rounds`: how many rounds of a lab's run ended, as `rounds_since` counts them. The events must be
+/// legal. Returns `Memory` if memory runs out.
 pub fn put_rounds(
     out: &mut Vec<u8>,
     alloc: Global,
@@ -35,9 +35,9 @@ pub fn put_rounds(
     put(out, &[Piece::Text("\n")])
 }
 
-/// Returns how many rounds of a lab's run ended after its last fault, link or cut. A round ends as soon as each node
-/// has had its turn in it: at some point the node wasn't privileged, or a close applied its move. The events must be
-/// legal. Returns `Memory` if memory runs out.
+/// Returns how many rounds of a lab's run ended after its last fault, link or cut. If there was none, returns how many
+/// ended in the whole run. A round ends as soon as each node has had its turn in it: at some point the node wasn't
+/// privileged, or a close applied its move. The events must be legal. Returns `Memory` if memory runs out.
 pub fn rounds_since(alloc: Global, lab: &Lab, events: &[Event]) -> Result<u64, Memory>
     requires { is_legal_in lab.now events.now ≡ true }
     ensures { IfOk result

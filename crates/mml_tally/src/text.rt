@@ -55,9 +55,9 @@ pub(crate) fn put_granted(
     put_nodes(out, alloc, lab, all)
 }
 
-/// Appends the last two lines of a tally: the most moves, rounds and events that may follow, and the counts of the run.
-/// `board` is the state after `events`, and `all` must have the moves that they grant. Returns `Memory` if memory runs
-/// out.
+/// Appends the line `bounds`, with the most moves, rounds and events that may follow, and the line `run`, with the
+/// counts of the run. `board` is the state after `events`, and `all` must have the moves that they grant. Returns
+/// `Memory` if memory runs out.
 pub(crate) fn put_ends(
     out: &mut Vec<u8>,
     board: &Board,
@@ -144,8 +144,8 @@ pub(crate) fn put_numbers(out: &mut Vec<u8>, numbers: &[u64]) -> Result<(), Memo
     Ok(())
 }
 
-/// Appends a line for each node that several students own, by rank: how many moves of each rule each owner was granted
-/// there. `all` has the moves that the run's events grant. Returns `Memory` if memory runs out.
+/// Appends a line for each node that several students own, in the order of the identifiers: how many moves of each rule
+/// each owner was granted there. `all` has the moves that the run's events grant. Returns `Memory` if memory runs out.
 fn put_nodes(out: &mut Vec<u8>, alloc: Global, lab: &Lab, all: &[Move]) -> Result<(), Memory>
     ensures { OnOk result ((es : List Event) → all.now ≡ moves es →
         out.new.items ≡ out.old.items ++ nodes_text lab.now es (length lab.now.ids)) }
