@@ -111,8 +111,8 @@ pub fn write_pieces<W: Write>(alloc: Global, pieces: &[Piece], writer: &mut W) -
 
 /// Answers the lines of a script from `reader`, and returns the hall after the last one: the state of the run and of
 /// its connections. The replies go to `writer`. They are buffered, and all are written before each read. The lines of
-/// granted events go to the journal's `sink`, which must be fresh, with fewer than 2^64 - 1 failed puts. If the script
-/// ends early, returns the reason.
+/// granted events go to the journal's `sink`, which must be fresh, and to which fewer than 2^64 - 1 writes have failed.
+/// If the script ends early, returns the reason.
 pub fn answer_script<R: Read, W: Write, S: Sink + Drop>(
     alloc: Global,
     lab: Lab,

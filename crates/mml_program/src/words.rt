@@ -67,7 +67,7 @@ pub fn match_words<'a>(command: Command<'a>, words: &'a [String]) -> Result<ArgM
 }
 
 // Returns the task of the subcommand `name` with these values. Returns `None` if there is no such subcommand, a value
-// is missing, or a number is out of its range.
+// is missing, or the port or the number of connections isn't a number in its range.
 fn task_of<'a>(name: &str, values: &ArgMatches<'a>) -> Option<Task<'a>> {
     let lab = values.get_str("lab")?;
     match name {
