@@ -118,8 +118,8 @@ pub(crate) struct Ready<C: Drop> {
 }
 
 /// Serves a class until it is over. Records it in `folder`, if there is one. If the class's journal is a plain file,
-/// lets `eye` check that file meanwhile. Also returns an error if something wasn't recorded, or another program removed
-/// or changed the journal's file.
+/// lets `eye` check that file meanwhile. Returns the reason if the class can't begin or be resumed, or fails. Also
+/// returns an error if something wasn't recorded, or another program removed or changed the journal's file.
 pub(crate) fn serve_class<R: System + Files<File = File>, L: Look + Sync>(
     rt: &R,
     class: Class<'_>,

@@ -19,7 +19,8 @@ const THREADS: usize = 4;
 
 /// Checks whether the system allows the files and threads that a class needs at least: `FILES` files and `THREADS`
 /// threads. For that, opens that many files and closes them again, and then starts that many threads and lets them end.
-/// Returns `FewFiles` or `FewThreads` if the system allows fewer, or `Memory` if memory runs out.
+/// Returns `FewFiles` if a file can't be opened, and `FewThreads` if a thread can't be started. Returns `Memory` if
+/// memory runs out while the files are opened.
 pub fn look_at_limits<R: Files<File = File> + Threads + Wait + Sync>(
     rt: &R,
     alloc: Global,
