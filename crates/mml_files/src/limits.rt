@@ -22,8 +22,8 @@ pub fn has_small_stacks() -> bool {
     limit_of(STACK) < NEEDED
 }
 
-// Returns the system's limit on the resource with the number `what` (`FILE_SIZE` or `STACK`), in bytes. Returns
-// `u64::MAX` if the system sets or reports none.
+/// Returns the system's limit on the resource with the number `what` (`FILE_SIZE` or `STACK`), in bytes. Returns
+/// `u64::MAX` if the system sets or reports none.
 fn limit_of(what: i32) -> u64 {
     let mut limit = rlimit {
         rlim_cur: u64::MAX,

@@ -30,8 +30,8 @@ pub fn open_pipe<R: Files<File = File>>(rt: &R, path: &str) -> Result<File, File
     Err(FileFault::Refused)
 }
 
-// Returns whether somebody has the pipe open for reading. `file` is the pipe's end for writing, on which the system
-// reports an error if nobody reads.
+/// Returns whether somebody has the pipe open for reading. `file` is the pipe's end for writing, on which the system
+/// reports an error if nobody reads.
 fn is_read(file: &File) -> bool {
     let mut ends = [pollfd {
         fd: file.as_raw_fd(),
