@@ -51,8 +51,8 @@ impl LabRefusal {
         Some(refusal)
     }
 
-    // Returns the reason why a lab file is refused if its nodes' identifiers have this error. Returns `None` if the
-    // error is that memory ran out.
+    /// Returns the reason why a lab file is refused if its nodes' identifiers have this error. Returns `None` if the
+    /// error is that memory ran out.
     fn of_identifiers(fault: IdFault) -> Option<LabRefusal> {
         match fault {
             IdFault::Empty => Some(LabRefusal::File("no nodes")),
@@ -63,8 +63,8 @@ impl LabRefusal {
         }
     }
 
-    // Returns the refusal of a lab file for this `reason`, which is about the node with this `index`, from 0 in the
-    // file's order.
+    /// Returns the refusal of a lab file for this `reason`, which is about the node with this `index`, from 0 in the
+    /// file's order.
     fn node(index: usize, reason: &'static str) -> LabRefusal {
         LabRefusal::Element("node", index, reason)
     }
@@ -101,7 +101,7 @@ impl AuditRefusal {
     }
 }
 
-// Returns the name of a lab file's key, as it is written in the error lines.
+/// Returns the name of a lab file's key, as it is written in the error lines.
 fn key_name(key: Key) -> &'static str {
     match key {
         Key::Events => "events",

@@ -57,9 +57,9 @@ pub fn write_audit<W: Write>(
     write_world(alloc, &board, writer)
 }
 
-// Writes the line about a journal that passed the audit: the number of its events, the number of the configuration, and
-// whether that is stable. `board` is the state after these events. Returns `Write` if the write fails, and `Memory` if
-// memory runs out.
+/// Writes the line about a journal that passed the audit: the number of its events, the number of the configuration,
+/// and whether that is stable. `board` is the state after these events. Returns `Write` if the write fails, and
+/// `Memory` if memory runs out.
 fn write_world<W: Write>(alloc: Global, board: &Board, writer: &mut W) -> Result<(), Fault>
     ensures { OnOk result
         (Appends (W.contents writer.old) (W.contents writer.new) (world_line board.now)) }
@@ -71,8 +71,8 @@ fn write_world<W: Write>(alloc: Global, board: &Board, writer: &mut W) -> Result
     }
 }
 
-// Writes a line with the number of events that led to `board` and the number of its configuration. The line ends with
-// `end`, which has its newline. Returns `Write` if the write fails, and `Memory` if memory runs out.
+/// Writes a line with the number of events that led to `board` and the number of its configuration. The line ends with
+/// `end`, which has its newline. Returns `Write` if the write fails, and `Memory` if memory runs out.
 fn write_ended<W: Write>(
     alloc: Global,
     board: &Board,

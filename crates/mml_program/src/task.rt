@@ -69,15 +69,15 @@ pub fn run_task<
     }
 }
 
-// Reads the lab in a file, and prints the numbers of its nodes, links and students. Returns an error if the file can't
-// be read or doesn't describe a lab, the write fails, or memory runs out.
+/// Reads the lab in a file, and prints the numbers of its nodes, links and students. Returns an error if the file can't
+/// be read or doesn't describe a lab, the write fails, or memory runs out.
 fn check_file<R: Files + Print + AllocGlobal>(rt: &R, path: &str) -> Result<(), Fault> {
     let lab = lab_of(rt, path)?;
     write_size(rt.alloc(), &lab, &mut io::writer(rt))
 }
 
-// Answers the script on standard input over the built-in lab, and writes the replies to standard output. If the script
-// ended early, returns the reason, or `Memory` if a read or a write ran out of memory.
+/// Answers the script on standard input over the built-in lab, and writes the replies to standard output. If the script
+/// ended early, returns the reason, or `Memory` if a read or a write ran out of memory.
 fn answer_input<R: Input + Print + AllocGlobal>(rt: &R) -> Result<(), Fault> {
     let alloc = rt.alloc();
     let lab = lab_in(alloc, BUILT_IN.as_bytes())?;
@@ -89,9 +89,9 @@ fn answer_input<R: Input + Print + AllocGlobal>(rt: &R) -> Result<(), Fault> {
     }
 }
 
-// Answers the script in a file over the lab in a file, and writes a journal if the task names one. If the script can't
-// be read, `begin_journal_with` leaves the journal's file as it was. Returns an error if one of the files is refused,
-// the script ended early, or the journal was halted.
+/// Answers the script in a file over the lab in a file, and writes a journal if the task names one. If the script can't
+/// be read, `begin_journal_with` leaves the journal's file as it was. Returns an error if one of the files is refused,
+/// the script ended early, or the journal was halted.
 fn script_file<R: Files<File = File> + Print + AllocGlobal>(
     rt: &R,
     task: ScriptTask<'_>,
@@ -111,9 +111,9 @@ fn script_file<R: Files<File = File> + Print + AllocGlobal>(
     }
 }
 
-// Answers the lines of a script over a lab, and writes the replies to standard output. The journal's lines go to
-// `sink`, which must be fresh. If the script ended early, returns the reason, or `Memory` if a write ran out of memory.
-// Returns `Journal` if the journal was halted.
+/// Answers the lines of a script over a lab, and writes the replies to standard output. The journal's lines go to
+/// `sink`, which must be fresh. If the script ended early, returns the reason, or `Memory` if a write ran out of
+/// memory. Returns `Journal` if the journal was halted.
 fn answer_lines<R: Print + AllocGlobal, S: Sink + Drop>(
     rt: &R,
     lab: Lab,
@@ -131,7 +131,7 @@ fn answer_lines<R: Print + AllocGlobal, S: Sink + Drop>(
     }
 }
 
-// Returns the error `Journal` if the hall's journal was halted while a script was answered, and otherwise `Ok`.
+/// Returns the error `Journal` if the hall's journal was halted while a script was answered, and otherwise `Ok`.
 fn fault_if_halted<S: Sink>(hall: &Hall<S>) -> Result<(), Fault> {
     if hall.halted() {
         return Err(Fault::Journal);
@@ -139,8 +139,9 @@ fn fault_if_halted<S: Sink>(hall: &Hall<S>) -> Result<(), Fault> {
     Ok(())
 }
 
-// Audits the journal in a file over the lab in a file. Prints the number of its events, the number of the configuration
-// that they lead to, and whether that is stable. Returns an error if one of the files is refused, or the write failed.
+/// Audits the journal in a file over the lab in a file. Prints the number of its events, the number of the
+/// configuration that they lead to, and whether that is stable. Returns an error if one of the files is refused, or the
+/// write failed.
 fn audit_file<R: Files + Print + AllocGlobal>(
     rt: &R,
     lab: &str,
@@ -151,9 +152,9 @@ fn audit_file<R: Files + Print + AllocGlobal>(
     write_audit(rt.alloc(), &lab, text.as_slice(), &mut io::writer(rt))
 }
 
-// Serves as many connections as the task says over the lab in a file, and writes a journal if the task names one. If
-// the port can't be used, `begin_journal_with` leaves the journal's file as it was. Returns an error if the task has
-// more connections than the lab has sessions, a file is refused, the port can't be used, or the server fails.
+/// Serves as many connections as the task says over the lab in a file, and writes a journal if the task names one. If
+/// the port can't be used, `begin_journal_with` leaves the journal's file as it was. Returns an error if the task has
+/// more connections than the lab has sessions, a file is refused, the port can't be used, or the server fails.
 fn serve_file<
     R: Files<File = File>
         + Net<Listener = TcpListener, Stream = TcpStream>
@@ -199,10 +200,10 @@ struct Service {
     connections: u8,
 }
 
-// Prints the line with the port, serves the connections of the service, and prints the last line, which has the numbers
-// of events and of the configuration. The journal's lines go to `sink`, which must be fresh. The service must have at
-// least one connection, and at most as many as the lab has sessions. Returns the reason if the server failed, or
-// `Memory` instead if a write ran out of memory.
+/// Prints the line with the port, serves the connections of the service, and prints the last line, which has the
+/// numbers of events and of the configuration. The journal's lines go to `sink`, which must be fresh. The service must
+/// have at least one connection, and at most as many as the lab has sessions. Returns the reason if the server failed,
+/// or `Memory` instead if a write ran out of memory.
 fn serve_listener<
     R: Net<Listener = TcpListener, Stream = TcpStream>
         + Threads
@@ -228,10 +229,10 @@ fn serve_listener<
     }
 }
 
-// Writes the line with the port to `writer`, serves the connections, and writes the last line, which has the numbers of
-// events and of the configuration. The journal's lines go to `sink`, which must be fresh. The service must have at
-// least one connection, and at most as many as the lab has sessions. Returns the result of the house, or the reason if
-// the server failed.
+/// Writes the line with the port to `writer`, serves the connections, and writes the last line, which has the numbers
+/// of events and of the configuration. The journal's lines go to `sink`, which must be fresh. The service must have at
+/// least one connection, and at most as many as the lab has sessions. Returns the result of the house, or the reason if
+/// the server failed.
 fn serve_lines<R: Threads + Wait + Sync + AllocGlobal, S: Sink + Send + Drop, W: Write>(
     rt: &R,
     lab: Lab,
@@ -260,8 +261,8 @@ fn serve_lines<R: Threads + Wait + Sync + AllocGlobal, S: Sink + Send + Drop, W:
     }
 }
 
-// Listens on a port that can be reached only from this machine, and returns the listener. Returns an error if the port
-// can't be used, or memory runs out.
+/// Listens on a port that can be reached only from this machine, and returns the listener. Returns an error if the port
+/// can't be used, or memory runs out.
 fn listen<R: Net<Listener = TcpListener, Stream = TcpStream>>(
     rt: &R,
     port: u16,

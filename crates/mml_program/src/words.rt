@@ -66,8 +66,8 @@ pub fn match_words<'a>(command: Command<'a>, words: &'a [String]) -> Result<ArgM
     }
 }
 
-// Returns the task of the subcommand `name` with these values. Returns `None` if there is no such subcommand, a value
-// is missing, or the port or the number of connections isn't a number in its range.
+/// Returns the task of the subcommand `name` with these values. Returns `None` if there is no such subcommand, a value
+/// is missing, or the port or the number of connections isn't a number in its range.
 fn task_of<'a>(name: &str, values: &ArgMatches<'a>) -> Option<Task<'a>> {
     let lab = values.get_str("lab")?;
     match name {
@@ -91,8 +91,8 @@ fn task_of<'a>(name: &str, values: &ArgMatches<'a>) -> Option<Task<'a>> {
     }
 }
 
-// Returns the description of the program's command line, with its four subcommands. Returns an error if memory runs
-// out.
+/// Returns the description of the program's command line, with its four subcommands. Returns an error if memory runs
+/// out.
 fn command_line<'a>(alloc: Global) -> Result<Command<'a>, AllocError> {
     command_without_help(alloc, "mml_server")
         .subcommand(subcommand_of(alloc, "check", &["lab"])?)?
@@ -133,8 +133,8 @@ pub fn with_optional<'a>(
     command.arg(Arg::new(alloc, value).action(ArgAction::Set))
 }
 
-// Returns the description of a command with this name. The description has no flags for help and version, and no
-// subcommand for help.
+/// Returns the description of a command with this name. The description has no flags for help and version, and no
+/// subcommand for help.
 fn command_without_help<'a>(alloc: Global, name: &'a str) -> Command<'a> {
     Command::new(alloc, name)
         .disable_help_flag(true)
