@@ -46,10 +46,10 @@ impl<C: Observer + Send + Drop> Ready<C> {
         told
     }
 
-    // Serves a new class in the host state `state`: writes the first line, serves the connections, and writes the last
-    // line. Granted events go to the journal's `sink`, which must be fresh. Returns the log whose events the last line
-    // counts, or the reason if the class can't begin, or fails. If a session ran out of memory, that is only noted in
-    // the state.
+    /// Serves a new class in the host state `state`: writes the first line, serves the connections, and writes the last
+    /// line. Granted events go to the journal's `sink`, which must be fresh. Returns the log whose events the last line
+    /// counts, or the reason if the class can't begin, or fails. If a session ran out of memory, that is only noted in
+    /// the state.
     fn begin<'a, R: System, S: Sink + Send + Drop, W: Write>(
         self,
         rt: &'a R,
@@ -77,9 +77,9 @@ impl<C: Observer + Send + Drop> Ready<C> {
         }
     }
 
-    // Serves the connections with this host state and bell until the class is over, and writes the last line. Granted
-    // events go to the journal's `sink`, which must be fresh. Returns the log, or the reason if the class fails. If a
-    // session ran out of memory, that is only noted in the state.
+    /// Serves the connections with this host state and bell until the class is over, and writes the last line. Granted
+    /// events go to the journal's `sink`, which must be fresh. Returns the log, or the reason if the class fails. If a
+    /// session ran out of memory, that is only noted in the state.
     fn serve_to_the_end<'a, R: System, S: Sink + Send + Drop, W: Write>(
         self,
         rt: &'a R,
@@ -113,8 +113,8 @@ impl<C: Observer + Send + Drop> Ready<C> {
     }
 }
 
-// Writes the first line of a class that is served at these ports, and returns its bell, which counts ended sessions in
-// `state`. Returns an error if the write fails, memory runs out, or the system refuses the bell's descriptor.
+/// Writes the first line of a class that is served at these ports, and returns its bell, which counts ended sessions in
+/// `state`. Returns an error if the write fails, memory runs out, or the system refuses the bell's descriptor.
 fn announce<'a, R: AllocGlobal, W: Write>(
     rt: &'a R,
     state: &'a HostState,

@@ -52,7 +52,7 @@ pub(crate) enum ClassJournal<'a> {
 }
 
 impl<'a> ClassJournal<'a> {
-    // Returns the watch of the journal if it is a plain file, and otherwise `None`.
+    /// Returns the watch of the journal if it is a plain file, and otherwise `None`.
     fn watch(&self) -> Option<&'a JournalWatch<'a>> {
         match self {
             ClassJournal::None | ClassJournal::Other(_) => None,
@@ -96,14 +96,14 @@ impl<'a> Class<'a> {
         }
     }
 
-    // Returns the lab of the class.
+    /// Returns the lab of the class.
     fn lab(&self) -> &Lab
         ensures { result.now.sessions ≡ self.now }
     {
         &self.lab
     }
 
-    // Returns the watch of the class's journal if that is a plain file, and otherwise `None`.
+    /// Returns the watch of the class's journal if that is a plain file, and otherwise `None`.
     fn watch(&self) -> Option<&'a JournalWatch<'a>> {
         self.journal.watch()
     }
@@ -132,9 +132,9 @@ pub(crate) fn serve_class<R: System + Files<File = File>, L: Look + Sync>(
     }
 }
 
-// Serves a class, while another thread lets `eye` check the journal's file. `watch` is the watch of this file. If no
-// thread can be started, checks the file once, at the end. Returns the error of the class. If it has none, returns a
-// journal fault if the file was removed or changed.
+/// Serves a class, while another thread lets `eye` check the journal's file. `watch` is the watch of this file. If no
+/// thread can be started, checks the file once, at the end. Returns the error of the class. If it has none, returns a
+/// journal fault if the file was removed or changed.
 fn serve_watched<R: System + Files<File = File>, L: Look + Sync>(
     rt: &R,
     class: Class<'_>,
@@ -161,7 +161,7 @@ fn serve_watched<R: System + Files<File = File>, L: Look + Sync>(
     watch.end()
 }
 
-// Serves a class, and records it in this folder if there is one.
+/// Serves a class, and records it in this folder if there is one.
 fn serve_recorded<R: System + Files<File = File>>(
     rt: &R,
     class: Class<'_>,
@@ -173,7 +173,7 @@ fn serve_recorded<R: System + Files<File = File>>(
     }
 }
 
-// Serves a class without recording it, with observers that do nothing.
+/// Serves a class without recording it, with observers that do nothing.
 fn serve_unrecorded<R: System + Files<File = File>>(rt: &R, class: Class<'_>) -> Result<(), Fault> {
     match no_observers(rt.alloc(), class.lab()) {
         Ok(observers) => serve_ports(rt, class, observers),
@@ -184,8 +184,8 @@ fn serve_unrecorded<R: System + Files<File = File>>(rt: &R, class: Class<'_>) ->
     }
 }
 
-// Serves a class, and records it in this folder. Returns the error of the class. If it has none, returns `Unrecorded`
-// if something couldn't be recorded.
+/// Serves a class, and records it in this folder. Returns the error of the class. If it has none, returns `Unrecorded`
+/// if something couldn't be recorded.
 fn serve_in_folder<R: System + Files<File = File>>(
     rt: &R,
     class: Class<'_>,
@@ -205,8 +205,8 @@ fn serve_in_folder<R: System + Files<File = File>>(
     }
 }
 
-// Opens the file of each seat in the folder, and serves a class that is recorded there. `state` is the record's: failed
-// writes are noted there. Returns an error if a file can't be opened, or the class fails.
+/// Opens the file of each seat in the folder, and serves a class that is recorded there. `state` is the record's:
+/// failed writes are noted there. Returns an error if a file can't be opened, or the class fails.
 fn serve_seats<R: System + Files<File = File>>(
     rt: &R,
     class: Class<'_>,
@@ -228,8 +228,8 @@ fn serve_seats<R: System + Files<File = File>>(
     }
 }
 
-// Serves a class, while another thread syncs the files of its record. `observers` write these files, and `state` is the
-// record's. If no thread can be started, syncs the files once, at the end. Returns the error of the class.
+/// Serves a class, while another thread syncs the files of its record. `observers` write these files, and `state` is
+/// the record's. If no thread can be started, syncs the files once, at the end. Returns the error of the class.
 fn serve_synced<R: System + Files<File = File>, C: Observer + Send + Drop>(
     rt: &R,
     class: Class<'_>,
@@ -257,9 +257,9 @@ fn serve_synced<R: System + Files<File = File>, C: Observer + Send + Drop>(
     )
 }
 
-// Returns what the program reports for a class whose result is `served`. This is the error of the class, if it has one.
-// Otherwise it is `Unrecorded` if a write to the record or a sync of its files has failed, and else `Ok`. `state` is
-// the record's.
+/// Returns what the program reports for a class whose result is `served`. This is the error of the class, if it has
+/// one. Otherwise it is `Unrecorded` if a write to the record or a sync of its files has failed, and else `Ok`. `state`
+/// is the record's.
 fn told_whole(served: Result<(), Fault>, state: &RecordState) -> Result<(), Fault> {
     if served.is_ok() && state.has_failed() {
         Err(Fault::Unrecorded)
@@ -268,8 +268,8 @@ fn told_whole(served: Result<(), Fault>, state: &RecordState) -> Result<(), Faul
     }
 }
 
-// Serves a class until it is over, and prints the host's lines: the ports, the state after an earlier journal if there
-// is one, and the end. If a write ran out of memory, returns `Memory` instead of any other error.
+/// Serves a class until it is over, and prints the host's lines: the ports, the state after an earlier journal if there
+/// is one, and the end. If a write ran out of memory, returns `Memory` instead of any other error.
 fn serve_ports<R: System + Files<File = File>, C: Observer + Send + Drop>(
     rt: &R,
     class: Class<'_>,
@@ -284,9 +284,9 @@ fn serve_ports<R: System + Files<File = File>, C: Observer + Send + Drop>(
     }
 }
 
-// Serves a class at its ports, with the sink for its kind of journal. There are four kinds: no journal, a plain file
-// that is synced and watched, a file that can't be synced, and the journal from which the class is resumed. The host's
-// lines go to `writer`.
+/// Serves a class at its ports, with the sink for its kind of journal. There are four kinds: no journal, a plain file
+/// that is synced and watched, a file that can't be synced, and the journal from which the class is resumed. The host's
+/// lines go to `writer`.
 fn serve_journaled<R: System + Files<File = File>, C: Observer + Send + Drop, W: Write>(
     rt: &R,
     class: Class<'_>,

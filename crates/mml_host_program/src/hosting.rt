@@ -34,8 +34,8 @@ pub(crate) fn host<R: System + Files<File = File>, L: Look + Sync>(
     host_lab(rt, eye, &task, bytes.as_slice())
 }
 
-// Serves a new class of the lab whose file has these `bytes`, as `host` does. Returns the reason if the class can't
-// begin, or fails.
+/// Serves a new class of the lab whose file has these `bytes`, as `host` does. Returns the reason if the class can't
+/// begin, or fails.
 fn host_lab<R: System + Files<File = File>, L: Look + Sync>(
     rt: &R,
     eye: &L,
@@ -61,8 +61,8 @@ struct Opened<'a> {
     folder: Option<RecordFolder>,
 }
 
-// Serves a new class of this lab, for which everything in `opened` is open. Returns the reason if the class can't
-// begin, or fails.
+/// Serves a new class of this lab, for which everything in `opened` is open. Returns the reason if the class can't
+/// begin, or fails.
 fn host_opened<R: System + Files<File = File>, L: Look + Sync>(
     rt: &R,
     eye: &L,
@@ -90,8 +90,8 @@ fn host_opened<R: System + Files<File = File>, L: Look + Sync>(
     }
 }
 
-// Serves a new class of this lab, whose journal is the plain `file` at `path`, and lets `eye` check this file
-// meanwhile. Returns the reason if the system can't identify the file, or the class can't begin, or fails.
+/// Serves a new class of this lab, whose journal is the plain `file` at `path`, and lets `eye` check this file
+/// meanwhile. Returns the reason if the system can't identify the file, or the class can't begin, or fails.
 fn host_watched<R: System + Files<File = File>, L: Look + Sync>(
     rt: &R,
     eye: &L,
@@ -118,9 +118,9 @@ fn host_watched<R: System + Files<File = File>, L: Look + Sync>(
     }
 }
 
-// Checks the system's limits, and opens what a new class needs: its ports, and its journal and the folder of its
-// record, if they are named. Without a journal there is no record. `lab` has the bytes of the lab's file. Returns an
-// error if one of these steps fails.
+/// Checks the system's limits, and opens what a new class needs: its ports, and its journal and the folder of its
+/// record, if they are named. Without a journal there is no record. `lab` has the bytes of the lab's file. Returns an
+/// error if one of these steps fails.
 fn open_new<'a, R: System + Files<File = File>>(
     rt: &R,
     task: &HostTask<'a>,
@@ -137,12 +137,12 @@ fn open_new<'a, R: System + Files<File = File>>(
     }
 }
 
-// Opens what a new class with a journal needs: the journal's file at `path`, then both ports, then the record's folder
-// if one is named. Returns all of them. The journal is begun only after these steps. If its file is a plain one, the
-// file is emptied then. Its earlier bytes stay under another name, and a copy of the lab's file, whose bytes are `lab`,
-// is written beside it. Returns the first error. If the file, the ports or the folder can't be opened, the journal's
-// file stays as it was. If the journal can't be begun, the record is taken back, and what had its path before is put
-// back.
+/// Opens what a new class with a journal needs: the journal's file at `path`, then both ports, then the record's folder
+/// if one is named. Returns all of them. The journal is begun only after these steps. If its file is a plain one, the
+/// file is emptied then. Its earlier bytes stay under another name, and a copy of the lab's file, whose bytes are
+/// `lab`, is written beside it. Returns the first error. If the file, the ports or the folder can't be opened, the
+/// journal's file stays as it was. If the journal can't be begun, the record is taken back, and what had its path
+/// before is put back.
 fn begin_into<
     'a,
     R: Files<File = File> + Net<Listener = TcpListener, Stream = TcpStream> + Clock + AllocGlobal,

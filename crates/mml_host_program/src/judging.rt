@@ -44,8 +44,8 @@ pub(crate) fn judge<R: Files<File = File> + Input + Print + AllocGlobal>(
     }
 }
 
-// Prints the tally of a journal. Returns an error if the lab or the journal is refused or can't be read, a write fails,
-// or memory runs out.
+/// Prints the tally of a journal. Returns an error if the lab or the journal is refused or can't be read, a write
+/// fails, or memory runs out.
 fn judge_journal<R: Files + Print + AllocGlobal>(rt: &R, task: TallyTask<'_>) -> Result<(), Fault> {
     let (lab, journal) = read_run(rt, task.lab, task.journal)?;
     let mut writer = Retrying::new(io::writer(rt));
@@ -54,9 +54,9 @@ fn judge_journal<R: Files + Print + AllocGlobal>(rt: &R, task: TallyTask<'_>) ->
     result_of(written, writer.lacked_memory)
 }
 
-// Checks the record of a class against its journal. If `is_tallied` is set, prints the tally of both, and otherwise
-// what the check found. Returns an error if the lab, the journal or the record is refused or can't be read, a write
-// fails, or memory runs out.
+/// Checks the record of a class against its journal. If `is_tallied` is set, prints the tally of both, and otherwise
+/// what the check found. Returns an error if the lab, the journal or the record is refused or can't be read, a write
+/// fails, or memory runs out.
 fn judge_record<R: Files<File = File> + Print + AllocGlobal>(
     rt: &R,
     task: VerifyTask<'_>,
@@ -75,8 +75,8 @@ fn judge_record<R: Files<File = File> + Print + AllocGlobal>(
     result_of(written, writer.lacked_memory)
 }
 
-// Returns the lab in a file, and the text of the journal in another file. Returns an error if the lab is refused, a
-// file can't be read, or memory runs out.
+/// Returns the lab in a file, and the text of the journal in another file. Returns an error if the lab is refused, a
+/// file can't be read, or memory runs out.
 fn read_run<R: Files + AllocGlobal>(
     rt: &R,
     lab: &str,

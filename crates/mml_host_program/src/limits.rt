@@ -47,8 +47,8 @@ pub fn look_at_limits<R: Files<File = File> + Threads + Wait + Sync>(
     }
 }
 
-// Returns whether `THREADS` threads can exist at the same time. Starts them, and lets none end before all are started:
-// each takes the lock of `door`, which this function holds meanwhile.
+/// Returns whether `THREADS` threads can exist at the same time. Starts them, and lets none end before all are started:
+/// each takes the lock of `door`, which this function holds meanwhile.
 fn has_threads<R: Threads + Wait + Sync>(rt: &R) -> bool {
     let door = Mutex::new(());
     thread::scope(thread::scope_env(), rt, |scope| -> bool {

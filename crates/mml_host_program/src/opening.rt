@@ -33,9 +33,9 @@ pub(crate) fn open_ports_and_folder<
     }
 }
 
-// Opens the record's folder at `path`, if there is a path, and begins or continues the record, as
-// `open_ports_and_folder` says. Returns the folder, `None` if there is no path, or an error if the folder can't be
-// opened.
+/// Opens the record's folder at `path`, if there is a path, and begins or continues the record, as
+/// `open_ports_and_folder` says. Returns the folder, `None` if there is no path, or an error if the folder can't be
+/// opened.
 fn open_folder<R: Files<File = File> + Clock + AllocGlobal>(
     rt: &R,
     path: Option<&str>,

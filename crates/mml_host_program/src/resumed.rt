@@ -48,9 +48,9 @@ impl<C: Observer + Send + Drop> Ready<C> {
         told
     }
 
-    // Serves a class that is resumed from the journal `past`, in the host state `state`: writes the first two lines,
-    // serves the connections, and writes the last line. Returns the log whose events the last line counts, or the
-    // reason if the class isn't resumed, or fails. If a session ran out of memory, that is only noted in the state.
+    /// Serves a class that is resumed from the journal `past`, in the host state `state`: writes the first two lines,
+    /// serves the connections, and writes the last line. Returns the log whose events the last line counts, or the
+    /// reason if the class isn't resumed, or fails. If a session ran out of memory, that is only noted in the state.
     fn go_on<'a, R: System + Files<File = File>, W: Write>(
         self,
         rt: &'a R,
@@ -77,8 +77,8 @@ impl<C: Observer + Send + Drop> Ready<C> {
         }
     }
 
-    // Does what `go_on` does, with the first line's text and the bell, which are ready in `opening`. Makes the store,
-    // which cuts the journal's file to its whole lines.
+    /// Does what `go_on` does, with the first line's text and the bell, which are ready in `opening`. Makes the store,
+    /// which cuts the journal's file to its whole lines.
     fn go_on_opened<'a, R: System + Files<File = File>, W: Write>(
         self,
         rt: &'a R,
@@ -109,9 +109,9 @@ impl<C: Observer + Send + Drop> Ready<C> {
         self.go_on_after(rt, audited, store, first, state, &opening.bell, writer)
     }
 
-    // Serves a class that is resumed from the audited journal `past`, which `store` cuts to its whole lines. The line
-    // `first`, which names the ports, is written together with the next line, about the state that the journal leads
-    // to. Returns the log, or the reason if the class isn't resumed, or fails.
+    /// Serves a class that is resumed from the audited journal `past`, which `store` cuts to its whole lines. The line
+    /// `first`, which names the ports, is written together with the next line, about the state that the journal leads
+    /// to. Returns the log, or the reason if the class isn't resumed, or fails.
     fn go_on_after<'a, R: System, S: Sink + Send + Drop, T: Store<S> + Drop, W: Write>(
         self,
         rt: &'a R,
@@ -155,8 +155,8 @@ struct Opening<'a, R> {
     bell: EndBell<'a, R>,
 }
 
-// Returns the first line of a class that is served at these ports, and their bell. Returns an error if memory runs out,
-// or the system refuses the bell's descriptor.
+/// Returns the first line of a class that is served at these ports, and their bell. Returns an error if memory runs
+/// out, or the system refuses the bell's descriptor.
 fn opening_of<'a, R: AllocGlobal>(
     rt: &'a R,
     state: &'a HostState,
@@ -169,7 +169,7 @@ fn opening_of<'a, R: AllocGlobal>(
     Ok(Opening { first, bell })
 }
 
-// Returns the first line of a class, which names its two ports. Returns `Memory` if memory runs out.
+/// Returns the first line of a class, which names its two ports. Returns `Memory` if memory runs out.
 fn first_line(alloc: Global, ports: &Ports) -> Result<Vec<u8>, ProgramFault>
     ensures { IfOk result (λ line. line.items ≡ ports_line ports.now.port ports.now.desk) }
 {
@@ -178,8 +178,8 @@ fn first_line(alloc: Global, ports: &Ports) -> Result<Vec<u8>, ProgramFault>
     Ok(line)
 }
 
-// Returns the host's error for `fault`, the reason why a class wasn't resumed, or failed. If the journal couldn't be
-// cut and memory had run out (`lacked`), returns `Memory`.
+/// Returns the host's error for `fault`, the reason why a class wasn't resumed, or failed. If the journal couldn't be
+/// cut and memory had run out (`lacked`), returns `Memory`.
 fn told_as(fault: ResumeFault, lacked: bool) -> Fault {
     match fault {
         ResumeFault::Store if lacked => Fault::Common(ProgramFault::Memory),

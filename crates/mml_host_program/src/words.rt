@@ -115,8 +115,8 @@ pub fn read_words<'a>(alloc: Global, words: &'a [String]) -> Result<Task<'a>, Pr
     }
 }
 
-// Returns whether the first word after the program's name is a subcommand of `SUBCOMMANDS`, which only the program for
-// people has.
+/// Returns whether the first word after the program's name is a subcommand of `SUBCOMMANDS`, which only the program for
+/// people has.
 fn has_own_subcommand(words: &[String]) -> bool {
     match words.get(1) {
         Some(word) => SUBCOMMANDS.iter().any(|it| it.0 == word.as_str()),
@@ -124,7 +124,7 @@ fn has_own_subcommand(words: &[String]) -> bool {
     }
 }
 
-// Returns the description of a command line with these subcommands. Returns an error if memory runs out.
+/// Returns the description of a command line with these subcommands. Returns an error if memory runs out.
 fn command_line<'a>(alloc: Global, subcommands: &[Subcommand]) -> Result<Command<'a>, AllocError> {
     let mut command = subcommand_of(alloc, "mml", &[])?;
     for (name, required, optional) in subcommands {
@@ -133,8 +133,8 @@ fn command_line<'a>(alloc: Global, subcommands: &[Subcommand]) -> Result<Command
     Ok(command)
 }
 
-// Returns the description of a subcommand with this name. It requires the values named in `required`, after which those
-// named in `optional` may follow. Returns an error if memory runs out.
+/// Returns the description of a subcommand with this name. It requires the values named in `required`, after which
+/// those named in `optional` may follow. Returns an error if memory runs out.
 fn subcommand_with<'a>(
     alloc: Global,
     name: &'a str,
@@ -148,8 +148,8 @@ fn subcommand_with<'a>(
     Ok(command)
 }
 
-// Returns the task of the subcommand `name` with these values. Returns `None` if there is no such subcommand, a value
-// is missing, or `read_port` doesn't accept the value of a port.
+/// Returns the task of the subcommand `name` with these values. Returns `None` if there is no such subcommand, a value
+/// is missing, or `read_port` doesn't accept the value of a port.
 fn task_of<'a>(name: &str, values: &ArgMatches<'a>) -> Option<Task<'a>> {
     match name {
         "host" => Some(Task::Host(HostTask {
@@ -165,8 +165,8 @@ fn task_of<'a>(name: &str, values: &ArgMatches<'a>) -> Option<Task<'a>> {
     }
 }
 
-// Returns the class that these values name: its lab, its ports, and the folder of its record. Returns `None` if the lab
-// or a port is missing, or `read_port` doesn't accept the value of a port.
+/// Returns the class that these values name: its lab, its ports, and the folder of its record. Returns `None` if the
+/// lab or a port is missing, or `read_port` doesn't accept the value of a port.
 fn class_task<'a>(values: &ArgMatches<'a>) -> Option<ClassTask<'a>> {
     Some(ClassTask {
         lab: values.get_str("lab")?,
@@ -190,8 +190,8 @@ pub fn read_port(text: &str) -> Option<u16>
     }
 }
 
-// Returns the task of the subcommand `name` with these values. Returns `None` if the subcommand isn't `answer`,
-// `verify` or `tally`, or a value that it requires is missing.
+/// Returns the task of the subcommand `name` with these values. Returns `None` if the subcommand isn't `answer`,
+/// `verify` or `tally`, or a value that it requires is missing.
 #[tactic(auto, unfolding(crate::specs::Words::wanted_in))]
 fn judging_task<'a>(name: &str, values: &ArgMatches<'a>) -> Option<JudgingTask<'a>>
     ensures { option_map wanted_by result ≡ wanted_in name.now (found_of values.now) }
@@ -200,8 +200,8 @@ fn judging_task<'a>(name: &str, values: &ArgMatches<'a>) -> Option<JudgingTask<'
     judging_task_over(lab, name, values)
 }
 
-// Returns the task of the subcommand `name` with these values, for the lab in the file `lab`. Returns `None` if the
-// subcommand isn't `answer`, `verify` or `tally`, or another value that it requires is missing.
+/// Returns the task of the subcommand `name` with these values, for the lab in the file `lab`. Returns `None` if the
+/// subcommand isn't `answer`, `verify` or `tally`, or another value that it requires is missing.
 #[tactic(auto, unfolding(crate::specs::Words::wanted_over))]
 fn judging_task_over<'a>(
     lab: &'a str,
@@ -221,8 +221,8 @@ fn judging_task_over<'a>(
     }
 }
 
-// Returns the task of the subcommand `verify` with these values, for the lab in the file `lab`. Returns `None` if the
-// journal or the record is missing.
+/// Returns the task of the subcommand `verify` with these values, for the lab in the file `lab`. Returns `None` if the
+/// journal or the record is missing.
 #[tactic(auto, unfolding(crate::specs::Words::verify_in))]
 fn verify_over<'a>(lab: &'a str, values: &ArgMatches<'a>) -> Option<JudgingTask<'a>>
     ensures { option_map wanted_by result ≡ verify_in lab.now (found_of values.now) }
@@ -236,8 +236,8 @@ fn verify_over<'a>(lab: &'a str, values: &ArgMatches<'a>) -> Option<JudgingTask<
     }))
 }
 
-// Returns the task of printing the tally of the journal that these values name, for the lab in the file `lab`. If they
-// also name a record, the task is to print the tally of both. Returns `None` if the journal is missing.
+/// Returns the task of printing the tally of the journal that these values name, for the lab in the file `lab`. If they
+/// also name a record, the task is to print the tally of both. Returns `None` if the journal is missing.
 #[tactic(auto, unfolding(crate::specs::Words::tally_in))]
 fn tally_over<'a>(lab: &'a str, values: &ArgMatches<'a>) -> Option<JudgingTask<'a>>
     ensures { option_map wanted_by result ≡ tally_in lab.now (found_of values.now) }
@@ -246,8 +246,8 @@ fn tally_over<'a>(lab: &'a str, values: &ArgMatches<'a>) -> Option<JudgingTask<'
     Some(tally_task(lab, journal, values.get_str("record")))
 }
 
-// Returns the task of printing the tally of the `journal`, or of the journal and the record in the `folder` if one is
-// named.
+/// Returns the task of printing the tally of the `journal`, or of the journal and the record in the `folder` if one is
+/// named.
 fn tally_task<'a>(lab: &'a str, journal: &'a str, folder: Option<&'a str>) -> JudgingTask<'a>
     ensures { wanted_by result ≡ tally_wanted lab.now journal.now (seen folder.entry) }
 {

@@ -38,7 +38,7 @@ pub(crate) fn result_of(written: Result<(), ClassError>, lacked: bool) -> Result
     }
 }
 
-// Returns the program's error for the reason why the result of checking a class wasn't written.
+/// Returns the program's error for the reason why the result of checking a class wasn't written.
 fn fault_of(error: ClassError) -> Fault
     ensures { IsOfClass error result }
 {
@@ -50,8 +50,8 @@ fn fault_of(error: ClassError) -> Fault
     }
 }
 
-// Returns the program's error for texts that aren't the record of a class, or can't be read: `Record` with the reason,
-// or `ReadRecord`. Returns `Memory` if memory ran out while they were read.
+/// Returns the program's error for texts that aren't the record of a class, or can't be read: `Record` with the reason,
+/// or `ReadRecord`. Returns `Memory` if memory ran out while they were read.
 fn record_fault(why: ClassFault) -> Fault
     ensures { IsOfRecord why result }
 {

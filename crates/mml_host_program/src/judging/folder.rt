@@ -42,7 +42,7 @@ impl<'a, R: Files<File = File> + AllocGlobal> Seats<File> for Folder<'a, R> {
     }
 }
 
-// Returns the path of the file `begun` in a record's folder. Returns `Memory` if memory runs out.
+/// Returns the path of the file `begun` in a record's folder. Returns `Memory` if memory runs out.
 fn begun_path(alloc: Global, folder: &str) -> Result<String, Memory>
     ensures { IfOk result (λ path. string_bytes path ≡ folder.now ++ codes "/begun") }
 {
@@ -52,7 +52,7 @@ fn begun_path(alloc: Global, folder: &str) -> Result<String, Memory>
     }
 }
 
-// Returns the path of a seat's file in a record's folder. Returns `Memory` if memory runs out.
+/// Returns the path of a seat's file in a record's folder. Returns `Memory` if memory runs out.
 fn record_path(alloc: Global, folder: &str, seat: u8) -> Result<String, Memory>
     ensures { IfOk result (λ path. string_bytes path
         ≡ folder.now ++ (codes "/" ++ (decimal seat ++ codes ".record"))) }
@@ -63,8 +63,8 @@ fn record_path(alloc: Global, folder: &str, seat: u8) -> Result<String, Memory>
     }
 }
 
-// Opens the plain file of the record at `path`. Returns `Memory` if memory runs out. Returns `Read` if the file can't
-// be opened or isn't a plain file.
+/// Opens the plain file of the record at `path`. Returns `Memory` if memory runs out. Returns `Read` if the file can't
+/// be opened or isn't a plain file.
 fn open_part<R: Files<File = File> + AllocGlobal>(rt: &R, path: &str) -> Result<File, SeatFault> {
     match open_plain(rt, path) {
         Ok(Some(file)) => Ok(file),
@@ -73,7 +73,7 @@ fn open_part<R: Files<File = File> + AllocGlobal>(rt: &R, path: &str) -> Result<
     }
 }
 
-// Returns why a file can't be opened: `Memory` if the system's error says that memory ran out, and otherwise `Read`.
+/// Returns why a file can't be opened: `Memory` if the system's error says that memory ran out, and otherwise `Read`.
 fn open_fault(error: &IoError) -> SeatFault
     ensures memory { error_kind error.now ≡ ErrorKind.OutOfMemory → result ≡ SeatFault.Memory }
     ensures read { error_kind error.now ≢ ErrorKind.OutOfMemory → result ≡ SeatFault.Read }
@@ -85,8 +85,8 @@ fn open_fault(error: &IoError) -> SeatFault
     }
 }
 
-// Opens the file at `path`, and returns `None` if it isn't plain. Checks the kind first, because opening a pipe would
-// wait for a writer. Returns the system's error if the check or the opening fails.
+/// Opens the file at `path`, and returns `None` if it isn't plain. Checks the kind first, because opening a pipe would
+/// wait for a writer. Returns the system's error if the check or the opening fails.
 fn open_plain<R: Files<File = File>>(rt: &R, path: &str) -> io::Result<Option<File>> {
     if fs::metadata(rt, path)?.is_file() {
         Ok(Some(fs::open(rt, path)?))

@@ -47,8 +47,8 @@ pub fn tally_class<R: Read + Drop, S: Seats<R>, W: Write>(
     write_class(&text, writer)
 }
 
-// Audits a journal and checks the record of its class. Returns the text of the tally of both. Returns the reason if the
-// journal or the record is refused, a text can't be read, or memory runs out.
+/// Audits a journal and checks the record of its class. Returns the text of the tally of both. Returns the reason if
+/// the journal or the record is refused, a text can't be read, or memory runs out.
 fn tallied_text<R: Read + Drop, S: Seats<R>>(
     alloc: Global,
     lab: &Lab,
@@ -68,9 +68,9 @@ fn tallied_text<R: Read + Drop, S: Seats<R>>(
     }
 }
 
-// Checks the record of a class against the events of its journal, which lead to `board`. Returns the text of the tally
-// of both. Returns the reason if the texts are no record or can't be read, or memory runs out. In the contract, `bytes`
-// is any journal of these events.
+/// Checks the record of a class against the events of its journal, which lead to `board`. Returns the text of the tally
+/// of both. Returns the reason if the texts are no record or can't be read, or memory runs out. In the contract,
+/// `bytes` is any journal of these events.
 fn text_beside<R: Read + Drop, S: Seats<R>>(
     alloc: Global,
     lab: &Lab,
@@ -94,8 +94,8 @@ fn text_beside<R: Read + Drop, S: Seats<R>>(
     }
 }
 
-// Returns the text of the tally of these legal events, which lead to `board`, with the findings and the asks of a
-// record. Returns `Memory` if memory runs out.
+/// Returns the text of the tally of these legal events, which lead to `board`, with the findings and the asks of a
+/// record. Returns `Memory` if memory runs out.
 fn text_of(
     alloc: Global,
     lab: &Lab,
@@ -117,8 +117,8 @@ fn text_of(
     }
 }
 
-// Appends the lines of the tally of these legal events, which lead to `board`, with the findings and the asks of a
-// record. Then appends the line about rounds. Returns `Memory` if memory runs out.
+/// Appends the lines of the tally of these legal events, which lead to `board`, with the findings and the asks of a
+/// record. Then appends the line about rounds. Returns `Memory` if memory runs out.
 fn put_lines(
     out: &mut Vec<u8>,
     alloc: Global,

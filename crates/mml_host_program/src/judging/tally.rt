@@ -36,8 +36,8 @@ pub fn write_tally<W: Write>(
     write_class(&text, writer)
 }
 
-// Audits a journal. Returns the text of the tally of its events, or the reason if the journal doesn't pass the audit,
-// or memory runs out.
+/// Audits a journal. Returns the text of the tally of its events, or the reason if the journal doesn't pass the audit,
+/// or memory runs out.
 fn tally_of(alloc: Global, lab: &Lab, journal: Vec<u8>) -> Result<Vec<u8>, ClassError>
     ensures told { IfOk result (λ text. IsTally lab.now journal.items text.items) }
     ensures untold { IfErr result (HasNoTally lab.now journal.items) }
@@ -48,7 +48,7 @@ fn tally_of(alloc: Global, lab: &Lab, journal: Vec<u8>) -> Result<Vec<u8>, Class
     }
 }
 
-// Returns the text of the tally of these legal events, which lead to `board`. Returns `Memory` if memory runs out.
+/// Returns the text of the tally of these legal events, which lead to `board`. Returns `Memory` if memory runs out.
 fn text_of(alloc: Global, lab: &Lab, board: &Board, events: &[Event]) -> Result<Vec<u8>, ClassError>
     requires { is_legal_in lab.now events.now ≡ true }
     ensures text { IfOk result (λ text. text.items
@@ -62,8 +62,8 @@ fn text_of(alloc: Global, lab: &Lab, board: &Board, events: &[Event]) -> Result<
     }
 }
 
-// Appends the lines of the tally of these legal events, which lead to `board`, and then the line about rounds. Returns
-// `Memory` if memory runs out.
+/// Appends the lines of the tally of these legal events, which lead to `board`, and then the line about rounds. Returns
+/// `Memory` if memory runs out.
 fn put_lines(
     out: &mut Vec<u8>,
     alloc: Global,

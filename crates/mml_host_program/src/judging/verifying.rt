@@ -44,8 +44,8 @@ pub fn verify_class<R: Read + Drop, S: Seats<R>, W: Write>(
     write_class(&text, writer)
 }
 
-// Audits a journal and checks the record of its class. Returns the lines about what the check found. Returns the reason
-// if the journal or the record is refused, a text can't be read, or memory runs out.
+/// Audits a journal and checks the record of its class. Returns the lines about what the check found. Returns the
+/// reason if the journal or the record is refused, a text can't be read, or memory runs out.
 fn verified_text<R: Read + Drop, S: Seats<R>>(
     alloc: Global,
     lab: &Lab,
@@ -65,9 +65,9 @@ fn verified_text<R: Read + Drop, S: Seats<R>>(
     }
 }
 
-// Checks the record of a class against the legal events of its journal. Returns the lines about what the check found.
-// Returns the reason if the texts are no record or can't be read, or memory runs out. In the contract, `bytes` is any
-// journal of these events.
+/// Checks the record of a class against the legal events of its journal. Returns the lines about what the check found.
+/// Returns the reason if the texts are no record or can't be read, or memory runs out. In the contract, `bytes` is any
+/// journal of these events.
 fn text_beside<R: Read + Drop, S: Seats<R>>(
     alloc: Global,
     lab: &Lab,
@@ -89,8 +89,8 @@ fn text_beside<R: Read + Drop, S: Seats<R>>(
     }
 }
 
-// Returns the lines about `class`, the record of a class whose journal has this many `events`. Returns `Memory` if
-// memory runs out.
+/// Returns the lines about `class`, the record of a class whose journal has this many `events`. Returns `Memory` if
+/// memory runs out.
 fn text_of(
     alloc: Global,
     lab: &Lab,
@@ -108,7 +108,7 @@ fn text_of(
     }
 }
 
-// Appends the line with the number of events before the record. Returns `Memory` if memory runs out.
+/// Appends the line with the number of events before the record. Returns `Memory` if memory runs out.
 fn put_begun(text: &mut Vec<u8>, begun: u64) -> Result<(), Memory>
     ensures { OnOk result (text.new.items ≡ text.old.items ++ begun_line begun) }
 {
@@ -120,9 +120,9 @@ fn put_begun(text: &mut Vec<u8>, begun: u64) -> Result<(), Memory>
     put(text, &pieces)
 }
 
-// Appends the lines about a correct record. They have the numbers of its sessions and lines, and of the journal's
-// events (`events`). Then come the participants whose lines are all recorded, and the number of events before the
-// record (`begun`). Returns `Memory` if memory runs out.
+/// Appends the lines about a correct record. They have the numbers of its sessions and lines, and of the journal's
+/// events (`events`). Then come the participants whose lines are all recorded, and the number of events before the
+/// record (`begun`). Returns `Memory` if memory runs out.
 fn put_verified(
     text: &mut Vec<u8>,
     lab: &Lab,
@@ -148,8 +148,8 @@ fn put_verified(
     put_begun(text, begun)
 }
 
-// Returns the end of the first line that `put_verified` appends, after the number of events. The end says `not whole`
-// if something is left out of the record (`is_whole` is `false`).
+/// Returns the end of the first line that `put_verified` appends, after the number of events. The end says `not whole`
+/// if something is left out of the record (`is_whole` is `false`).
 fn end_of(is_whole: bool) -> &'static str
     ensures { result.now ≡ end_of is_whole }
 {
