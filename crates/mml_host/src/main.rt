@@ -7,8 +7,8 @@ use mml_program::begin_program;
 use std::fmt::Display;
 use std::process::ExitCode;
 
-// Does what the command line asks for. Returns the exit status: 0, or that of the error, whose line is printed on
-// standard error.
+/// Does what the command line asks for. Returns the exit status: 0, or that of the error, whose line is printed on
+/// standard error.
 fn main(rt: HostRuntime) -> ExitCode {
     let words = match begin_program(&rt) {
         Ok(words) => words,
@@ -21,7 +21,7 @@ fn main(rt: HostRuntime) -> ExitCode {
     }
 }
 
-// Prints an error's line on standard error, and returns the exit status that goes with it.
+/// Prints an error's line on standard error, and returns the exit status that goes with it.
 fn print_error<R: Eprint, E: Display>(rt: &R, fault: &E, status: u8) -> ExitCode {
     let _ = eprintln!(rt; "{fault}");
     ExitCode::from(status)
