@@ -4,8 +4,8 @@
 
 use std::process::ExitCode;
 
-// Does what the command line asks for. Returns the exit status: 0, or that of the error, whose line is printed on
-// standard error.
+/// Does what the command line asks for. Returns the exit status: 0, or that of the error, whose line is printed on
+/// standard error.
 fn main(rt: HostRuntime) -> ExitCode {
     match mml_program::run(&rt) {
         Ok(()) => ExitCode::SUCCESS,
