@@ -143,7 +143,8 @@ impl<'a, Rt: Clock + Wait + Eprint> Port<'a, Rt> {
 
     // Accepts the next connection, and returns it as a newcomer, which isn't in the queue yet. If the port
     // `is_hurried`, doesn't wait, and returns the error `WouldBlock` if no connection has come. Returns another error
-    // if the system refuses a call, the clock fails, or memory runs out.
+    // if the system refuses a call, the clock fails, or memory runs out. A connection that was accepted before this
+    // error is closed, and nothing is sent to it.
     fn accept(&mut self) -> io::Result<Newcomer<'a, Rt>> {
         let stream = self.next_stream()?;
         // If the system refuses to send each write at once, replies are still sent, only later.

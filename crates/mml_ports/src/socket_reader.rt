@@ -216,7 +216,7 @@ impl<'a, Rt: Clock + Wait> Read for SocketReader<'a, Rt> {
 }
 
 // Returns how a line begins, judged by its first `bytes`. Skips spaces, tabs and carriage returns. Returns `Awaited` if
-// there are no other bytes.
+// there are no other bytes. A newline counts as another byte, so an empty line is `Other`.
 fn beginning_of(bytes: &[u8]) -> FirstLine {
     for byte in bytes.iter() {
         match *byte {
