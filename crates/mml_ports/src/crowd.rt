@@ -40,15 +40,15 @@ struct Guest {
 }
 
 impl Guest {
-    // Returns whether the guest is a stranger: its hello wasn't granted (at the desk, only the teacher's counts), and
-    // it isn't leaving.
+    /// Returns whether the guest is a stranger: its hello wasn't granted (at the desk, only the teacher's counts), and
+    /// it isn't leaving.
     fn is_stranger(&self) -> bool {
         self.greeting.is_none() && !self.is_leaving
     }
 
-    // Returns whether the guest is a stranger who may be sent away at the time `now`: one who was answered or denied,
-    // or has been here for `GRACE` milliseconds. A stranger whose hello was denied needs no seat to wait for the
-    // delayed reply.
+    /// Returns whether the guest is a stranger who may be sent away at the time `now`: one who was answered or denied,
+    /// or has been here for `GRACE` milliseconds. A stranger whose hello was denied needs no seat to wait for the
+    /// delayed reply.
     fn may_go(&self, now: Instant) -> bool {
         self.is_stranger()
             && (self.socket.is_answered.load(Ordering::SeqCst)
@@ -56,7 +56,8 @@ impl Guest {
                 || now.duration_since(self.since) >= Duration::from_millis(GRACE))
     }
 
-    // Returns whether this guest isn't leaving, and its hello was granted to the same participant as the other guest's.
+    /// Returns whether this guest isn't leaving, and its hello was granted to the same participant as the other
+    /// guest's.
     fn has_name_of(&self, other: &Guest) -> bool {
         match (self.greeting, other.greeting) {
             (Some(own), Some(its)) => own == its && !self.is_leaving,
@@ -64,7 +65,7 @@ impl Guest {
         }
     }
 
-    // Ends the guest's connection with the reason `Busy`, so that its seat becomes free for another.
+    /// Ends the guest's connection with the reason `Busy`, so that its seat becomes free for another.
     fn send_away<Rt: Wait>(&mut self, rt: &Rt) {
         self.is_leaving = true;
         self.socket.end_with(rt, EndReason::Busy);
@@ -156,14 +157,14 @@ impl Crowd {
         }
     }
 
-    // Returns whether strangers hold all the seats that they may: a third of the port's, and at least one.
+    /// Returns whether strangers hold all the seats that they may: a third of the port's, and at least one.
     fn is_share_taken(&self, guests: &Vec<Guest>) -> bool {
         count_strangers(guests) >= (self.seats / STRANGERS).max(1)
     }
 
-    // Sends away the stranger who came first among those for whom `may_go` is true at the time `now`, if there is one.
-    // Does so only if strangers hold all the seats that they may, or if no seat is free and nobody is leaving. Without
-    // the second case, a few strangers could keep the last seats until their deadlines.
+    /// Sends away the stranger who came first among those for whom `may_go` is true at the time `now`, if there is one.
+    /// Does so only if strangers hold all the seats that they may, or if no seat is free and nobody is leaving. Without
+    /// the second case, a few strangers could keep the last seats until their deadlines.
     fn let_stranger_go<Rt: Wait>(&self, rt: &Rt, guests: &mut Vec<Guest>, now: Instant) {
         let is_full = guests.len() >= self.seats && !is_one_leaving(guests);
         if (is_full || self.is_share_taken(guests))
@@ -207,7 +208,7 @@ impl Crowd {
     }
 }
 
-// Returns the index of the guest whose connection has this number, or `None` if there is no such guest.
+/// Returns the index of the guest whose connection has this number, or `None` if there is no such guest.
 fn index_of_guest(guests: &Vec<Guest>, number: u64) -> Option<usize>
     ensures { IfSome result (λ index. index < vec_len guests.now) }
 {
@@ -219,7 +220,7 @@ fn index_of_guest(guests: &Vec<Guest>, number: u64) -> Option<usize>
     None
 }
 
-// Returns how many of the guests are strangers.
+/// Returns how many of the guests are strangers.
 fn count_strangers(guests: &Vec<Guest>) -> usize {
     let mut count = 0usize;
     for index in 0..guests.len() {
@@ -230,8 +231,8 @@ fn count_strangers(guests: &Vec<Guest>) -> usize {
     count
 }
 
-// Returns the index of the first guest who is a stranger and may be sent away at the time `now`, or `None` if there is
-// none.
+/// Returns the index of the first guest who is a stranger and may be sent away at the time `now`, or `None` if there is
+/// none.
 fn first_who_may_go(guests: &Vec<Guest>, now: Instant) -> Option<usize> {
     for index in 0..guests.len() {
         if guests[index].may_go(now) {
@@ -241,7 +242,7 @@ fn first_who_may_go(guests: &Vec<Guest>, now: Instant) -> Option<usize> {
     None
 }
 
-// Returns whether one of the guests is leaving its seat.
+/// Returns whether one of the guests is leaving its seat.
 fn is_one_leaving(guests: &Vec<Guest>) -> bool {
     for index in 0..guests.len() {
         if guests[index].is_leaving {
@@ -251,8 +252,8 @@ fn is_one_leaving(guests: &Vec<Guest>) -> bool {
     false
 }
 
-// Returns the index of the last guest whose participant has more than `SEATS_OF_A_NAME` seats, or `None` if no
-// participant has more. For each guest, counts the seats of its participant, without those of guests who are leaving.
+/// Returns the index of the last guest whose participant has more than `SEATS_OF_A_NAME` seats, or `None` if no
+/// participant has more. For each guest, counts the seats of its participant, without those of guests who are leaving.
 fn one_too_many(guests: &Vec<Guest>) -> Option<usize> {
     let mut found = None;
     for index in 0..guests.len() {

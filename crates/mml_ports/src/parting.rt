@@ -36,10 +36,10 @@ struct Parting {
 }
 
 impl Parting {
-    // Does the next step for the connection if the step is due at the time `now`, and otherwise returns the connection
-    // unchanged. If everything was sent, closes the connection, and returns `None`. If its denial is still to be sent,
-    // sends the denial and the line of `Busy`, and shuts down its writing side. Then returns the connection, to be
-    // closed later, or `None` if `closing` has closed it already.
+    /// Does the next step for the connection if the step is due at the time `now`, and otherwise returns the connection
+    /// unchanged. If everything was sent, closes the connection, and returns `None`. If its denial is still to be sent,
+    /// sends the denial and the line of `Busy`, and shuts down its writing side. Then returns the connection, to be
+    /// closed later, or `None` if `closing` has closed it already.
     fn step(self, now: Instant) -> Option<Parting> {
         if now < self.next {
             return Some(self);
@@ -55,9 +55,9 @@ impl Parting {
     }
 }
 
-// Shuts down the writing side of a non-blocking stream, and drops what the other side sent. Returns the connection,
-// which is to be closed `PARTING` milliseconds after `now`. Closes the stream at once, and returns `None`, if the other
-// side has shut down its writing side or is gone, or the clock can't represent that time.
+/// Shuts down the writing side of a non-blocking stream, and drops what the other side sent. Returns the connection,
+/// which is to be closed `PARTING` milliseconds after `now`. Closes the stream at once, and returns `None`, if the
+/// other side has shut down its writing side or is gone, or the clock can't represent that time.
 fn closing(stream: TcpStream, now: Instant) -> Option<Parting> {
     // The shutdown fails if the other side is gone.
     if stream.shutdown(Shutdown::Write).is_err() || !drain(&stream) {
@@ -71,7 +71,7 @@ fn closing(stream: TcpStream, now: Instant) -> Option<Parting> {
     })
 }
 
-// Returns the index of the first connection in the list to which everything was sent, or `None` if there is none.
+/// Returns the index of the first connection in the list to which everything was sent, or `None` if there is none.
 fn first_sent(all: &VecDeque<Parting>) -> Option<usize> {
     for index in 0..all.len() {
         if let Some(parting) = all.get(index)
@@ -154,9 +154,9 @@ impl Partings {
         }
     }
 
-    // Adds a connection to which everything was sent, until it is due to be closed. If the list has `MANY_PARTINGS` or
-    // more connections already, first closes the oldest one to which everything was sent. If memory runs out, closes
-    // the new one at once.
+    /// Adds a connection to which everything was sent, until it is due to be closed. If the list has `MANY_PARTINGS` or
+    /// more connections already, first closes the oldest one to which everything was sent. If memory runs out, closes
+    /// the new one at once.
     fn add_sent<Rt: Wait>(&self, rt: &Rt, parting: Parting) {
         let mut all = self.all.lock(rt);
         if all.len() >= MANY_PARTINGS

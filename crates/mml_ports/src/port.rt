@@ -53,17 +53,17 @@ struct Newcomer<'a, Rt> {
 }
 
 impl<'a, Rt: Clock + Wait + Eprint> Newcomer<'a, Rt> {
-    // Ends the newcomer's connection. The reason for the end is `why`, unless the connection has one already. The
-    // port's partings send the reason at once, and close the connection some milliseconds later.
+    /// Ends the newcomer's connection. The reason for the end is `why`, unless the connection has one already. The
+    /// port's partings send the reason at once, and close the connection some milliseconds later.
     fn turn_away(self, why: EndReason) {
         let mut newcomer = self;
         newcomer.connection.note_end_reason(why);
         newcomer.writer.hang_up();
     }
 
-    // Returns what the newcomer has sent, without taking it from the socket. Once a line is found, the socket isn't
-    // checked any more. The first check makes the socket's reads non-blocking. If the system refuses that, returns
-    // `Nothing`.
+    /// Returns what the newcomer has sent, without taking it from the socket. Once a line is found, the socket isn't
+    /// checked any more. The first check makes the socket's reads non-blocking. If the system refuses that, returns
+    /// `Nothing`.
     fn peek(&mut self) -> Peeked {
         let SharedConnection {
             rt,
@@ -80,8 +80,8 @@ impl<'a, Rt: Clock + Wait + Eprint> Newcomer<'a, Rt> {
         self.peeked
     }
 
-    // Returns whether the newcomer came at least `SILENCE` milliseconds ago, so that it had time to send its first
-    // line.
+    /// Returns whether the newcomer came at least `SILENCE` milliseconds ago, so that it had time to send its first
+    /// line.
     fn had_time(&self, now: Instant) -> bool {
         now.duration_since(self.since) >= Duration::from_millis(SILENCE)
     }
@@ -135,16 +135,16 @@ impl<'a, Rt: Clock + Wait + Eprint> Port<'a, Rt> {
         }
     }
 
-    // Returns whether a blocking accept would delay other work: a newcomer waits, a guest is leaving, or a connection
-    // that has left its seat isn't closed yet.
+    /// Returns whether a blocking accept would delay other work: a newcomer waits, a guest is leaving, or a connection
+    /// that has left its seat isn't closed yet.
     fn is_hurried(&self) -> bool {
         !self.waiting.is_empty() || self.crowd.is_parting(self.rt)
     }
 
-    // Accepts the next connection, and returns it as a newcomer, which isn't in the queue yet. If the port
-    // `is_hurried`, doesn't wait, and returns the error `WouldBlock` if no connection has come. Returns another error
-    // if the system refuses a call, the clock fails, or memory runs out. A connection that was accepted before this
-    // error is closed, and nothing is sent to it.
+    /// Accepts the next connection, and returns it as a newcomer, which isn't in the queue yet. If the port
+    /// `is_hurried`, doesn't wait, and returns the error `WouldBlock` if no connection has come. Returns another error
+    /// if the system refuses a call, the clock fails, or memory runs out. A connection that was accepted before this
+    /// error is closed, and nothing is sent to it.
     fn accept(&mut self) -> io::Result<Newcomer<'a, Rt>> {
         let stream = self.next_stream()?;
         // If the system refuses to send each write at once, replies are still sent, only later.
@@ -178,9 +178,9 @@ impl<'a, Rt: Clock + Wait + Eprint> Port<'a, Rt> {
         })
     }
 
-    // Returns the stream of the next connection: the one that was accepted before the port was served, or one that is
-    // accepted now. If the port `is_hurried`, doesn't wait for a connection, and returns the error `WouldBlock` if none
-    // has come. Returns another error if the accept fails.
+    /// Returns the stream of the next connection: the one that was accepted before the port was served, or one that is
+    /// accepted now. If the port `is_hurried`, doesn't wait for a connection, and returns the error `WouldBlock` if
+    /// none has come. Returns another error if the accept fails.
     fn next_stream(&mut self) -> io::Result<TcpStream> {
         match self.first.take() {
             Some(stream) => Ok(stream),
@@ -192,8 +192,8 @@ impl<'a, Rt: Clock + Wait + Eprint> Port<'a, Rt> {
         }
     }
 
-    // Adds a newcomer at the end of the queue for seats. If `WAITING` newcomers wait already, first turns away the one
-    // that `first_to_drop` chooses. If memory runs out, notes that in the host's state, and turns away the new one.
+    /// Adds a newcomer at the end of the queue for seats. If `WAITING` newcomers wait already, first turns away the one
+    /// that `first_to_drop` chooses. If memory runs out, notes that in the host's state, and turns away the new one.
     fn queue(&mut self, newcomer: Newcomer<'a, Rt>) {
         if self.waiting.len() >= WAITING {
             let index = self.first_to_drop(newcomer.since);
@@ -207,10 +207,10 @@ impl<'a, Rt: Clock + Wait + Eprint> Port<'a, Rt> {
         }
     }
 
-    // Returns the next newcomer to serve, if there is a seat for it, and otherwise `None`. If there is no seat,
-    // `Crowd::finds_room` tries to free one, and the first newcomer in the queue is turned away if it has waited for
-    // half a second. Notes in the crowd whether a newcomer waits for a seat, and in `wanted_since` since when. Also
-    // returns `None` if there are no newcomers, or the clock fails.
+    /// Returns the next newcomer to serve, if there is a seat for it, and otherwise `None`. If there is no seat,
+    /// `Crowd::finds_room` tries to free one, and the first newcomer in the queue is turned away if it has waited for
+    /// half a second. Notes in the crowd whether a newcomer waits for a seat, and in `wanted_since` since when. Also
+    /// returns `None` if there are no newcomers, or the clock fails.
     fn admit_next(&mut self) -> Option<SocketAccepted<'a, Rt>> {
         let Some(first) = self.waiting.front() else {
             self.wanted_since = None;
@@ -238,9 +238,9 @@ impl<'a, Rt: Clock + Wait + Eprint> Port<'a, Rt> {
         None
     }
 
-    // Returns the index of the newcomer to turn away at the time `now` if too many wait. The first choice is the first
-    // newcomer in the queue that has sent no line although it had time for one. The second choice is the first that
-    // hasn't sent a hello, and the last choice is the first in the queue.
+    /// Returns the index of the newcomer to turn away at the time `now` if too many wait. The first choice is the first
+    /// newcomer in the queue that has sent no line although it had time for one. The second choice is the first that
+    /// hasn't sent a hello, and the last choice is the first in the queue.
     fn first_to_drop(&mut self, now: Instant) -> usize {
         let mut first_without_hello = None;
         for index in 0..self.waiting.len() {
@@ -257,9 +257,9 @@ impl<'a, Rt: Clock + Wait + Eprint> Port<'a, Rt> {
         first_without_hello.unwrap_or(0)
     }
 
-    // Returns the index of the newcomer to serve next. The first choice is the first newcomer in the queue that has
-    // sent a hello. The second choice is the first that has sent another line, and the last choice is the first in the
-    // queue.
+    /// Returns the index of the newcomer to serve next. The first choice is the first newcomer in the queue that has
+    /// sent a hello. The second choice is the first that has sent another line, and the last choice is the first in the
+    /// queue.
     fn first_to_speak(&mut self) -> usize {
         let mut first_with_line = None;
         for index in 0..self.waiting.len() {
@@ -276,10 +276,10 @@ impl<'a, Rt: Clock + Wait + Eprint> Port<'a, Rt> {
         first_with_line.unwrap_or(0)
     }
 
-    // Takes the newcomer that `first_to_speak` chooses from the queue, adds it to the crowd's guests, and returns it,
-    // to be served from `now` on. Makes its socket's reads blocking again if `peek` has made them non-blocking. Returns
-    // `None` if there are no newcomers. If memory runs out, notes that in the host's state: the newcomer is served, but
-    // isn't counted as a guest.
+    /// Takes the newcomer that `first_to_speak` chooses from the queue, adds it to the crowd's guests, and returns it,
+    /// to be served from `now` on. Makes its socket's reads blocking again if `peek` has made them non-blocking.
+    /// Returns `None` if there are no newcomers. If memory runs out, notes that in the host's state: the newcomer is
+    /// served, but isn't counted as a guest.
     fn take_next(&mut self, now: Instant) -> Option<SocketAccepted<'a, Rt>> {
         // A single newcomer is chosen without a check.
         let index = if self.waiting.len() > 1 {
@@ -310,8 +310,8 @@ impl<'a, Rt: Clock + Wait + Eprint> Port<'a, Rt> {
         Some(Accepted::Came((reader, writer), cut_off))
     }
 
-    // Turns away all newcomers, and closes all connections that have left their seats, because the host is over.
-    // Returns `Over`.
+    /// Turns away all newcomers, and closes all connections that have left their seats, because the host is over.
+    /// Returns `Over`.
     fn turn_all_away(&mut self) -> SocketAccepted<'a, Rt> {
         for _ in 0..self.waiting.len() {
             if let Some(first) = self.waiting.pop_front() {
@@ -322,11 +322,11 @@ impl<'a, Rt: Clock + Wait + Eprint> Port<'a, Rt> {
         Accepted::Over
     }
 
-    // Prepares the next accept after one that failed with an error of this `kind`. If memory ran out, notes that in the
-    // host's state. If the system refused the accept, frees descriptors: closes connections that were sent everything,
-    // and turns the first newcomer in the queue away. Then waits until a session ends, but at most for a tenth of a
-    // second, or for 5 milliseconds if the port `is_hurried`. `ended` is how many sessions had ended before the accept.
-    // Doesn't wait if a signal or the other side broke off the accept.
+    /// Prepares the next accept after one that failed with an error of this `kind`. If memory ran out, notes that in
+    /// the host's state. If the system refused the accept, frees descriptors: closes connections that were sent
+    /// everything, and turns the first newcomer in the queue away. Then waits until a session ends, but at most for a
+    /// tenth of a second, or for 5 milliseconds if the port `is_hurried`. `ended` is how many sessions had ended before
+    /// the accept. Doesn't wait if a signal or the other side broke off the accept.
     fn put_off(&mut self, kind: ErrorKind, ended: u64) {
         match kind {
             ErrorKind::OutOfMemory => self.state.note_memory(self.rt),
@@ -408,8 +408,8 @@ impl<'a, Rt: Net<Listener = TcpListener, Stream = TcpStream> + Clock + Wait> Bel
     }
 }
 
-// Connects to a port of this host, to wake the accept that waits there. Tries up to 50 times (`WAKE_TRIES`), until a
-// connection is made, or nobody listens there any more.
+/// Connects to a port of this host, to wake the accept that waits there. Tries up to 50 times (`WAKE_TRIES`), until a
+/// connection is made, or nobody listens there any more.
 fn wake<Rt: Net<Listener = TcpListener, Stream = TcpStream> + Clock>(rt: &Rt, port: SocketAddr) {
     let timeout = Duration::from_millis(WAKE_TIMEOUT);
     for _ in 0..WAKE_TRIES {

@@ -141,9 +141,9 @@ impl SharedSocket {
         }
     }
 
-    // Keeps `why` as the reason, unless there is one already. Notes that the connection is being ended, and wakes a
-    // thread that waits in `wait_for_end`. Holds the lock on the reason all the time, so that the woken thread finds
-    // the reason.
+    /// Keeps `why` as the reason, unless there is one already. Notes that the connection is being ended, and wakes a
+    /// thread that waits in `wait_for_end`. Holds the lock on the reason all the time, so that the woken thread finds
+    /// the reason.
     fn begin_end<Rt: Wait>(&self, rt: &Rt, why: EndReason) {
         let mut reason = self.end_reason.lock(rt);
         if reason.is_none() {
@@ -199,9 +199,9 @@ impl SharedSocket {
     }
 }
 
-// Returns what has come from the other side of `stream`, judged by its first 512 bytes, which stay in the socket. The
-// stream's reads must be non-blocking. Returns `Nothing` if these bytes contain no whole line, or the system refuses
-// the check. If memory runs out, a hello counts as any other line.
+/// Returns what has come from the other side of `stream`, judged by its first 512 bytes, which stay in the socket. The
+/// stream's reads must be non-blocking. Returns `Nothing` if these bytes contain no whole line, or the system refuses
+/// the check. If memory runs out, a hello counts as any other line.
 fn peek_at(stream: &TcpStream, alloc: Global) -> Peeked {
     let mut seen = [0; PEEK_SIZE];
     let Ok(count) = stream.peek(&mut seen) else {

@@ -76,9 +76,9 @@ impl<'a, Rt: Clock + Wait> SocketReader<'a, Rt> {
         }))
     }
 
-    // Returns how long a read may still wait, or `None` if it may wait for ever. After the hello, a read at the
-    // beginning of a line may wait for the whole time of a line, so the socket's timeout needn't be changed for each
-    // read. Returns the error `TimedOut` if the deadline has passed, or another if the clock fails.
+    /// Returns how long a read may still wait, or `None` if it may wait for ever. After the hello, a read at the
+    /// beginning of a line may wait for the whole time of a line, so the socket's timeout needn't be changed for each
+    /// read. Returns the error `TimedOut` if the deadline has passed, or another if the clock fails.
     fn time_left(&self) -> io::Result<Option<Duration>> {
         if self.may_stay && !self.is_in_line {
             return Ok(self.patience);
@@ -93,8 +93,8 @@ impl<'a, Rt: Clock + Wait> SocketReader<'a, Rt> {
         Ok(Some(left))
     }
 
-    // Restarts the deadline of the next line, if lines of this connection have one. Returns an error if the clock
-    // fails.
+    /// Restarts the deadline of the next line, if lines of this connection have one. Returns an error if the clock
+    /// fails.
     fn restart_deadline(&mut self) -> io::Result<()> {
         self.deadline = match self.patience {
             Some(patience) => Instant::now(self.connection.rt)?.checked_add(patience),
@@ -103,9 +103,9 @@ impl<'a, Rt: Clock + Wait> SocketReader<'a, Rt> {
         Ok(())
     }
 
-    // Reads bytes that have come, or come before the deadline, and returns how many. Sets the socket's read timeout
-    // only if it changes. Returns an error if the deadline passes, the clock or the read fails, or the connection is
-    // closed.
+    /// Reads bytes that have come, or come before the deadline, and returns how many. Sets the socket's read timeout
+    /// only if it changes. Returns an error if the deadline passes, the clock or the read fails, or the connection is
+    /// closed.
     fn read_in_time(&mut self, buf: &mut [u8]) -> io::Result<usize>
         ensures { ReadsAtMost result buf.new }
     {
@@ -125,9 +125,9 @@ impl<'a, Rt: Clock + Wait> SocketReader<'a, Rt> {
         }
     }
 
-    // Reads bytes that have come, or come before the deadline, but none after the end of the line, and returns how
-    // many. For that, looks at the bytes before it takes them from the socket. The function is used until the hello is
-    // granted, so that bytes after the hello's line are read only then. Returns the same errors as `read_in_time`.
+    /// Reads bytes that have come, or come before the deadline, but none after the end of the line, and returns how
+    /// many. For that, looks at the bytes before it takes them from the socket. The function is used until the hello is
+    /// granted, so that bytes after the hello's line are read only then. Returns the same errors as `read_in_time`.
     fn read_line_in_time(&mut self, buf: &mut [u8]) -> io::Result<usize>
         ensures { ReadsAtMost result buf.new }
     {
@@ -145,9 +145,9 @@ impl<'a, Rt: Clock + Wait> SocketReader<'a, Rt> {
         }
     }
 
-    // Updates the deadline before a read. If the hello was granted since the last read, or a later line was answered
-    // since then, the next line has its whole time from now on. This function needn't search for the ends of lines,
-    // since `SocketReplies` notes each line that is answered. Returns an error if the clock fails.
+    /// Updates the deadline before a read. If the hello was granted since the last read, or a later line was answered
+    /// since then, the next line has its whole time from now on. This function needn't search for the ends of lines,
+    /// since `SocketReplies` notes each line that is answered. Returns an error if the clock fails.
     fn update_deadline(&mut self) -> io::Result<()> {
         let socket = &self.connection.socket;
         let has_answered = socket.is_line_answered.swap(false, Ordering::SeqCst);
@@ -159,13 +159,13 @@ impl<'a, Rt: Clock + Wait> SocketReader<'a, Rt> {
         Ok(())
     }
 
-    // Returns whether the first line was read to its end, and didn't begin like a JSON object. Before the hello a read
-    // returns at most one line, so the first line has ended if the last read ended with a newline.
+    /// Returns whether the first line was read to its end, and didn't begin like a JSON object. Before the hello a read
+    /// returns at most one line, so the first line has ended if the last read ended with a newline.
     fn is_no_request(&self) -> bool {
         self.first == FirstLine::Other && !self.is_in_line
     }
 
-    // Notes whether the `bytes` that were read end within a line, and how the first line begins.
+    /// Notes whether the `bytes` that were read end within a line, and how the first line begins.
     fn note_bytes(&mut self, bytes: &[u8]) {
         if let Some(last) = bytes.last() {
             self.is_in_line = *last != b'\n';
@@ -215,8 +215,8 @@ impl<'a, Rt: Clock + Wait> Read for SocketReader<'a, Rt> {
     }
 }
 
-// Returns how a line begins, judged by its first `bytes`. Skips spaces, tabs and carriage returns. Returns `Awaited` if
-// there are no other bytes. A newline counts as another byte, so an empty line is `Other`.
+/// Returns how a line begins, judged by its first `bytes`. Skips spaces, tabs and carriage returns. Returns `Awaited`
+/// if there are no other bytes. A newline counts as another byte, so an empty line is `Other`.
 fn beginning_of(bytes: &[u8]) -> FirstLine {
     for byte in bytes.iter() {
         match *byte {
@@ -228,8 +228,8 @@ fn beginning_of(bytes: &[u8]) -> FirstLine {
     FirstLine::Awaited
 }
 
-// Returns how many of the first `count` bytes belong to the first line, with its newline. If none of them is a newline,
-// returns `count`.
+/// Returns how many of the first `count` bytes belong to the first line, with its newline. If none of them is a
+/// newline, returns `count`.
 fn end_of_line(bytes: &[u8], count: usize) -> usize
     ensures { result ≤ length bytes.now }
 {

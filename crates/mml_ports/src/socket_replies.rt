@@ -27,8 +27,8 @@ impl<'a, Rt: Wait> SocketReplies<'a, Rt> {
         SocketReplies { connection }
     }
 
-    // Notes that the hello of `who` was granted, and whether this is the teacher's connection at the desk. Notes that
-    // the connection is no stranger any more, except for a student's hello at the desk.
+    /// Notes that the hello of `who` was granted, and whether this is the teacher's connection at the desk. Notes that
+    /// the connection is no stranger any more, except for a student's hello at the desk.
     fn note_greeting(&self, who: Who) {
         let SharedConnection {
             rt,

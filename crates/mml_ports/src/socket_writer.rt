@@ -47,10 +47,10 @@ pub struct SocketWriter<'a, Rt> {
 }
 
 impl<'a, Rt: Clock + Wait + Eprint> SocketWriter<'a, Rt> {
-    // Counts a denial of a name and key before it is sent, and prints the count on standard error if
-    // `HostState::note_denial` returns it. If a new connection waits, lets the crowd send a stranger away, which may be
-    // this connection. Waits until the denial's turn as `wait_for_turn` does, and returns that turn. Returns an error
-    // if the clock fails.
+    /// Counts a denial of a name and key before it is sent, and prints the count on standard error if
+    /// `HostState::note_denial` returns it. If a new connection waits, lets the crowd send a stranger away, which may
+    /// be this connection. Waits until the denial's turn as `wait_for_turn` does, and returns that turn. Returns an
+    /// error if the clock fails.
     fn delay_denial(&self) -> io::Result<Instant> {
         let SharedConnection {
             rt,
@@ -70,8 +70,8 @@ impl<'a, Rt: Clock + Wait + Eprint> SocketWriter<'a, Rt> {
         Ok(turn)
     }
 
-    // Notes that a reply was sent. If the connection is a stranger, it may now be sent away, so the crowd is asked to
-    // make room for a new connection.
+    /// Notes that a reply was sent. If the connection is a stranger, it may now be sent away, so the crowd is asked to
+    /// make room for a new connection.
     fn note_answered(&self) {
         let SharedConnection {
             rt,
@@ -85,10 +85,10 @@ impl<'a, Rt: Clock + Wait + Eprint> SocketWriter<'a, Rt> {
         }
     }
 
-    // Waits until `turn`, the turn of a denial, in two parts. In the last half second, another thread can end the wait
-    // by ending the connection: then the port keeps the denial, and sends it at its turn (`postpone_denial`). Before
-    // that no thread can end the wait, so that the port never keeps a denial for longer than half a second. Returns an
-    // error if the clock fails.
+    /// Waits until `turn`, the turn of a denial, in two parts. In the last half second, another thread can end the wait
+    /// by ending the connection: then the port keeps the denial, and sends it at its turn (`postpone_denial`). Before
+    /// that no thread can end the wait, so that the port never keeps a denial for longer than half a second. Returns an
+    /// error if the clock fails.
     fn wait_for_turn(&self, turn: Instant) -> io::Result<()> {
         let rt = self.connection.rt;
         let wait = turn.duration_since(Instant::now(rt)?);
@@ -98,9 +98,9 @@ impl<'a, Rt: Clock + Wait + Eprint> SocketWriter<'a, Rt> {
         Ok(())
     }
 
-    // Writes as many bytes as the other side takes within `WRITE_LIMIT`, and returns how many. Returns an error if the
-    // socket was closed, or refuses the write, or the clock fails. If the other side took only some of the bytes within
-    // that time, later writes fail (`is_deaf`).
+    /// Writes as many bytes as the other side takes within `WRITE_LIMIT`, and returns how many. Returns an error if the
+    /// socket was closed, or refuses the write, or the clock fails. If the other side took only some of the bytes
+    /// within that time, later writes fail (`is_deaf`).
     fn write_now(&mut self, buf: &[u8]) -> io::Result<usize>
         ensures { WritesAtMost result buf.now }
     {
@@ -119,9 +119,9 @@ impl<'a, Rt: Clock + Wait + Eprint> SocketWriter<'a, Rt> {
         }
     }
 
-    // Leaves the denial to the port if the connection is being ended because there is no seat. Keeps the denial's turn,
-    // at which the port sends it, and returns the length of `buf`, as if all was written. Returns `BrokenPipe` if the
-    // reply isn't a denial that waited for its turn, or there is another reason for the end.
+    /// Leaves the denial to the port if the connection is being ended because there is no seat. Keeps the denial's
+    /// turn, at which the port sends it, and returns the length of `buf`, as if all was written. Returns `BrokenPipe`
+    /// if the reply isn't a denial that waited for its turn, or there is another reason for the end.
     fn postpone_denial(&mut self, buf: &[u8]) -> io::Result<usize>
         ensures { WritesAtMost result buf.now }
     {
@@ -133,9 +133,9 @@ impl<'a, Rt: Clock + Wait + Eprint> SocketWriter<'a, Rt> {
         Ok(buf.len())
     }
 
-    // Writes bytes that end with the reply to the teacher's bye, and returns how many were sent. If all were, the class
-    // is dismissed. Holds the lock of `HostState::is_dismissed` meanwhile: a reader that has read something waits for
-    // this lock, to know whether the class is dismissed. Returns an error if the write fails.
+    /// Writes bytes that end with the reply to the teacher's bye, and returns how many were sent. If all were, the
+    /// class is dismissed. Holds the lock of `HostState::is_dismissed` meanwhile: a reader that has read something
+    /// waits for this lock, to know whether the class is dismissed. Returns an error if the write fails.
     fn write_farewell(&mut self, buf: &[u8]) -> io::Result<usize>
         ensures { WritesAtMost result buf.now }
     {
@@ -146,10 +146,10 @@ impl<'a, Rt: Clock + Wait + Eprint> SocketWriter<'a, Rt> {
         Ok(taken)
     }
 
-    // Closes the connection, whose stream is `stream`, or passes it to the port's partings to be closed. If a denial is
-    // still to be sent, the partings send it at its turn. If the connection was sent away to free its seat, or was
-    // never served, they send it the reason for the end, if there is one. Otherwise this function sends the reason, and
-    // lingers, so that the other side can read what was sent.
+    /// Closes the connection, whose stream is `stream`, or passes it to the port's partings to be closed. If a denial
+    /// is still to be sent, the partings send it at its turn. If the connection was sent away to free its seat, or was
+    /// never served, they send it the reason for the end, if there is one. Otherwise this function sends the reason,
+    /// and lingers, so that the other side can read what was sent.
     fn close_or_pass_on(&self, stream: TcpStream) {
         let SharedConnection {
             rt,
@@ -290,8 +290,8 @@ impl<'a, Rt: Clock + Wait + Eprint> HangUp for ReplyWriter<'a, Rt> {
     }
 }
 
-// Sends the reason why the connection is ended, and waits for at most `PARTING` milliseconds until the other side takes
-// it. Sends nothing if the system refuses to set this timeout.
+/// Sends the reason why the connection is ended, and waits for at most `PARTING` milliseconds until the other side
+/// takes it. Sends nothing if the system refuses to set this timeout.
 fn send_end_reason(stream: &TcpStream, why: EndReason) {
     if stream
         .set_write_timeout(Some(Duration::from_millis(PARTING)))

@@ -79,9 +79,9 @@ pub fn listen_at<R: Clock + Net<Listener = TcpListener, Stream = TcpStream>>(
     })
 }
 
-// Waits for at most a second for the first connection to a listener, and returns it. Returns `None` if no connection
-// has come, or it couldn't be accepted. Leaves the listener non-blocking. Returns an error if the listener can't be
-// made non-blocking.
+/// Waits for at most a second for the first connection to a listener, and returns it. Returns `None` if no connection
+/// has come, or it couldn't be accepted. Leaves the listener non-blocking. Returns an error if the listener can't be
+/// made non-blocking.
 fn first_within<R: Clock>(rt: &R, listener: &TcpListener) -> io::Result<Option<TcpStream>> {
     listener.set_nonblocking(true)?;
     for _ in 0..FIRST_CHECKS {
@@ -96,7 +96,7 @@ fn first_within<R: Clock>(rt: &R, listener: &TcpListener) -> io::Result<Option<T
     Ok(None)
 }
 
-// Returns whether an accept that failed with this kind of error may succeed if it is tried again.
+/// Returns whether an accept that failed with this kind of error may succeed if it is tried again.
 fn is_transient(kind: io::ErrorKind) -> bool {
     matches!(
         kind,
@@ -104,8 +104,8 @@ fn is_transient(kind: io::ErrorKind) -> bool {
     )
 }
 
-// Listens on a port of this machine, with a backlog of `BACKLOG`, or the library's default if the system refuses that.
-// Returns an error if that port can't be used.
+/// Listens on a port of this machine, with a backlog of `BACKLOG`, or the library's default if the system refuses that.
+/// Returns an error if that port can't be used.
 fn listen_on<R: Net<Listener = TcpListener, Stream = TcpStream>>(
     rt: &R,
     port: u16,
@@ -115,7 +115,7 @@ fn listen_on<R: Net<Listener = TcpListener, Stream = TcpStream>>(
     Ok(listener)
 }
 
-// Returns the address of a port that can be reached only from this machine.
+/// Returns the address of a port that can be reached only from this machine.
 fn on_this_machine(port: u16) -> SocketAddr {
     SocketAddr::from((Ipv4Addr::LOCALHOST, port))
 }
