@@ -56,8 +56,8 @@ impl Budgets {
         })
     }
 
-    // Returns the counter of the bytes that were recorded of the participant whose account has this index. For `None`,
-    // and for an index without an account, returns the counter of all connections on which nobody is known.
+    /// Returns the counter of the bytes that were recorded of the participant whose account has this index. For `None`,
+    /// and for an index without an account, returns the counter of all connections on which nobody is known.
     fn spent_by(&self, account: Option<usize>) -> &AtomicU64 {
         match account {
             Some(index) => match self.accounts.get(index) {
@@ -70,7 +70,7 @@ impl Budgets {
 }
 
 impl Spending {
-    // Returns the account of a participant of whom nothing was recorded or refused yet.
+    /// Returns the account of a participant of whom nothing was recorded or refused yet.
     fn new() -> Spending {
         Spending {
             spent: AtomicU64::new(0),
@@ -79,8 +79,8 @@ impl Spending {
     }
 }
 
-// Returns the index of a participant's account in `Budgets`: 0 for the teacher, and from 1 on for the students, in the
-// roster's order.
+/// Returns the index of a participant's account in `Budgets`: 0 for the teacher, and from 1 on for the students, in the
+/// roster's order.
 fn index_of(who: Who) -> usize {
     match who {
         Who::Teacher => 0,
@@ -110,8 +110,8 @@ impl SeatBudget {
         }
     }
 
-    // Adds this many `bytes` to the counter of the participant who is known, or to the common counter if nobody is, and
-    // returns `true`. If the counter would then exceed `most`, adds nothing, and returns `false`.
+    /// Adds this many `bytes` to the counter of the participant who is known, or to the common counter if nobody is,
+    /// and returns `true`. If the counter would then exceed `most`, adds nothing, and returns `false`.
     fn charge(&self, bytes: u64, most: u64) -> bool {
         let spent = self.budgets.spent_by(self.account);
         spent
@@ -122,9 +122,9 @@ impl SeatBudget {
             .is_ok()
     }
 
-    // Returns whether an entry of this many `bytes` may be written while nobody is known. If so, charges the entry to
-    // the common counter. An entry may be written if such entries then have at most `STRANGER` bytes on this
-    // connection, and at most `BUDGET` on all connections together.
+    /// Returns whether an entry of this many `bytes` may be written while nobody is known. If so, charges the entry to
+    /// the common counter. An entry may be written if such entries then have at most `STRANGER` bytes on this
+    /// connection, and at most `BUDGET` on all connections together.
     fn takes_unknown(&mut self, bytes: u64) -> bool
         ensures known { self.new.account ≡ self.old.account }
         ensures greeted { self.new.is_greeted ≡ self.old.is_greeted }
@@ -137,10 +137,10 @@ impl SeatBudget {
         true
     }
 
-    // Decides on an entry that exceeds the budget of the account with this `index`, and notes that an entry of this
-    // account was refused. Returns `Last` if the entry is that of a granted hello, and the first of the account that is
-    // refused. Such an entry is still written, and recording pauses after it. Returns `Refused` for any other entry,
-    // and if there is no such account.
+    /// Decides on an entry that exceeds the budget of the account with this `index`, and notes that an entry of this
+    /// account was refused. Returns `Last` if the entry is that of a granted hello, and the first of the account that
+    /// is refused. Such an entry is still written, and recording pauses after it. Returns `Refused` for any other
+    /// entry, and if there is no such account.
     fn refuse(&self, index: usize) -> Taking {
         match self.budgets.accounts.get(index) {
             Some(account) => {
