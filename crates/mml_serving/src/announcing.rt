@@ -49,9 +49,9 @@ pub fn write_last<S, W: Write>(
     write_done(alloc, events, log.board.number(), writer)
 }
 
-// Writes the last line of a server's output, which names the number of events and the `number` of the configuration.
-// Returns `Memory`, and writes nothing, if memory runs out. Returns `Write` if the writer fails; a beginning of the
-// line may then be written.
+/// Writes the last line of a server's output, which names the number of events and the `number` of the configuration.
+/// Returns `Memory`, and writes nothing, if memory runs out. Returns `Write` if the writer fails; a beginning of the
+/// line may then be written.
 fn write_done<W: Write>(
     alloc: Global,
     events: u64,
@@ -73,8 +73,8 @@ fn write_done<W: Write>(
     write_pieces(alloc, &pieces, writer)
 }
 
-// Joins these pieces into one text and writes it, so that the text isn't sent in pieces. Returns `Memory`, and writes
-// nothing, if memory runs out. Returns `Write` if the writer fails; a beginning of the text may then be written.
+/// Joins these pieces into one text and writes it, so that the text isn't sent in pieces. Returns `Memory`, and writes
+/// nothing, if memory runs out. Returns `Write` if the writer fails; a beginning of the text may then be written.
 fn write_pieces<W: Write>(alloc: Global, pieces: &[Piece], writer: &mut W) -> Result<(), ServeFault>
     ensures told { OnOk result
         (Appends (W.contents writer.old) (W.contents writer.new) (joined pieces.now)) }

@@ -32,8 +32,8 @@ pub(crate) fn all_had_memory(sessions: &[EndedSession<Socket, Socket>]) -> bool
     sessions.iter().all(|session| had_memory(session))
 }
 
-// Returns whether memory sufficed for a session: it didn't end because memory ran out, and no read or write of its
-// socket failed for that reason.
+/// Returns whether memory sufficed for a session: it didn't end because memory ran out, and no read or write of its
+/// socket failed for that reason.
 fn had_memory(session: &EndedSession<Socket, Socket>) -> bool
     ensures { result ≡ had_memory session.now }
 {

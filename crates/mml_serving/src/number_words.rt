@@ -25,7 +25,7 @@ pub fn read_connections(text: &str) -> Option<NonZeroU8>
     NonZeroU8::new(number as u8)
 }
 
-// Reads a number from 1 to `most` in decimal, without sign or leading zero. Returns `None` for any other text.
+/// Reads a number from 1 to `most` in decimal, without sign or leading zero. Returns `None` for any other text.
 fn number_of(text: &str, most: u64) -> Option<u64>
     ensures { Reads (λ n. n) most text.now result }
 {

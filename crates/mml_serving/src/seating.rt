@@ -98,11 +98,11 @@ struct Shared<'s, Y: ServerTypes, H: House> {
 }
 
 impl<'s, Y: ServerTypes + 's, H: House + Send + Sync + 's> Shared<'s, Y, H> {
-    // Accepts the next `connections` connections of `arrivals`, and serves each in a thread of its own and through one
-    // of `windows`. The windows must be fresh, and enough for all connections. Waits until all threads have ended, and
-    // returns the used windows and the ended sessions, both in the order in which the connections came. Returns
-    // `Memory` if memory runs out or no thread can be started, and `Accept` if accepting fails for another reason.
-    // After an error it doesn't wait for the threads; the end of `scope` does.
+    /// Accepts the next `connections` connections of `arrivals`, and serves each in a thread of its own and through one
+    /// of `windows`. The windows must be fresh, and enough for all connections. Waits until all threads have ended, and
+    /// returns the used windows and the ended sessions, both in the order in which the connections came. Returns
+    /// `Memory` if memory runs out or no thread can be started, and `Accept` if accepting fails for another reason.
+    /// After an error it doesn't wait for the threads; the end of `scope` does.
     fn serve_each<E, A: Arrivals<Y::Reader, Y::Writer> + Drop>(
         &self,
         scope: &Scope<'s, E>,
@@ -130,8 +130,8 @@ impl<'s, Y: ServerTypes + 's, H: House + Send + Sync + 's> Shared<'s, Y, H> {
         join_all(self.rt, self.alloc, handles)
     }
 
-    // Starts a thread in `scope` that serves the connection of a seat, whose window must be fresh. Returns the thread's
-    // handle. Returns `Memory`, and doesn't serve the connection, if no thread could be made.
+    /// Starts a thread in `scope` that serves the connection of a seat, whose window must be fresh. Returns the
+    /// thread's handle. Returns `Memory`, and doesn't serve the connection, if no thread could be made.
     fn serve_apart<E>(
         &self,
         scope: &Scope<'s, E>,
@@ -172,8 +172,8 @@ impl<H: House, R: Read + Drop, W: Write + Drop> Promise<(Window<H>, EndedSession
     ghost kept_by = { λ pledge t. IsServed H.lab R.remaining W.contents pledge.0.value t.1 t.0 };
 }
 
-// Accepts the next connection of `arrivals`, and takes a window for it from `windows`, which must not be empty. Returns
-// both, with `number` as the connection's number. Returns an error if no connection could be accepted.
+/// Accepts the next connection of `arrivals`, and takes a window for it from `windows`, which must not be empty.
+/// Returns both, with `number` as the connection's number. Returns an error if no connection could be accepted.
 fn next_seat<H: House, R: Read + Drop, W: Write + Drop, A: Arrivals<R, W>>(
     arrivals: &mut A,
     windows: &mut Vec<Window<H>>,
@@ -202,7 +202,7 @@ fn next_seat<H: House, R: Read + Drop, W: Write + Drop, A: Arrivals<R, W>>(
     }
 }
 
-// Accepts the next connection of `arrivals`. Returns its reading and its writing end, or why none could be accepted.
+/// Accepts the next connection of `arrivals`. Returns its reading and its writing end, or why none could be accepted.
 fn accept<R: Read + Drop, W: Write + Drop, A: Arrivals<R, W>>(
     arrivals: &mut A,
 ) -> Result<(R, W), SeatingFault>
@@ -215,7 +215,7 @@ fn accept<R: Read + Drop, W: Write + Drop, A: Arrivals<R, W>>(
     }
 }
 
-// Returns the fault for an accept that failed with this kind of error: `Memory` if memory ran out, and else `Accept`.
+/// Returns the fault for an accept that failed with this kind of error: `Memory` if memory ran out, and else `Accept`.
 fn accept_fault(kind: ErrorKind) -> SeatingFault
     ensures memory { kind ≡ ErrorKind.OutOfMemory → result ≡ SeatingFault.Memory }
     ensures other { kind ≢ ErrorKind.OutOfMemory → result ≡ SeatingFault.Accept }
@@ -226,9 +226,9 @@ fn accept_fault(kind: ErrorKind) -> SeatingFault
     }
 }
 
-// Serves the connection of a seat, whose window must be fresh, and closes both of its ends as soon as its session has
-// ended. So neither the other side nor the system has to wait for other sessions. Returns the seat's window, and how
-// the session ended, with the connection's two ends. `gate` can pause the session, for tests.
+/// Serves the connection of a seat, whose window must be fresh, and closes both of its ends as soon as its session has
+/// ended. So neither the other side nor the system has to wait for other sessions. Returns the seat's window, and how
+/// the session ended, with the connection's two ends. `gate` can pause the session, for tests.
 fn serve_seated<Y: ServerTypes, H: House>(
     rt: &Y::Runtime,
     alloc: Global,
@@ -271,8 +271,8 @@ fn serve_seated<Y: ServerTypes, H: House>(
     (window, EndedSession { end, connection })
 }
 
-// Waits until all threads have ended. Returns their windows and their sessions, both in the order of `handles`. Returns
-// `Memory`, without waiting, if memory for the two lists runs out.
+/// Waits until all threads have ended. Returns their windows and their sessions, both in the order of `handles`.
+/// Returns `Memory`, without waiting, if memory for the two lists runs out.
 fn join_all<Rt: Threads, H: House, R: Read + Drop, W: Write + Drop>(
     rt: &Rt,
     alloc: Global,

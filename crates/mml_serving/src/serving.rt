@@ -178,9 +178,9 @@ pub fn serve_arrivals<Y: ServerTypes, A: Arrivals<Y::Reader, Y::Writer> + Drop, 
     }
 }
 
-// Serves the next `connections` connections of `arrivals` in the new house `blank`, at most one for each session of its
-// lab. Then ends the house with all its windows, also those that no connection used. `gate` can pause the sessions, for
-// tests. Returns the house's log and the ended sessions, or why the server failed.
+/// Serves the next `connections` connections of `arrivals` in the new house `blank`, at most one for each session of
+/// its lab. Then ends the house with all its windows, also those that no connection used. `gate` can pause the
+/// sessions, for tests. Returns the house's log and the ended sessions, or why the server failed.
 fn serve_in_house<Y: ServerTypes, H: House + Send + Sync, A: Arrivals<Y::Reader, Y::Writer> + Drop>(
     rt: &Y::Runtime,
     alloc: Global,
@@ -231,8 +231,9 @@ pub fn end_for<Rt: Wait, S: Sink + Drop, H: House, F>(
     fault
 }
 
-// Ends a house. `windows` are those through which connections were served, and `unused` the others. Returns the house's
-// log. Returns `Memory` if memory runs out, or `Astray` if the windows' places aren't those of the events, each once.
+/// Ends a house. `windows` are those through which connections were served, and `unused` the others. Returns the
+/// house's log. Returns `Memory` if memory runs out, or `Astray` if the windows' places aren't those of the events,
+/// each once.
 fn end_house<Rt: Wait, S: Sink + Drop, H: House>(
     rt: &Rt,
     alloc: Global,

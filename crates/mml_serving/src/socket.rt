@@ -106,8 +106,8 @@ pub fn linger(stream: TcpStream, is_hurried: &AtomicBool) {
     }
 }
 
-// Returns whether a read that failed with an error of this kind may be tried again in the next turn: it timed out, or a
-// signal interrupted it.
+/// Returns whether a read that failed with an error of this kind may be tried again in the next turn: it timed out, or
+/// a signal interrupted it.
 fn is_transient(kind: ErrorKind) -> bool
     ensures timeout { kind ≡ ErrorKind.WouldBlock → result ≡ true }
     ensures interrupted { kind ≡ ErrorKind.Interrupted → result ≡ true }
