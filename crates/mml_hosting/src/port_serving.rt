@@ -91,8 +91,8 @@ type HandleOf<Y, H> = PromisedHandle<
     >,
 >;
 
-// Returns the index of the first busy seat whose thread has ended, as the marks say. Returns `None` if all threads are
-// still running.
+/// Returns the index of the first busy seat whose thread has ended, as the marks say. Returns `None` if all threads are
+/// still running.
 fn first_done<Y: ClassTypes, H: Begun, M: Mark>(
     busy: &Vec<BusyOf<Y, H>>,
     marks: &[M],
@@ -109,8 +109,8 @@ fn first_done<Y: ClassTypes, H: Begun, M: Mark>(
     None
 }
 
-// Removes from `busy` the seat at `index`, which must be below the list's length. Drops the seat's cut-off, and waits
-// until its thread has ended. Returns the seat, in which another connection can now be served.
+/// Removes from `busy` the seat at `index`, which must be below the list's length. Drops the seat's cut-off, and waits
+/// until its thread has ended. Returns the seat, in which another connection can now be served.
 fn join_one<Y: ClassTypes, H: Begun>(
     rt: &Y::Runtime,
     busy: &mut Vec<BusyOf<Y, H>>,
@@ -133,9 +133,9 @@ fn join_one<Y: ClassTypes, H: Begun>(
     seat
 }
 
-// Returns the index of the busy seat whose thread is to be joined next. With `marks`, this is the first seat whose
-// thread has ended, or `None` if all threads are still running. Without `marks`, it is the first seat of the list,
-// whose thread may still run, or `None` if the list is empty.
+/// Returns the index of the busy seat whose thread is to be joined next. With `marks`, this is the first seat whose
+/// thread has ended, or `None` if all threads are still running. Without `marks`, it is the first seat of the list,
+/// whose thread may still run, or `None` if the list is empty.
 fn next_to_join<Y: ClassTypes, H: Begun, M: Mark>(
     busy: &Vec<BusyOf<Y, H>>,
     marks: Option<&[M]>,
@@ -152,9 +152,9 @@ fn next_to_join<Y: ClassTypes, H: Begun, M: Mark>(
     }
 }
 
-// Moves the seats whose threads have ended from `busy` to `free`, which must have room for them. Without `marks`, waits
-// for all threads, and moves all seats. In this case all connections must have been cut off before, so that their
-// threads end.
+/// Moves the seats whose threads have ended from `busy` to `free`, which must have room for them. Without `marks`,
+/// waits for all threads, and moves all seats. In this case all connections must have been cut off before, so that
+/// their threads end.
 fn gather<Y: ClassTypes, H: Begun, M: Mark>(
     rt: &Y::Runtime,
     free: &mut Vec<SeatOf<Y, H>>,
@@ -177,9 +177,9 @@ fn gather<Y: ClassTypes, H: Begun, M: Mark>(
     }
 }
 
-// Takes the last of the free seats, makes it ready for one more session, and returns it. Returns `None` if no seat is
-// free. Also returns `None`, and leaves the seat in the list, if the teacher's bye has ended the seat's service, or
-// memory runs out.
+/// Takes the last of the free seats, makes it ready for one more session, and returns it. Returns `None` if no seat is
+/// free. Also returns `None`, and leaves the seat in the list, if the teacher's bye has ended the seat's service, or
+/// memory runs out.
 fn next_free<Y: ClassTypes, H: Begun>(free: &mut Vec<SeatOf<Y, H>>) -> Option<SeatOf<Y, H>>
     requires seats { All (IsSeat (terms H.lab H.begun H.given Y.Reader.remaining Y.Writer.contents Y.Observer.kept Y.Kept.shows)) free.old.items }
     ensures ready { IfSome result (IsReady (terms H.lab H.begun H.given Y.Reader.remaining Y.Writer.contents Y.Observer.kept Y.Kept.shows)) }
@@ -200,8 +200,8 @@ fn next_free<Y: ClassTypes, H: Begun>(free: &mut Vec<SeatOf<Y, H>>) -> Option<Se
     Some(seat)
 }
 
-// Makes a seat ready for one more session: reserves memory for that session's record. Returns whether the session may
-// be served there. Returns `false` if the teacher's bye has ended the seat's service, or memory runs out.
+/// Makes a seat ready for one more session: reserves memory for that session's record. Returns whether the session may
+/// be served there. Returns `false` if the teacher's bye has ended the seat's service, or memory runs out.
 fn make_ready<Y: ClassTypes, H: Begun>(seat: &mut SeatOf<Y, H>) -> bool
     requires seat { IsSeat (terms H.lab H.begun H.given Y.Reader.remaining Y.Writer.contents Y.Observer.kept Y.Kept.shows) seat.old }
     ensures seat { IsSeat (terms H.lab H.begun H.given Y.Reader.remaining Y.Writer.contents Y.Observer.kept Y.Kept.shows) seat.new }
@@ -212,8 +212,8 @@ fn make_ready<Y: ClassTypes, H: Begun>(seat: &mut SeatOf<Y, H>) -> bool
     !seat.is_dismissed && seat.record.sessions.reserve(1).is_ok()
 }
 
-// Sends the line `BUSY` to the connection `ends`, for which no seat is free, and closes it. Returns `WriteFault` if the
-// line wasn't written whole.
+/// Sends the line `BUSY` to the connection `ends`, for which no seat is free, and closes it. Returns `WriteFault` if
+/// the line wasn't written whole.
 #[tactic(auto, unfolding(crate::specs::Away::busy_line))]
 fn turn_away<R: Drop, W: Write + HangUp + Drop>(ends: (R, W)) -> Result<(), WriteFault>
     ensures { TurnsAway W.contents W.IsHungUp busy_line ends result }
@@ -224,7 +224,7 @@ fn turn_away<R: Drop, W: Write + HangUp + Drop>(ends: (R, W)) -> Result<(), Writ
     told
 }
 
-// Cuts off the connections of all busy seats, so that their sessions end.
+/// Cuts off the connections of all busy seats, so that their sessions end.
 fn cut_off_all<Y: ClassTypes, H: Begun>(busy: &Vec<BusyOf<Y, H>>)
     ensures { All (λ b. Y.CutOff.IsCutOff b.cut_off) busy.now.items }
 {
@@ -233,8 +233,8 @@ fn cut_off_all<Y: ClassTypes, H: Begun>(busy: &Vec<BusyOf<Y, H>>)
     }
 }
 
-// Returns 256 marks, one for each number that a seat can have. A mark says that the seat's thread has ended; none is
-// set yet. Returns `Memory` if memory runs out.
+/// Returns 256 marks, one for each number that a seat can have. A mark says that the seat's thread has ended; none is
+/// set yet. Returns `Memory` if memory runs out.
 fn new_marks(alloc: Global) -> Result<Vec<AtomicU64>, Memory>
     ensures { IfOk result (λ marks. vec_len marks ≡ 2 ^ 8) }
 {
@@ -259,11 +259,11 @@ struct Shared<'s, Y: ClassTypes, H: Begun> {
 }
 
 impl<'s, Y: ClassTypes + 's, H: Begun + Send + Sync + 's> Shared<'s, Y, H> {
-    // Resets the mark of a seat that is ready for one more session, starts a thread that serves a connection in the
-    // seat, and returns the thread's handle. `ends` are the reader and the writer of the connection. The thread rings
-    // the bell when the session has ended. If no thread can be made, serves the connection in this thread, rings the
-    // bell, and returns the seat as the error. In this case a connection that isn't at the desk is cut off by `cut_off`
-    // before it is served, so that later connections needn't wait for it.
+    /// Resets the mark of a seat that is ready for one more session, starts a thread that serves a connection in the
+    /// seat, and returns the thread's handle. `ends` are the reader and the writer of the connection. The thread rings
+    /// the bell when the session has ended. If no thread can be made, serves the connection in this thread, rings the
+    /// bell, and returns the seat as the error. In this case a connection that isn't at the desk is cut off by
+    /// `cut_off` before it is served, so that later connections needn't wait for it.
     fn serve_apart<E>(
         &self,
         scope: &Scope<'s, E>,
@@ -312,9 +312,9 @@ impl<'s, Y: ClassTypes + 's, H: Begun + Send + Sync + 's> Shared<'s, Y, H> {
         }
     }
 
-    // Takes back the seats whose threads have ended. Then serves a connection (`ends`) in the free seat that
-    // `next_free` returns, as `serve_apart` does. If `next_free` returns `None`, turns the connection away. `cut_off`
-    // is the means to end the connection from the port's thread. Both lists must have room for all seats.
+    /// Takes back the seats whose threads have ended. Then serves a connection (`ends`) in the free seat that
+    /// `next_free` returns, as `serve_apart` does. If `next_free` returns `None`, turns the connection away. `cut_off`
+    /// is the means to end the connection from the port's thread. Both lists must have room for all seats.
     fn take_in<E>(
         &self,
         scope: &Scope<'s, E>,
@@ -350,9 +350,9 @@ impl<'s, Y: ClassTypes + 's, H: Begun + Send + Sync + 's> Shared<'s, Y, H> {
         }
     }
 
-    // Accepts connections from `arrivals`, and serves them in `seats`, until no more are to be served. Then cuts off
-    // those that are still served, waits for their threads, and returns all seats. Returns `Memory`, and serves nobody,
-    // if memory runs out at the beginning.
+    /// Accepts connections from `arrivals`, and serves them in `seats`, until no more are to be served. Then cuts off
+    /// those that are still served, waits for their threads, and returns all seats. Returns `Memory`, and serves
+    /// nobody, if memory runs out at the beginning.
     fn serve_until_over<E, A: Accept<Y::Reader, Y::Writer, Y::CutOff> + Drop>(
         &self,
         scope: &Scope<'s, E>,

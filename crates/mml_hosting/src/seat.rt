@@ -127,8 +127,8 @@ pub fn serve_in<Y: ClassTypes, H: Begun>(
     }
 }
 
-// Serves a connection through the window of the seat with this number, and closes its writing end. Returns the session
-// that has ended, and the seat's observer.
+/// Serves a connection through the window of the seat with this number, and closes its writing end. Returns the session
+/// that has ended, and the seat's observer.
 fn serve_session<Y: ClassTypes, H: Begun>(
     setting: &Setting<'_, Y::Runtime, Y::Sink, H>,
     window: &mut Window<H>,
@@ -168,8 +168,8 @@ fn serve_session<Y: ClassTypes, H: Begun>(
     (session, observer)
 }
 
-// Returns whether a session that ended as `ending` says ends the house: it was at the desk (`is_desk`), and its last
-// line was the teacher's bye.
+/// Returns whether a session that ended as `ending` says ends the house: it was at the desk (`is_desk`), and its last
+/// line was the teacher's bye.
 fn is_dismissed_by(ending: &Ending, is_desk: bool) -> bool
     ensures { result ≡ (is_desk && is_teachers_bye ending.now) }
 {
