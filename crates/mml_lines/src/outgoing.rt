@@ -96,9 +96,9 @@ impl Outgoing {
         }
     }
 
-    // Writes all held lines and empties the buffer. Flushes nothing. Returns `WriteFault` if a write fails or takes
-    // nothing. The buffer then keeps all lines, though some of their bytes may be written. The fault's `written` counts
-    // the written bytes of the first line that isn't written whole.
+    /// Writes all held lines and empties the buffer. Flushes nothing. Returns `WriteFault` if a write fails or takes
+    /// nothing. The buffer then keeps all lines, though some of their bytes may be written. The fault's `written`
+    /// counts the written bytes of the first line that isn't written whole.
     fn write_out<W: Write>(&mut self, writer: &mut W) -> Result<(), WriteFault>
         ensures empty { OnOk result (self.new ≡ []) }
         ensures ok { OnOk result (Sends (W.contents writer.old) (W.contents writer.new) self.old []) }
@@ -145,8 +145,8 @@ impl Outgoing {
         false
     }
 
-    // Appends a line, `front` and then `rest`, to the buffer if there is room for it. Returns whether it was appended.
-    // Writes and allocates nothing, so `unwrap` succeeds.
+    /// Appends a line, `front` and then `rest`, to the buffer if there is room for it. Returns whether it was appended.
+    /// Writes and allocates nothing, so `unwrap` succeeds.
     fn hold(&mut self, front: &[u8], rest: &[u8]) -> bool
         ensures { self.new ≡ (if result then self.old ++ (front.now ++ rest.now) ∷ [] else self.old) }
     {
@@ -165,9 +165,9 @@ impl Outgoing {
     }
 }
 
-// Returns how many bytes were written of the first line that isn't written whole, or 0 if all lines are. `lengths` has
-// the lengths of the lines, in the order in which they are written. `out` is the number of bytes that were written of
-// all lines together, so it is at most the sum of `lengths`.
+/// Returns how many bytes were written of the first line that isn't written whole, or 0 if all lines are. `lengths` has
+/// the lengths of the lines, in the order in which they are written. `out` is the number of bytes that were written of
+/// all lines together, so it is at most the sum of `lengths`.
 fn part_of(lengths: &[usize], out: usize) -> usize
     ensures { result ≡ part_in lengths.now out }
 {
