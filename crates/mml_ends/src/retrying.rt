@@ -86,7 +86,7 @@ impl<W: Write + Drop> Write for Retrying<W> {
     }
 }
 
-// Returns whether a read or a write failed with an error of the kind `kind`.
+/// Returns whether a read or a write failed with an error of the kind `kind`.
 fn failed_by(done: &io::Result<usize>, kind: ErrorKind) -> bool
     ensures { IsTrue result ↔ IsErrAnd done.now (λ e. error_kind e ≡ kind) }
 {

@@ -15,10 +15,10 @@ pub fn hold_streams<R: Files<File = File>>(rt: &R) -> io::Result<()> {
     Ok(())
 }
 
-// Opens the null device for one standard stream, given by its descriptor, if it is closed, and leaves an open one as it
-// is. The streams before `stream` must be open. The system assigns the least free descriptor, so the null device gets
-// the descriptor `stream` exactly if it is free. Otherwise the null device is closed again. Returns an error if opening
-// fails.
+/// Opens the null device for one standard stream, given by its descriptor, if it is closed, and leaves an open one as
+/// it is. The streams before `stream` must be open. The system assigns the least free descriptor, so the null device
+/// gets the descriptor `stream` exactly if it is free. Otherwise the null device is closed again. Returns an error if
+/// opening fails.
 fn hold_stream<R: Files<File = File>>(rt: &R, stream: RawFd) -> io::Result<()> {
     let is_input = stream == 0;
     let file = OpenOptions::new()
