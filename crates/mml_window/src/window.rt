@@ -192,7 +192,7 @@ impl<H: House> Window<H> {
     }
 
     /// Returns the number of the configuration that is published. Returns `Closed` if the house has ended, or the
-    /// window has no reader's slot.
+    /// window has no reader's slot. Unless it returns `Closed`, the window has then seen all events that are published.
     pub fn number(&mut self) -> Result<u64, Closed>
         ensures { TellsNumber H.lab self.old result self.new }
     {
@@ -205,7 +205,8 @@ impl<H: House> Window<H> {
     }
 
     /// Returns the published registers of the node with the identifier `node`, if `who` may see it, and else `Denied`
-    /// with the reason. Returns `Closed` if the house has ended, or the window has no reader's slot. Allocates nothing.
+    /// with the reason. Returns `Closed` if the house has ended, or the window has no reader's slot. Unless it returns
+    /// `Closed`, the window has then seen all events that are published. Allocates nothing.
     pub fn see(&mut self, who: Who, node: u64) -> Result<See, SightFault>
         ensures tells { AnswersView rulings.Seen H.lab self.old who (command.See node) result self.new }
         ensures nodes { IfOk result (IsSeen H.lab.ids) }
@@ -221,7 +222,8 @@ impl<H: House> Window<H> {
 
     /// Returns the published node with the identifier `node` as its owners see it, if `who` owns it or is the teacher,
     /// and else `Denied` with the reason. Returns `Memory` if memory runs out, and `Closed` if the house has ended, or
-    /// the window has no reader's slot.
+    /// the window has no reader's slot. Unless it returns `Closed`, the window has then seen all events that are
+    /// published.
     pub fn look(&mut self, alloc: Global, who: Who, node: u64) -> Result<Look, SightFault>
         ensures tells { AnswersView rulings.Looked H.lab self.old who (command.Look node) result
             self.new }
@@ -237,6 +239,7 @@ impl<H: House> Window<H> {
 
     /// Returns the report on the published configuration, if `who` is the teacher, and else `Denied` with the reason.
     /// Returns `Memory` if memory runs out, and `Closed` if the house has ended, or the window has no reader's slot.
+    /// Unless it returns `Closed`, the window has then seen all events that are published.
     pub fn report(&mut self, alloc: Global, who: Who) -> Result<Report, SightFault>
         ensures tells { AnswersView (λ r. rulings.Reported) H.lab self.old who command.Report result
             self.new }
