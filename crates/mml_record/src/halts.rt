@@ -31,7 +31,8 @@ impl Halts {
         }
     }
 
-    /// Returns what is kept after this entry. `is_halted` is whether the session is halted after it.
+    /// Returns what is kept after this entry. `is_halted` is whether the session is halted after it: a refusal
+    /// `journal` came, and no entry since then says that anything may be missing.
     pub(crate) fn with_entry(self, is_halted: bool, entry: &RawEntry<'_>) -> Halts
         ensures { result ≡ with_halt self is_halted (entry_view entry.now) }
     {
@@ -67,8 +68,9 @@ fn or_else(first: Option<u64>, second: Option<u64>) -> Option<u64>
     }
 }
 
-// Returns how many events had been seen at the first refusal, after a line before which `judged` events had been seen.
-// `first` is this number before the line, and `halts` is whether the line's reply halts the session.
+// Returns how many events had been seen at the first refusal, after one more line. `first` is this number before the
+// line, or `None` if there was no refusal. `judged` is how many events had been seen before the line, and `halts` is
+// whether the session is halted after it.
 fn first_halt(first: Option<u64>, judged: u64, halts: bool) -> Option<u64>
     ensures { result ≡ first_halt first judged halts }
 {
@@ -78,7 +80,8 @@ fn first_halt(first: Option<u64>, judged: u64, halts: bool) -> Option<u64>
     }
 }
 
-// Returns how many events had been seen at a refusal, if they are fewer than `count`.
+// Returns `first`, which is how many events had been seen at a refusal, if it is less than `count`. Otherwise, or if
+// there is no refusal, returns `None`.
 fn outlived_at(first: Option<u64>, count: u64) -> Option<u64>
     ensures { result ≡ outlived_at first count }
 {
