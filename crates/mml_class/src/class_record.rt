@@ -163,8 +163,8 @@ fn stated_begun(text: &[u8]) -> Result<u64, SeatFault>
 
 // Checks the record of the seat with this number. Adds its summary to `findings`, appends the places that it grants to
 // `granted`, and, if `with_asks` is set, appends what its lines asked to `asks`. Returns `Entry` with the record's
-// first bad entry, `Outlived` if events follow a refusal `journal` in it, or `Unread` with the reason why it can't be
-// read.
+// first bad entry, `Outlived` if more events of the same server follow a refusal `journal` in it, or `Unread` with the
+// reason why it can't be read.
 fn read_seat<R: Read + Drop, S: Seats<R>>(
     alloc: Global,
     lab: &Lab,
@@ -196,9 +196,9 @@ fn read_seat<R: Read + Drop, S: Seats<R>>(
 }
 
 // Checks whether a seat's text is a record, and returns the verdict. Appends the places that it grants to `granted`. If
-// `with_asks` is set, reads the text as a whole, and if it is a record, appends what its lines asked to `asks`.
-// Otherwise reads the text piece by piece. Returns `Read` if a read fails, or the text or an entry is too long, and
-// `Memory` if memory runs out.
+// `with_asks` is set, reads the text as a whole, and if the verdict is `Passed`, appends what its lines asked to
+// `asks`. Otherwise reads the text piece by piece. Returns `Read` if a read fails, or the text or an entry is too long,
+// and `Memory` if memory runs out.
 fn read_text<R: Read + Drop>(
     alloc: Global,
     lab: &Lab,
@@ -223,7 +223,8 @@ fn read_text<R: Read + Drop>(
 }
 
 // Checks whether a seat's text, which is in memory, is a record, and returns the verdict. Appends the places that it
-// grants to `granted`, and, if it is a record, what its lines asked to `asks`. Returns `Memory` if memory runs out.
+// grants to `granted`, and, if the verdict is `Passed`, what its lines asked to `asks`. Returns `Memory` if memory runs
+// out.
 fn read_asked(
     alloc: Global,
     lab: &Lab,
