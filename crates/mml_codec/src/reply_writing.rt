@@ -16,9 +16,9 @@ use mml_ids::{IdTable, Memory, make_room};
 use mml_lab::Roster;
 use std::alloc::Global;
 
-/// Replaces the bytes of `out` by the line of a reply, with its newline. If `out` has a capacity of `REPLY_ROOM`,
-/// allocates only for a look or a report. Returns `Memory`, and leaves `out` empty, if memory runs out. `_alloc` isn't
-/// used: `out` grows without it.
+/// Replaces the bytes of `out` by the line of a reply, with its newline. If `out` has a capacity of at least
+/// `REPLY_ROOM`, allocates only for a look or a report. Returns `Memory`, and leaves `out` empty, if memory runs out.
+/// `_alloc` isn't used: `out` grows without it.
 pub fn write_reply(
     _alloc: Global,
     ids: &IdTable,

@@ -24,8 +24,8 @@ pub(crate) trait Table {
     ghost most: { Self → ℕ };
 
     // Returns the line with the text of the fields appended. Before the first field comes `first`, which is an opening
-    // brace or a comma. If there is no field, `first` is left out. The line must have room for `first` and the longest
-    // text of the fields.
+    // brace, a comma, or the end of a list with a comma. If there is no field, `first` is left out. The line must have
+    // room for `first` and the longest text of the fields.
     fn with_fields(&self, line: Vec<u8>, ids: &IdTable, first: &str) -> Vec<u8>
         requires names { names ids.now self.now }
         requires room { length line.items + (length first.now + most self.now) ≤ vec_capacity line }
@@ -52,7 +52,8 @@ impl<V: ReplyValue, T: Table> Table for Row<V, T> {
 
     ghost most = { λ r. 4 + (length r.key.now + (V.most r.value + T.most r.rest)) };
 
-    // Returns the line with `first`, the quoted key, a colon, the value, a comma and the fields after it appended.
+    // Returns the line with `first`, the quoted key, a colon, the value, and the fields after it appended. If there are
+    // such fields, a comma comes before them.
     #[inline(always)]
     fn with_fields(&self, line: Vec<u8>, ids: &IdTable, first: &str) -> Vec<u8> {
         let line = with_text(line, first);
