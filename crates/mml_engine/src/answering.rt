@@ -19,8 +19,9 @@ use std::alloc::Global;
 
 /// Answers a request line of a connection, without its newline, and puts the reply into `reply`, since a reply is too
 /// large to be returned without a costly copy. `known` is the participant of the lab who is known on the connection, or
-/// `None`, and is set to who is known afterwards. `scratch` is working memory for reading the line. Returns `Closed`,
-/// and puts no reply, if a known participant asks to be shown something and the engine is closed.
+/// `None`, and is set to who is known afterwards. `scratch` is working memory for reading the line. If the line isn't a
+/// request, or memory runs out while it is read, the reply is a refusal. Returns `Closed`, and puts no reply, if a
+/// known participant asks to be shown something and the engine is closed.
 pub fn answer_line<E: Engine>(
     engine: &mut E,
     at: &mut E::View,
