@@ -31,7 +31,7 @@ use mml_rules::Kind;
 use mml_tally::{Ask, Line, push_ask};
 use std::alloc::Global;
 
-// Returns the kind of the rule that a `move` asks for, without the node that a marriage names.
+/// Returns the kind of the rule that a `move` asks for, without the node that a marriage names.
 fn kind_asked(rule: Asked) -> Kind
     ensures { result ≡ kind_asked rule }
 {
@@ -43,8 +43,8 @@ fn kind_asked(rule: Asked) -> Kind
     }
 }
 
-// Returns how the tally classes a line with this command: as `Move`, with its node and the kind of its rule, or as
-// `Other` for any other command.
+/// Returns how the tally classes a line with this command: as `Move`, with its node and the kind of its rule, or as
+/// `Other` for any other command.
 fn line_of_command(command: &Command) -> Line
     ensures { result ≡ line_of_command command.now }
 {
@@ -57,8 +57,8 @@ fn line_of_command(command: &Command) -> Line
     }
 }
 
-// Returns how the tally classes a line with this request: by its command, or as `Other` for a hello or a bye, which ask
-// for no move.
+/// Returns how the tally classes a line with this request: by its command, or as `Other` for a hello or a bye, which
+/// ask for no move.
 fn line_of_request(request: &Request) -> Line
     ensures { result ≡ line_of_request request.now }
 {
@@ -68,8 +68,8 @@ fn line_of_request(request: &Request) -> Line
     }
 }
 
-// Reads a digit from the front of `rest`, and returns its value. For a byte that is no digit, which no reply has there,
-// returns the byte minus the byte `0`, but at least 0. Returns `None` if there is no `rest`, or it is empty.
+/// Reads a digit from the front of `rest`, and returns its value. For a byte that is no digit, which no reply has
+/// there, returns the byte minus the byte `0`, but at least 0. Returns `None` if there is no `rest`, or it is empty.
 fn digit_first(rest: Option<&[u8]>) -> Option<u8>
     ensures { result ≡ digit_first (seen rest.entry) }
 {
@@ -78,8 +78,8 @@ fn digit_first(rest: Option<&[u8]>) -> Option<u8>
     Some(digit.saturating_sub(b'0'))
 }
 
-// Returns the number of the clause in a reply's text, or `None` if the reply is no denial. Only the first byte of the
-// number is read, since clauses have one digit.
+/// Returns the number of the clause in a reply's text, or `None` if the reply is no denial. Only the first byte of the
+/// number is read, since clauses have one digit.
 fn clause_told(text: &[u8]) -> Option<u8>
     ensures { result ≡ clause_told text.now }
 {
@@ -88,16 +88,16 @@ fn clause_told(text: &[u8]) -> Option<u8>
     digit_first(rest)
 }
 
-// Returns whether the reply `text`, without its newline, is the refusal for memory.
+/// Returns whether the reply `text`, without its newline, is the refusal for memory.
 fn is_memory(text: &[u8]) -> bool
     ensures { result ≡ bytes_eq text.now memory_text }
 {
     text == b"{\"refuse\":\"memory\"}".as_slice()
 }
 
-// Returns who is known after a line, if `known` was known before it. `greeting` is what the rules of greeting say of
-// the line. These rules may give a reply at once, and then say who is known. Or they leave a command to the policy,
-// which doesn't change who is known.
+/// Returns who is known after a line, if `known` was known before it. `greeting` is what the rules of greeting say of
+/// the line. These rules may give a reply at once, and then say who is known. Or they leave a command to the policy,
+/// which doesn't change who is known.
 fn known_by(known: Option<Who>, greeting: Greeting) -> Option<Who>
     ensures { result ≡ known_by known greeting }
 {
@@ -113,8 +113,8 @@ fn known_by(known: Option<Who>, greeting: Greeting) -> Option<Who>
     }
 }
 
-// Reads a line. Returns how the tally classes it (a move, another request, or no request), and who is known after it,
-// if `known` was known before it. Returns `Memory` if memory runs out.
+/// Reads a line. Returns how the tally classes it (a move, another request, or no request), and who is known after it,
+/// if `known` was known before it. Returns `Memory` if memory runs out.
 fn line_and_known(
     alloc: Global,
     roster: &Roster,
@@ -138,7 +138,7 @@ fn line_and_known(
     }
 }
 
-// Returns the student whom `who` names, or `None` for the teacher.
+/// Returns the student whom `who` names, or `None` for the teacher.
 fn student_in(who: Who) -> Option<Student>
     ensures { result ≡ student_in who }
 {
@@ -148,7 +148,7 @@ fn student_in(who: Who) -> Option<Student>
     }
 }
 
-// Returns the student who is known, or `None` if nobody or the teacher is known.
+/// Returns the student who is known, or `None` if nobody or the teacher is known.
 fn student_of(known: Option<Who>) -> Option<Student>
     ensures { result ≡ student_of known }
 {
@@ -158,10 +158,10 @@ fn student_of(known: Option<Who>) -> Option<Student>
     }
 }
 
-// Reads a line and its reply `text`, both without newlines. Returns what the tally counts of them: the student who was
-// known before the line, what the line asks, and how the reply denies or refuses it. Also returns who is known after
-// the line: `known` as before if the reply is the refusal for memory. Returns `Memory` if memory runs out while the
-// line is read.
+/// Reads a line and its reply `text`, both without newlines. Returns what the tally counts of them: the student who was
+/// known before the line, what the line asks, and how the reply denies or refuses it. Also returns who is known after
+/// the line: `known` as before if the reply is the refusal for memory. Returns `Memory` if memory runs out while the
+/// line is read.
 #[tactic(auto, unfolding(crate::specs::Asks::known_after))]
 fn ask_and_known(
     alloc: Global,
@@ -195,10 +195,10 @@ fn ask_and_known(
     }
 }
 
-// Appends to `asks` what the tally counts of an entry: one item for the entry of a line, and nothing for any other
-// entry. Returns who is known after the entry, if `known` was known before it. Nobody is known after a session's end,
-// nor after an entry which says that anything may be missing. Returns `Memory` if memory runs out while the entry is
-// read.
+/// Appends to `asks` what the tally counts of an entry: one item for the entry of a line, and nothing for any other
+/// entry. Returns who is known after the entry, if `known` was known before it. Nobody is known after a session's end,
+/// nor after an entry which says that anything may be missing. Returns `Memory` if memory runs out while the entry is
+/// read.
 fn read_ask(
     alloc: Global,
     lab: &Lab,

@@ -7,7 +7,7 @@ ghost use Rattle.mml_record.specs.DenialMembers.{after_comma, denial_members, fr
 
 use mml_journal::split_at_byte;
 
-// Returns `members`, which are members of a reply, if the first of them is `clause`. Otherwise returns `None`.
+/// Returns `members`, which are members of a reply, if the first of them is `clause`. Otherwise returns `None`.
 #[tactic(auto, unfolding(crate::specs::DenialMembers::if_clause))]
 fn if_clause(members: &[u8]) -> Option<&[u8]>
     ensures { seen result ≡ if_clause members.now }
@@ -20,8 +20,8 @@ fn if_clause(members: &[u8]) -> Option<&[u8]>
     }
 }
 
-// Returns the members after the first comma, if the first of these is `clause`. Otherwise returns `None`, also if there
-// is no comma.
+/// Returns the members after the first comma, if the first of these is `clause`. Otherwise returns `None`, also if
+/// there is no comma.
 #[tactic(auto, unfolding(crate::specs::DenialMembers::after_comma))]
 fn after_comma(members: &[u8]) -> Option<&[u8]>
     ensures { seen result ≡ after_comma members.now }
@@ -31,8 +31,8 @@ fn after_comma(members: &[u8]) -> Option<&[u8]>
     if_clause(rest)
 }
 
-// Returns the members of a reply from `clause` on, if `clause` is the first of them, or the second after `at`.
-// Otherwise returns `None`.
+/// Returns the members of a reply from `clause` on, if `clause` is the first of them, or the second after `at`.
+/// Otherwise returns `None`.
 #[tactic(auto, unfolding(crate::specs::DenialMembers::from_clause))]
 fn from_clause(members: &[u8]) -> Option<&[u8]>
     ensures { seen result ≡ from_clause members.now }
@@ -45,7 +45,7 @@ fn from_clause(members: &[u8]) -> Option<&[u8]>
     }
 }
 
-// Returns the members of a reply's text from `clause` on, or `None` if the reply is no denial.
+/// Returns the members of a reply's text from `clause` on, or `None` if the reply is no denial.
 #[tactic(auto, unfolding(crate::specs::DenialMembers::denial_members))]
 pub(crate) fn denial_members(text: &[u8]) -> Option<&[u8]>
     ensures { seen result ≡ denial_members text.now }

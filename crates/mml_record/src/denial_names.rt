@@ -8,8 +8,8 @@ use crate::denial_members::denial_members;
 use mml_journal::split_at_byte;
 use mml_tally::StudentDenial;
 
-// Returns the denial that a member of a reply names, such as `"deny":"stale"`. Returns `None` for any other member, and
-// for a denial that isn't listed here.
+/// Returns the denial that a member of a reply names, such as `"deny":"stale"`. Returns `None` for any other member,
+/// and for a denial that isn't listed here.
 #[tactic(auto, unfolding(crate::specs::DenialNames::denial_word))]
 fn denial_word(member: &[u8]) -> Option<StudentDenial>
     ensures { result ≡ denial_word member.now }
@@ -33,8 +33,8 @@ fn denial_word(member: &[u8]) -> Option<StudentDenial>
     }
 }
 
-// Returns the denial that the second of `members` names; the first is the clause. Returns `None` if there is no comma,
-// or the second member names none of the listed denials.
+/// Returns the denial that the second of `members` names; the first is the clause. Returns `None` if there is no comma,
+/// or the second member names none of the listed denials.
 #[tactic(auto, unfolding(crate::specs::DenialNames::denial_after))]
 fn denial_after(members: &[u8]) -> Option<StudentDenial>
     ensures { result ≡ denial_after members.now }
@@ -45,8 +45,8 @@ fn denial_after(members: &[u8]) -> Option<StudentDenial>
     denial_word(member)
 }
 
-// Returns the denial in a reply's text. Returns `None` if the reply is no denial, or is one that a known student can't
-// get.
+/// Returns the denial in a reply's text. Returns `None` if the reply is no denial, or is one that a known student can't
+/// get.
 pub(crate) fn denial_told(text: &[u8]) -> Option<StudentDenial>
     ensures { result ≡ denial_told text.now }
 {

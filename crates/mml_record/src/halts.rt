@@ -58,7 +58,7 @@ impl Halts {
     }
 }
 
-// Returns the first number, if there is one, and otherwise the second.
+/// Returns the first number, if there is one, and otherwise the second.
 fn or_else(first: Option<u64>, second: Option<u64>) -> Option<u64>
     ensures { result ≡ or_else first second }
 {
@@ -68,9 +68,9 @@ fn or_else(first: Option<u64>, second: Option<u64>) -> Option<u64>
     }
 }
 
-// Returns how many events had been seen at the first refusal, after one more line. `first` is this number before the
-// line, or `None` if there was no refusal. `judged` is how many events had been seen before the line, and `halts` is
-// whether the session is halted after it.
+/// Returns how many events had been seen at the first refusal, after one more line. `first` is this number before the
+/// line, or `None` if there was no refusal. `judged` is how many events had been seen before the line, and `halts` is
+/// whether the session is halted after it.
 fn first_halt(first: Option<u64>, judged: u64, halts: bool) -> Option<u64>
     ensures { result ≡ first_halt first judged halts }
 {
@@ -80,8 +80,8 @@ fn first_halt(first: Option<u64>, judged: u64, halts: bool) -> Option<u64>
     }
 }
 
-// Returns `first`, which is how many events had been seen at a refusal, if it is less than `count`. Otherwise, or if
-// there is no refusal, returns `None`.
+/// Returns `first`, which is how many events had been seen at a refusal, if it is less than `count`. Otherwise, or if
+/// there is no refusal, returns `None`.
 fn outlived_at(first: Option<u64>, count: u64) -> Option<u64>
     ensures { result ≡ outlived_at first count }
 {
