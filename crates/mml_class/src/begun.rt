@@ -13,7 +13,7 @@ pub fn begun_in(text: &[u8]) -> Option<u64>
     decimal_in(unended(text))
 }
 
-// Returns the text without the newline at its end, if it has one.
+/// Returns the text without the newline at its end, if it has one.
 fn unended(text: &[u8]) -> &[u8]
     ensures { result.now ≡ unended text.now }
 {
@@ -25,8 +25,8 @@ fn unended(text: &[u8]) -> &[u8]
     }
 }
 
-// Returns the number that these 1 to 19 decimal digits make, or `None` for other bytes. A number of 19 digits has at
-// most 64 bits.
+/// Returns the number that these 1 to 19 decimal digits make, or `None` for other bytes. A number of 19 digits has at
+/// most 64 bits.
 fn decimal_in(digits: &[u8]) -> Option<u64>
     ensures { result ≡ decimal_in digits.now }
 {

@@ -118,10 +118,10 @@ pub fn read_class<R: Read + Drop, S: Seats<R>>(
     }
 }
 
-// Returns the first fault in the list `places` of the places that the records grant. A place is a fault if it isn't
-// from `begun` + 1 to `count`, or if it came earlier in the list, too. If there is no such place and the records are
-// `whole`, the fault is the lowest place from `begun` + 1 to `count` that isn't in the list. Returns `None` if there is
-// no fault, and `Memory` if memory runs out.
+/// Returns the first fault in the list `places` of the places that the records grant. A place is a fault if it isn't
+/// from `begun` + 1 to `count`, or if it came earlier in the list, too. If there is no such place and the records are
+/// `whole`, the fault is the lowest place from `begun` + 1 to `count` that isn't in the list. Returns `None` if there
+/// is no fault, and `Memory` if memory runs out.
 fn find_amiss(
     alloc: Global,
     places: &[u64],
@@ -138,8 +138,8 @@ fn find_amiss(
     }
 }
 
-// Reads the number of events that came before the record, and returns it. Returns `Read` if the text can't be read, or
-// states no number, and `Memory` if memory runs out.
+/// Reads the number of events that came before the record, and returns it. Returns `Read` if the text can't be read, or
+/// states no number, and `Memory` if memory runs out.
 fn read_begun<R: Read + Drop, S: Seats<R>>(alloc: Global, seats: &S) -> Result<u64, SeatFault>
     ensures { (start : List ℕ) → S.begun seats.now ≡ Some start →
         IfOk result (λ begun. begun_in start ≡ Some begun) }
@@ -149,8 +149,8 @@ fn read_begun<R: Read + Drop, S: Seats<R>>(alloc: Global, seats: &S) -> Result<u
     stated_begun(&text)
 }
 
-// Returns the number of events that came before the record, from the text that states it. Returns `Read` if the text
-// states no number.
+/// Returns the number of events that came before the record, from the text that states it. Returns `Read` if the text
+/// states no number.
 fn stated_begun(text: &[u8]) -> Result<u64, SeatFault>
     ensures number { IfOk result (λ begun. begun_in text.now ≡ Some begun) }
     ensures unstated { IfErr result (λ why. (why ≡ SeatFault.Read) × (begun_in text.now ≡ None)) }
@@ -161,10 +161,10 @@ fn stated_begun(text: &[u8]) -> Result<u64, SeatFault>
     }
 }
 
-// Checks the record of the seat with this number. Adds its summary to `findings`, appends the places that it grants to
-// `granted`, and, if `with_asks` is set, appends what its lines asked to `asks`. Returns `Entry` with the record's
-// first bad entry, `Outlived` if more events of the same server follow a refusal `journal` in it, or `Unread` with the
-// reason why it can't be read.
+/// Checks the record of the seat with this number. Adds its summary to `findings`, appends the places that it grants to
+/// `granted`, and, if `with_asks` is set, appends what its lines asked to `asks`. Returns `Entry` with the record's
+/// first bad entry, `Outlived` if more events of the same server follow a refusal `journal` in it, or `Unread` with the
+/// reason why it can't be read.
 fn read_seat<R: Read + Drop, S: Seats<R>>(
     alloc: Global,
     lab: &Lab,
@@ -195,10 +195,10 @@ fn read_seat<R: Read + Drop, S: Seats<R>>(
     }
 }
 
-// Checks whether a seat's text is a record, and returns the verdict. Appends the places that it grants to `granted`. If
-// `with_asks` is set, reads the text as a whole, and if the verdict is `Passed`, appends what its lines asked to
-// `asks`. Otherwise reads the text piece by piece. Returns `Read` if a read fails, or the text or an entry is too long,
-// and `Memory` if memory runs out.
+/// Checks whether a seat's text is a record, and returns the verdict. Appends the places that it grants to `granted`.
+/// If `with_asks` is set, reads the text as a whole, and if the verdict is `Passed`, appends what its lines asked to
+/// `asks`. Otherwise reads the text piece by piece. Returns `Read` if a read fails, or the text or an entry is too
+/// long, and `Memory` if memory runs out.
 fn read_text<R: Read + Drop>(
     alloc: Global,
     lab: &Lab,
@@ -222,9 +222,9 @@ fn read_text<R: Read + Drop>(
     }
 }
 
-// Checks whether a seat's text, which is in memory, is a record, and returns the verdict. Appends the places that it
-// grants to `granted`, and, if the verdict is `Passed`, what its lines asked to `asks`. Returns `Memory` if memory runs
-// out.
+/// Checks whether a seat's text, which is in memory, is a record, and returns the verdict. Appends the places that it
+/// grants to `granted`, and, if the verdict is `Passed`, what its lines asked to `asks`. Returns `Memory` if memory
+/// runs out.
 fn read_asked(
     alloc: Global,
     lab: &Lab,
@@ -248,9 +248,9 @@ fn read_asked(
     }
 }
 
-// Checks piece by piece whether the bytes of a reader are a seat's record, and returns the verdict. Appends the places
-// that it grants to `granted`. Returns `Read` if a read fails, or the text or an entry is too long, and `Memory` if
-// memory runs out.
+/// Checks piece by piece whether the bytes of a reader are a seat's record, and returns the verdict. Appends the places
+/// that it grants to `granted`. Returns `Read` if a read fails, or the text or an entry is too long, and `Memory` if
+/// memory runs out.
 fn read_pieces<R: Read + Drop>(
     alloc: Global,
     lab: &Lab,
@@ -270,7 +270,7 @@ fn read_pieces<R: Read + Drop>(
     }
 }
 
-// Converts the error of reading a text piece by piece. A text or an entry that is too long becomes `Read`.
+/// Converts the error of reading a text piece by piece. A text or an entry that is too long becomes `Read`.
 fn of_pieces(why: PieceFault) -> SeatFault
     ensures { result ≡ of_pieces why }
 {
@@ -280,8 +280,8 @@ fn of_pieces(why: PieceFault) -> SeatFault
     }
 }
 
-// Returns all bytes of a reader. Returns `Read` if a read fails, or there are more than `limit`, and `Memory` if memory
-// runs out.
+/// Returns all bytes of a reader. Returns `Read` if a read fails, or there are more than `limit`, and `Memory` if
+/// memory runs out.
 fn read_all<R: Read + Drop>(alloc: Global, reader: R, limit: u32) -> Result<Vec<u8>, SeatFault>
     ensures { IfOk result (λ bytes. IfSome (R.remaining reader) (λ text. bytes.items ≡ text)) }
 {
@@ -291,7 +291,7 @@ fn read_all<R: Read + Drop>(alloc: Global, reader: R, limit: u32) -> Result<Vec<
     }
 }
 
-// Converts the error of reading a text as a whole. A text that is too long becomes `Read`.
+/// Converts the error of reading a text as a whole. A text that is too long becomes `Read`.
 fn of_whole(why: WholeFault) -> SeatFault
     ensures { result ≡ of_whole why }
 {

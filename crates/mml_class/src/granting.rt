@@ -20,8 +20,8 @@ pub enum Misgranted {
     Nowhere(u64),
 }
 
-// Returns a list of flags, one for each place from 0 to `count`, none of which is set. The flag at 0 is never used.
-// Returns `Memory` if memory runs out.
+/// Returns a list of flags, one for each place from 0 to `count`, none of which is set. The flag at 0 is never used.
+/// Returns `Memory` if memory runs out.
 fn no_marks(alloc: Global, count: u64) -> Result<Vec<bool>, Memory>
     ensures length { IfOk result (λ marks. length marks.items ≡ count + 1) }
     ensures unset { IfOk result (λ marks. (p : ℕ) → marked marks.items p ≡ 0) }
@@ -34,9 +34,9 @@ fn no_marks(alloc: Global, count: u64) -> Result<Vec<bool>, Memory>
     Ok(marks)
 }
 
-// Sets the flag in `marks` of a place that a record grants, and returns `None`. If the place isn't above `begun`, has
-// no flag, or its flag is set already, sets nothing, and returns what is wrong with the place. `begun` is how many
-// events came before the record.
+/// Sets the flag in `marks` of a place that a record grants, and returns `None`. If the place isn't above `begun`, has
+/// no flag, or its flag is set already, sets nothing, and returns what is wrong with the place. `begun` is how many
+/// events came before the record.
 fn mark(marks: &mut Vec<bool>, begun: u64, place: u64) -> Option<Misgranted>
     ensures { IsMarked begun place marks.old.items marks.new.items result }
 {
@@ -51,7 +51,7 @@ fn mark(marks: &mut Vec<bool>, begun: u64, place: u64) -> Option<Misgranted>
     None
 }
 
-// Returns `Nowhere` with the first place above `begun` whose flag in `marks` isn't set. Returns `None` if all are set.
+/// Returns `Nowhere` with the first place above `begun` whose flag in `marks` isn't set. Returns `None` if all are set.
 fn first_unmarked(marks: &[bool], begun: u64) -> Option<Misgranted>
     ensures { IsUnmarked begun marks.now result }
 {
