@@ -75,9 +75,9 @@ pub fn greet_into(
     }
 }
 
-// Answers a hello on a connection on which nobody is known: puts the reply into `reply`, and returns who is known from
-// then on. `found` is the participant who has the hello's name and key, or `None` if nobody has both; then the hello is
-// denied.
+/// Answers a hello on a connection on which nobody is known: puts the reply into `reply`, and returns who is known from
+/// then on. `found` is the participant who has the hello's name and key, or `None` if nobody has both; then the hello
+/// is denied.
 fn admit_into(found: Option<Who>, reply: &mut Reply) -> Greeted
     ensures { greeting_with result reply.new ≡ admitted found }
 {
@@ -90,7 +90,8 @@ fn admit_into(found: Option<Who>, reply: &mut Reply) -> Greeted
     }
 }
 
-// Puts the denial into `reply`. Returns `Known(known)`: the request is answered, and the connection is known as before.
+/// Puts the denial into `reply`. Returns `Known(known)`: the request is answered, and the connection is known as
+/// before.
 fn deny_into(denial: Denial, known: Option<Who>, reply: &mut Reply) -> Greeted
     ensures { greeting_with result reply.new ≡ denied denial known }
 {

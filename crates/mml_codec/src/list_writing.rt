@@ -20,9 +20,9 @@ pub(crate) trait Listing {
     // text before the first field.
     ghost text: { List ℕ → List ℕ → Self → List ℕ };
 
-    // Appends `first`, which is a brace or ends a list and has at most two bytes, and then the text of the fields to
-    // `out`. `ids` must have an identifier for each node in the fields. If memory runs out, returns `Memory`, and only
-    // the beginning of the text is appended.
+    /// Appends `first`, which is a brace or ends a list and has at most two bytes, and then the text of the fields to
+    /// `out`. `ids` must have an identifier for each node in the fields. If memory runs out, returns `Memory`, and only
+    /// the beginning of the text is appended.
     fn put_fields(&self, ids: &IdTable, first: &str, out: &mut Vec<u8>) -> Result<(), Memory>
         requires names { names ids.now self.now }
         requires first { length first.now ≤ 2 }

@@ -25,8 +25,8 @@ pub(crate) trait Listed {
     // The item's text, in a lab with these identifiers.
     ghost text: { List ℕ → Self → List ℕ };
 
-    // Returns the line with the text of this item appended. The line must have room for 63 more bytes, since no item is
-    // longer.
+    /// Returns the line with the text of this item appended. The line must have room for 63 more bytes, since no item
+    /// is longer.
     fn with_item(&self, line: Vec<u8>, ids: &IdTable) -> Vec<u8>
         requires names { names ids.now self.now }
         requires room { length line.items + 63 ≤ vec_capacity line }
@@ -63,8 +63,8 @@ pub(crate) fn put_list<T: Listed>(
     Ok(())
 }
 
-// Returns the line with room for one more item. Returns the unchanged line as `Err` if memory runs out. The line comes
-// by value, so that its length can stay in a processor's register.
+/// Returns the line with room for one more item. Returns the unchanged line as `Err` if memory runs out. The line comes
+/// by value, so that its length can stay in a processor's register.
 #[inline(always)]
 fn with_room(line: Vec<u8>) -> Result<Vec<u8>, Vec<u8>>
     ensures same { MatchResult result (λ l. l.items ≡ line.items) (λ l. l.items ≡ line.items) }
@@ -78,8 +78,8 @@ fn with_room(line: Vec<u8>) -> Result<Vec<u8>, Vec<u8>>
     Ok(line)
 }
 
-// Reallocates the line, to have room for one more item. Returns the unchanged line as `Err` if memory runs out. This
-// rare case of `with_room` is a function of its own, so that `with_room` is short.
+/// Reallocates the line, to have room for one more item. Returns the unchanged line as `Err` if memory runs out. This
+/// rare case of `with_room` is a function of its own, so that `with_room` is short.
 #[inline(never)]
 fn grown(mut line: Vec<u8>) -> Result<Vec<u8>, Vec<u8>>
     ensures same { MatchResult result (λ l. l.items ≡ line.items) (λ l. l.items ≡ line.items) }
@@ -93,8 +93,8 @@ fn grown(mut line: Vec<u8>) -> Result<Vec<u8>, Vec<u8>>
     }
 }
 
-// Returns the line with a comma appended if `later` is true, that is, if the next item isn't the first of its list.
-// Otherwise returns the line unchanged. The line must have room for one more byte.
+/// Returns the line with a comma appended if `later` is true, that is, if the next item isn't the first of its list.
+/// Otherwise returns the line unchanged. The line must have room for one more byte.
 #[inline(always)]
 pub(crate) fn with_comma(line: Vec<u8>, later: bool) -> Vec<u8>
     requires { length line.items + 1 ≤ vec_capacity line }
@@ -136,9 +136,9 @@ impl Listed for (Rank, Regs) {
     }
 }
 
-// Returns the line with the beginning of a neighbour's object appended: the value `m` of its register m, and the key
-// `node`. Each of the two texts is one literal, which is faster than three parts. The line must have room for 18 more
-// bytes.
+/// Returns the line with the beginning of a neighbour's object appended: the value `m` of its register m, and the key
+/// `node`. Each of the two texts is one literal, which is faster than three parts. The line must have room for 18 more
+/// bytes.
 #[inline(always)]
 fn with_first_m_then_node(line: Vec<u8>, m: bool) -> Vec<u8>
     requires { length line.items + 18 ≤ vec_capacity line }
@@ -154,8 +154,8 @@ fn with_first_m_then_node(line: Vec<u8>, m: bool) -> Vec<u8>
     }
 }
 
-// Returns the text with a pointer and a closing brace appended. The pointer is the identifier of the node `p`, or
-// `null`; it is the value of the last key of an object. The text must have room for 6 more bytes.
+/// Returns the text with a pointer and a closing brace appended. The pointer is the identifier of the node `p`, or
+/// `null`; it is the value of the last key of an object. The text must have room for 6 more bytes.
 #[inline(always)]
 fn with_pointer_at_end(text: Vec<u8>, ids: &IdTable, p: Option<Rank>) -> Vec<u8>
     requires node { IfSome p (λ j. j < length ids.now) }

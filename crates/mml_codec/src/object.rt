@@ -38,7 +38,7 @@ pub(crate) fn object_text(
     Ok(writer.into_inner())
 }
 
-// Writes a key and its value into the object that `writer` has begun. Returns an error if memory runs out.
+/// Writes a key and its value into the object that `writer` has begun. Returns an error if memory runs out.
 fn put_member(writer: &mut Writer, member: &(&'static str, Field<'_>)) -> Result<(), AllocError>
     ensures before { writer.new.before ≡ writer.old.before }
     ensures tokens { OnOk result
@@ -48,7 +48,7 @@ fn put_member(writer: &mut Writer, member: &(&'static str, Field<'_>)) -> Result
     put_field(writer, member.1)
 }
 
-// Writes the value of the key that `writer` has just written. Returns an error if memory runs out.
+/// Writes the value of the key that `writer` has just written. Returns an error if memory runs out.
 fn put_field(writer: &mut Writer, field: Field<'_>) -> Result<(), AllocError>
     ensures before { writer.new.before ≡ writer.old.before }
     ensures tokens { OnOk result (writer.new.tokens ≡

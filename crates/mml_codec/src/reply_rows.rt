@@ -313,8 +313,8 @@ pub(crate) fn put_denial(ids: &IdTable, denial: Denial, out: &mut Vec<u8>) -> Re
     }
 }
 
-// Appends the text of the reply for any denial but `Stale` to `out`: its clause, its name and its sentence. The last
-// two may have at most 400 bytes each. Returns `Memory` if memory runs out.
+/// Appends the text of the reply for any denial but `Stale` to `out`: its clause, its name and its sentence. The last
+/// two may have at most 400 bytes each. Returns `Memory` if memory runs out.
 #[tactic(auto, unfolding(crate::specs::Facts::object_text))]
 fn put_told(
     ids: &IdTable,
@@ -344,9 +344,9 @@ fn put_told(
     put_object(ids, &fields, out)
 }
 
-// Appends the text of the reply for the denial `Stale` to `out`: the number `at` of the current configuration, and the
-// denial's clause, name and sentence. The last two may have at most 400 bytes each. Returns `Memory` if memory runs
-// out.
+/// Appends the text of the reply for the denial `Stale` to `out`: the number `at` of the current configuration, and the
+/// denial's clause, name and sentence. The last two may have at most 400 bytes each. Returns `Memory` if memory runs
+/// out.
 #[tactic(auto, unfolding(crate::specs::Facts::object_text))]
 fn put_stale(
     ids: &IdTable,
@@ -394,7 +394,7 @@ pub(crate) fn put_refusal(ids: &IdTable, refused: Refused, out: &mut Vec<u8>) ->
     put_object(ids, &fields, out)
 }
 
-// Returns the word for a refusal in its reply.
+/// Returns the word for a refusal in its reply.
 fn refusal_name(refused: Refused) -> &'static str
     ensures text { result.now ≡ refusal_name refused }
     ensures short { length result.now ≤ 40 }

@@ -25,8 +25,8 @@ pub(crate) trait ReplyValue {
     // The most bytes of the value's text.
     ghost most: { Self → ℕ };
 
-    // Returns the line with the value's text appended. The line must have room for the longest text of the value. If
-    // the value is a node, `ids` must have its identifier.
+    /// Returns the line with the value's text appended. The line must have room for the longest text of the value. If
+    /// the value is a node, `ids` must have its identifier.
     fn with_value(&self, line: Vec<u8>, ids: &IdTable) -> Vec<u8>
         requires names { names ids.now self.now }
         requires room { length line.items + most self.now ≤ vec_capacity line }
@@ -247,8 +247,8 @@ impl ReplyValue for NodeSet {
     ghost tells = { λ ids s rest. bracketed_tells (map (node_text ids) (members (length ids) s)) rest };
 }
 
-// Returns the text with the identifiers of the lab's nodes in `moved` appended, in rising order, with commas between
-// them. The text must have room for 1536 more bytes: 6 for each of at most 256 identifiers with its comma.
+/// Returns the text with the identifiers of the lab's nodes in `moved` appended, in rising order, with commas between
+/// them. The text must have room for 1536 more bytes: 6 for each of at most 256 identifiers with its comma.
 #[inline(always)]
 fn with_members(text: Vec<u8>, ids: &IdTable, moved: NodeSet) -> Vec<u8>
     requires room { length text.items + 1536 ≤ vec_capacity text }

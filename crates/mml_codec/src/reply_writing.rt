@@ -83,17 +83,17 @@ pub fn append_reply(ids: &IdTable, roster: &Roster, reply: &Reply, out: &mut Vec
     true
 }
 
-// Returns whether the line of a reply fits `REPLY_ROOM` bytes in every lab. The lines of a look and of a report list
-// nodes, and may be longer.
+/// Returns whether the line of a reply fits `REPLY_ROOM` bytes in every lab. The lines of a look and of a report list
+/// nodes, and may be longer.
 fn is_short(reply: &Reply) -> bool
     ensures { result ≡ is_short reply.now }
 {
     !matches!(reply, Reply::Look(_) | Reply::Report(_))
 }
 
-// Replaces the bytes of `out` by the line of the refusal `memory`, which says that memory ran out. Returns that
-// refusal. The line fits the capacity that `out` must have, `REPLY_ROOM`, so it is written without allocating, and
-// `unwrap` succeeds.
+/// Replaces the bytes of `out` by the line of the refusal `memory`, which says that memory ran out. Returns that
+/// refusal. The line fits the capacity that `out` must have, `REPLY_ROOM`, so it is written without allocating, and
+/// `unwrap` succeeds.
 fn write_memory_refusal(alloc: Global, ids: &IdTable, roster: &Roster, out: &mut Vec<u8>) -> Reply
     requires room { REPLY_ROOM ≤ vec_capacity out.old }
     ensures told { result ≡ Reply.Refuse Refused.Memory }
@@ -105,8 +105,8 @@ fn write_memory_refusal(alloc: Global, ids: &IdTable, roster: &Roster, out: &mut
     refusal
 }
 
-// Appends the line of a reply, with its newline, to `out`. Returns `Memory` if memory runs out; then `out` may have
-// only the beginning of the line.
+/// Appends the line of a reply, with its newline, to `out`. Returns `Memory` if memory runs out; then `out` may have
+/// only the beginning of the line.
 fn put_line(ids: &IdTable, roster: &Roster, reply: &Reply, out: &mut Vec<u8>) -> Result<(), Memory>
     requires { IsAbout ids.now roster.now reply.now }
     ensures line { OnOk result
@@ -125,7 +125,7 @@ fn put_line(ids: &IdTable, roster: &Roster, reply: &Reply, out: &mut Vec<u8>) ->
     put_end(out)
 }
 
-// Appends a newline to `out`. Returns `Memory` if memory runs out.
+/// Appends a newline to `out`. Returns `Memory` if memory runs out.
 fn put_end(out: &mut Vec<u8>) -> Result<(), Memory>
     ensures { Puts (10 ∷ []) 1 out.old out.new result }
 {
@@ -134,8 +134,8 @@ fn put_end(out: &mut Vec<u8>) -> Result<(), Memory>
     Ok(())
 }
 
-// Appends the text of a reply, without a newline, to `out`. Returns `Memory` if memory runs out; then `out` may have
-// only the beginning of the text.
+/// Appends the text of a reply, without a newline, to `out`. Returns `Memory` if memory runs out; then `out` may have
+/// only the beginning of the text.
 fn put_text(ids: &IdTable, roster: &Roster, reply: &Reply, out: &mut Vec<u8>) -> Result<(), Memory>
     requires { IsAbout ids.now roster.now reply.now }
     ensures text { OnOk result

@@ -46,9 +46,9 @@ pub fn read_request_with(
     }
 }
 
-// Returns the request with these fields. The key `do` has the word of the request, and the other keys have its values.
-// Returns `Malformed` if these aren't the fields of a request, and `Memory` if memory runs out. Memory is allocated
-// only for a hello.
+/// Returns the request with these fields. The key `do` has the word of the request, and the other keys have its values.
+/// Returns `Malformed` if these aren't the fields of a request, and `Memory` if memory runs out. Memory is allocated
+/// only for a hello.
 #[tactic(auto, unfolding(crate::specs::Requests::request, crate::specs::Requests::by_word))]
 fn request(alloc: Global, fields: &Fields<'_>) -> Result<Request, LineFault>
     ensures { Reads request fields.now result }
@@ -70,8 +70,8 @@ fn request(alloc: Global, fields: &Fields<'_>) -> Result<Request, LineFault>
     request.ok_or(LineFault::Malformed)
 }
 
-// Returns the hello with copies of the name and the key in the fields. Returns `Malformed` if the name or the key is
-// missing, and `Memory` if memory runs out.
+/// Returns the hello with copies of the name and the key in the fields. Returns `Malformed` if the name or the key is
+/// missing, and `Memory` if memory runs out.
 #[tactic(auto, unfolding(crate::specs::Requests::hello_of))]
 fn hello_of(alloc: Global, fields: &Fields<'_>) -> Result<Request, LineFault>
     ensures { Reads hello_of fields.now result }
@@ -84,7 +84,7 @@ fn hello_of(alloc: Global, fields: &Fields<'_>) -> Result<Request, LineFault>
     })
 }
 
-// Returns the request to see the node in the fields, or `None` if the node is missing.
+/// Returns the request to see the node in the fields, or `None` if the node is missing.
 fn see_of(fields: &Fields<'_>) -> Option<Request>
     ensures { (d : Data) → Holds fields.now d → result ≡ node_of command.See d }
 {
@@ -92,7 +92,7 @@ fn see_of(fields: &Fields<'_>) -> Option<Request>
     Some(Request::Do(Command::See { node }))
 }
 
-// Returns the request to look at the node in the fields, or `None` if the node is missing.
+/// Returns the request to look at the node in the fields, or `None` if the node is missing.
 fn look_of(fields: &Fields<'_>) -> Option<Request>
     ensures { (d : Data) → Holds fields.now d → result ≡ node_of command.Look d }
 {
@@ -100,7 +100,7 @@ fn look_of(fields: &Fields<'_>) -> Option<Request>
     Some(Request::Do(Command::Look { node }))
 }
 
-// Returns the request to link the nodes `a` and `b` in the fields, or `None` if one of them is missing.
+/// Returns the request to link the nodes `a` and `b` in the fields, or `None` if one of them is missing.
 fn link_of(fields: &Fields<'_>) -> Option<Request>
     ensures { (d : Data) → Holds fields.now d → result ≡ ends_of command.Link d }
 {
@@ -109,7 +109,7 @@ fn link_of(fields: &Fields<'_>) -> Option<Request>
     Some(Request::Do(Command::Link { a, b }))
 }
 
-// Returns the request to cut the link of the nodes `a` and `b` in the fields, or `None` if one of them is missing.
+/// Returns the request to cut the link of the nodes `a` and `b` in the fields, or `None` if one of them is missing.
 fn cut_of(fields: &Fields<'_>) -> Option<Request>
     ensures { (d : Data) → Holds fields.now d → result ≡ ends_of command.Cut d }
 {
@@ -118,7 +118,7 @@ fn cut_of(fields: &Fields<'_>) -> Option<Request>
     Some(Request::Do(Command::Cut { a, b }))
 }
 
-// Returns the request to release the node in the fields, or `None` if the node is missing.
+/// Returns the request to release the node in the fields, or `None` if the node is missing.
 fn release_of(fields: &Fields<'_>) -> Option<Request>
     ensures { (d : Data) → Holds fields.now d → result ≡ node_of command.Release d }
 {
@@ -126,9 +126,9 @@ fn release_of(fields: &Fields<'_>) -> Option<Request>
     Some(Request::Do(Command::Release { node }))
 }
 
-// Returns the request for the move in the fields. Returns `None` if the node or the number of a configuration is
-// missing, if the rule isn't one of the four, or if a marriage has no partner.
-// It is inlined into `request`, since a move is frequent.
+/// Returns the request for the move in the fields. Returns `None` if the node or the number of a configuration is
+/// missing, if the rule isn't one of the four, or if a marriage has no partner. It is inlined into `request`, since a
+/// move is frequent.
 #[inline(always)]
 #[tactic(auto, unfolding(crate::specs::Requests::move_of, crate::specs::Requests::asked_at))]
 fn move_of(fields: &Fields<'_>) -> Option<Request>
@@ -146,7 +146,7 @@ fn move_of(fields: &Fields<'_>) -> Option<Request>
     Some(Request::Do(Command::Move { node, rule, at }))
 }
 
-// Returns the request for the fault in the fields, or `None` if the node or one of the two registers is missing.
+/// Returns the request for the fault in the fields, or `None` if the node or one of the two registers is missing.
 #[tactic(auto, unfolding(crate::specs::Requests::fault_of))]
 fn fault_of(fields: &Fields<'_>) -> Option<Request>
     ensures { (d : Data) → Holds fields.now d → result ≡ fault_of d }

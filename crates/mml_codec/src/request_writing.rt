@@ -29,7 +29,7 @@ pub fn write_request(alloc: Global, request: &Request, out: &mut Vec<u8>) -> Res
     Ok(())
 }
 
-// Returns the text of a request, without a newline. Returns an error if memory runs out.
+/// Returns the text of a request, without a newline. Returns an error if memory runs out.
 #[tactic(auto, unfolding(crate::specs::Canonical::canonical))]
 fn text_of(alloc: Global, request: &Request) -> Result<Vec<u8>, AllocError>
     ensures writable { IsWritable request.now }
@@ -49,7 +49,7 @@ fn text_of(alloc: Global, request: &Request) -> Result<Vec<u8>, AllocError>
     }
 }
 
-// Returns the text of the request for a command, without a newline. Returns an error if memory runs out.
+/// Returns the text of the request for a command, without a newline. Returns an error if memory runs out.
 fn command_text(alloc: Global, command: Command) -> Result<Vec<u8>, AllocError>
     ensures writable { AreWritable (command_fields command) }
     ensures text { IfOk result (λ text. text.items ≡
@@ -86,8 +86,8 @@ fn command_text(alloc: Global, command: Command) -> Result<Vec<u8>, AllocError>
     }
 }
 
-// Returns the text of the request for a move, without a newline. Only a marriage has the key `with`, for its partner,
-// as the last key. Returns an error if memory runs out.
+/// Returns the text of the request for a move, without a newline. Only a marriage has the key `with`, for its partner,
+/// as the last key. Returns an error if memory runs out.
 fn move_text(alloc: Global, node: u64, rule: Asked, at: u64) -> Result<Vec<u8>, AllocError>
     ensures { IfOk result (λ text. text.items ≡ compact_text (object_of
         (command_fields (command.Move node rule at)))) }
@@ -107,7 +107,7 @@ fn move_text(alloc: Global, node: u64, rule: Asked, at: u64) -> Result<Vec<u8>, 
     }
 }
 
-// Returns the value of the key `rule` in the request for a move.
+/// Returns the value of the key `rule` in the request for a move.
 fn rule_word(rule: Asked) -> &'static str
     ensures { result.now ≡ rule_word rule }
 {
@@ -119,7 +119,7 @@ fn rule_word(rule: Asked) -> &'static str
     }
 }
 
-// Returns the value of the key `p` in the request for a fault: the identifier of the node to point at, or null.
+/// Returns the value of the key `p` in the request for a fault: the identifier of the node to point at, or null.
 fn register(p: Option<u64>) -> Field<'static>
     ensures { field_view result ≡ register p }
 {

@@ -23,9 +23,9 @@ pub(crate) trait Table {
     // The greatest length of the text of the fields.
     ghost most: { Self → ℕ };
 
-    // Returns the line with the text of the fields appended. Before the first field comes `first`, which is an opening
-    // brace, a comma, or the end of a list with a comma. If there is no field, `first` is left out. The line must have
-    // room for `first` and the longest text of the fields.
+    /// Returns the line with the text of the fields appended. Before the first field comes `first`, which is an opening
+    /// brace, a comma, or the end of a list with a comma. If there is no field, `first` is left out. The line must have
+    /// room for `first` and the longest text of the fields.
     fn with_fields(&self, line: Vec<u8>, ids: &IdTable, first: &str) -> Vec<u8>
         requires names { names ids.now self.now }
         requires room { length line.items + (length first.now + most self.now) ≤ vec_capacity line }
