@@ -100,9 +100,9 @@ pub(crate) fn read_number(text: &str) -> Option<Option<u64>>
     }
 }
 
-// Returns what `read_number` returns for the number `numeral`, which has no minus. The result is `Some(Some(number))`
-// for an integer that fits 64 bits, and `Some(None)` for a number that is read as a float. It is `None` for a number
-// that is too great for a float.
+/// Returns what `read_number` returns for the number `numeral`, which has no minus. The result is `Some(Some(number))`
+/// for an integer that fits 64 bits, and `Some(None)` for a number that is read as a float. It is `None` for a number
+/// that is too great for a float.
 #[inline(always)]
 fn unsigned(numeral: &Numeral<'_>) -> Option<Option<u64>>
     ensures { result ≡ option_map as_u64 (number_from false numeral.now) }
@@ -113,9 +113,9 @@ fn unsigned(numeral: &Numeral<'_>) -> Option<Option<u64>>
     }
 }
 
-// Returns what `read_number` returns for a number with a minus; `numeral` is the part after the minus. The result is
-// `Some(None)`, since no request has such a number, or `None` if the number is too great for a float. To save time, an
-// integer below 0 that fits 64 bits isn't read as a float. -0 is read as a float, as in `serde_json`.
+/// Returns what `read_number` returns for a number with a minus; `numeral` is the part after the minus. The result is
+/// `Some(None)`, since no request has such a number, or `None` if the number is too great for a float. To save time, an
+/// integer below 0 that fits 64 bits isn't read as a float. -0 is read as a float, as in `serde_json`.
 #[inline(never)]
 fn below_zero(numeral: &Numeral<'_>) -> Option<Option<u64>>
     ensures { result ≡ option_map as_u64 (number_from true numeral.now) }
@@ -138,7 +138,7 @@ fn float(negative: bool, numeral: &Numeral<'_>) -> Option<Option<u64>>
     if float.is_finite() { Some(None) } else { None }
 }
 
-// Returns whether the text of a number begins with a minus.
+/// Returns whether the text of a number begins with a minus.
 #[inline(always)]
 fn has_minus(bytes: &[u8]) -> bool
     ensures { result ≡ (slice_index bytes.now 0 == 45) }
