@@ -54,10 +54,11 @@ pub fn answer_line<E: Engine>(
     }
 }
 
-// Puts the reply to a request into `reply`, and sets `known` to who is known afterwards. `answer_line` calls this
-// function for a hello, a bye, and a command while nobody is known. Such lines are rare and the code for them is large,
-// so the function isn't inlined. Its code also handles a command of a known participant, for which the contract holds
-// too. Returns `Closed`, and puts no reply, if such a command asks to be shown something and the engine is closed.
+/// Puts the reply to a request into `reply`, and sets `known` to who is known afterwards. `answer_line` calls this
+/// function for a hello, a bye, and a command while nobody is known. Such lines are rare and the code for them is
+/// large, so the function isn't inlined. Its code also handles a command of a known participant, for which the contract
+/// holds too. Returns `Closed`, and puts no reply, if such a command asks to be shown something and the engine is
+/// closed.
 #[inline(never)]
 fn settle<E: Engine>(
     engine: &mut E,
@@ -87,8 +88,8 @@ fn settle<E: Engine>(
     }
 }
 
-// Passes a command of `who` to the engine, which puts the reply into `reply`. Returns `Closed`, and puts no reply, if
-// the command asks to be shown something and the engine is closed.
+/// Passes a command of `who` to the engine, which puts the reply into `reply`. Returns `Closed`, and puts no reply, if
+/// the command asks to be shown something and the engine is closed.
 #[inline(always)]
 fn obey<E: Engine>(
     engine: &mut E,
