@@ -78,7 +78,7 @@ pub fn others_stay_known()
         → known_on out.state other ≡ known_on st other }
 {}
 
-/// The greatest length of a script line, in bytes, without its newline.
+/// A script line may have at most 4099 bytes (`MAX_SCRIPT_LINE`), without its newline.
 pub fn limit_of_script_lines()
     ensures { MAX_SCRIPT_LINE ≡ 4099 }
 {}

@@ -108,8 +108,8 @@ struct Buffers {
 }
 
 impl Buffers {
-    // Returns empty buffers, with room for any reply except one to a look or a report. Returns `Memory` if memory runs
-    // out.
+    /// Returns empty buffers, with room for any reply except one to a look or a report. Returns `Memory` if memory runs
+    /// out.
     fn new(alloc: Global) -> Result<Buffers, Memory>
         ensures lines { IfOk result (λ b. b.lines ≡ fresh MAX_SCRIPT_LINE) }
         ensures room { IfOk result (λ b. REPLY_ROOM ≤ vec_capacity b.reply) }
@@ -126,8 +126,8 @@ impl Buffers {
     }
 }
 
-// Reserves the buffers, and answers all lines of the input in a hall that was just opened. Returns an error if the
-// script ended before its input. This error is `Memory` only if nothing was read.
+/// Reserves the buffers, and answers all lines of the input in a hall that was just opened. Returns an error if the
+/// script ended before its input. This error is `Memory` only if nothing was read.
 fn answer_all<R: Read, W: Write, S: Sink>(
     alloc: Global,
     hall: &mut Hall<S>,
@@ -146,8 +146,8 @@ fn answer_all<R: Read, W: Write, S: Sink>(
     answer_lines(alloc, hall, &mut buffers, reader, writer)
 }
 
-// Answers the lines of the input, one by one, until it ends. The buffers must be new, and the hall just opened. Returns
-// an error if the script ended before its input. This error is never `Memory`.
+/// Answers the lines of the input, one by one, until it ends. The buffers must be new, and the hall just opened.
+/// Returns an error if the script ended before its input. This error is never `Memory`.
 fn answer_lines<R: Read, W: Write, S: Sink>(
     alloc: Global,
     hall: &mut Hall<S>,
@@ -186,8 +186,8 @@ fn answer_lines<R: Read, W: Write, S: Sink>(
     }
 }
 
-// Returns the error of a line that is no script line, with its number, which counts from 1. `answered` is the number of
-// lines before it, which must be below 2^64 - 1.
+/// Returns the error of a line that is no script line, with its number, which counts from 1. `answered` is the number
+/// of lines before it, which must be below 2^64 - 1.
 fn bad_line_after(answered: u64) -> ScriptFault
     requires { answered < 2 ^ 64 - 1 }
     ensures { result ≡ ScriptFault.BadLine (answered + 1) }
@@ -210,8 +210,8 @@ enum ScriptStep {
     WriteFault(WriteFault),
 }
 
-// Flushes the held replies if `lines` needs a read to find the next line, and else does nothing. `lines` must not have
-// returned a final result yet. Returns `WriteFault` if a write or the flush fails.
+/// Flushes the held replies if `lines` needs a read to find the next line, and else does nothing. `lines` must not have
+/// returned a final result yet. Returns `WriteFault` if a write or the flush fails.
 fn flush_before_read<W: Write>(
     lines: &Lines,
     outgoing: &mut Outgoing,
@@ -233,10 +233,10 @@ fn flush_before_read<W: Write>(
     Ok(())
 }
 
-// Reads the next line, and answers it if it is a script line. Returns the outcome. `lines` must not have returned a
-// final result yet, and the buffer `reply` must have a capacity of at least `REPLY_ROOM`. If the line needs a read, the
-// caller must have flushed all held replies before. This function, `serve_line` and `serve_script_line` are inlined, so
-// that the loop over the lines makes fewer calls.
+/// Reads the next line, and answers it if it is a script line. Returns the outcome. `lines` must not have returned a
+/// final result yet, and the buffer `reply` must have a capacity of at least `REPLY_ROOM`. If the line needs a read,
+/// the caller must have flushed all held replies before. This function, `serve_line` and `serve_script_line` are
+/// inlined, so that the loop over the lines makes fewer calls.
 #[inline(always)]
 fn serve_next<R: Read, W: Write, S: Sink>(
     alloc: Global,
@@ -282,9 +282,9 @@ fn serve_next<R: Read, W: Write, S: Sink>(
     }
 }
 
-// Answers a line of the input, and holds the reply in `outgoing`. Returns `Answered`, or `WriteFault` if a write
-// failed. Returns `BadLine`, and answers nothing, if the line is no script line. `out` is the buffer for a reply that
-// `outgoing` can't take directly. It must have a capacity of at least `REPLY_ROOM`.
+/// Answers a line of the input, and holds the reply in `outgoing`. Returns `Answered`, or `WriteFault` if a write
+/// failed. Returns `BadLine`, and answers nothing, if the line is no script line. `out` is the buffer for a reply that
+/// `outgoing` can't take directly. It must have a capacity of at least `REPLY_ROOM`.
 #[inline(always)]
 fn serve_line<W: Write, S: Sink>(
     alloc: Global,
@@ -313,9 +313,9 @@ fn serve_line<W: Write, S: Sink>(
     }
 }
 
-// Answers a script line, and appends the reply to the held ones in `outgoing`. A short reply is written straight into
-// that buffer, if it has room. Any other reply is written by `write_by_buffer`, which uses the buffer `out`, of a
-// capacity of at least `REPLY_ROOM`. Returns `WriteFault` if a write fails.
+/// Answers a script line, and appends the reply to the held ones in `outgoing`. A short reply is written straight into
+/// that buffer, if it has room. Any other reply is written by `write_by_buffer`, which uses the buffer `out`, of a
+/// capacity of at least `REPLY_ROOM`. Returns `WriteFault` if a write fails.
 #[inline(always)]
 fn serve_script_line<W: Write, S: Sink>(
     alloc: Global,
@@ -371,10 +371,10 @@ impl LineRest for ReplyRest<'_> {
     }
 }
 
-// Writes the line of a reply into the buffer `out`, and from there appends it, after `front`, to the held lines in
-// `outgoing`. If memory runs out, the line is that of the refusal `memory`. `out` must have a capacity of at least
-// `REPLY_ROOM`. The function is called for a reply that isn't short, or for which the held lines must be written first.
-// Returns `WriteFault` if a write fails.
+/// Writes the line of a reply into the buffer `out`, and from there appends it, after `front`, to the held lines in
+/// `outgoing`. If memory runs out, the line is that of the refusal `memory`. `out` must have a capacity of at least
+/// `REPLY_ROOM`. The function is called for a reply that isn't short, or for which the held lines must be written
+/// first. Returns `WriteFault` if a write fails.
 #[inline(never)]
 fn write_by_buffer<W: Write>(
     alloc: Global,
@@ -395,9 +395,9 @@ fn write_by_buffer<W: Write>(
     outgoing.put(front, out, writer)
 }
 
-// Replaces the bytes of `out` by the line of a reply, or by the line of the refusal `memory` if memory runs out.
-// Returns true if the bytes are now the line of the reply, and false if they are that of the refusal. `out` must have a
-// capacity of at least `REPLY_ROOM`.
+/// Replaces the bytes of `out` by the line of a reply, or by the line of the refusal `memory` if memory runs out.
+/// Returns true if the bytes are now the line of the reply, and false if they are that of the refusal. `out` must have
+/// a capacity of at least `REPLY_ROOM`.
 fn put_reply(alloc: Global, lab: &Lab, reply: &Reply, out: &mut Vec<u8>) -> bool
     requires room { REPLY_ROOM ≤ vec_capacity out.old }
     requires about { IsAbout lab.now.ids lab.now.roster reply.now }
@@ -414,8 +414,8 @@ fn put_reply(alloc: Global, lab: &Lab, reply: &Reply, out: &mut Vec<u8>) -> bool
     }
 }
 
-// Replaces the bytes of `out` by the line of the refusal `memory`, which says that memory ran out. `out` must have a
-// capacity of at least `REPLY_ROOM`, so nothing is allocated, and `unwrap` succeeds.
+/// Replaces the bytes of `out` by the line of the refusal `memory`, which says that memory ran out. `out` must have a
+/// capacity of at least `REPLY_ROOM`, so nothing is allocated, and `unwrap` succeeds.
 fn write_memory_refusal(alloc: Global, lab: &Lab, out: &mut Vec<u8>)
     requires room { REPLY_ROOM ≤ vec_capacity out.old }
     ensures room { REPLY_ROOM ≤ vec_capacity out.new }
