@@ -121,8 +121,8 @@ impl<'a, Rt: Wait, S: Sink + Drop, H: House> Engine for Setting<'a, Rt, S, H> {
     }
 }
 
-// Puts the window's reply to `command`, for which `who` asks, into `reply`. The command must ask for a view: it is a
-// `see`, `look` or `report`. Returns `Closed`, and puts no reply, if the window shows nothing any more.
+/// Puts the window's reply to `command`, for which `who` asks, into `reply`. The command must ask for a view: it is a
+/// `see`, `look` or `report`. Returns `Closed`, and puts no reply, if the window shows nothing any more.
 #[inline(always)]
 fn show<H: House>(
     alloc: Global,
@@ -145,8 +145,9 @@ fn show<H: House>(
     }
 }
 
-// Puts the reply to a `see` into `reply`: what the node shows to `who`, or why that is denied. Returns `Closed`, and
-// puts no reply, if the window shows nothing any more. `Window::see` allocates nothing, so it can't run out of memory.
+/// Puts the reply to a `see` of `who` into `reply`: the registers of the node with the identifier `node`, or a denial.
+/// Returns `Closed`, and puts no reply, if the window shows nothing any more. `Window::see` allocates nothing, so it
+/// can't run out of memory.
 fn see<H: House>(
     window: &mut Window<H>,
     who: Who,
@@ -167,8 +168,8 @@ fn see<H: House>(
     Ok(())
 }
 
-// Puts the reply to a `look` into `reply`: what the node shows to `who`, or why that is denied, or the refusal for
-// memory. Returns `Closed`, and puts no reply, if the window shows nothing any more.
+/// Puts the reply to a `look` of `who` into `reply`: the node with the identifier `node` as its owners see it, a
+/// denial, or the refusal `memory`. Returns `Closed`, and puts no reply, if the window shows nothing any more.
 fn look<H: House>(
     alloc: Global,
     window: &mut Window<H>,
@@ -190,8 +191,8 @@ fn look<H: House>(
     Ok(())
 }
 
-// Puts the reply to a `report` for which `who` asks into `reply`: the report on the configuration, or why that is
-// denied, or the refusal for memory. Returns `Closed`, and puts no reply, if the window shows nothing any more.
+/// Puts the reply to a `report` for which `who` asks into `reply`: the report on the configuration, a denial, or the
+/// refusal `memory`. Returns `Closed`, and puts no reply, if the window shows nothing any more.
 fn report<H: House>(
     alloc: Global,
     window: &mut Window<H>,

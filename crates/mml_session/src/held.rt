@@ -24,8 +24,8 @@ pub(crate) struct Held {
 }
 
 impl Held {
-    // Returns an empty buffer, with all the memory that it ever needs: for `HELD_BYTES`, and a short reply that is
-    // built after them. Returns `Memory` if memory runs out.
+    /// Returns an empty buffer, with all the memory that it ever needs: for `HELD_BYTES`, and a short reply that is
+    /// built after them. Returns `Memory` if memory runs out.
     pub(crate) fn new(alloc: Global) -> Result<Held, Memory>
         ensures { IfOk result (λ held. held.bytes.items ≡ []) }
     {
@@ -35,9 +35,10 @@ impl Held {
         })
     }
 
-    // Appends the line of a reply that was built elsewhere. If there is no room for it, or `at_once` is set, writes the
-    // buffer and the line to `writer`, and empties the buffer. If a write fails, empties the buffer, and returns how
-    // many bytes of the buffered lines and of this one were written. Afterwards the buffer has at most `HELD_BYTES`.
+    /// Appends the line of a reply that was built elsewhere. If there is no room for it, or `at_once` is set, writes
+    /// the buffer and the line to `writer`, and empties the buffer. If a write fails, empties the buffer, and returns
+    /// how many bytes of the buffered lines and of this one were written. Afterwards the buffer has at most
+    /// `HELD_BYTES`.
     pub(crate) fn put<W: Write>(
         &mut self,
         line: &[u8],
@@ -65,9 +66,9 @@ impl Held {
         came
     }
 
-    // Writes all buffered lines to `writer` and empties the buffer, if `at_once` is set or there are more than
-    // `HELD_BYTES`. There can be more after a reply was built in the buffer. If a write fails, empties the buffer, and
-    // returns how many bytes were written. Afterwards the buffer has at most `HELD_BYTES`.
+    /// Writes all buffered lines to `writer` and empties the buffer, if `at_once` is set or there are more than
+    /// `HELD_BYTES`. There can be more after a reply was built in the buffer. If a write fails, empties the buffer, and
+    /// returns how many bytes were written. Afterwards the buffer has at most `HELD_BYTES`.
     pub(crate) fn let_out_when_due<W: Write>(
         &mut self,
         at_once: bool,
@@ -91,8 +92,8 @@ impl Held {
         Ok(())
     }
 
-    // Writes all buffered lines to `writer` and empties the buffer. If a write fails, empties the buffer too, and
-    // returns how many bytes were written.
+    /// Writes all buffered lines to `writer` and empties the buffer. If a write fails, empties the buffer too, and
+    /// returns how many bytes were written.
     pub(crate) fn let_out<W: Write>(&mut self, writer: &mut W) -> Result<(), WriteFault>
         ensures none { self.new.bytes.items ≡ [] }
         ensures ok { OnOk result (Appends (W.contents writer.old) (W.contents writer.new)
@@ -108,7 +109,7 @@ impl Held {
         came
     }
 
-    // Appends a line to the buffer if the buffer then has at most `HELD_BYTES`. Returns whether the line was appended.
+    /// Appends a line to the buffer if the buffer then has at most `HELD_BYTES`. Returns whether the line was appended.
     fn hold(&mut self, line: &[u8]) -> bool
         ensures { self.new.bytes.items
             ≡ (if result then self.old.bytes.items ++ line.now else self.old.bytes.items) }

@@ -29,7 +29,8 @@ pub trait Observer {
         ensures { Records number (kept self.old) (kept self.new)
             (entry_for seen line.now reply.now out.now) };
 
-    /// Observes that replies were written to the connection: `replies` of them since the last call of `wrote`.
+    /// Observes that replies were written to the connection: `replies` of them since the last call of `wrote`. At the
+    /// end of a session, `replies` may be 0.
     fn wrote(&mut self, number: u8, replies: u32)
         ensures { kept self.new ≡ kept self.old };
 

@@ -150,8 +150,8 @@ struct Session {
 }
 
 impl Session {
-    // Returns the session of the connection with this number. Nobody is known in it, no reply is buffered, and it has
-    // the memory for its lines and short replies. Returns `Memory` if memory runs out.
+    /// Returns the session of the connection with this number. Nobody is known in it, no reply is buffered, and it has
+    /// the memory for its lines and short replies. Returns `Memory` if memory runs out.
     fn new(alloc: Global, connection: u8) -> Result<Session, Memory>
         ensures number { IfOk result (λ session. session.connection ≡ connection) }
         ensures nobody { IfOk result (λ session. session.known ≡ None) }
@@ -179,8 +179,8 @@ enum Next {
     Ended(SessionEnd),
 }
 
-// Reads the next line of a session that hasn't ended, and answers it. If the reader has to be read for the line, no
-// reply may be buffered. Returns `Served` if the session goes on, or how it ended.
+/// Reads the next line of a session that hasn't ended, and answers it. If the reader has to be read for the line, no
+/// reply may be buffered. Returns `Served` if the session goes on, or how it ended.
 fn serve_next<Y: SessionTypes, H: House, O: Observer>(
     setting: &Setting<'_, Y::Runtime, Y::Sink, H>,
     session: &mut Session,
@@ -230,9 +230,10 @@ fn serve_next<Y: SessionTypes, H: House, O: Observer>(
     }
 }
 
-// Returns whether the session goes on after a line, or how it ended. `said` is what happened to the line's reply, or
-// `Closed` if the line has none. If the reply was written or buffered, counts it in `held.replies` as `count_told`
-// does. If a write failed, sets this count to 0, so that the observer counts none of these replies as written.
+/// Returns whether the session goes on after a line, or how it ended. `said` is what happened to the line's reply, or
+/// `Closed` if the line has none. If the reply was written or buffered, calls `count_told`, which counts it in
+/// `held.replies` and may call the observer. If a write failed, sets this count to 0, so that the observer counts none
+/// of these replies as written.
 fn go_on<O: Observer>(
     said: Result<Sent, Closed>,
     held: &mut Held,
@@ -260,8 +261,8 @@ fn go_on<O: Observer>(
     }
 }
 
-// Counts one more reply that is written or buffered. Then, if no reply is buffered, passes the count to the observer as
-// `pass_told` does.
+/// Counts one more reply that is written or buffered. Then, if no reply is buffered, calls the observer's `wrote` with
+/// the count, and sets the count to 0.
 fn count_told<O: Observer>(held: &mut Held, observer: &mut O, connection: u8)
     ensures held { held.new.bytes.items ≡ held.old.bytes.items }
     ensures kept { O.kept observer.new ≡ O.kept observer.old }
@@ -270,8 +271,8 @@ fn count_told<O: Observer>(held: &mut Held, observer: &mut O, connection: u8)
     pass_told(held, observer, connection);
 }
 
-// If the buffer is empty, so that all counted replies are written, calls the observer's `wrote` with their number, and
-// sets the count to 0. Otherwise does nothing.
+/// If the buffer is empty, so that all counted replies are written, calls the observer's `wrote` with their number, and
+/// sets the count to 0. Otherwise does nothing.
 fn pass_told<O: Observer>(held: &mut Held, observer: &mut O, connection: u8)
     ensures held { held.new.bytes.items ≡ held.old.bytes.items }
     ensures kept { O.kept observer.new ≡ O.kept observer.old }
@@ -282,9 +283,10 @@ fn pass_told<O: Observer>(held: &mut Held, observer: &mut O, connection: u8)
     }
 }
 
-// Writes the buffered replies at the end of a session. Then passes the count of replies to the observer as `pass_told`
-// does, and returns `ending`. If the write fails, doesn't call the observer, and returns an end by `WriteFault` with
-// `before`, which is who was known before the line that was answered last.
+/// Writes the buffered replies at the end of a session. Then calls the observer's `wrote` with the count in
+/// `held.replies`, even if that is 0, sets the count to 0, and returns `ending`. If the write fails, doesn't call the
+/// observer, and returns an end by `WriteFault` with `before`, which is who was known before the line that was answered
+/// last.
 fn let_out<W: Write, O: Observer>(
     session: &mut Session,
     ending: Ending,
@@ -319,8 +321,8 @@ enum Sent {
     Unwritten(usize),
 }
 
-// Answers the line that was read last, and writes or buffers its reply. Returns what happened to the reply. Returns
-// `Closed` if the line asks for a view of a window that shows nothing any more; such a line has no reply.
+/// Answers the line that was read last, and writes or buffers its reply. Returns what happened to the reply. Returns
+/// `Closed` if the line asks for a view of a window that shows nothing any more; such a line has no reply.
 fn serve_line<Y: SessionTypes, H: House, O: Observer>(
     setting: &Setting<'_, Y::Runtime, Y::Sink, H>,
     session: &mut Session,
@@ -388,10 +390,10 @@ struct Judged<'a> {
     is_next_unknown: bool,
 }
 
-// Calls the observer with a line and its reply, and writes the reply or buffers it. A short reply is built in the
-// buffer. A long one is built in `out`; if memory runs out for it, the refusal `memory` is sent instead. `out` must
-// have memory for `REPLY_ROOM` bytes, and the reply must be one of the window's lab. Returns what happened to the
-// reply.
+/// Calls the observer with a line and its reply, and writes the reply or buffers it. A short reply is built in the
+/// buffer. A long one is built in `out`; if memory runs out for it, the refusal `memory` is sent instead. `out` must
+/// have memory for `REPLY_ROOM` bytes, and the reply must be one of the window's lab. Returns what happened to the
+/// reply.
 fn tell<H: House, W: Write, O: Observer>(
     alloc: Global,
     window: &Window<H>,
@@ -423,8 +425,8 @@ fn tell<H: House, W: Write, O: Observer>(
     send(&told, out, held, judged.is_next_unknown, writer)
 }
 
-// Appends the line of a reply to the buffered ones. Writes all if `at_once` is set, after a `bye`, or if the buffer has
-// no room for the line. Returns what happened to the reply.
+/// Appends the line of a reply to the buffered ones. Writes all if `at_once` is set, after a `bye`, or if the buffer
+/// has no room for the line. Returns what happened to the reply.
 fn send<W: Write>(
     reply: &Reply,
     line: &[u8],
@@ -442,8 +444,8 @@ fn send<W: Write>(
     sent_of(held.put(line, at_once || is_last, writer), is_last)
 }
 
-// Writes the buffered replies, of which `reply` is the last, if `at_once` is set, after a `bye`, or when there are more
-// than `HELD_BYTES`. Returns what happened to the reply.
+/// Writes the buffered replies, of which `reply` is the last, if `at_once` is set, after a `bye`, or when there are
+/// more than `HELD_BYTES`. Returns what happened to the reply.
 fn send_held<W: Write>(reply: &Reply, held: &mut Held, at_once: bool, writer: &mut W) -> Sent
     ensures sends { SendsReply result reply.now held.old.bytes.items
         [] held.new.bytes.items
@@ -455,8 +457,8 @@ fn send_held<W: Write>(reply: &Reply, held: &mut Held, at_once: bool, writer: &m
     sent_of(held.let_out_when_due(at_once || is_last, writer), is_last)
 }
 
-// Returns what happened to a reply. `came` is the result of writing or buffering it. `is_last` is whether it is the
-// reply to a bye.
+/// Returns what happened to a reply. `came` is the result of writing or buffering it. `is_last` is whether it is the
+/// reply to a bye.
 fn sent_of(came: Result<(), WriteFault>, is_last: bool) -> Sent
     ensures { result ≡ sent_of came is_last }
 {
