@@ -41,7 +41,7 @@ pub fn is_same_lab(a: &Lab, b: &Lab) -> bool
     true
 }
 
-// Returns whether two tables have the same identifiers.
+/// Returns whether two tables have the same identifiers.
 fn has_same_ids(a: &IdTable, b: &IdTable) -> bool
     ensures { IsTrue result ↔ (a.now ≡ b.now) }
 {
@@ -56,7 +56,7 @@ fn has_same_ids(a: &IdTable, b: &IdTable) -> bool
     true
 }
 
-// Returns whether two rosters have the same names: the teacher's, and the students' in the same order.
+/// Returns whether two rosters have the same names: the teacher's, and the students' in the same order.
 fn has_same_names(a: &Roster, b: &Roster) -> bool
     ensures { IsTrue result ↔ HasSameNames a.now b.now }
 {
@@ -74,8 +74,8 @@ fn has_same_names(a: &Roster, b: &Roster) -> bool
     true
 }
 
-// Returns whether the node of this rank, which must exist, has the same registers, links and owners in both labs. The
-// labs must have the same number of nodes and the same number of students.
+/// Returns whether the node of this rank, which must exist, has the same registers, links and owners in both labs. The
+/// labs must have the same number of nodes and the same number of students.
 fn is_same_node(a: &Lab, b: &Lab, node: Rank) -> bool
     requires here { node < length a.now.ids }
     requires ids { length a.now.ids ≡ length b.now.ids }
@@ -88,8 +88,8 @@ fn is_same_node(a: &Lab, b: &Lab, node: Rank) -> bool
     has_same_links(a, b, node) && has_same_owners(a.roster(), b.roster(), node)
 }
 
-// Returns whether the node of this rank, which must exist, has the same links in both labs. The labs must have the same
-// number of nodes.
+/// Returns whether the node of this rank, which must exist, has the same links in both labs. The labs must have the
+/// same number of nodes.
 fn has_same_links(a: &Lab, b: &Lab, node: Rank) -> bool
     requires here { node < length a.now.ids }
     requires ids { length a.now.ids ≡ length b.now.ids }
@@ -104,8 +104,8 @@ fn has_same_links(a: &Lab, b: &Lab, node: Rank) -> bool
     true
 }
 
-// Returns whether the node of this rank is owned by the same students in both rosters, which must have the same number
-// of students.
+/// Returns whether the node of this rank is owned by the same students in both rosters, which must have the same number
+/// of students.
 fn has_same_owners(a: &Roster, b: &Roster, node: Rank) -> bool
     requires { length a.now.students ≡ length b.now.students }
     ensures { IsTrue result ↔ HasSameOwners a.now b.now node }
@@ -118,7 +118,7 @@ fn has_same_owners(a: &Roster, b: &Roster, node: Rank) -> bool
     true
 }
 
-// Returns the participant who is the student with this index, from 0 in the file's order. The index must be below 256.
+/// Returns the participant who is the student with this index, from 0 in the file's order. The index must be below 256.
 fn student_at(index: u64) -> Who
     requires { index < 256 }
     ensures { result ≡ Who.Student index }
