@@ -183,8 +183,8 @@ fn results_with(alloc: Global, scratch: &mut LineScratch) -> Result<Results, Fai
     Ok((line, hello, [plain, nested, great]))
 }
 
-// Checks that the rows of `LINES` and `HELLOS` are read and written rightly. The number under `node` must be found in a
-// plain and in a nested line, but not in one with a number that can't be read.
+/// Checks that the rows of `LINES` and `HELLOS` are read and written rightly. The number under `node` must be found in
+/// a plain and in a nested line, but not in one with a number that can't be read.
 #[test]
 fn requests_are_read_and_written(rt: HostRuntime) -> Result<(), Fail> {
     let mut scratch = LineScratch::new(rt.alloc(), 4096)?;

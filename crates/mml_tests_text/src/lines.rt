@@ -120,8 +120,8 @@ fn first_other_length(alloc: Global) -> Result<Option<usize>, Fail> {
     Ok(None)
 }
 
-// Checks that a line at its limit is returned, a longer one is reported as too long, and one without a newline isn't
-// returned.
+/// Checks that a line at its limit is returned, a longer one is reported as too long, and one without a newline isn't
+/// returned.
 #[test]
 fn a_line_is_as_long_as_the_limit(rt: HostRuntime) -> Result<(), Fail> {
     assert_eq!(rt; first_other_length(rt.alloc())?, None);
@@ -200,8 +200,8 @@ fn first_others(alloc: Global) -> Result<[Option<usize>; 3], Fail> {
     Ok([by_bytes, at_once, first_other_reads(alloc)?])
 }
 
-// Checks that `TEXT` gives the same answers wherever it is cut in two. Then checks the rows of `READS`: a failed read
-// must be the last answer, after the right lines and the right number of reads.
+/// Checks that `TEXT` gives the same answers wherever it is cut in two. Then checks the rows of `READS`: a failed read
+/// must be the last answer, after the right lines and the right number of reads.
 #[test]
 fn cuts_change_nothing_and_a_failed_read_ends_the_lines(rt: HostRuntime) -> Result<(), Fail> {
     assert_eq!(rt; first_others(rt.alloc())?, [None; 3]);
@@ -267,8 +267,8 @@ fn counts(alloc: Global) -> Result<Counts, Fail> {
     ))
 }
 
-// Checks that as many lines come as reads are allowed, if each line takes one read. Also checks that a line of 4,096
-// bytes comes whole, with one read for each byte and one that finds the end.
+/// Checks that as many lines come as reads are allowed, if each line takes one read. Also checks that a line of 4,096
+/// bytes comes whole, with one read for each byte and one that finds the end.
 #[test]
 fn reads_are_counted_over_all_lines(rt: HostRuntime) -> Result<(), Fail> {
     // One read for each byte, and one that finds the end.

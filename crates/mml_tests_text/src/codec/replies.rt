@@ -92,7 +92,7 @@ fn replies_far_apart(alloc: Global) -> Result<(String, String, bool), Fail> {
     replies_of_lab(alloc, &lab)
 }
 
-// Checks the lines of a see and of a report, and that a vector with memory for a reply keeps its capacity.
+/// Checks the lines of a see and of a report, and that a vector with memory for a reply keeps its capacity.
 #[test]
 fn replies_are_written(rt: HostRuntime) -> Result<(), Fail> {
     let (see, report, stays) = replies_far_apart(rt.alloc())?;

@@ -95,8 +95,8 @@ fn are_looks_and_beginnings_right(alloc: Global) -> Result<(bool, bool), Fail> {
     Ok((is_look_answered(alloc)?, is_one_beginning(alloc)?))
 }
 
-// Checks that a hello and a look are answered rightly and don't change the board. Also checks that the first board of
-// the largest lab, its copy, and the first board of a hall have the same world.
+/// Checks that a hello and a look are answered rightly and don't change the board. Also checks that the first board of
+/// the largest lab, its copy, and the first board of a hall have the same world.
 #[test]
 fn requests_are_answered(rt: HostRuntime) -> Result<(), Fail> {
     assert_eq!(rt; are_looks_and_beginnings_right(rt.alloc())?, (true, true));

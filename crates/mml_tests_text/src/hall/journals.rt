@@ -84,8 +84,8 @@ fn first_other_count(alloc: Global) -> Result<Option<usize>, Fail> {
     Ok(None)
 }
 
-// Checks halls whose sink fails after each possible number of bytes: the sink must have exactly these bytes, and the
-// hall the events of their whole lines. Audits must pass whole lines, and no torn line.
+/// Checks halls whose sink fails after each possible number of bytes: the sink must have exactly these bytes, and the
+/// hall the events of their whole lines. Audits must pass whole lines, and no torn line.
 #[test]
 fn each_byte_of_a_journal_may_be_the_last(rt: HostRuntime) -> Result<(), Fail> {
     assert_eq!(rt; first_other_count(rt.alloc())?, None);

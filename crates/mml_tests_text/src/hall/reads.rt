@@ -130,9 +130,9 @@ fn reads_made(alloc: Global) -> Result<([bool; 4], [Option<usize>; 2]), Fail> {
     Ok((are_read_once, firsts))
 }
 
-// Checks that each read of a script is made once. A read that failed mustn't be tried again, and no read may follow the
-// script's end or a bad line. A failure means that a script of this file had more or fewer reads, other replies,
-// another error, or other bytes left unread.
+/// Checks that each read of a script is made once. A read that failed mustn't be tried again, and no read may follow
+/// the script's end or a bad line. A failure means that a script of this file had more or fewer reads, other replies,
+/// another error, or other bytes left unread.
 #[test]
 fn each_read_is_made_once(rt: HostRuntime) -> Result<(), Fail> {
     assert_eq!(rt; reads_made(rt.alloc())?, ([true; 4], [None; 2]));

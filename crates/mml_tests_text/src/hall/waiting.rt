@@ -145,8 +145,8 @@ fn writes_before_reads(alloc: Global) -> Result<Writes, Fail> {
     Ok((looks, greets, first_cut_that_changes(alloc)?))
 }
 
-// Checks that all replies are written and flushed before the next read. If the script comes in two reads, the replies
-// must be the same, with few writes and flushes.
+/// Checks that all replies are written and flushed before the next read. If the script comes in two reads, the replies
+/// must be the same, with few writes and flushes.
 #[test]
 fn replies_go_out_before_the_next_read(rt: HostRuntime) -> Result<(), Fail> {
     // Both scripts pass, with one read for each line and one that finds the end, and no cut changes anything.

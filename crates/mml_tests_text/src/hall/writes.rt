@@ -90,7 +90,7 @@ fn first_others(alloc: Global) -> Result<Others, Fail> {
     Ok((first_other_write(alloc)?, first_other_flush(alloc)?))
 }
 
-// Checks that a failed write or flush ends a script, and that the error says how many bytes were written.
+/// Checks that a failed write or flush ends a script, and that the error says how many bytes were written.
 #[test]
 fn failed_writes_and_flushes_are_told(rt: HostRuntime) -> Result<(), Fail> {
     assert_eq!(rt; first_others(rt.alloc())?, (None, None));

@@ -45,8 +45,8 @@ fn first_other(alloc: Global) -> Result<Option<usize>, Fail> {
     Ok(None)
 }
 
-// Checks that an input is read whole within a limit of six bytes, and that a longer one and a failed read have the
-// right error.
+/// Checks that an input is read whole within a limit of six bytes, and that a longer one and a failed read have the
+/// right error.
 #[test]
 fn readers_are_read_up_to_a_limit(rt: HostRuntime) -> Result<(), Fail> {
     assert_eq!(rt; first_other(rt.alloc())?, None);
@@ -137,8 +137,8 @@ fn results_of_writes(alloc: Global) -> Result<Written, Fail> {
     Ok((failed, refused, sent(alloc)?))
 }
 
-// Checks that `put_all` writes exactly what the writer takes, and its error says how many bytes these are. Also checks
-// that an `Outgoing` buffers 512 lines of four bytes, and writes them when another line comes.
+/// Checks that `put_all` writes exactly what the writer takes, and its error says how many bytes these are. Also checks
+/// that an `Outgoing` buffers 512 lines of four bytes, and writes them when another line comes.
 #[test]
 fn writes_tell_what_went_out(rt: HostRuntime) -> Result<(), Fail> {
     assert_eq!(rt;
