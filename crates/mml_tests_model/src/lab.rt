@@ -39,8 +39,8 @@ fn push_owners(text: &mut String, lab: &Lab, node: Rank) -> Result<(), AllocErro
     Ok(())
 }
 
-/// Appends characters to a text, one for each node of the lab, in the order of ranks. Each character is the one that
-/// `mark` returns for `node`, a node of the lab, and that node.
+/// Appends one character for each node of the lab to a text, in the order of ranks: the one that `mark` returns for the
+/// relation of `node` to it. `node` must be a node of the lab.
 fn push_marks(text: &mut String, lab: &Lab, node: Rank) -> Result<(), AllocError>
     requires { node < length lab.now.ids }
 {
