@@ -235,8 +235,8 @@ fn refuses_the_second<H: House, R: Wait>(
 
 /// Starts the house `blank`, whose name is `H` and whose sink fails at its second line, and takes the book out of it.
 /// Returns the result of `refuses_the_second` for the book, and how the house has ended. No event was granted through
-/// the windows of this house, so they have no places. The number 0 says that no event came before the house was opened.
-/// Returns `Memory` if memory runs out.
+/// the windows of this house, so they have no places. The 0 that `finish_from` gets says that no event came before the
+/// house was opened. Returns `Memory` if memory runs out.
 fn decides_alone<H: House, R: Wait>(
     rt: &R,
     alloc: Global,
