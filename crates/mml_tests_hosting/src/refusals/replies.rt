@@ -83,9 +83,9 @@ const AFTER: &[(u8, &str, &str)] = &[
     (1, line!(bye), line!(left)),
 ];
 
-/// Answers a connection's request. Then writes the reply line into `out`, in place of its former contents, while each
-/// request for memory is refused. Returns `Memory` if the line needs more memory than `out` has, or the lab has no such
-/// connection.
+/// Answers a connection's request. Then writes the reply line into `out`, in place of its former contents, while the
+/// library refuses each request for memory, if it is loaded. Returns `Memory` if a request was refused because the line
+/// needs more memory than `out` has, or if the lab has no such connection.
 fn answer_without_memory(
     alloc: Global,
     hall: &mut Hall<NullSink>,
