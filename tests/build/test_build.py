@@ -195,6 +195,21 @@ class Builds(InClone):
         self.assertEqual((self.room / "runs").read_text(encoding="utf-8").splitlines(), [every, "low", every])
         self.assertEqual(self.call("./mml").stdout, "new\n")
 
+    def test_if_rt_is_too_old_to_keep_proofs_there_is_one_run(self) -> None:
+        """An older `rt` doesn't print that it keeps nothing, but proves each crate in each run. Its files lack the words
+        `is kept`. The only run isn't stopped, and is given all processors."""
+        rt = self.bin / "rt"
+        text = rt.read_text(encoding="utf-8").replace("is kept", "proved").replace('"1000" if here.name == "1" else', "")
+        rt.write_text(text, encoding="utf-8")
+        done = self.call("./mml", "build", RT_JOBS="2")
+        self.assertEqual(done.returncode, 0, done.stderr)
+        self.assertIn("crates; this toolchain reuses no proofs of earlier builds\n", done.stderr)
+        self.assertTrue(done.stderr.endswith("\nmml: 4 of 4 crates proved\n"), done.stderr)
+        self.assertEqual((self.room / "runs").read_text(encoding="utf-8").splitlines(), ["low left right mml_host"])
+        number = len(os.sched_getaffinity(0))
+        self.assertEqual((self.room / "processors").read_text(encoding="utf-8").split(), ["mml_host", "4", str(2 * number)])
+        self.assertEqual(self.call("./mml").stdout, "new\n")
+
     def test_a_second_clone_proves_nothing_again(self) -> None:
         self.call("./mml", "build")
         second = self.room / "second"

@@ -3,9 +3,9 @@
     python3 -B -m tools.build PROGRAM..             builds these programs, except those that are built from their present sources
     python3 -B -m tools.build --built PROGRAM..     prints the paths of these programs if all are built, and builds nothing
 
-Proofs run on all processors, and proofs that this machine has made before are used again. The status is 0 if all these
-programs are built, 1 if not, and 127 if the toolchain that builds them is missing. After a signal the build ends by that
-signal, and the finished proofs are kept.
+Proofs run on all processors, and proofs that this machine has made before are used again, unless the toolchain is too
+old for that. The status is 0 if all these programs are built, 1 if not, and 127 if the toolchain that builds them is
+missing. After a signal the build ends by that signal, and the finished proofs are kept.
 """
 from __future__ import annotations
 
@@ -21,7 +21,7 @@ from tools.build.crates import TOP, Uses, expected, needed
 from tools.build.place import room
 from tools.build.progress import Progress, duration_text
 from tools.build.proving import Proving, at_once_of, jobs_of, processors
-from tools.build.running import Screen, Stopped, end_with_parent, raise_on_signals
+from tools.build.running import Screen, Stopped, can_keep, end_with_parent, raise_on_signals
 from tools.build.sources import is_built, program_of, sum_of_sources, write_record
 
 WRONG = re.compile(r"error|: (not proved|no proof)|NOT PROVED|run rt fmt|^rt: (FAILED|note|the disk)")
@@ -46,9 +46,15 @@ def tell_beginning(programs: list[str], progress: Progress) -> None:
     """Prints what the build of these programs does, how long it takes by this progress, and what the user can do
     instead."""
     side = processors()
-    say(f"building {' and '.join(programs)}, after proving {len(progress.crates)} crates; proofs that this machine has already are reused")
-    say(f"if nothing is proved yet, that takes {duration_text(progress.left(0.0))} on {side} processor{'s' if side > 1 else ''}, as measured on "
-        "another machine; you can stop the build, and the next one continues it; ./try runs the program without proofs")
+    time_text = f"{duration_text(progress.left(0.0))} on {side} processor{'s' if side > 1 else ''}, as measured on another machine"
+    begins = f"building {' and '.join(programs)}, after proving {len(progress.crates)} crates"
+    if can_keep():
+        say(f"{begins}; proofs that this machine has already are reused")
+        say(f"if nothing is proved yet, that takes {time_text}; you can stop the build, and the next one continues it; ./try runs the program "
+            "without proofs")
+    else:
+        say(f"{begins}; this toolchain reuses no proofs of earlier builds")
+        say(f"that takes {time_text}; if you stop the build, the next one begins from nothing; ./try runs the program without proofs")
 
 
 def tell_failure(log: Path, programs: list[str]) -> None:
@@ -124,7 +130,8 @@ def main(words: list[str]) -> int:
     try:
         return build(words)
     except Stopped as stopped:
-        say("stopped; what is proved is kept, and the next build continues from there")
+        say("stopped; what is proved is kept, and the next build continues from there" if can_keep() else
+            "stopped; the next build begins from nothing, since this toolchain reuses no proofs of earlier builds")
         signal.signal(stopped.number, signal.SIG_DFL)
         os.kill(os.getpid(), stopped.number)
         return 1

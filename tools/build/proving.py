@@ -5,6 +5,8 @@ to prove something. Each remaining crate is then proved by a run of its own, whi
 The reason is that `rt ci` uses several processes for a crate that is alone in its repository. For other crates `rt ci`
 mostly uses one process, and the crates above have to wait. A crate on the longest chain of waiting crates, or on one
 that is nearly as long, gets all processors, and is proved before the others.
+
+If `rt ci` can't use the proofs of other runs, all crates are proved by a single run.
 """
 from __future__ import annotations
 
@@ -17,7 +19,7 @@ from pathlib import Path
 from tools.build.crates import Uses, with_those_below
 from tools.build.place import Place, Room, take, take_library
 from tools.build.progress import Progress
-from tools.build.running import Run, Screen
+from tools.build.running import Run, Screen, can_keep
 
 POLL = 0.2  # seconds between two checks of the runs
 MOST_JOBS = 4  # processes of a proof, at most
@@ -69,7 +71,9 @@ class Proving:
         """Proves all crates, and puts their libraries and programs into the clone. Returns the log of the run that
         failed, or None if none did."""
         try:
-            whole = Run(self.room.place(self.crates), is_whole=True)
+            if not can_keep():
+                return self.by_one_run()
+            whole = Run(self.room.place(self.crates), is_look=True)
             self.runs[""] = whole
             if self.is_over(whole, is_look=True):
                 return self.outcome(whole, self.crates)
@@ -112,11 +116,11 @@ class Proving:
         return None
 
     def by_one_run(self) -> Path | None:
-        """Proves all crates by one run, because this machine keeps no proofs for other runs. Returns the log of the run
-        if it failed, or None."""
+        """Proves all crates by one run, because this machine keeps no proofs for other runs, or the toolchain is too old
+        for that. Returns the log of the run if it failed, or None."""
         for run in self.runs.values():
             run.end()
-        whole = Run(self.room.place(self.crates), is_whole=True)
+        whole = Run(self.room.place(self.crates))
         self.runs = {"": whole}
         self.progress.proved.clear()
         self.progress.begun.clear()

@@ -5,6 +5,7 @@ import contextlib
 import ctypes
 import os
 import re
+import shutil
 import signal
 import subprocess
 import sys
@@ -24,6 +25,8 @@ WIDE = Path(__file__).with_name("wide.py")
 PROVER = "rattle"  # the name of a process that proves
 PROVED = re.compile(r"^rt: (\w+) (?:proved|(is kept): .*)$", re.MULTILINE)
 NOT_KEPT = re.compile(r"^rt: note: .*(nothing is kept|is not kept)", re.MULTILINE)
+KEPT = "is kept"  # `rt` prints these words for a crate that an earlier run proved
+RT_FILES = ("rt", "rtlib.py")  # the files of `rt`, which is written in Python
 
 
 class Stopped(Exception):
@@ -33,6 +36,13 @@ class Stopped(Exception):
         """`number` is that of the signal."""
         super().__init__(number)
         self.number = number
+
+
+def can_keep() -> bool:
+    """Returns whether the toolchain's `rt ci` can use proofs of earlier runs again. Older toolchains can't: their files
+    don't contain the words that `rt ci` prints for a crate whose proofs it uses again. `rt` must be on the path."""
+    rt = Path(shutil.which("rt") or "rt").resolve()
+    return any(KEPT in (rt.parent / name).read_text(encoding="utf-8", errors="replace") for name in RT_FILES if (rt.parent / name).is_file())
 
 
 def raise_on_signals() -> None:
@@ -97,14 +107,14 @@ class Screen:
 class Run:
     """A run of `rt ci` in a repository."""
 
-    def __init__(self, place: Place, is_first: bool = True, is_whole: bool = False, is_alone: bool = False) -> None:
+    def __init__(self, place: Place, is_first: bool = True, is_look: bool = False, is_alone: bool = False) -> None:
         """Starts `rt ci` in the repository of `place`. If `is_first` is set, the run has the usual priority, and
-        otherwise a lower one. If `is_first` is set and `is_whole` isn't, the run gets all processors. `is_whole` says
-        that the run proves all crates. If `is_alone` is set, no other crate is proved beside, and the run may use twice
-        as much memory."""
+        otherwise a lower one. `is_look` says that the run is stopped as soon as it begins to prove something. If
+        `is_first` is set and `is_look` isn't, the run gets all processors. If `is_alone` is set, no other crate is
+        proved beside, and the run may use twice as much memory."""
         self.place, self.read = place, 0
         wide = [sys.executable, "-B", str(WIDE), *[ALONE] * is_alone]
-        words = ["rt"] if is_whole or not is_first else wide
+        words = ["rt"] if is_look or not is_first else wide
         with place.log.open("wb") as output:
             self.process = subprocess.Popen(
                 [*words, "ci"], cwd=place.repository, stdin=subprocess.DEVNULL, stdout=output, stderr=subprocess.STDOUT,
