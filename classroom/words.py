@@ -186,7 +186,7 @@ def main(words: list[str] | None = None) -> int:
     except Fault as fault:
         print(f"class: {printable(str(fault))}", file=sys.stderr)
         return fault.status
-    except BrokenPipeError:  # The reader of the output has closed it.
+    except BrokenPipeError:  # The reader of the output has closed it. The flush when Python exits would fail again.
         with open(os.devnull, "w", encoding="utf-8") as nowhere:
             os.dup2(nowhere.fileno(), sys.stdout.fileno())
         return FAILED

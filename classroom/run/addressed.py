@@ -43,9 +43,10 @@ def addressed(line: str, names: Sequence[str]) -> tuple[list[int], str]:
     them. Raises `ValueError` if the line names a network that doesn't exist."""
     words = line.split()
     before = re.fullmatch(r"\s*(\S+?)\s*:\s*(.*?)\s*", line)
-    if before and before[1] not in WORDS:
+    if before and before[1] not in WORDS:  # In `every:5`, the word before the colon is a command and not a network.
         return wanted(before[1], names), before[2]
     first = words[0] if words else ""
+    # A first word that begins with a digit is meant as a network, so a wrong number raises an error.
     if first not in WORDS and (re.match(r"\d", first) or target(first, names) is not None):
         return wanted(first, names), " ".join(words[1:])
     if len(words) == 2 and first in BARE:

@@ -50,7 +50,8 @@ class Announcer:
         self.go_on = f"{CLASS} run --resume {folder}"
         self.told_waiting: list[str] = []  # the texts of the nodes that were last printed as waited for
         self.over = ""  # `full` or `journal` once nothing more is granted for this reason
-        self.lost_journal: Callable[[], str] = str  # Returns the server's text about a journal that can't be written.
+        # Returns the server's text about a journal that can't be written, or an empty text, as `str` does until the desk is open.
+        self.lost_journal: Callable[[], str] = str
         self.comeback = Comeback(lab)
         self.edits: list[Event] = []  # the faults, links and cuts that weren't printed yet
 
@@ -72,12 +73,12 @@ class Announcer:
             Recount(self.lab, past, self.comeback).counts()
         except Fault as fault:
             self.tell(f"the moves and rounds of this run so far can't be counted, since mml gave an error: {fault}")
-            for event in past:
+            for event in past:  # The present links are needed all the same.
                 if event.is_edit:
                     self.comeback.edit(event)
             self.comeback.miss()
 
-    def event(self, news: News) -> None:
+    def announce(self, news: News) -> None:
         """Prints the line of a new event, and the counts of the recovery if a close ends it. A grant has no line. Keeps
         faults, links and cuts for `tell_edits`, which prints them."""
         event = news.event
@@ -134,7 +135,7 @@ class Announcer:
         or after the close, the recovery has no counts."""
         report = self.known.report
         if (before.at, report.at) != (event.at, event.at + 1):
-            self.comeback.miss()
+            self.comeback.miss()  # If the report after the close is known, the close is counted all the same, since it may end the recovery.
         if report.at != event.at + 1 or self.known.is_old:
             return
         told = self.comeback.close(moved, [node for node, _ in before.privileged], [node for node, _ in report.privileged])
@@ -153,7 +154,7 @@ class Announcer:
             self.tell(f"waiting for {wording.some(now, MOST_WAITING, 'node')}")
         self.told_waiting = now
 
-    def wait(self) -> None:
+    def tell_all_waiting(self) -> None:
         """Prints all nodes that the class waits for, or that it waits for no node."""
         self.told_waiting = self.waiting()
         self.tell(f"waiting for {', '.join(self.told_waiting) or 'no node'}")

@@ -67,6 +67,6 @@ def attach(words: argparse.Namespace) -> int:
                   goes_on=True, stand_in=words.stand_in or record.stand_in, looks=record.looks, played=record.played,
                   ends=end_of(words.ends, record.ends), anonymous=words.anonymous or record.anonymous,
                   door=record.door)
-    it = Server(record.server, record.port, record.desk, True, folder / "server.txt")
+    it = Server(record.server, record.port, record.desk, hosted=True, output=folder / "server.txt")
     run.tell(f"port {it.port}, and port {it.desk} for the desk; folder {folder}")
     return to_the_end(run, lambda: it)

@@ -37,6 +37,7 @@ LINE = 101  # the most bytes of a journal's line
 def pause(how: Closing) -> float:
     """Returns how many seconds to wait for a typed line before the next check whether a step is to be closed by the
     daemon `how`."""
+    # A daemon with few seconds is asked four times in them, so that its steps aren't closed much too late.
     return min(TICK, max(how.value / 4, 0.01)) if how.kind in ("every", "when-idle") else TICK
 
 
@@ -181,7 +182,7 @@ def check_clock(desk: Desk, clock: Clock) -> bool:
     if warning := clock.warning(now):
         desk.tell(warning)
     if clock.is_over(now):
-        desk.tell(clock.over())
+        desk.tell(clock.last_line())
     return clock.is_over(now)
 
 
@@ -234,6 +235,6 @@ def attend(desk: Desk, it: Server, until_stable: bool, typed: Typed, room: DiskR
                         desk.read()  # What was done is printed before a step is closed.
                     striker.strike(desk)
             except Closed as error:
-                if not it.has_ended(TICK):
+                if not it.has_ended(TICK):  # A server that ends closes the connection a moment before its process is gone.
                     desk.give_up_connection(error)
         return "died"

@@ -47,7 +47,7 @@ def begin(member: Member, several: Several, again: bool, starts: bool) -> None:
     elif starts or record is not None and record.server.lives():
         member.start(several.hear, several.note_end)
     else:
-        member.status, member.has_desk = DOWN, record is not None
+        member.status, member.has_desk = DOWN, record is not None  # A process that takes the desk writes the record.
         member.alarm = f"its server has ended; {member.remedy()}"
         several.say(several.alarm(member))
 
@@ -59,6 +59,7 @@ def hold_again(words: argparse.Namespace, folder: Path) -> int:
     kept = Class.read(folder)
     assert kept is not None
     wait_for_desks(folder, kept)
+    # Only `run` has the options --resume and --again.
     starts, again = hasattr(words, "resume"), getattr(words, "again", False)
     records = [Record.read(folder / network.name) for network in kept.networks]
     if all(record is not None and record.ended and not record.goes_on() for record in records) and not again:

@@ -62,9 +62,9 @@ class Clock:
         self.left = [minutes for minutes in WARNINGS if end - timedelta(minutes=minutes) >= begun]
 
     def warning(self, now: datetime) -> str:
-        """Returns the line of the latest warning that is due at the time `now`, or an empty text if there is none, or
-        if it was returned before."""
-        due = [minutes for minutes in self.left if now >= self.end - timedelta(minutes=minutes)]
+        """Returns the line of the latest warning that is due at the time `now`. Returns an empty text if there is none,
+        if it was returned before, or if the lesson is over."""
+        due = [minutes for minutes in self.left if now >= self.end - timedelta(minutes=minutes)]  # The latest warning is the last of these.
         self.left = [minutes for minutes in self.left if minutes not in due]
         return f"the lesson ends at {self.end:%H:%M}, in {plural(due[-1], 'minute')}" if due and not self.is_over(now) else ""
 
@@ -72,10 +72,10 @@ class Clock:
         """Returns whether the end of the lesson has come at the time `now`."""
         return now >= self.end
 
-    def told(self) -> str:
+    def first_line(self) -> str:
         """Returns the line that is printed at the beginning, with the end of the lesson."""
         return f"the lesson ends at {self.end:%H:%M}"
 
-    def over(self) -> str:
+    def last_line(self) -> str:
         """Returns the line that is printed at the end of the lesson."""
         return f"it is {self.end:%H:%M}: the lesson is over, so the run ends"

@@ -21,8 +21,8 @@ def rows() -> Iterator[Row]:
     """Yields each of the system's TCP sockets over IPv4 with its own port, the other end's port, its state and its
     number. Raises `OSError` if the system doesn't report them."""
     for line in (PROC / "net/tcp").read_text(encoding="ascii").splitlines()[1:]:
-        _, own, other, state, *_, = words = line.split()
-        yield int(own.rpartition(":")[2], 16), int(other.rpartition(":")[2], 16), state, words[9]
+        _, own, other, state, _, _, _, _, _, number, *_ = line.split()  # An address is written as `0100007F:1267`, in hexadecimal digits.
+        yield int(own.rpartition(":")[2], 16), int(other.rpartition(":")[2], 16), state, number
 
 
 def leads_to(end: Path, wanted: str) -> bool:

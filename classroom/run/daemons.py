@@ -26,12 +26,13 @@ class Daemon:
     def of(word: str, seconds: float = 2.0) -> Daemon:
         """Returns the daemon that a word names, such as `random:0.5`. `seconds` is the default for `every` and
         `when-idle`, and 0.5 the one for `random`. Raises `ValueError` if the word names no daemon."""
-        found = re.fullmatch(r"(random|every|when-idle)(?::(\d+(?:\.\d+)?))?", word)
+        found = re.fullmatch(r"(?P<kind>random|every|when-idle)(?::(?P<number>\d+(?:\.\d+)?))?", word)
         if word in PLAIN:
             return Daemon(word)
-        if not found or found[1] == "random" and found[2] and not 0 < float(found[2]) <= 1:
+        if not found or found["kind"] == "random" and found["number"] and not 0 < float(found["number"]) <= 1:
             raise ValueError(f"{word!r} isn't a daemon. The daemons are: {FORMS}. P is a number above 0 and at most 1")
-        return Daemon(found[1], float(found[2]) if found[2] else 0.5 if found[1] == "random" else seconds)
+        default = 0.5 if found["kind"] == "random" else seconds
+        return Daemon(found["kind"], float(found["number"]) if found["number"] else default)
 
     def spelled(self) -> str:
         """Returns the word that names the daemon."""

@@ -43,7 +43,7 @@ def demo(words: argparse.Namespace) -> int:
     print(f"this demo runs a cycle of {len(lab.nodes)} nodes after a fault, with the bots of {len(lab.students)} students", flush=True)
     run = subprocess.Popen(
         [sys.executable, TOP / "class", "run", LAB, *WORDS, words.into], stdin=subprocess.DEVNULL, stdout=subprocess.PIPE,
-        text=True, start_new_session=True,
+        text=True, start_new_session=True,  # In a session of its own, the run gets a Ctrl-C only once, from the function below.
     )
     for number in SIGNALS:
         signal.signal(number, lambda number, _: run.send_signal(number))

@@ -61,7 +61,7 @@ class Desk:
         self.actions: dict[Action, Callable[[str, list[str]], None]] = {
             Action.ASK: self.ask,
             Action.REPORT: lambda *_: self.tell_report(),
-            Action.WAIT: lambda *_: self.announcer.wait(),
+            Action.WAIT: lambda *_: self.announcer.tell_all_waiting(),
             Action.WHO: lambda *_: self.tell_who(),
             Action.PLAY: lambda _, rest: self.tell(self.house_for(rest[0]).play(rest[0])),
             Action.STOP: lambda _, rest: self.tell(self.house_for(rest[0]).stop(rest[0])),
@@ -120,7 +120,7 @@ class Desk:
         """Reads the new events of the journal, prints each one except grants, and updates the pages. Ends the run if
         all events of the lab are used, or if no line can be written to the journal."""
         for news in self.known.news():
-            self.announcer.event(news)
+            self.announcer.announce(news)
             if self.watch:
                 self.watch.note_event(self.names.event(news.event))
             if self.house:
@@ -146,7 +146,7 @@ class Desk:
     def stand_in(self) -> None:
         """Makes the house ask for moves that the class waits for. Under the central daemon, which applies one move in a
         step, the house asks for one, and only if no move is chosen. Does nothing without a house, while the report is
-        old, or once nothing more is granted."""
+        old, or once nothing more is granted. Without a record of who connects, takes it that a student has come."""
         if self.house is None or self.known.is_old or self.announcer.over:
             return
         self.house.student_came = self.heard is None or self.heard.came
@@ -156,7 +156,7 @@ class Desk:
 
     def close(self) -> None:
         """Closes a step. If no move is chosen, prints for whom the class waits. If no more events are granted, ends the
-        run. Ignores any other refusal, since the close is asked for again. Raises `Denied` if the close is denied for
+        run. Ignores the refusal `memory`, since the close is asked for again. Raises `Denied` if the close is denied for
         another reason than that no move is chosen."""
         try:
             self.client.close()
@@ -166,7 +166,7 @@ class Desk:
             self.announcer.tell_waiting()
         except Refused as refused:
             if refused.word not in ("full", "journal"):
-                return  # A later refusal is temporary, so the close is asked for again.
+                return  # The server is out of memory for a moment, so the close is asked for again.
             self.read()
             self.announcer.end_by(refused.word)
 
@@ -228,7 +228,7 @@ class Desk:
         idle = ", ".join(self.known.book.idle)
         self.tell(f"students without a granted move so far: {idle}" if idle else "each student has had a granted move")
         if self.house:
-            self.tell(self.house.told())
+            self.tell(self.house.played_line())
 
     def house_for(self, name: str) -> House:
         """Returns the house, for a command about its playing the nodes of the student `name`. Raises `ValueError` with
@@ -274,12 +274,13 @@ class Desk:
 
     def shake(self, count: str, seed: str | None = None) -> None:
         """Sets the registers of `count` random nodes to random values, or those of all nodes if `count` is `all`. The
-        nodes and values are drawn with the seed, or with a random one if it is None. Raises `Fault` if there aren't so
-        many nodes."""
+        nodes and values are drawn with the seed, or with a random one if it is None. Prints how many nodes were set.
+        Raises `Fault` if there aren't so many nodes, and `Denied` or `Refused` if the server doesn't grant a fault."""
         self.set_all(shaken(self.nodes(), self.announcer.comeback.links, count, int(seed) if seed is not None else None))
 
     def set_all(self, registers: list[Registers]) -> None:
-        """Sets the registers of several nodes, by one fault after another."""
+        """Sets the registers of several nodes, by one fault after another, and prints how many they are. Raises `Denied`
+        or `Refused` if the server doesn't grant a fault. The faults before that one stay."""
         for node, p, m in registers:
             self.client.fault(node, p, m)
         self.tell(f"the registers of {plural(len(registers), 'node')} were set")

@@ -38,7 +38,7 @@ class Seat:
     reader: Reader = field(default_factory=Reader)
     name: str | None = None  # The name that the connection has greeted with.
 
-    def grown(self, path: Path) -> bytes:
+    def read_more(self, path: Path) -> bytes:
         """Returns the bytes that the file at a path has gained since the last read, at most MOST. Returns none if it
         can't be read."""
         try:
@@ -122,7 +122,7 @@ class Heard:
         more = False
         for path in seats(self.folder):
             seat = self.seats.setdefault(path, Seat())
-            found = seat.grown(path)
+            found = seat.read_more(path)
             more = more or len(found) == MOST
             for entry in seat.reader.take(found):
                 self.take(seat, entry)
@@ -130,27 +130,28 @@ class Heard:
 
     def take(self, seat: Seat, entry: Entry) -> None:
         """Counts an entry in the file of a seat, and notes from it the name with which the seat's connection greets, or
-        that the connection has ended. Requests at the desk, and those of the teacher, don't count as denied."""
+        that the connection has ended. Also notes that later lines aren't recorded, and that nothing more is granted.
+        Requests at the desk, and those of the teacher, don't count as denied."""
         who = seat.name or NOBODY
         if entry.mark == ENDED:
             seat.name = None
         elif entry.mark in (CUT, PAUSED):
             self.cut.append(who)
         elif entry.mark != RESUMED:
-            self.lines[who] += entry.seat != DESK
+            self.lines[who] += entry.seat != DESK  # Lines at the desk aren't counted.
             told = entry.told()
             self.over = told["refuse"] if told.get("refuse") in OVER else self.over
             if told.get("ok") == "hello" and "who" in told:
                 seat.name = told["who"]
                 self.came = self.came or seat.name in self.students
             elif told.get("deny") == "unknown":
-                self.guess(entry.asked_name())
+                self.count_wrong_key(entry.asked_name())
             elif entry.seat != DESK and who != self.lab.teacher[0]:
                 word = told.get("deny") or (MALFORMED if told.get("refuse") == MALFORMED else "")
                 if word:
                     self.vain[who, word][entry.place] += 1
 
-    def guess(self, name: str | None) -> None:
+    def count_wrong_key(self, name: str | None) -> None:
         """Counts a wrong key in a hello with this name. Names that the lab lacks are counted together."""
         known = name is not None and (name in self.lab.students or name == self.lab.teacher[0])
         self.wrong[name if known and name else OTHERS] += 1
@@ -226,8 +227,9 @@ class Heard:
 
     def who(self, count: int, all_seats: int, otherwise: Iterable[str] = ()) -> str:
         """Returns a text about who is connected, and how many of all seats are taken. `count` is the number of
-        connections that the system reports. `otherwise` has texts about some connections: a name, a comma, and how the
-        student is connected."""
+        connections that the system reports. `otherwise` has texts about the students who play on the page and not by a
+        program: a name, a comma, and how the student is connected. Such a text stands in place of one connection of its
+        name."""
         known, every = self.connected(), self.connected().total()
         how = [text for text in otherwise if known[text.partition(",")[0]]]
         known.subtract(text.partition(",")[0] for text in how)

@@ -103,11 +103,11 @@ class Running:
         """Returns the title of the run's page."""
         return title(self.folder / "lab.toml", self.folder / "journal", self.lab_file.stem)
 
-    def hung(self) -> None:
+    def note_hung(self) -> None:
         """Notes in the record that the terminal is closed, so that the run continues without one. Also writes a line
         that says how to control it again, which is kept in `run.txt`."""
         self.update_record(left=True)
-        self.tell.around = str
+        self.tell.around = str  # Lines are printed as they are, since no line is typed any longer.
         self.tell(f"the terminal was closed, and the run continues. To control it again, type: {CLASS} attach {self.folder}")
 
 
@@ -116,10 +116,10 @@ def open_desk(it: server.Server, run: Running) -> Desk:
     house, its clock and its watch on connections. Catches up with a run that continues. Raises `Left` if another
     process wants the desk, and `Closed`, `Refused` or `Denied` if it can't be connected to."""
     run.record(it).write(run.folder)
-    client = take_desk(it, run.lab.teacher, run.typed, run.tell, run.hung)
+    client = take_desk(it, run.lab.teacher, run.typed, run.tell, run.note_hung)
     desk = Desk(run.lab, run.folder / "journal", client, run.close, run.tell)
     desk.announcer.lost_journal = it.lost_journal
-    recorded = (run.folder / record.FOLDER / "begun").is_file()
+    recorded = (run.folder / record.FOLDER / "begun").is_file()  # Only a host keeps a record, whose folder has this file.
     names = run.hands.names if run.hands else {}
     desk.connected = Connected(it.port, run.lab.sessions - 1, desk.client.own_port(), names, not recorded)
     desk.heard = Heard(run.folder / record.FOLDER, run.lab) if recorded else None
@@ -138,7 +138,7 @@ def open_desk(it: server.Server, run: Running) -> Desk:
     if desk.house and desk.heard and not desk.heard.came and desk.house.waits():
         run.tell(WAITS)
     if desk.house and desk.house.played:
-        run.tell(desk.house.told())
+        run.tell(desk.house.played_line())
     return desk
 
 
@@ -150,10 +150,10 @@ def renew(run: Running, it: server.Server, desk: Desk, name: str) -> None:
     if run.hands is not None:
         run.hands.students = it.port
     run.update_record(server=it.process, port=it.port, desk=it.desk)
-    desk.use_connection(take_desk(it, run.lab.teacher, run.typed, run.tell, run.hung))
+    desk.use_connection(take_desk(it, run.lab.teacher, run.typed, run.tell, run.note_hung))
     run.tell(f"the class continues at port {it.port}; all programs have to connect again")
     if is_private(run.takes_lines):
-        run.tell.alone(f"the new key of {name} is {run.lab.students[name]}")
+        run.tell.print_only(f"the new key of {name} is {run.lab.students[name]}")
 
 
 def show(pages: projector.Pages, desk: Desk, tell: Teller, typed: bool) -> None:
@@ -166,7 +166,7 @@ def show(pages: projector.Pages, desk: Desk, tell: Teller, typed: bool) -> None:
         """Prints the address to act at if only the teacher can read what is printed. Otherwise prints that it isn't
         shown."""
         if is_private(typed):
-            tell.alone(f"{TO_ACT} {pages.address_to_act}")
+            tell.print_only(f"{TO_ACT} {pages.address_to_act}")
         else:
             tell(f"{TO_ACT}: its address is secret, and is printed only in a terminal")
 
@@ -229,9 +229,9 @@ def hold(run: Running, it: server.Server) -> int | None:
         return None
     except (Closed, Refused, Denied) as error:
         run.tell(f"the desk can't be used, because it has no connection to the server: {error}")
-        return give_up(it, run, LATE if isinstance(error, Over) else TICK)
+        return give_up(it, run, LATE if isinstance(error, Over) else TICK)  # After `Over`, the server is about to end by itself.
     with contextlib.closing(DiskRoom(run.folder, it.process.number)) as room:
-        why = attend(desk, it, run.until == "stable", run.typed, room, run.hung)
+        why = attend(desk, it, run.until == "stable", run.typed, room, run.note_hung)
     return take_leave(it, desk, why, run)
 
 

@@ -65,7 +65,7 @@ class House:
             raise ValueError(f"there is no student {name} with a node. The students are: {', '.join(self.students)}")
         return name
 
-    def told(self) -> str:
+    def played_line(self) -> str:
         """Returns the line that says for whom the house plays."""
         names = ", ".join(name for name in self.students if name in self.played)
         late = f"at each node for which the class has waited {self.seconds:g} seconds" if self.seconds is not None else ""
@@ -84,8 +84,8 @@ class House:
 
     def due(self, waiting: Collection[int], now: float) -> list[int]:
         """Returns the nodes in `waiting`, those that the class waits for, that the house may play at the time `now`.
-        The node for which the class has waited longest comes first. No time is counted before a first student has
-        come."""
+        The node for which the class has waited longest comes first. Notes since when the class waits for each of them.
+        No time is counted before a first student has come."""
         before = self.since if self.student_came else {}
         self.since = {node: before.get(node, now) for node in waiting if node in self.held}
         at_once = set[int]().union(*(self.students[name] for name in self.played))

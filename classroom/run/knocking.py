@@ -10,7 +10,7 @@ BETWEEN = 0.001  # seconds between two tries
 LONGEST = 1.0  # seconds that one try may take
 
 
-def held(port: int) -> socket.socket:
+def reserve(port: int) -> socket.socket:
     """Returns a socket that is bound to a port, or to a free one if the port is 0, and doesn't listen. While it is
     open, the system gives the port to no other program, but a host can listen there, since both set SO_REUSEADDR. If
     the port is taken, the socket isn't bound, and no error is raised."""
@@ -29,7 +29,7 @@ class Knock:
     def __init__(self, port: int) -> None:
         """Reserves the port, or a free one if `port` is 0. Reserves nothing if another program has the port, since the
         host reports that when it starts."""
-        self.held = held(port)
+        self.held = reserve(port)
         self.port: int = port or self.held.getsockname()[1]
         self.connection: socket.socket | None = None
 
@@ -49,7 +49,7 @@ class Knock:
                 self.connection = opened(self.port)
             time.sleep(BETWEEN)
 
-    def taken(self) -> socket.socket | None:
+    def take_connection(self) -> socket.socket | None:
         """Returns the connection, which the caller has to close, or None if there is none."""
         it, self.connection = self.connection, None
         return it

@@ -117,6 +117,7 @@ class Member:
         self.is_ready = self.has_desk = self.is_ready or line.startswith(READY)
         if self.status == STARTS and self.is_ready and self.wanted <= self.facts.keys():
             self.status = RUNS
+        # The line by which the start is complete is still one of the start.
         if self.status == STARTS or is_new or line.startswith(READY):
             return not (fact or line.startswith(TOLD_IN_TABLE))
         return not LEFT_OUT.fullmatch(line)
@@ -162,8 +163,8 @@ class Member:
         return f"type {resume}`end {self.number}` to give it up"
 
     def give_up(self) -> str:
-        """Marks a network that is down as ended. Returns the line that reports it. Raises `ValueError` if its server is
-        still running."""
+        """Marks a network that is down as ended, also in the record of its run. Returns the line that reports it.
+        Raises `ValueError` if its server is still running."""
         record = Record.read(self.folder)
         if record is not None and record.server.lives():
             raise ValueError(f"its server is still running. Type `resume {self.number}` to control it again, and then `end {self.number}` to end it")

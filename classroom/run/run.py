@@ -129,9 +129,8 @@ def resume(words: argparse.Namespace) -> int:
                   words.until or record.until, words.page or record.page, words.typed, Teller(folder),
                   words.play or record.play, goes_on=True, stand_in=words.stand_in or record.stand_in,
                   looks=record.looks, played=record.played, ends=end_of(words.ends, record.ends), anonymous=words.anonymous or record.anonymous)
-    before = record
-    with letting.door(words, [run.lab_file], run.tell, before.door) as run.door:
-        return to_the_end(run, lambda: start_server(run, before.port, before))
+    with letting.door(words, [run.lab_file], run.tell, record.door) as run.door:
+        return to_the_end(run, lambda: start_server(run, record.port, record))
 
 
 def refuse_second_run(into: Path, lab_file: Path) -> None:
@@ -193,6 +192,7 @@ def run(words: argparse.Namespace) -> int:
         return resume(words)
     ways = [Way.read(Path(lab)) for lab in words.labs]
     words.ports = ports_for(words.port, FIRST_PORT, [way.port if way else None for way in ways])
+    # PLAY is also the port of --play without a number, so then the ports on the slips come first.
     words.plays = ports_for(None if words.play == PLAY else words.play, PLAY, [way.page if way else None for way in ways])
     words.play = None if words.play is None else words.plays[0]
     return run_lab(words) if len(words.labs) == 1 else side_by_side(words)

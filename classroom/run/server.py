@@ -97,7 +97,7 @@ def first_line(process: subprocess.Popen[bytes], output: Path, before: int, wait
     returns all its output. `output` is the file with the output, which had `before` bytes when the process was started,
     and `wait` waits between two reads of the file."""
     while True:
-        ended = process.poll() is not None
+        ended = process.poll() is not None  # This is asked before the text is read, so that the text of an ended server is complete.
         text = output.read_bytes()[before:].decode(errors="replace")
         told = LISTENING.search(text)
         if told or ended:
@@ -124,7 +124,7 @@ class Call:
     is_resumed: bool  # Whether the server continues the journal.
     record: Path  # the folder in which a host keeps its record
 
-    def at(self, port: int, desk: int = 0) -> Server | None:
+    def start_at(self, port: int, desk: int = 0) -> Server | None:
         """Starts a server that listens at this port, and returns it, or None if a port is taken. `desk` is the desk's
         port, or 0 for any free one. While a host starts, this process already tries to connect to its desk, so that no
         other process is first. Raises `Fault` if the server doesn't start for another reason than a taken port."""
@@ -150,7 +150,7 @@ class Call:
         line = first_line(process, output, before, knock.wait if knock else time.sleep)
         told = LISTENING.fullmatch(line)
         if told:
-            desk, first = int(told["desk"] or told["port"]), knock.taken() if knock else None
+            desk, first = int(told["desk"] or told["port"]), knock.take_connection() if knock else None
             return Server(Process.of(process.pid), int(told["port"]), desk, knock is not None, output, process, first)
         status = process.wait()
         if not line.endswith("cannot listen"):
@@ -166,5 +166,5 @@ def start(folder: Path, lab: Path, port: int, journal: Path, by_number: int | No
     connections, one of which is the teacher's. Raises `Fault` if no server can be started."""
     require_built(by_number is not None)
     call = Call(folder, lab, journal, by_number, resumed is not None, folder / record.FOLDER)
-    again = call.at(resumed.port, resumed.desk) if resumed is not None else None
-    return again or first_free(port, call.at)
+    again = call.start_at(resumed.port, resumed.desk) if resumed is not None else None
+    return again or first_free(port, call.start_at)

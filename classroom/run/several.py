@@ -102,7 +102,7 @@ class Several:
             names = ", ".join(member.name for member in self.down())
             self.terminal.prompt = f"down: {names}> " if names else Terminal.PROMPT
 
-    def typed(self, line: str) -> None:
+    def run_line(self, line: str) -> None:
         """Runs a typed line, or prints what is wrong with it."""
         if line == EOF:
             return self.say("to end the class, type `end`; to end only network 2, type `end 2`")
@@ -166,7 +166,7 @@ class Several:
         if sys.stdin.isatty():
             self.terminal = Terminal([*self.names, *self.nodes()])
         read = self.terminal.read if self.terminal else read_lines
-        put: Callable[[str], None] = lambda line: self.news.put(lambda: self.typed(line))
+        put: Callable[[str], None] = lambda line: self.news.put(lambda: self.run_line(line))
         threading.Thread(target=read, args=[put], daemon=True).start()
 
     def nodes(self) -> list[str]:
@@ -191,7 +191,7 @@ class Several:
             if is_private(self.is_typed):
                 self.say(f"{FOR_ALL}, on which you can act {self.hall.address_to_act}", private=True)
         if self.clock is not None:
-            self.say(self.clock.told())
+            self.say(self.clock.first_line())
         if self.is_typed:
             self.say(f"{READY}help lists them; {addressed.HOW}")
 
@@ -218,7 +218,7 @@ class Several:
             self.say(warning)
         if not self.clock.is_over(datetime.now()):
             return
-        self.say(self.clock.over())
+        self.say(self.clock.last_line())
         self.clock = None
         for member in self.members:
             member.terminate()
@@ -276,7 +276,7 @@ class Several:
             if member.child is not None:
                 member.child.wait()
 
-    def hung(self) -> None:
+    def note_hung(self) -> None:
         """Notes in the file `class.json` that the terminal is closed. The class continues without one."""
         found = Class.read(self.folder)
         if found is not None:
@@ -287,7 +287,7 @@ class Several:
         for number in SIGNALS:
             signal.signal(number, lambda *_: self.news.put(self.end))
         signal.signal(signal.SIGUSR1, lambda *_: self.news.put(self.leave))
-        signal.signal(signal.SIGHUP, lambda *_: self.news.put(self.hung))
+        signal.signal(signal.SIGHUP, lambda *_: self.news.put(self.note_hung))
 
 
 def help_text() -> str:
@@ -420,7 +420,7 @@ def side_by_side(words: argparse.Namespace) -> int:
     server.require_built(words.serve)
     end_of(words.ends)  # A time that has passed raises an error before anything is made, as does a lab that is refused.
     networks, news = networks_of(words), News()
-    members = members_of(Path(), networks, words, news)
+    members = members_of(Path(), networks, words, news)  # The folder is made only after all labs are read.
     folder = make_folder(Path(words.into), networks)
     for member in members:
         member.folder = folder / member.name

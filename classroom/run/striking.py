@@ -34,7 +34,7 @@ class Striker:
         if desk.closing != self.how:
             self.how, self.closed = desk.closing, now
         if desk.closing.kind in ("every", "when-idle"):
-            self.by_clock(desk, now)
+            self.close_by_clock(desk, now)
             return
         known = desk.known
         sight = Sight([node for node, _ in known.report.privileged], list(known.book.chosen), now - known.news_came, now - self.closed)
@@ -53,7 +53,7 @@ class Striker:
         elif desk.closing.kind != "by-hand" and sight.idle >= SECONDS:
             desk.announcer.tell_waiting()
 
-    def by_clock(self, desk: Desk, now: float) -> None:
+    def close_by_clock(self, desk: Desk, now: float) -> None:
         """Closes a step under a daemon that closes by time, if its time has come at the time `now`. If no move is
         chosen, the desk prints for whom the class waits."""
         seconds = desk.closing.value
@@ -67,8 +67,9 @@ class Striker:
 
     def release_others(self, desk: Desk, but: set[int]) -> None:
         """Releases the chosen moves of all nodes that aren't in `but`, also those that are granted meanwhile. A move
-        that is granted after the last check is applied too, since only the server could prevent that. Stops if nothing
-        more is granted, and raises `Denied` if a release is denied for another reason than that no move is chosen."""
+        that is granted after the last check is applied too, since only the server could prevent that. Stops if the desk
+        notices that nothing more is granted. Raises `Refused` if a release is refused, and `Denied` if one is denied for
+        another reason than that no move is chosen."""
         for _ in range(LOOKS):
             others = sorted(desk.known.book.chosen.keys() - but)
             for node in others:

@@ -49,7 +49,7 @@ class Teller:
             except OSError:
                 pass
 
-    def alone(self, line: str) -> None:
+    def print_only(self, line: str) -> None:
         """Prints a line that is neither appended to the file nor shown on pages."""
         try:
             self.say(printable(line))

@@ -60,13 +60,14 @@ class Terminal:
         """Returns the completion of a text with the index `state`, or None after the last one. The first word of a line
         is completed to a command, and a later one to a name or number."""
         before = self.readline.get_line_buffer()[:self.readline.get_begidx()]
-        first = re.fullmatch(r"\s*(\d+\s+|\S+\s*:\s*)?", before) is not None  # A network may come before it.
+        first = re.fullmatch(r"\s*(\d+\s+|\S+\s*:\s*)?", before) is not None  # The command may follow the number or the name of a network.
         found = [f"{word} " for word in (WORDS if first else self.words) if word.startswith(text)]
         return found[state] if state < len(found) else None
 
     def around(self, line: str) -> str:
         """Returns the characters that print `line` on the terminal above the line that is being typed, or `line` itself
         if the terminal isn't read at the moment."""
+        # The first characters erase the typed line, which is printed again after `line`.
         return f"\r\x1b[K{line}{self.prompt}{self.readline.get_line_buffer()}" if self.reads else line
 
     def read(self, put: Callable[[str], None]) -> None:
@@ -76,7 +77,7 @@ class Terminal:
             try:
                 put(input(self.prompt))
             except EOFError:
-                try:
+                try:  # A closed terminal has no settings, but after Ctrl-D it still has them.
                     termios.tcgetattr(sys.stdin)
                 except termios.error:
                     return

@@ -300,7 +300,7 @@ class Kept(InRoom):
         tell.also.append(heard.append)
         with contextlib.redirect_stdout(io.StringIO()) as printed:
             tell("one\x1b")
-            tell.alone("for the terminal")
+            tell.print_only("for the terminal")
             tell("two\nthree")
         self.assertEqual(printed.getvalue(), "one\\x1b\nfor the terminal\ntwo\nthree\n")
         self.assertEqual(heard, ["one\\x1b", "two\nthree"])

@@ -64,7 +64,7 @@ class Alone(unittest.TestCase):
         """Until then the house only plays nodes of students named by `play`."""
         house = House(self.lab, 1, 20, self.printed.append)
         self.assertEqual((house.due([1, 2], 100), house.due([1, 2], 200)), ([], []))
-        self.assertTrue(house.told().endswith("; the house begins when the first student has said hello"))
+        self.assertTrue(house.played_line().endswith("; the house begins when the first student has said hello"))
         house.play("gus")
         self.assertEqual(house.due([1, 2], 201), [1])
         house.stop("gus")
@@ -79,7 +79,7 @@ class Alone(unittest.TestCase):
         gus = self.lab.nodes_of("gus")
         self.assertEqual(house.play("gus"), f"the house now plays for gus, at nodes {', '.join(map(str, gus))}")
         self.assertEqual(house.due([1, 2, 3, 4, 5, 6, 7], 0), gus)
-        self.assertEqual(house.told(), "the house plays for gus")
+        self.assertEqual(house.played_line(), "the house plays for gus")
         with self.assertRaisesRegex(ValueError, "^there is no student zoe with a node. The students are: gus, hana, ines, jonas$"):
             house.play("zoe")
         with self.assertRaisesRegex(ValueError, "^there is no student house "):
