@@ -100,12 +100,12 @@ class Recount(Replay):
     def counts(self) -> list[int]:
         """Replays all events of the journal, and counts its recoveries. Returns the places of the closes after which no
         node was privileged."""
-        for _ in self.replies():
+        for _ in self.replay():
             pass
         return self.rests
 
 
-def told(lab: labs.Lab, events: list[Event]) -> str:
+def recovery_line(lab: labs.Lab, events: list[Event]) -> str:
     """Returns the line with the counts of the recovery that ends with the last of these events, which are the first
     events of a run of the lab. The counts are those of the proved program. Raises `Fault` if the program is too old to
     count rounds."""
@@ -124,4 +124,4 @@ def recoveries(lab: labs.Lab, events: list[Event]) -> list[str]:
     edits = sum(event.is_edit for event in events)
     if edits > MOST_COUNTED:
         return [f"there were {edits} faults and changes of links. How the class became stable again is printed only if there are at most {MOST_COUNTED}"]
-    return [f"event {place}: {told(lab, events[:place])}" for place in Recount(lab, events, Comeback(lab)).counts()]
+    return [f"event {place}: {recovery_line(lab, events[:place])}" for place in Recount(lab, events, Comeback(lab)).counts()]

@@ -39,9 +39,9 @@ class Hider:
             if hides and between.strip() != ":":  # The value under `key` isn't a text.
                 return f"{''.join(pieces)}:*** (the rest is hidden)"
             word = json.loads(found[0], strict=False)
-            names = text[found.end():].lstrip().startswith(":")
+            is_name = text[found.end():].lstrip().startswith(":")
             pieces += [between, HIDDEN if hides or self.has_key(word) else found[0]]
-            hides = not hides and names and word.lower() == "key"
+            hides = not hides and is_name and word.lower() == "key"
             at = found.end()
         return "".join(pieces) + (":*** (the rest is hidden)" if hides else text[at:])
 

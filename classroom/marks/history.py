@@ -232,7 +232,7 @@ def reason(text: str) -> str:
     return f" <em>{escape(text)}</em>" if text else ""
 
 
-def guarded_rows(rows: list[Row]) -> list[tuple[int, str]]:
+def guard_denials(rows: list[Row]) -> list[tuple[int, str]]:
     """Returns the moves that were denied by a guard, each as the number of events before it and its line."""
     return [(row.place, row.asked) for row in rows if row.denied == GUARD]
 
@@ -245,7 +245,7 @@ def own_page(title: str, name: str, lab_file: Path, journal: Path, told: list[st
     lab, frames = frames_of(lab_file, journal)
     happened = events(journal.read_text(encoding="ascii"))
     rows = with_steps(lab, happened, name, lines)
-    return Played(lab, frames).page(title, section(f"What {name} sent", told, rows, reasons(lab, happened, guarded_rows(lines))))
+    return Played(lab, frames).page(title, section(f"What {name} sent", told, rows, reasons(lab, happened, guard_denials(lines))))
 
 
 def with_steps(lab: labs.Lab, journal: list[Event], name: str, lines: list[Row]) -> list[Row]:

@@ -111,8 +111,8 @@ class Run:
         asked = self.asked
         students = {
             name: {
-                "granted": {rule: marks.granted[rule] for rule in RULES},
-                "applied": {rule: marks.applied[rule] for rule in RULES},
+                "granted": {word: marks.granted[word] for word in RULES},
+                "applied": {word: marks.applied[word] for word in RULES},
                 "steps": marks.steps, "first": marks.first, "last": marks.last, "shared": marks.shared,
                 **self.by_column(name), "whole": self.is_whole(name),
                 **{named: self.by_column(name)[clause] for clause, named in CLAUSES.items()},
@@ -191,7 +191,7 @@ def rows(runs: list[Run], rule: Rule | None = None) -> list[list[str]]:
     table = [["journal", "student", "granted", "applied", *RULES, "steps", "first", "last", "shared", *DENIED, *MORE, *names]]
     for run in runs:
         for name, marks in run.tally.students.items():
-            numbers = [marks.granted.total(), marks.applied.total(), *(marks.applied[rule] for rule in RULES), marks.steps,
+            numbers = [marks.granted.total(), marks.applied.total(), *(marks.applied[word] for word in RULES), marks.steps,
                        marks.first, marks.last, marks.shared, *run.denied(name)]
             more = [str(len(run.lab.nodes_of(name))), guarded(run.network), *(rule.cells(run.values(name)) if rule else [])]
             table.append([guarded(str(run.journal)), name, *("-" if number is None else str(number) for number in numbers), *more])
@@ -233,6 +233,7 @@ def text(runs: list[Run], rule: Rule | None = None) -> str:
     UNTOLD."""
     lines = []
     for run in runs:
+        # The columns of the journal and the network are left out, since their values are the same in each row.
         table = [[*row[1:NETWORK], *row[NETWORK + 1:]] for row in rows([run], rule)]
         table[0] = [CLAUSES.get(head, head).replace("_", " ") for head in table[0]]
         widths = [max(len(row[column]) for row in table) for column in range(len(table[0]))]

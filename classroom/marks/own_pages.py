@@ -9,7 +9,7 @@ from classroom.core import folders
 from classroom.core import lab as labs
 from classroom.core.journal import events
 from classroom.core.program import CLASS
-from classroom.marks.history import Row, guarded_rows, hider_of, rows_of, section, sessions_of, with_steps
+from classroom.marks.history import Row, guard_denials, hider_of, rows_of, section, sessions_of, with_steps
 from classroom.marks.reasons import reasons
 from classroom.marks.vouched import vouched
 from classroom.pages.frames import frames_of
@@ -45,7 +45,7 @@ def write_pages(folder: Path, tell: Callable[[str], None]) -> None:
     if len(played.data) * len(every) > MOST:
         return tell(f"the pages with the requests of each student aren't made, since together they would be too large. To make the page of the student "
                     f"NAME, type: {CLASS} history {folder} NAME -o NAME.html")
-    why = reasons(lab, happened, [each for rows in every.values() for each in guarded_rows(rows)])
+    why = reasons(lab, happened, [each for rows in every.values() for each in guard_denials(rows)])
     (folder / FOLDER).mkdir(0o700, exist_ok=True)
     for name, lines in every.items():
         more = section(f"What {name} sent", told, with_steps(lab, happened, name, lines), why)

@@ -16,8 +16,8 @@ MOST = 2000  # the most lines that are explained
 def reasons(lab: labs.Lab, events: Sequence[Event], asked: Sequence[tuple[int, str]]) -> dict[tuple[int, str], str]:
     """Returns the model's explanations of the denied moves in `asked`, a run's moves, each as the number of events
     before it and its line. The result has them by these two values. `events` are the run's events, and `lab` is its
-    lab. Leaves out moves that the model doesn't explain, and explains at most MOST. Returns none if the program doesn't
-    print its limits."""
+    lab. For this, the model is asked for all events again, with the denied moves between them. Leaves out moves that
+    the model doesn't explain, and explains at most MOST. Returns none if the program doesn't print its limits."""
     wanted = sorted(set(asked), key=lambda each: each[0])[:MOST]
     lines = {place: [line for _, line in own] for place, own in groupby(wanted, key=lambda each: each[0])}
     script, found = [*replay.HELLOS], dict[int, tuple[int, str]]()
@@ -26,7 +26,7 @@ def reasons(lab: labs.Lab, events: Sequence[Event], asked: Sequence[tuple[int, s
             script.append(replay.request(events[place - 1].at, events[place - 1].words))
         for line in lines.get(place, []):
             script.append(f"2 {line}")  # Connection 2 is that of the only student, who owns all nodes.
-            found[len(script)] = (place, line)
+            found[len(script)] = (place, line)  # The model names a line by its number in the script.
     known = limits.known()
     if not found or known is None:
         return {}

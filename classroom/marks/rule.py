@@ -315,7 +315,7 @@ def logical(left: Expression, right: Expression, is_or: bool) -> Expression:
     def value(row: Row) -> Value:
         """Returns the value of the expression with `or` or `and` for a row of marks, or None if it is unknown."""
         sides = truth(left(row)), truth(right(row))
-        return is_or if is_or in sides else None if None in sides else not is_or
+        return is_or if is_or in sides else None if None in sides else not is_or  # One true side decides `or`, and one false side `and`.
 
     return value
 

@@ -178,7 +178,8 @@ class Drawing:
 
     def node_in_words(self, node: int, owners: list[str], state: State) -> str:
         """Returns the description of a node with these owners in a state, for people who don't see the drawing."""
-        pointer, partner = state.pointers[node], next((sum(pair) - node for pair in state.pairs if node in pair), None)
+        pointer = state.pointers[node]
+        partner = next((a if node == b else b for a, b in state.pairs if node in (a, b)), None)
         return describe_node(node, owners, pointer, state.ms[node], partner, state.privileged.get(node, ""), state.chosen.get(node, ""))
 
     def mark(self, event: Event | None) -> str:

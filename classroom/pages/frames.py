@@ -60,7 +60,7 @@ class Looking(Replay):
 
     def run(self) -> Iterator[Frame]:
         """Yields the frames in order, the beginning first."""
-        for _ in self.replies():
+        for _ in self.replay():
             yield from self.frames
             self.frames.clear()
 

@@ -106,28 +106,28 @@ class Box:
     right: float
     bottom: float
 
-    def shared(self, other: Box) -> float:
+    def shared_area(self, other: Box) -> float:
         """Returns the area of the intersection with another box, as if it were wider and higher by GAP. Returns 0 if
         the boxes are at least GAP apart."""
         across = min(self.right, other.right) - max(self.left, other.left) + GAP
         down = min(self.bottom, other.bottom) - max(self.top, other.top) + GAP
         return across * down if across > 0 and down > 0 else 0.0
 
-    def outside(self, field: Field) -> float:
+    def length_outside(self, field: Field) -> float:
         """Returns how far the box reaches beyond the edges of a field, or into the margin GAP along them, added up for
         the four edges."""
         return sum(max(0.0, far) for far in (GAP - self.left, self.right - field.width + GAP, GAP - self.top, self.bottom - field.height + GAP))
 
-    def in_disc(self, middle: Point, radius: float) -> float:
+    def depth_in_disc(self, middle: Point, radius: float) -> float:
         """Returns how far the box reaches into the disc with this middle and radius, which is made larger by GAP, or 0
         if it doesn't."""
-        x, y = min(max(middle[0], self.left), self.right), min(max(middle[1], self.top), self.bottom)
+        x, y = min(max(middle[0], self.left), self.right), min(max(middle[1], self.top), self.bottom)  # the box's nearest point
         return max(0.0, radius + GAP - math.dist((x, y), middle))
 
-    def on_line(self, a: Point, b: Point) -> float:
+    def length_inside(self, a: Point, b: Point) -> float:
         """Returns the length of the part of the line from a to b that is inside the box, which is made larger by GAP at
         each edge."""
-        begin, end = 0.0, 1.0
+        begin, end = 0.0, 1.0  # The part between these shares of the way from a to b is inside, first across and then also down.
         for start, step, low, high in ((a[0], b[0] - a[0], self.left - GAP, self.right + GAP), (a[1], b[1] - a[1], self.top - GAP, self.bottom + GAP)):
             if not step:
                 if not low < start < high:
@@ -204,11 +204,12 @@ def corners_of(layout: Layout) -> dict[int, Point]:
     corner."""
     radius, points = layout.radius, layout.points
     found, frames = {node: CORNERS[0] for node in points}, dict[int, Box]()
+    # A frame is placed again in the next round, since later frames may have been placed upon it.
     for _ in range(TURNS if radius >= LEAST_FRAMED else 0):
         for node, middle in points.items():
             frames.pop(node, None)
             discs = [point for other, point in points.items() if other != node]
-            found[node] = min(CORNERS, key=lambda corner: lies_upon(framed(middle, corner, radius), layout, discs, frames.values()))
+            found[node] = min(CORNERS, key=lambda corner: overlap(framed(middle, corner, radius), layout, discs, frames.values()))
             frames[node] = framed(middle, found[node], radius)
     return {node: (round(across * radius, 2), round(down * radius, 2)) for node, (across, down) in found.items()}
 
@@ -243,12 +244,13 @@ def placed(layout: Layout, form: Form, owners: dict[int, list[str]], near: Near)
     lines = [(layout.points[a], layout.points[b]) for a, others in near.items() for b in others if a < b]
     hard = soft = 0.0
     for node in sorted(near, key=lambda node: -len(near[node])):
+        # `least` has for the best label so far its `overlap`, its overlap with links and a little for its order, and that with links alone.
         best, least = None, (math.inf, math.inf, 0.0)
         discs = [point for other, point in layout.points.items() if other != node]
         for order, label in enumerate(candidates(node, layout, form, form.name(owners[node]), near[node])):
-            upon = lies_upon(label.box, layout, discs, [other.box for other in labels.values()])
+            upon = overlap(label.box, layout, discs, [other.box for other in labels.values()])
             if upon <= least[0]:  # Overlaps with discs, labels and edges count first, and then those with links.
-                along = sum(label.box.on_line(*line) for line in lines)
+                along = sum(label.box.length_inside(*line) for line in lines)
                 best, least = min((best, least), (label, (upon, along + 0.1 * order, along)), key=lambda it: it[1][:2])
             if least[0] == 0 and least[2] == 0:
                 break
@@ -258,11 +260,11 @@ def placed(layout: Layout, form: Form, owners: dict[int, list[str]], near: Near)
     return labels, hard, soft
 
 
-def lies_upon(box: Box, layout: Layout, discs: list[Point], others: Iterable[Box]) -> float:
+def overlap(box: Box, layout: Layout, discs: list[Point], others: Iterable[Box]) -> float:
     """Returns a measure of how much a label's box overlaps the discs around the points in `discs`, the boxes in
     `others`, and the edges of the layout's field. The measure is 0 if it overlaps none of them."""
-    upon = 20 * box.outside(layout.field) + sum(map(box.shared, others))
-    return upon + 20 * sum(box.in_disc(point, RING * layout.radius) for point in discs)
+    upon = 20 * box.length_outside(layout.field) + sum(map(box.shared_area, others))  # A length of 1 counts as an area of 20.
+    return upon + 20 * sum(box.depth_in_disc(point, RING * layout.radius) for point in discs)
 
 
 def candidates(node: int, layout: Layout, form: Form, text: str, others: list[int]) -> Iterator[Label]:
@@ -301,6 +303,7 @@ def label_at(middle: Point, radius: float, angle: float, form: Form, text: str, 
     is_above = upright < -SIDEWAYS
     top = y - tucked if upright > SIDEWAYS else y - form.high + tucked if is_above else y - form.high / 2
     pill_high = PILL_HIGH * form.pill
+    # The name is the lower line of a label above its node, and otherwise the upper one. Its position is that of the letters' base line.
     name_y = top + form.high - 0.35 * form.size if is_above else top + 0.95 * form.size
     pill_y = top + pill_high / 2 if is_above else top + form.high - pill_high / 2
     box = Box(middle[0] + left, middle[1] + top, middle[0] + left + width, middle[1] + top + form.high)

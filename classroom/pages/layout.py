@@ -27,7 +27,7 @@ class Field:
 
     @property
     def most_radius(self) -> float:
-        """Returns the largest radius of a node."""
+        """Returns the largest radius of a node. In a narrow field it depends on the width and not on the height."""
         return self.share * min(self.height, 0.62 * self.width + 100)
 
 

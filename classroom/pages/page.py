@@ -55,6 +55,7 @@ class Frames:
         }
         if event is not None:
             row |= {"kind": event.kind, "text": " ".join(event.words), "nodes": [self.order[node] for node in event.nodes]}
+        # `State.copy` shares the values that are only replaced, so if one is the same object, nothing in it has changed.
         changes = {
             "registers": self.registers(before, state),
             "chosen": self.rules(before.chosen, state.chosen),
@@ -135,6 +136,7 @@ class Played:
         each = iter(frames)
         first = next(each)
         self.drawing = drawing_of(lab.without_house(), first.state.links)
+        # All frames may share one state, so the picture of the first is drawn before the next is read.
         self.picture, rows = self.drawing.svg(first.state, None), Frames(self.drawing)
         for frame in chain([first], each):
             rows.add(frame, len(frame.state.links))
@@ -152,8 +154,9 @@ def page_of(title: str, lab: Lab, frames: Iterable[Frame]) -> str:
 
 def live_page(title: str, drawing: Drawing, state: State, acts: bool) -> tuple[str, str]:
     """Returns the HTML page of a run that goes on, and the content policy to send with it. The page has this title and
-    shows the drawing in this state, and its script asks for changes. `acts` says whether the teacher can act on the
-    page."""
+    shows the drawing in this state, and its script then receives the present state and all changes. `acts` says whether
+    the teacher can act on the page."""
+    # The first message to the page has all links, and later ones have new links.
     own = {"links": [], "acts": acts, "buttons": {name: it.line for name, it in BUTTONS.items()}, "byLinks": BY_LINKS}
     parts = {name: button(it) for name, it in BUTTONS.items()}
     return drawing_page("live", title, drawing, drawing.svg(state, None), as_element(constant_data(drawing, state) | own), parts)

@@ -42,7 +42,7 @@ class Pages(TwoAddresses):
         there."""
         self.acts = new_token()
         if self.present is not None:
-            self.present.put()
+            self.present.put()  # A new snapshot wakes the threads of all pages, so that those at the old address end.
 
     def show(self, present: Present, tell: Callable[[str], None]) -> None:
         """Starts to answer. `present` has what the page shows, and the callback prints a line about an error."""
@@ -105,6 +105,7 @@ def message(rows: Frames, present: Present, before: Now | None, now: Now) -> dic
     rows.add(Frame(present.events[now.events - 1] if now.events else None, now.state), len(now.state.links))
     events = present.events[max(before.events if before else 0, now.events - LISTED):now.events]
     lines = present.lines[max(before.lines if before else 0, now.lines - LISTED):now.lines]
+    # The last bar that was sent may have changed since, so it is sent again.
     return rows.rows.pop() | {
         "begin": before is None, "closing": now.closing, "ended": now.ended,
         "new": rows.drawn_links(links), "bars": present.bars.rows[max(before.bars - 1, 0) if before else 0:now.bars],

@@ -34,8 +34,9 @@ def request(at: int | str, words: Sequence[str]) -> str:
     configuration with the number `at`."""
     word, *rest = words
     if word == "grant":
-        partner = f',"with":{rest[3]}' if len(rest) == 4 else ""
-        return f'2 {{"do":"move","at":{at},"node":{rest[1]},"rule":"{rest[2]}"{partner}}}'
+        _, node, rule, *partner = rest  # The first value is the student's name.
+        more = f',"with":{partner[0]}' if partner else ""
+        return f'2 {{"do":"move","at":{at},"node":{node},"rule":"{rule}"{more}}}'
     return f"1 {encode(desk_words.request(word, rest))}"
 
 
@@ -67,7 +68,7 @@ class Replay:
     """A replay of a journal's events. Subclasses ask for more after each event."""
 
     def __init__(self, lab: labs.Lab, events: list[Event]) -> None:
-        """Begins with the lab's network. No event is asked for before `replies`."""
+        """Begins with the lab's network. No event is asked for before `replay`."""
         self.lab, self.events = lab, events
         self.links = {labs.ordered(link) for link in lab.links}
         self.registers = {node.id: (node.p, node.m) for node in lab.nodes}
@@ -82,14 +83,14 @@ class Replay:
     def note_reply(self, event: Event, reply: dict[str, Any]) -> None:
         """Handles the reply to an event. Here it does nothing; subclasses redefine it."""
 
-    def replies(self) -> Iterator[None]:
+    def replay(self) -> Iterator[None]:
         """Replays all events, and yields after each reply was handled. Raises `Fault` if an event isn't granted again
         or the program names another place for it."""
         left, is_first = self.events, True
         while is_first or left:
             self.place, self.number = self.now
             script, left = self.part(left, is_first)
-            yield from self.answered(script)
+            yield from self.run_script(script)
             is_first = False
 
     def part(self, events: list[Event], is_first: bool) -> tuple[Script, list[Event]]:
@@ -111,7 +112,7 @@ class Replay:
                 if script.size > SCRIPT_LIMIT:
                     break
                 fits, kept = index + 1, len(script.lines)
-        else:
+        else:  # All events are asked for, but the last ones, which made no configuration, may have made the script too long.
             if script.size <= SCRIPT_LIMIT:
                 return script, []
         if fits == 0:
@@ -141,7 +142,7 @@ class Replay:
         """Copies the registers in a reply into those with which the next part begins."""
         self.registers[reply["node"]] = (reply["p"], reply["m"])
 
-    def answered(self, script: Script) -> Iterator[None]:
+    def run_script(self, script: Script) -> Iterator[None]:
         """Runs a script, passes each reply to its function, and yields after each. Raises `Fault` if a reply isn't
         `ok`."""
         nodes = [labs.Node(node, [STUDENT], p, m) for node, (p, m) in self.registers.items()]
@@ -157,7 +158,7 @@ class Replay:
         for line, reply, take in zip(script.lines, replies, script.takes):
             told = values_of(reply)
             if "ok" not in told:
-                raise another(line, reply)
+                raise wrong_reply(line, reply)
             if take is not None:
                 take(told)
             yield
@@ -174,7 +175,7 @@ def values_of(reply: str) -> dict[str, Any]:
     return told
 
 
-def another(line: str, reply: str) -> Fault:
+def wrong_reply(line: str, reply: str) -> Fault:
     """Returns the fault to raise if the program doesn't grant a line again that was granted in the run. `reply` is its
     reply to the line."""
     return Fault(f"the journal can't be replayed: the program answered the line {line[2:]} by {reply[2:]}. "
@@ -196,9 +197,10 @@ def report(lab: labs.Lab, lines: list[list[str]]) -> dict[str, Any]:
     script = [*HELLOS, *(request(at, words) for _, at, *words in lines), REPORT]
     replies = all_of(alone(nodes, lab.links, max(1, len(lines))), script)
     if replies.count('"ok":') != len(script):
-        raise next(another(line, reply) for line, reply in zip(script, replies.splitlines()) if '"ok":' not in reply)
+        raise next(wrong_reply(line, reply) for line, reply in zip(script, replies.splitlines()) if '"ok":' not in reply)
+    # The last two lines, before the empty text that follows the last newline: the replies to the last event and to the request for the report.
     last, told = replies.rsplit("\n", 3)[-3:-1]
-    place: int = values_of(last).get("place", 0)
+    place: int = values_of(last).get("place", 0)  # Without an event, `last` is the reply to a hello, which has no place.
     if place != len(lines):
         raise wrong_place(len(lines), place)
     return values_of(told)

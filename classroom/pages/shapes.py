@@ -99,7 +99,7 @@ def walk(near: Near, start: int) -> list[int]:
 def snake(order: list[int], aspect: float) -> Points:
     """Returns points for the nodes of a path, row by row, in this order. A long path turns back at the end of each row.
     `aspect` is the field's ratio of width to height."""
-    rows = max(1, round(math.sqrt(len(order) / aspect / 3)))
+    rows = max(1, round(math.sqrt(len(order) / aspect / 3)))  # The wider the field, the fewer and longer are the rows.
     across = -(-len(order) // rows)
     points = {}
     for index, node in enumerate(order):
@@ -115,6 +115,7 @@ def ellipse(order: list[int], aspect: float, room: float = 0.0) -> Points:
     wide = min(MOST_WIDE, max(1.0, aspect))
     angles = [math.tau * turn / TURNS - (0 if room else math.pi / 2) for turn in range(TURNS + 1)]
     fine = [(wide * math.cos(angle), math.sin(angle)) for angle in angles]
+    # The lengths of the ellipse from its beginning to each point in `fine`, by which the nodes get equal distances.
     along = list(accumulate((math.dist(a, b) for a, b in pairwise(fine)), initial=0.0))
     room = max(room, 1 / len(order))
     start, share = (room / 2, (1 - room) / max(1, len(order) - 1)) if angles[0] == 0 else (0.0, 1 / len(order))
@@ -156,6 +157,7 @@ def grid_shape(near: Near) -> Shape | None:
         return None
     first = steps_from(corners[0], near)
     found = [points for corner in corners[1:] if (points := lattice(near, first, steps_from(corner, near))) is not None]
+    # Each of these results has another corner at the end of the first row. Its key is the neighbour of the first corner in that row.
     right = {min(near[corners[0]], key=lambda node: points[node][1]): points for points in found}
     return Shape("grid", right[min(right)]) if right else None
 
@@ -163,10 +165,11 @@ def grid_shape(near: Near) -> Shape | None:
 def lattice(near: Near, first: dict[int, int], second: dict[int, int]) -> Points | None:
     """Returns points with whole coordinates for the nodes of a grid, or None if the network isn't a grid. `near` has
     the neighbours of each node. `first` and `second` have the distances of each node to the two ends of the first
-    row."""
+    row. In a grid, the difference of a node's two distances gives its column, and their sum its row. These points are
+    then checked: they have to fill a rectangle, and the links have to be exactly those between adjacent points."""
     if len(first) != len(near):
         return None
-    last = min(first[node] for node in second if not second[node])
+    last = min(first[node] for node in second if not second[node])  # the distance of the two ends, and so the last column
     width, rest = last + 1, len(near) % (last + 1)
     cells = {node: ((first[node] - second[node] + last) / 2, (first[node] + second[node] - last) / 2) for node in near}
     wanted = {(float(column), float(row)) for column in range(width) for row in range(len(near) // width)}

@@ -71,6 +71,7 @@ def sparse_pulls(far: Rows) -> list[list[Pull]]:
     found = []
     for index, row in enumerate(far):
         near = [(other, 1.0, 1.0) for other, apart in enumerate(row) if apart == 1]
+        # A pivot pulls for the nodes of its region that are at most half as far from it as this node.
         around = ((pivot, row[pivot], sum(apart <= row[pivot] / 2 for apart in regions[pivot])) for pivot in pivots if row[pivot] > 1)
         found.append(near + [(pivot, apart, max(1, count) / (apart * apart)) for pivot, apart, count in around])
     return found
@@ -92,6 +93,7 @@ def levelled(points: list[Point]) -> list[Point]:
     middle_x, middle_y = (sum(values) / len(points) for values in zip(*points))
     moved = [(x - middle_x, y - middle_y) for x, y in points]
     across, down = sum(x * x for x, _ in moved), sum(y * y for _, y in moved)
+    # This is the angle of the principal axis, in whose direction the sum of squares is greatest.
     angle = math.atan2(2 * sum(x * y for x, y in moved), across - down) / 2
     return [(x * math.cos(angle) + y * math.sin(angle), y * math.cos(angle) - x * math.sin(angle)) for x, y in moved]
 
@@ -120,7 +122,7 @@ def near_pairs(points: list[Point]) -> Iterator[tuple[int, int]]:
         squares.setdefault((math.floor(x / LEAST), math.floor(y / LEAST)), []).append(index)
     for (column, row), own in squares.items():
         yield from combinations(own, 2)
-        for across, down in ((1, 0), (-1, 1), (0, 1), (1, 1)):
+        for across, down in ((1, 0), (-1, 1), (0, 1), (1, 1)):  # half of the adjacent squares; from the others this one is reached
             yield from product(own, squares.get((column + across, row + down), ()))
 
 
@@ -162,7 +164,7 @@ def classical_scaling(far: Rows, axes: Rows) -> Rows:
             axis = [each / length for each in axis]
             unit, axis = axis, [sum(map(mul, row, axis)) for row in centred]
             size = math.hypot(*axis)
-        units.append(unit)
+        units.append(unit)  # `unit` is from the last turn, and `size` is the eigenvalue.
         coordinates.append([each * math.sqrt(size) for each in unit])
     return coordinates
 

@@ -229,7 +229,7 @@ class Labels(unittest.TestCase):
                 for box in boxes.values():
                     self.assertTrue(box.left >= 0 and box.top >= 0 and box.right <= WIDE.width and box.bottom <= WIDE.height)
                     self.assertEqual([node for node, point in view.layout.points.items() if near(box, point) < radius], [])
-                    self.assertEqual([link for link in links if box.on_line(*(view.layout.points[node] for node in link)) > 0], [])
+                    self.assertEqual([link for link in links if box.length_inside(*(view.layout.points[node] for node in link)) > 0], [])
 
     def test_in_narrow_fields_the_frames_of_rules_overlap_no_other_node_and_no_other_frame(self) -> None:
         """Tries random, complete and crowded networks, on a phone and in a small drawing. There are no names there."""
@@ -252,11 +252,11 @@ class Labels(unittest.TestCase):
                             self.assertFalse(min(a.right, b.right) > max(a.left, b.left) and min(a.bottom, b.bottom) > max(a.top, b.top))
         self.assertGreater(checked, 80)  # Of 96 drawings, few may have discs that are too small for frames.
 
-    def test_on_line_returns_the_length_of_the_part_of_a_line_in_a_box_that_is_widened_by_the_gap(self) -> None:
+    def test_length_inside_returns_the_length_of_the_part_of_a_line_in_a_box_that_is_widened_by_the_gap(self) -> None:
         """GAP is 2, so this box reaches from 8 to 22."""
         box = Box(10, 10, 20, 20)
         for a, b, length in (((0, 15), (30, 15), 14), ((15, 0), (15, 9), 1), ((0, 0), (5, 30), 0), ((0, 30), (30, 0), 14 * math.sqrt(2))):
-            self.assertAlmostEqual(box.on_line(a, b), length)
+            self.assertAlmostEqual(box.length_inside(a, b), length)
 
     def test_long_names_are_cut_and_networks_without_room_have_no_labels(self) -> None:
         view, _ = viewed("grid:4x3", 12)
