@@ -76,7 +76,7 @@ def entries_up_to(text: bytes, events: int) -> bytes:
     end = text.rfind(b"\n") + 1
     while end:
         start = text.rfind(b"\n", 0, end - 1) + 1
-        # Missing words are empty. A line with `>` doesn't complete an entry, since its reply is missing.
+        # Missing words are empty. A line with `>` doesn't complete an entry, since its reply is missing. `verify` judges a line without a number.
         _, place, sign, *rest = [*text[start:end - 1].split(b" ", 3), b"", b"", b""]
         number = plain.number(place) if place.isdigit() else 0
         if sign != b">" and number is not None and number <= events and granted_place(sign, rest[0]) <= events:

@@ -231,6 +231,7 @@ def pads(kind: str, field: Field, form: Form, owners: dict[int, list[str]]) -> P
     longest = max(form.widest_pill, *(text_width(form.name(each), form.size) for each in owners.values()))
     side = min(0.2 * field.width, 1.2 * most + 0.7 * form.size + longest)
     narrow = max(2.2 * most, longest / 2 + 2 * GAP)
+    # A grid has its labels at the lower right, and a path or tree mostly above or below its nodes. Elsewhere they can be on either side.
     left, right = {"grid": (1.7 * most, side), "path": (narrow, narrow), "tree": (narrow, narrow)}.get(kind, (side, side))
     top = form.high + 1.5 * most if kind in ("cycle", "complete", "star", "tree", "path") else 1.5 * most
     return Pads(left, right, top, form.high + 1.5 * most)

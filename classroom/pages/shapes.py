@@ -118,6 +118,7 @@ def ellipse(order: list[int], aspect: float, room: float = 0.0) -> Points:
     # The lengths of the ellipse from its beginning to each point in `fine`, by which the nodes get equal distances.
     along = list(accumulate((math.dist(a, b) for a, b in pairwise(fine)), initial=0.0))
     room = max(room, 1 / len(order))
+    # The angles begin at 0 if room was asked for. The nodes then begin after half of it.
     start, share = (room / 2, (1 - room) / max(1, len(order) - 1)) if angles[0] == 0 else (0.0, 1 / len(order))
     return {node: fine[bisect_left(along, along[-1] * (start + share * index))] for index, node in enumerate(order)}
 

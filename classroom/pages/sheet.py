@@ -30,6 +30,7 @@ def sheet(drawing: Drawing, frames: list[Frame], theme: str = colours.LIGHT) -> 
         colours.style(OWN, theme),
         f'<rect class="ground" width="100%" height="100%"/>{arrow[0]}',
         *(cell(drawing, frame, index) for index, frame in enumerate(frames)),
+        # The position of `key` is that below a single field.
         f'<g transform="translate(0 {whole - CELL.height:g})">{key}</g></svg>\n' if key else "</svg>\n",
     ])
 

@@ -134,6 +134,7 @@ class DiskRoom:
         """Returns a line if the disk has little room or none now, or has enough room after it had none. Returns an
         empty list if the state is that of the last check."""
         left = self.left()
+        # On a nearly full disk nothing is written for a test, since that would take room from the journal.
         kind, line = disk_line(left, self.write_error() if left >= LITTLE else "")
         before, self.told = self.told, kind
         if kind == before:

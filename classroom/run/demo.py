@@ -20,7 +20,7 @@ WORDS = ("--close", "every:0.5", "--until", "stable", "--beside", "--into")
 SIGNALS = (signal.SIGINT, signal.SIGTERM)
 
 
-def bots_of(lab: labs.Lab, port: int, room: Path) -> list[subprocess.Popen[bytes]]:
+def start_bots(lab: labs.Lab, port: int, room: Path) -> list[subprocess.Popen[bytes]]:
     """Writes the slips of a lab into the folder `slips` in `room`, and starts a bot for each student, which connects to
     the port. Returns the processes."""
     slips.write_all(lab, Way(port, "demo"), room / "slips")
@@ -53,7 +53,7 @@ def demo(words: argparse.Namespace) -> int:
             print(line, end="", flush=True)
             told = re.match(r"port (\d+), ", line)
             if told:
-                bots += bots_of(lab, int(told[1]), Path(room))
+                bots += start_bots(lab, int(told[1]), Path(room))
         status = run.wait()
         for bot in bots:
             try:

@@ -162,7 +162,7 @@ def show(pages: projector.Pages, desk: Desk, tell: Teller, typed: bool) -> None:
     says whether a program types the commands, so that this program reads what is printed."""
     watch = desk.start_watch()
 
-    def act() -> None:
+    def tell_address_to_act() -> None:
         """Prints the address to act at if only the teacher can read what is printed. Otherwise prints that it isn't
         shown."""
         if is_private(typed):
@@ -173,11 +173,11 @@ def show(pages: projector.Pages, desk: Desk, tell: Teller, typed: bool) -> None:
     def renew() -> None:
         """Changes the address to act at, and prints it."""
         pages.renew()
-        act()
+        tell_address_to_act()
 
     desk.another_page = renew
     tell(f"{TO_LOOK} {pages.address}")
-    act()
+    tell_address_to_act()
     tell.also.append(lambda line: watch.present.put(line=desk.names.line(line)))
     pages.show(watch.present, tell)
 

@@ -89,7 +89,7 @@ def place_of(folder: str | None, lab: Path) -> Place | None:
     return Place(next(iter(hosts), kept.address or opening.own_host_name()), kept.port)
 
 
-def page_for_all(folder: str | None, lab: Path, port: int, looks: str) -> str:
+def route_to_page_for_all(folder: str | None, lab: Path, port: int, looks: str) -> str:
     """Makes the door whose folder is `folder` forward requests for the page for all networks of a class, which this
     process serves at `port`. Returns the address of the page through the door, or an empty text if `folder` is None or
     lacks the door's data. `looks` is the token of the page. The door's address is that in the slips of the lab in the

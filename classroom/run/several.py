@@ -86,7 +86,7 @@ class Several:
         member.note_end()
         if member.status == DOWN and not self.is_left:
             self.say(self.alarm(member))
-        self.prompt()
+        self.update_prompt()
 
     def alarm(self, member: Member) -> str:
         """Returns the line of the alarm for `member`, a network that is down."""
@@ -96,7 +96,7 @@ class Several:
         """Returns the networks that are down."""
         return [member for member in self.members if member.status == DOWN]
 
-    def prompt(self) -> None:
+    def update_prompt(self) -> None:
         """Shows in the terminal's prompt which networks are down."""
         if self.terminal is not None:
             names = ", ".join(member.name for member in self.down())
@@ -136,7 +136,7 @@ class Several:
         if word == addressed.RESUME:
             if member.status == DOWN:
                 member.start(self.hear, self.note_end)
-                self.prompt()
+                self.update_prompt()
             elif is_alone:
                 self.say(f"{member.name} isn't down, so there is nothing to resume")
         elif word == addressed.END and member.status == DOWN:
@@ -144,7 +144,7 @@ class Several:
                 self.say(f"{member.name}: {member.give_up()}")
             except ValueError as error:
                 self.say(f"{member.name}: not done: {error}")
-            self.prompt()
+            self.update_prompt()
         elif not member.send(line) and is_alone:
             self.say(f"{member.name}: not done: {'this network has ended' if member.status == ENDED else member.alarm or 'this network is still starting'}")
 
@@ -373,13 +373,13 @@ def run_desk(folder: Path, members: list[Member], news: News, words: argparse.Na
     end = end_of(words.ends, kept.ends if kept else None)
     several = Several(folder, members, news, typed, Clock(end, datetime.now()) if end else None)
     if words.page is not None:
-        several.hall = page_of(several, words.page, kept.looks if kept else None)
+        several.hall = open_page(several, words.page, kept.looks if kept else None)
     files = [Path(member.network.lab) for member in members]
     with letting.door(with_door(words), files, several.say, kept.door if kept else None) as door:
         for member in members:
             member.more += ["--door-at", door] if door is not None else []
         if several.hall is not None:
-            several.from_elsewhere = letting.page_for_all(door, files[0], several.hall.server_port, several.hall.looks)
+            several.from_elsewhere = letting.route_to_page_for_all(door, files[0], several.hall.server_port, several.hall.looks)
         write_class(several, end, door)
         several.queue_signals()
         start_networks(several)
@@ -388,7 +388,7 @@ def run_desk(folder: Path, members: list[Member], news: News, words: argparse.Na
         return several.attend()
 
 
-def page_of(several: Several, port: int, token: str | None) -> hall.Hall:
+def open_page(several: Several, port: int, token: str | None) -> hall.Hall:
     """Opens the page of all networks of a class, at a port or the next free one. `token` is the token of the page's
     earlier address, or None for a new address. Raises `Fault` if no port is free."""
     members = several.members
