@@ -45,7 +45,7 @@ pub(crate) fn together(a: &Findings, b: &Findings) -> Findings
     }
 }
 
-/// Returns the union of two sets of ranks (the numbers of students in the roster).
+/// Returns the union of two sets of students. A student stands there as a rank: the index of the student in the roster.
 fn union(a: NodeSet, b: NodeSet) -> NodeSet
     ensures { (q : ℕ) → set.contains result q ≡ (set.contains a q || set.contains b q) }
 {

@@ -52,9 +52,10 @@ pub fn courtships_in_numbers()
     ensures odd { (k : ℕ) → most_courtships (2 * k + 1) ≡ k * k + k }
 {}
 
-/// A courting pointer leads from an unmarried node to a higher node that may still marry it. The potential that counts
-/// these pointers is a number that depends on the configuration. A step of moves whose guards hold lowers it by at
-/// least the number of nodes that move. For n nodes the potential is at most 3n + 2k, where k is n²/4, rounded down.
+/// The courting potential of a configuration is a bound on the moves that can still come. It is the sum of a part for
+/// each node, of at most 3, and of 2 for each courtship that is possible among the unmarried nodes. The part of an
+/// unmarried node is least if it courts another one. A step of moves whose guards hold lowers the potential by at least
+/// the number of nodes that move. For n nodes the potential is at most 3n + 2k, where k is n²/4, rounded down.
 pub fn step_lowers_courting_potential()
     ensures lower { (c : Configuration) (chosen : ℕ → Option Rule) → IsLawful c → AllHold c chosen →
         courting_potential (step c chosen) + count_below c.size (moves chosen) ≤ courting_potential c }

@@ -91,7 +91,7 @@ pub(crate) fn send_line(stream: &TcpStream, line: &[u8]) {
 
 /// Reads and drops up to `PARTING_SIZE` bytes of what the other side sent. Without this, closing the socket would
 /// discard the bytes that the system has still to send. Waits for at most the stream's read timeout. Returns whether
-/// the other side may send more: `false` if it has shut down its writing side or is gone.
+/// the other side may send more: `false` if it has shut down its writing side, is gone, or the read was interrupted.
 pub(crate) fn drain(stream: &TcpStream) -> bool {
     let mut stream = stream;
     let mut unwanted = [0; PARTING_SIZE];

@@ -127,9 +127,9 @@ impl HostState {
         );
     }
 
-    /// Returns the turn of the next denial of a name and key: the time before which it isn't sent. The turn is now, or
-    /// 12 milliseconds after the turn of the last denial, if that is later. The denials of both ports are counted
-    /// together. Returns an error if the clock fails.
+    /// Takes the next turn for a denial of a name and key, and returns it: the time before which this denial isn't
+    /// sent. Each denial needs a call of its own. The turn is now, or 12 milliseconds after the turn that the last call
+    /// took for either port, if that is later. Returns an error if the clock fails.
     pub fn turn_of_denial<Rt: Wait + Clock>(&self, rt: &Rt) -> io::Result<Instant> {
         let now = Instant::now(rt)?;
         let mut notes = self.notes.lock(rt);

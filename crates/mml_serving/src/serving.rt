@@ -58,8 +58,10 @@ pub enum ServeFault {
     Write,
 }
 
-/// Serves the next `connections` connections of a listener in a new house of the lab, as `serve_house_on` does and with
-/// the same conditions. Drops the result of the house. Returns an error if the server failed.
+/// Serves the next `connections` connections of a listener in a new house of the lab, whose journal goes to `sink`.
+/// There must be at least one connection, at most one for each session of the lab, and `sink` must be empty. `gate` can
+/// make sessions wait, for tests. After the sessions, writes the last line to `writer`. Returns why the server failed:
+/// this is `serve_house_on` without the result of the house.
 pub fn serve_on<Rt: Threads + Wait + Sync, S: Sink + Send + Drop, G: Gate + Sync, W: Write>(
     rt: &Rt,
     alloc: Global,

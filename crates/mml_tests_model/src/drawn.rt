@@ -153,7 +153,8 @@ fn letters_on(alloc: Global, lab: &Lab, board: &mut Board) -> Result<Vec<u8>, Al
     Ok(letters)
 }
 
-/// Draws events over the first board of a lab, as `letters_on` does, and returns its letters: one for each legal event.
+/// Calls `letters_on` for the first board of a lab, and returns its letters: one for each legal event that is drawn.
+/// The letter counts the illegal events just before.
 fn letters_over(alloc: Global, lab: &Lab) -> Result<Vec<u8>, Fail> {
     let mut board = boxed_board(alloc, lab)?;
     Ok(letters_on(alloc, lab, &mut board)?)
