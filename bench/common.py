@@ -51,14 +51,14 @@ def require_valgrind() -> None:
             refuse(f"the command {tool} isn't on the path; bench/README.md says what to install")
 
 
-def replies(words: Words, stdin: Path) -> bytes:
+def output_of(words: Words, stdin: Path) -> bytes:
     """Returns the standard output of a command line, with a file as standard input. Raises `CalledProcessError` if the
     command fails."""
     with stdin.open("rb") as lines:
         return subprocess.run(words, stdin=lines, stdout=subprocess.PIPE, check=True).stdout
 
 
-def instructions(words: Words, stdin: Path) -> int:
+def count_instructions(words: Words, stdin: Path) -> int:
     """Returns the number of instructions in a run of a command line, with a file as standard input. The number doesn't
     depend on what else runs on the machine. Raises `CalledProcessError` if the command fails. Exits with an error line
     if callgrind prints no number."""

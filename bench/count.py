@@ -14,7 +14,7 @@ from dataclasses import dataclass
 from pathlib import Path
 
 from bench import inputs
-from bench.common import PROGRAM, TYPED, Words, built_in, instructions, require_valgrind, refuse, replies, stripped
+from bench.common import PROGRAM, TYPED, Words, built_in, count_instructions, output_of, require_valgrind, refuse, stripped
 
 
 @dataclass(frozen=True)
@@ -58,7 +58,7 @@ class Counter:
         self.programs = stripped(PROGRAM, folder / "ours"), stripped(TYPED, folder / "typed")
         self.lab, self.text = folder / "lab", folder / "text"
 
-    def call(self, row: Row, index: int) -> Words:
+    def command(self, row: Row, index: int) -> Words:
         """Returns the command line of a program for a row. With index 0 it is this project's program, and with index 1
         the program that is written by hand. For a piped row the first gets no arguments, so it reads standard input and
         uses its built-in lab."""
@@ -80,11 +80,11 @@ class Counter:
         with an error line if their outputs differ."""
         self.lab.write_text(row.lab(), encoding="ascii")
         less = self.write(row, row.few)
-        before = [instructions(self.call(row, index), self.text) for index in range(2)]
+        before = [count_instructions(self.command(row, index), self.text) for index in range(2)]
         more = self.write(row, row.many)
-        if replies(self.call(row, 0), self.text) != replies(self.call(row, 1), self.text):
+        if output_of(self.command(row, 0), self.text) != output_of(self.command(row, 1), self.text):
             refuse(f"{row.name}: the outputs of the two programs differ")
-        after = [instructions(self.call(row, index), self.text) for index in range(2)]
+        after = [count_instructions(self.command(row, index), self.text) for index in range(2)]
         return [row.lines * (b - a) / (more - less) for a, b in zip(before, after)]
 
 

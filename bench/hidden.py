@@ -10,11 +10,11 @@ length, and their replies have to be the same.
 import tempfile
 from pathlib import Path
 
-from bench.common import PROGRAM, instructions, require_valgrind, refuse, replies, stripped
+from bench.common import PROGRAM, count_instructions, output_of, require_valgrind, refuse, stripped
 
 LINES = 2_000
 ANA = '1 {"do":"hello","key":"a-key","name":"ana"}\n'
-# The word of a denial, the lines before, and two lines that get it: one names something that isn't shown, and one something that doesn't exist.
+# The word of a request, the lines before, and two such requests that are denied: one names something that isn't shown, and one something that doesn't exist.
 PAIRS: list[tuple[str, str, str, str]] = [
     ("see", ANA, '1 {"do":"see","node":3}\n', '1 {"do":"see","node":9}\n'),
     ("look", ANA, '1 {"do":"look","node":3}\n', '1 {"do":"look","node":9}\n'),
@@ -32,12 +32,12 @@ def count(program: Path, before: str, line: str, script: Path) -> tuple[float, b
     """Returns the number of instructions of a program for each `line` of a script, and the reply to it. `before` has
     the lines at the beginning of the script, and the file `script` is overwritten. Exits if the replies differ."""
     script.write_text(before, encoding="ascii")
-    begun = instructions([program], script)
+    begun = count_instructions([program], script)
     script.write_text(before + line * LINES, encoding="ascii")
-    told = set(replies([program], script).splitlines()[-LINES:])
+    told = set(output_of([program], script).splitlines()[-LINES:])
     if len(told) != 1:
         refuse(f"equal lines got different replies: {told}")
-    return (instructions([program], script) - begun) / LINES, told.pop()
+    return (count_instructions([program], script) - begun) / LINES, told.pop()
 
 
 def main() -> None:

@@ -15,6 +15,7 @@ from bench.common import Words, require_valgrind, refuse
 from bench.count import ROWS, Counter, Row
 
 MOST = 12  # functions of a row that are printed
+# A line of callgrind_annotate: the count, perhaps a percentage, `FILE:FUNCTION`, and perhaps the program in brackets.
 FOUND = re.compile(r"^\s*([\d,]+)\s+(?:\(\s*[\d.]+%\)\s+)?\S*?:(\S.*?)(?: \[[^]]*\])?$", re.MULTILINE)
 
 
@@ -39,9 +40,9 @@ def parts_of(row: Row, counter: Counter, room: Path) -> dict[str, float]:
     callgrind's output."""
     counter.lab.write_text(row.lab(), encoding="ascii")
     less = counter.write(row, row.few)
-    before = by_function(counter.call(row, 0), counter.text, room)
+    before = by_function(counter.command(row, 0), counter.text, room)
     more = counter.write(row, row.many)
-    after = by_function(counter.call(row, 0), counter.text, room)
+    after = by_function(counter.command(row, 0), counter.text, room)
     return {name: row.lines * (count - before.get(name, 0)) / (more - less) for name, count in after.items()}
 
 

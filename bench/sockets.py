@@ -40,6 +40,7 @@ def measure(words: Words, port: int, burst: int) -> Served:
         taken, reply = time_clients(port, burst, REQUESTS // burst)
         server.stdout.read()
         _, status, used = os.wait4(server.pid, 0)
+        # Popen's own wait would find no process any more, so it gets the status here.
         server.returncode = os.waitstatus_to_exitcode(status)
     if server.returncode != 0 or reply is None:
         refuse(f"{words[0]}: the replies differ, or its status isn't 0 but {server.returncode}")

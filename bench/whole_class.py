@@ -97,6 +97,7 @@ def memory_and_time(process: int) -> tuple[float, float]:
     """Returns the memory of a process in megabytes, and the processor time that it has used, in seconds."""
     folder = Path(f"/proc/{process}")
     shared = re.search(r"(?m)^Pss: +(\d+) kB$", (folder / "smaps_rollup").read_text(encoding="ascii"))
+    # In `stat` (proc(5)), the fields 14 and 15 are the times in user and kernel mode. The part after the name begins with the field 3.
     times = (folder / "stat").read_text(encoding="utf-8").rpartition(") ")[2].split()[11:13]
     return (int(shared[1]) / 1024 if shared else 0.0), sum(map(int, times)) / TICKS
 
@@ -112,7 +113,7 @@ def processes(folder: Path) -> dict[str, list[int]]:
     return found
 
 
-def made(room: Path, networks: int, each: int, door: str) -> tuple[list[Path], list[tuple[int, Slip]]]:
+def make_labs(room: Path, networks: int, each: int, door: str) -> tuple[list[Path], list[tuple[int, Slip]]]:
     """Makes the labs of a class with `networks` networks, and `each` students in each, in the folder `room`. Returns
     their files, and all slips, each with a number. `door` is the address of a door, or an empty text if there is
     none."""
@@ -154,7 +155,7 @@ def main() -> None:
         refuse("a class has two networks or more")
     with tempfile.TemporaryDirectory() as name:
         room, port = Path(name), free_port()
-        labs, slips = made(room, words.networks, words.each, f"127.0.0.1:{port}" if words.door else "")
+        labs, slips = make_labs(room, words.networks, words.each, f"127.0.0.1:{port}" if words.door else "")
         more = ["--door", str(port)] if words.door else []
         with (room / "prints").open("w", encoding="utf-8") as prints:
             desk = subprocess.Popen([sys.executable, TOP / "class", "run", *labs, "--into", room / "runs", "--page", "--close", "every:1",
