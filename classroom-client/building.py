@@ -33,6 +33,7 @@ def build_wheel(wheel_directory: str, config_settings: object = None, metadata_d
     record = f"{name}.dist-info/RECORD"
     with zipfile.ZipFile(Path(wheel_directory, f"{name}-{TAG}.whl"), "w", zipfile.ZIP_DEFLATED) as wheel:
         for file, content in (files | {record: "\n".join([*rows, f"{record},,", ""]).encode()}).items():
+            # A ZipInfo has a fixed date, so the same files always make the same wheel.
             wheel.writestr(zipfile.ZipInfo(file), content, zipfile.ZIP_DEFLATED)
     return f"{name}-{TAG}.whl"
 

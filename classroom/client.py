@@ -518,7 +518,7 @@ def run(program: Callable[[list[str]], None], usage: str) -> None:
         status, sentence = stop(error)
         print(f"{Path(sys.argv[0]).name}: {sentence}", file=sys.stderr)
         sys.exit(status)
-    except BrokenPipeError:  # Nobody reads what it prints.
+    except BrokenPipeError:  # Nobody reads what it prints. Python writes the rest at the exit, and that mustn't fail again.
         os.dup2(os.open(os.devnull, os.O_WRONLY), sys.stdout.fileno())
         sys.exit(141)
     except KeyboardInterrupt:
@@ -715,8 +715,8 @@ class ByHand:
         self.greeted = self.greeted or '"ok":"hello"' in answer
 
     def why(self, line: str, answer: str, waited: float) -> str | None:
-        """Returns why the connection ended, or None if it continues. `answer` is the reply to `line`, or empty, and `waited` are the seconds since the line
-        before. Raises NotReply or NoServer if another program seems to be at the port."""
+        """Returns why the connection ended, or None if it continues or the reply itself says it, as `bye` and `busy` do. `answer` is the reply to `line`, or
+        empty, and `waited` are the seconds since the line before. Raises NotReply or NoServer if another program seems to be at the port."""
         try:
             if answer:
                 return LAST.get(reply_of(answer.encode()).get("refuse", ""))
@@ -751,7 +751,7 @@ async def tunnel(slip: Slip, port: int) -> None:
             both = asyncio.ensure_future(carry(reader, near)), asyncio.ensure_future(carry(far, writer))
             await asyncio.wait(both, return_when=asyncio.FIRST_COMPLETED)
             await asyncio.wait(both[1:], timeout=5.0)
-            await asyncio.gather(*(it for it in both if it.cancel() or it.done()), return_exceptions=True)
+            await asyncio.gather(*(it for it in both if it.cancel() or it.done()), return_exceptions=True)  # Cancels what still runs, and waits for both.
             near.close()
         except (OSError, NoDoor) as error:
             print(f"client: can't connect through the door at {slip.door}: {error}", file=sys.stderr, flush=True)
@@ -782,10 +782,10 @@ def by_hand(words: list[str]) -> None:
         if index + 1 == len(words):
             raise NoSlip(f"--log needs the name of a file{TOLD}")
         log, words = Path(words[index + 1]), words[:index] + words[index + 2:]
-    given: tuple[Slip | None, list[str]] = (None, []) if len(words) == 1 and words[0].isdecimal() else Slip.of(words)
-    if given[1]:
-        raise NoSlip(f"{given[1][0]}: this argument is one too many{TOLD}")
-    talk = ByHand(given[0], given[0].port if given[0] else port_of(words[0]), log)
+    slip, surplus = (None, list[str]()) if len(words) == 1 and words[0].isdecimal() else Slip.of(words)
+    if surplus:
+        raise NoSlip(f"{surplus[0]}: this argument is one too many{TOLD}")
+    talk = ByHand(slip, slip.port if slip else port_of(words[0]), log)
     for line in [] if talk.ended else open(0, encoding="utf-8", errors="surrogateescape", newline="\n", closefd=False):
         talk.send(line.rstrip("\r\n"))
         if talk.ended:
