@@ -22,7 +22,7 @@ def lab(owners: dict[int, str], links: Iterable[tuple[int, int]]) -> str:
     """Returns the text of a lab with these links, and with the students and the limits of `largest_built_in`. `owners`
     has the owner of each node."""
     listed = ", ".join(f"[{a}, {b}]" for a, b in links)
-    head = largest_built_in().split("[[node]]")[0].replace("[[1, 2], [2, 3]]", f"[{listed}]")
+    head = largest_built_in().split("[[node]]")[0].replace("[[1, 2], [2, 3]]", f"[{listed}]")  # the links of the built-in lab are replaced
     return head + "\n".join(f'[[node]]\nid = {node}\nowner = "{owner}"\n' for node, owner in owners.items())
 
 

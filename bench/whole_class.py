@@ -85,7 +85,7 @@ def play_all(slips: list[tuple[int, Slip]], every: "multiprocessing.Queue[int]",
     threads = [threading.Thread(target=play, args=(slip, number, times)) for number, slip in slips]
     for thread in threads:
         thread.start()
-    while sum(what == "hello" for what, _ in [*times]) < len(slips):
+    while sum(what == "hello" for what, _ in [*times]) < len(slips):  # a copy, since the threads append to `times` meanwhile
         time.sleep(0.05)
     every.put(len(slips))
     for thread in threads:
