@@ -632,7 +632,7 @@ def sent(line: str) -> bytes:
 
 
 def whole(text: str) -> int | float:
-    """Returns the integer that a text spells. For a number with a sign, which is out of range, returns -1, and infinity beyond the greatest double."""
+    """Returns the integer that a text spells, but -1 if it has a sign, since then it is out of range, and infinity if it is too large for a double."""
     return -1 if text.startswith("-") else int(text) if float(text) < float("inf") else float("inf")
 
 
