@@ -84,12 +84,12 @@ class RequestHead:
     def network(self) -> tuple[str, str]:
         """Returns the network's name, which is the first part of the path, and the path below it. Raises `BadRequest`
         if there is no such name, and `Redirect` if the slash after the name is missing."""
-        found = re.fullmatch(r"/([a-z][a-z0-9-]*)(/.*)?", self.path)
+        found = re.fullmatch(r"/(?P<name>[a-z][a-z0-9-]*)(?P<below>/.*)?", self.path)
         if found is None:
             raise BadRequest("404 Not Found", "this address doesn't name a network of the class. Open the address on your slip")
-        if found[2] is None:
-            raise Redirect(f"/{found[1]}/")
-        return found[1], found[2]
+        if found["below"] is None:
+            raise Redirect(f"/{found['name']}/")
+        return found["name"], found["below"]
 
     def head_for_page(self, port: int, path: str) -> bytes:
         """Returns the bytes of the head to send to the server of a page. `port` is that of the server, and `path` is
@@ -105,12 +105,12 @@ def page_of(asked: RequestHead, path: str, record: Record) -> tuple[int, str]:
     path below the network's name, and `record` has the ports of the network's pages. A path with `look` and the right
     token leads to the page to look at, and any other path to the page to play. No path leads to a page on which the
     teacher acts. Raises `BadRequest` if there is no such page."""
-    looks = re.fullmatch(r"/look(/[A-Za-z0-9_-]+/[a-z]*)", path)
+    looks = re.fullmatch(r"/look(?P<path>/(?P<token>[A-Za-z0-9_-]+)/[a-z]*)", path)
     if looks is not None:
-        is_known = record.page is not None and record.looks and looks[1].split("/")[1] == record.looks
+        is_known = record.page is not None and record.looks and looks["token"] == record.looks
         if not is_known or asked.method != "GET" or record.page is None:
             raise BadRequest("404 Not Found", "there is no page at this address. Open the address on your slip")
-        return record.page, looks[1]
+        return record.page, looks["path"]
     if record.play is None:
         raise BadRequest("404 Not Found", "this class has no page for playing by hand. Ask your teacher")
     if re.fullmatch(r"/[A-Za-z0-9._-]*", path) is None:

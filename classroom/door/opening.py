@@ -44,7 +44,7 @@ class Place:
             raise argparse.ArgumentTypeError(f"{word!r} isn't the address of a door. Write a port, such as 4700, or an address with a port, "
                                              "such as 192.0.2.7:4700") from None
 
-    def told(self) -> str:
+    def spelled(self) -> str:
         """Returns the address as it is written in arguments and on slips."""
         return f"{f'[{self.address}]' if ':' in self.address else self.address}:{self.port}"
 
@@ -63,7 +63,7 @@ def listen(place: Place) -> socket.socket:
         family = socket.getaddrinfo(place.address or "0.0.0.0", place.port, type=socket.SOCK_STREAM)[0][0]
         return socket.create_server((place.address, place.port), family=family, backlog=BACKLOG)
     except OSError as error:
-        at = place.told() if place.address else f"port {place.port}"
+        at = place.spelled() if place.address else f"port {place.port}"
         raise Fault(f"the door can't be opened at {at}: {error.strerror or error}. Name another address by --door [ADDRESS:]PORT", FAILED) from None
 
 

@@ -110,7 +110,7 @@ class Passing:
         """Reads a request that begins with the bytes `first`, and forwards it to the server of its page. Raises
         `BadRequest` if there is no such page, and one of the errors in BROKEN if the request doesn't come in time."""
         async with asyncio.timeout(ASKING):
-            head, rest = await self.head(first)
+            head, rest = await self.read_head(first)
             asked = RequestHead.read(head)
             self.door.routes.reload()
             asked.require_host(self.door.hosts | self.door.routes.hosts() | {self.it.address}, self.door.port)
@@ -119,27 +119,27 @@ class Passing:
             if record is None:
                 raise BadRequest("404 Not Found", f"the network {name} isn't running now. Ask your teacher, or open the address on your slip")
             port, below = page_of(asked, path, record)
-            body = await self.body(rest, asked.body_size())
+            body = await self.read_body(rest, asked.body_size())
         await self.forward(port, asked.head_for_page(port, below) + body, is_one=True)
 
-    async def head(self, first: bytes) -> tuple[bytes, bytes]:
+    async def read_head(self, first: bytes) -> tuple[bytes, bytes]:
         """Returns the head of a request that begins with the bytes `first`, and the bytes after the head that have come
         already. Raises `BadRequest` if the head is too large, and `EOFError` if it ends too early."""
         while b"\r\n\r\n" not in first and len(first) < MOST_HEAD:
-            first += await self.more()
+            first += await self.read_more()
         head, end, rest = first.partition(b"\r\n\r\n")
         if not end or len(head) > MOST_HEAD:
             raise BadRequest("431 Request Header Fields Too Large", "this request is too large for the door")
         return head + end, rest
 
-    async def body(self, rest: bytes, size: int) -> bytes:
+    async def read_body(self, rest: bytes, size: int) -> bytes:
         """Returns the `size` bytes after the head of a request. `rest` has those that have come already. Raises
         `EOFError` if it ends too early."""
         while len(rest) < size:
-            rest += await self.more()
+            rest += await self.read_more()
         return rest[:size]
 
-    async def more(self) -> bytes:
+    async def read_more(self) -> bytes:
         """Returns the next bytes of an incomplete request. Raises `EOFError` if the other end sends no more."""
         more = await self.it.read()
         if not more:

@@ -157,6 +157,7 @@ class Routes:
             self.reload()
         if name in self.networks:
             return name
+        # A name that no network can have, such as one with dots, is a host's.
         is_host = not name or name == "localhost" or name in self.hosts() or NAME.fullmatch(name) is None
         return next(iter(self.networks)) if is_host and len(self.networks) == 1 else ""
 

@@ -39,7 +39,7 @@ class Secured:
     @property
     def network(self) -> str | None:
         """Returns the server name that the client sent in the handshake, or None if it sent none."""
-        return getattr(self.tls, "network", None)
+        return getattr(self.tls, "network", None)  # `serving.note_network` sets this attribute in the handshake.
 
     @property
     def address(self) -> str:
@@ -91,7 +91,8 @@ class Secured:
 
     async def end(self, passes: Callable[[int], Awaitable[None]]) -> None:
         """Announces to the client that nothing more is sent. Closes the connection when the client has closed it, or
-        after LEAVING seconds. Drops the bytes that the client still sends, and awaits `passes` with their number."""
+        after LEAVING seconds. Drops the bytes that the client still sends, and awaits `passes` with their number, so
+        that a rate limit can slow the client down."""
         try:
             self.tls.unwrap()
         except ssl.SSLError:  # The other end hasn't closed its side yet.

@@ -73,9 +73,9 @@ def page_lines(folder: str | None, lab: Path, looks: str | None) -> Iterator[str
     place = place_of(folder, lab)
     if place is None:
         return
-    yield f"{TO_PLAY}{FROM_ELSEWHERE} https://{place.told()}/{network(lab)}/"
+    yield f"{TO_PLAY}{FROM_ELSEWHERE} https://{place.spelled()}/{network(lab)}/"
     if looks is not None:
-        yield f"{TO_LOOK}{FROM_ELSEWHERE} https://{place.told()}/{network(lab)}/look/{looks}/"
+        yield f"{TO_LOOK}{FROM_ELSEWHERE} https://{place.spelled()}/{network(lab)}/look/{looks}/"
 
 
 def place_of(folder: str | None, lab: Path) -> Place | None:
@@ -98,4 +98,4 @@ def route_to_page_for_all(folder: str | None, lab: Path, port: int, looks: str) 
     if folder is None or place is None:
         return ""
     announce_all(Path(folder), port, looks)
-    return f"https://{place.told()}/{ALL}/look/{looks}/"
+    return f"https://{place.spelled()}/{ALL}/look/{looks}/"

@@ -600,7 +600,7 @@ class Counts(unittest.TestCase):
     def test_addresses_of_doors_are_read_as_they_are_written_and_names_of_labs_become_host_names(self) -> None:
         for word, place in (("4700", Place("", 4700)), ("class.example:4700", Place("class.example", 4700)), ("[::1]:4700", Place("::1", 4700))):
             self.assertEqual(Place.of(word), place)
-            self.assertEqual(place.told().removeprefix(":"), word)
+            self.assertEqual(place.spelled().removeprefix(":"), word)
         for word in ("", "a", "a:b", "0", "a:70000", "::1:4700", "a b:1"):
             with self.assertRaises(Exception, msg=word):
                 Place.of(word)
