@@ -66,7 +66,7 @@ def mount(source: str, target: str, kind: str | None, flags: int, options: str =
 def make_read_only(target: str) -> None:
     """Makes the mount at the path `target`, and all mounts below that path, read-only. Programs there can't get the
     rights of their files' owners (set-user-ID) either. Raises `OSError` if the system refuses the call."""
-    wanted = struct.pack("4Q", READ_ONLY | NO_SETUID, 0, 0, 0)
+    wanted = struct.pack("4Q", READ_ONLY | NO_SETUID, 0, 0, 0)  # a `struct mount_attr`, whose first member has the flags to set
     require_success(LIBC.syscall(MOUNT_SETATTR, HERE, os.fsencode(target), ALL_BELOW, wanted, ctypes.c_size_t(len(wanted))), target)
 
 
@@ -110,7 +110,7 @@ def enter_own_root(world: World, folder: str, megabytes: int) -> None:
     mount("none", "/", None, DEEP | PRIVATE)  # From now on, mounts are visible only in this namespace.
     mount("none", folder, "tmpfs", NO_SETUID | NO_DEVICES, f"size={megabytes + SPARE}m,nr_inodes={MOST_FILES},mode=0755")
     os.chdir(folder)
-    os.mkdir(HOST[1:])
+    os.mkdir(HOST[1:])  # Relative, since this folder becomes the root only by the next call.
     require_success(LIBC.pivot_root(b".", os.fsencode(HOST[1:])), folder)
     os.chdir("/")
     for each in ("/proc", *OWN, folder):
@@ -147,7 +147,7 @@ def pass_listener(port: int, channel: int) -> None:
     """Enables this namespace's loopback, listens there on a port, and sends the listening socket through the Unix
     socket with the descriptor `channel`. Closes its own descriptors of both sockets. Raises `OSError` if that fails."""
     with socket.socket() as it:
-        fcntl.ioctl(it, SET_FLAGS, struct.pack("16sh22x", b"lo", UP))
+        fcntl.ioctl(it, SET_FLAGS, struct.pack("16sh22x", b"lo", UP))  # a `struct ifreq`: the interface's name and flags
     with socket.socket(fileno=channel) as its, socket.create_server(("127.0.0.1", port), backlog=32) as listener:
         socket.send_fds(its, [b"."], [listener.fileno()])
 
@@ -163,6 +163,7 @@ def enter(world: World, folder: str, megabytes: int, channel: int) -> None:
     map_user(user, group)
     child = os.fork()
     if child:
+        # Only the new process uses these two.
         sys.stdin.close()
         os.close(channel)
         os._exit(max(0, os.waitstatus_to_exitcode(os.waitpid(child, 0)[1])))
@@ -177,5 +178,5 @@ def drop_rights() -> None:
     for right in range(MOST_RIGHTS):
         LIBC.prctl(DROP_BOUND, right, 0, 0, 0)
     LIBC.prctl(AMBIENT, CLEAR_ALL, 0, 0, 0)
-    require_success(LIBC.capset(struct.pack("Ii", RIGHTS_VERSION, 0), bytes(24)), "capset")
+    require_success(LIBC.capset(struct.pack("Ii", RIGHTS_VERSION, 0), bytes(24)), "capset")  # The 24 zero bytes are empty sets of rights.
     require_success(LIBC.prctl(NO_NEW_RIGHTS, 1, 0, 0, 0), "prctl")

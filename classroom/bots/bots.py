@@ -194,7 +194,7 @@ def namespaces_refusal() -> str:
     it = Bot("true", ("/bin/true",))
     try:
         with tempfile.TemporaryDirectory() as room, tempfile.TemporaryFile() as output:
-            world = World(seen.shown(it.words), (), "", 1024)
+            world = World(seen.shown(it.words), (), "", 1024)  # In its own namespaces any port is free.
             kept = RunningBot(it, Path(room, "bot.slip"), Path(room), PATIENCE, 64, output.fileno(), world)
             while not (how := kept.ended()):
                 if (listener := kept.listener()) is not None:

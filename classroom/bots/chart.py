@@ -99,7 +99,7 @@ def panel(title: str, rows: list[Row], theme: str) -> str:
     sizes = sorted({row.nodes for row in rows})
     links = {size: max(row.links for row in rows if row.nodes == size) for size in sizes}
     most = {size: bounds.of(size, links[size]) for size in sizes}
-    loose = {size: 3 * size + 2 * links[size] for size in sizes}
+    loose = {size: 3 * size + 2 * links[size] for size in sizes}  # a simpler bound of moves, which is never less than that in `most`
     scale = Scale(sizes[0], sizes[-1], max(loose.values()))
     parts = [f'<text class="title" x="{WIDE / 2}" y="18">{escape(title)}</text>', *closest_lines(rows), *axes(scale)]
     parts.append(line([(scale.x(size), scale.y(loose[size])) for size in sizes], "bound loose"))
@@ -123,9 +123,10 @@ def panel(title: str, rows: list[Row], theme: str) -> str:
 def closest_to_bounds(rows: list[Row]) -> list[tuple[str, Row, int, int]]:
     """Returns two of the runs in `rows`: the one that came closest to its bound of moves, and the one that came closest
     to its bound of rounds. Each has `moves` or `rounds`, its row, its count of these and the bound."""
-    every = [(name, row, count, bound) for row in rows for most in (bounds.of(row.nodes, row.links),)
-             for name, count, bound in (("moves", row.moves, most.moves), ("rounds", row.rounds, most.rounds))]
-    return [max((each for each in every if each[0] == name), key=lambda each: each[2] / each[3]) for name in ("moves", "rounds")]
+    by_moves = max(rows, key=lambda row: row.moves / bounds.of(row.nodes, row.links).moves)
+    by_rounds = max(rows, key=lambda row: row.rounds / bounds.of(row.nodes, row.links).rounds)
+    return [("moves", by_moves, by_moves.moves, bounds.of(by_moves.nodes, by_moves.links).moves),
+            ("rounds", by_rounds, by_rounds.rounds, bounds.of(by_rounds.nodes, by_rounds.links).rounds)]
 
 
 def closest_lines(rows: list[Row]) -> list[str]:
@@ -135,7 +136,7 @@ def closest_lines(rows: list[Row]) -> list[str]:
     return [f'<text x="{WIDE / 2}" y="{18 + LINE * number}">{text}</text>' for number, text in enumerate(["the runs closest to their bounds:", *texts], 1)]
 
 
-def key(runs: int, theme: str) -> str:
+def legend(runs: int, theme: str) -> str:
     """Returns the SVG legend that explains the lines and points of all panels, in a theme's colours. `runs` is the
     number of runs in the chart."""
     parts = []
@@ -168,4 +169,4 @@ def chart(rows: list[Row], theme: str = colours.LIGHT) -> str:
     return (f'<?xml version="1.0" encoding="UTF-8"?>\n<svg xmlns="http://www.w3.org/2000/svg" viewBox="0 0 {wide} {high}" '
             f'width="{wide}" height="{high}" role="img" aria-label="moves, closes and rounds to stability">{style}'
             f'<rect class="ground" width="100%" height="100%"/>{"".join(parts)}'
-            f'<g transform="translate(0 {HIGH * len(daemons)})">{key(len(rows), theme)}</g></svg>\n')
+            f'<g transform="translate(0 {HIGH * len(daemons)})">{legend(len(rows), theme)}</g></svg>\n')

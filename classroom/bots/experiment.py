@@ -47,11 +47,11 @@ def sizes(word: str) -> range:
     """Returns the numbers of nodes in an argument: `A..B`, `A..B/STEP`, or one number. Raises `ArgumentTypeError` for
     any other text, and for a number above the limit of nodes. If the program isn't built yet, the limit isn't known,
     and `settings` checks it."""
-    found, known = re.fullmatch(r"(\d+)(?:\.\.(\d+))?(?:/(\d+))?", word), limits.known()
-    least, most = (int(found[1]), int(found[2] or found[1])) if found else (0, 0)
-    if not found or not 1 <= least <= most <= (known.nodes if known else most) or found[3] == "0":
+    found, known = re.fullmatch(r"(?P<least>\d+)(?:\.\.(?P<most>\d+))?(?:/(?P<step>\d+))?", word), limits.known()
+    least, most = (int(found["least"]), int(found["most"] or found["least"])) if found else (0, 0)
+    if not found or not 1 <= least <= most <= (known.nodes if known else most) or found["step"] == "0":
         raise argparse.ArgumentTypeError(f"{word}: write a number of nodes, A..B or A..B/STEP, with numbers from 1{f' to {known.nodes}' if known else ' on'}")
-    return range(least, most + 1, int(found[3] or 1))
+    return range(least, most + 1, int(found["step"] or 1))
 
 
 def add_words(words: argparse.ArgumentParser) -> None:
@@ -84,7 +84,7 @@ def settings(words: argparse.Namespace) -> list[Setting]:
     networks.within(words.nodes[-1])
     found = []
     for family in words.family.split(","):
-        for nodes in words.nodes if not family.startswith(SIZED) else [0]:
+        for nodes in words.nodes if not family.startswith(SIZED) else [0]:  # The name of a SIZED family has the size, so 0 is only a placeholder.
             spelled = f"random:{nodes}:{links_of(nodes)}" if family == "random" else family
             try:
                 network = drawn(Setting(spelled, nodes, words.daemon[0], words.start), words.seed)
@@ -262,7 +262,7 @@ def merge(words: argparse.Namespace, asked: set[Key]) -> int:
         write_sorted(Path(words.csv), list(rows.values()))
     broken = [row for row in rows.values() if row.exceeds_bounds()]
     own = sorted((row for row in rows.values() if key(row) in asked), key=key)
-    print_results(own, len(asked), words, [Path(f"{words.csv}: {line_of(row).strip()}") for row in broken])
+    print_results(own, len(asked), words, [f"{words.csv}: {line_of(row).strip()}" for row in broken])
     return WARNED if broken or len(own) < len(asked) else 0
 
 
@@ -276,14 +276,14 @@ def missing(every: list[Setting], seeds: range, done: set[Key]) -> list[tuple[Se
     return tasks
 
 
-def print_results(own: list[Row], asked: int, words: argparse.Namespace, broken: list[Path]) -> None:
+def print_results(own: list[Row], asked: int, words: argparse.Namespace, broken: list[str]) -> None:
     """Prints the result of the runs in the rows `own`, and whether all runs are within the proved bounds. Draws the
     chart if the arguments ask for one. `asked` is the number of runs in all. `broken` has for each run that exceeds a
     bound its folder, or after a merge its line of the table. Raises `Fault` if the chart can't be written."""
     if own:
         print(table(own))
     print(f"WARNING: {plural(len(broken), 'run')} exceeded a proved bound, which is an error of the program: please report it, with "
-          f"{', '.join(map(str, broken))}" if broken else
+          f"{', '.join(broken)}" if broken else
           f"{len(own)} of {asked} runs are done, all within the proved bounds; table: {words.csv}")
     if own and words.plot:
         with naming_file(words.plot, "", "name another file by --plot"):
@@ -321,9 +321,9 @@ def experiment(words: argparse.Namespace) -> int:
         make_table(path)
     if asked & done:
         print(f"already in {path}, and not repeated: {plural(len(asked & done), 'run')}")
-    tasks = missing(every, seeds, done | (set(order) - asked))
+    tasks = missing(every, seeds, done | (set(order) - asked))  # The runs of other parts count as done.
     progress = Progress(sum(len(task[1]) for task in tasks))
-    broken: list[Path] = []
+    broken: list[str] = []
     interrupted = False
     try:
         with naming_file(words.csv, CONTINUES, ANOTHER_TABLE), path.open("a", encoding="utf-8") as it:
@@ -332,7 +332,7 @@ def experiment(words: argparse.Namespace) -> int:
                 it.write(line_of(row))
                 it.flush()
                 if row.exceeds_bounds():
-                    broken.append(save_counterexample(path, row, script))
+                    broken.append(str(save_counterexample(path, row, script)))
                 progress.advance()
     except KeyboardInterrupt:
         interrupted = True

@@ -121,7 +121,7 @@ def results_of(bots: list[Bot], cases: list[Case], words: argparse.Namespace, to
                     yield result
 
 
-def kept_apart(bots: list[Bot], words: argparse.Namespace, top: Path) -> dict[str, Seen] | None:
+def files_seen(bots: list[Bot], words: argparse.Namespace, top: Path) -> dict[str, Seen] | None:
     """Returns the files that each bot sees, by the bot's name. If bots can't be kept apart or `--not-apart` is set,
     prints a line and returns None. `top` is the folder for the files of this grade's cases, which bots don't see.
     Raises `Fault` if `--show` names a folder that can't be shown."""
@@ -151,8 +151,8 @@ class Written:
     """The results so far, in the order of bots and cases, and the files that they are written to."""
 
     def __init__(self, words: argparse.Namespace, bots: list[Bot], cases: list[Case], results: list[Result]) -> None:
-        """Begins with `results`, those of the bots that can't be run. Later results are sorted by the order of `bots`
-        and `cases`. Takes the names of the files from the options `words`."""
+        """Begins with `results`, those of the bots that can't be run. Later results are added to this list, which is
+        sorted by the order of `bots` and `cases`. Takes the names of the files from the options `words`."""
         self.files = {form: Path(getattr(words, form)) for form in graded.FORMS if getattr(words, form)}
         pairs = [(bot.name, case.name()) for bot in bots for case in cases]
         self.order = {pair: index for index, pair in enumerate(pairs)}
@@ -193,9 +193,10 @@ def print_and_write(found: Iterator[Result], written: Written) -> None:
         full = full or bool(result.unkept)
 
 
-def interruptible() -> threading.Event:
+def catch_interrupts() -> threading.Event:
     """Makes this process catch interrupts, and returns an event that the first one sets. A second interrupt kills all
     bots at once and ends this process."""
+    # The caller may set `stop` too, so only `first` says whether an interrupt has come.
     stop, first = threading.Event(), threading.Event()
 
     def interrupt(*_: object) -> None:
@@ -237,16 +238,16 @@ def grade(words: argparse.Namespace) -> int:
     if words.own_rule:
         print(f"class: {OWN_RULE}", flush=True)
     if words.merge:
-        return parts.merged(words, [(bot.name, case.name()) for bot in bots for case in cases])
+        return parts.merge(words, [(bot.name, case.name()) for bot in bots for case in cases])
     cases = parts.of(cases, words.part)
     runnable = [bot for bot in bots if not bot.fault]
     top = new_folder(Path(words.into), Path("grade")) if runnable else Path()
     reap_orphans()
-    seen_by = kept_apart(runnable, words, top) if runnable else None
-    stop = interruptible()
+    seen_by = files_seen(runnable, words, top) if runnable else None
+    stop = catch_interrupts()
     results = [Result(bot.name, case.lab, case.daemon.spelled(), case.seed, False, bot.fault, started=False)
                for bot in bots for case in cases if bot.fault]
-    written = Written(words, bots, cases, results)
+    written = Written(words, bots, cases, results)  # It adds each further result to `results`.
     try:
         print_and_write(results_of(runnable, cases, words, top, stop, seen_by), written)
     finally:

@@ -72,7 +72,7 @@ def resident(process: int) -> int:
     """Returns the resident memory of a process in bytes, or 0 if it has ended."""
     try:
         with open(f"/proc/{process}/statm", "rb") as it:
-            return int(it.read().split()[1]) * resource.getpagesize()
+            return int(it.read().split()[1]) * resource.getpagesize()  # The second number of `statm` counts resident pages.
     except (OSError, IndexError):
         return 0
 

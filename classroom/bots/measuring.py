@@ -19,7 +19,7 @@ from classroom.core.program import Fault
 from classroom.core.rounds import Recovery
 from classroom.run.adversary import Adversary
 from classroom.run.daemons import SEARCHING, Daemon, movers
-from classroom.setup.new import start
+from classroom.setup.new import set_registers
 
 SIZED = ("grid:", "random:")
 
@@ -63,7 +63,7 @@ def drawn(setting: Setting, seed: int) -> labs.Lab:
     count = None if setting.family.startswith(SIZED) else setting.nodes
     nodes, links = networks.family(setting.family, count, 0, chance)
     made = network([labs.Node(node, []) for node in range(1, nodes + 1)], links)
-    start(made, setting.start, chance)
+    set_registers(made, setting.start, chance)
     return made
 
 

@@ -45,7 +45,10 @@ def add_words(words: argparse.ArgumentParser, what: str, files: str) -> None:
 
 def of(every: Sequence[Each], which: Part | None) -> list[Each]:
     """Returns the items of the part `which`: each N-th one from the K-th on. Returns all items if it is None."""
-    return list(every) if which is None else list(every[which[0] - 1::which[1]])
+    if which is None:
+        return list(every)
+    number, count = which
+    return list(every[number - 1::count])
 
 
 def results_in(file: Path) -> list[Result]:
@@ -72,7 +75,7 @@ def joined(files: Iterable[Path], order: Sequence[Case]) -> tuple[list[Result], 
     return [found[case] for case in order if case in found], [case for case in order if case not in found]
 
 
-def merged(words: argparse.Namespace, order: Sequence[Case]) -> int:
+def merge(words: argparse.Namespace, order: Sequence[Case]) -> int:
     """Joins the results in the files that `--merge` names, and writes and prints them. `order` has all cases of the
     grade. Returns the exit status, which is WARNED if the result of a case is missing, or if a case wasn't passed.
     Raises `Fault` if a file can't be read or written, or if the files contradict each other or the cases."""

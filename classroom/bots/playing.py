@@ -204,7 +204,7 @@ class Playing:
             self.turns -= 1
             self.turn_to_another(node, rule)
         elif self.forestalls and node not in self.chosen and self.house_owner(node):
-            self.house_move(node)
+            self.ask_for_house_move(node)
 
     def hide_rule(self, who: str, reply: bytes, told: dict[str, Any]) -> bytes:
         """Returns the bytes of a reply as the program of the student `who` gets them. With `own_rule`, the enabled rule
@@ -254,6 +254,7 @@ class Playing:
         if told.get("ok") not in ("move", None) or len(self.rows) >= KEPT_ROWS:
             return
         connection, _, line = sent.partition(b" ")
+        # A row has the number of events before its line, and so without the event of a granted move.
         place = told["place"] - 1 if "place" in told else self.program.place
         reply = json.dumps(told, sort_keys=True, separators=(",", ":"))
         self.rows.append(Row(place, int(connection), 0, self.hider.line(line), reply, told.get("deny") or told.get("refuse") or ""))
@@ -385,24 +386,24 @@ class Playing:
     # Moves of the house, and the whole class.
 
     def house_owner(self, node: int) -> str | None:
-        """Returns the first owner of a node that no program plays, or None if programs play for all its owners. The
-        house asks in the name of this owner."""
+        """Returns the first of a node's owners who has no program, or None if all of them have one. The house asks in
+        the name of this owner."""
         return next((name for name in self.lab.owners(node) if name not in self.programs), None)
 
-    def move_house(self) -> None:
+    def ask_for_house_moves(self) -> None:
         """Asks for moves of the privileged nodes that the house plays. Under the central daemon, whose closes apply one
         move, asks for one, and for none if a move is chosen already. Otherwise asks for all of them. Asks only now and
         then for a node that a program plays too."""
         nodes = [node for node, _ in self.report["privileged"] if node not in self.chosen and self.house_owner(node)]
-        own = [node for node in nodes if len(self.lab.owners(node)) == 1 or not set(self.lab.owners(node)) & set(self.programs)]
+        own = [node for node in nodes if not set(self.lab.owners(node)) & set(self.programs)]
         shared = [node for node in nodes if node not in own and self.pace_chance.random() < SHARED]
         if self.daemon.kind == "central":
             own = [] if self.chosen else [self.pace_chance.choice(own + shared)] if own + shared else []
             shared = []
         for node in own + shared:
-            self.house_move(node)
+            self.ask_for_house_move(node)
 
-    def house_move(self, node: int) -> None:
+    def ask_for_house_move(self, node: int) -> None:
         """Asks for the enabled rule at a node that the house plays. Does nothing if no rule is enabled, or if a move is
         chosen there. A denial is ignored."""
         name = self.house_owner(node)
@@ -427,7 +428,7 @@ class Playing:
         now = time.monotonic()
         if now - self.paced >= PACE:
             self.paced = now
-            self.move_house()
+            self.ask_for_house_moves()
         if self.is_held:
             return
         sight = Sight([node for node, _ in self.report["privileged"]], list(self.chosen), now - self.news, now - self.closed)

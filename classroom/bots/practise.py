@@ -35,7 +35,7 @@ from classroom.run.daemons import FORMS, Daemon, daemon
 from classroom.run.heard import MALFORMED
 from classroom.run.teller import Teller
 from classroom.setup import slips
-from classroom.setup.new import start
+from classroom.setup.new import set_registers
 
 QUIET = 10.0  # seconds without news after which it prints for whom the class waits
 MEGABYTES = 4096  # the memory limit of a program at home
@@ -94,7 +94,7 @@ def made(words: argparse.Namespace, names: list[str]) -> labs.Lab:
     dealt = [labs.Node(node, [owner.get(node, HOUSE)]) for node in identifiers]
     most = limits.allowed()
     it = labs.Lab(most.events, most.sessions, (TEACHER, key()), keys, dealt, links)
-    start(it, words.start, chance)
+    set_registers(it, words.start, chance)
     return it
 
 
@@ -183,10 +183,10 @@ class Practice:
         """Runs the class until it is stable, and a little longer to answer late lines. Ends earlier if nothing has
         happened for the time limit, if no bot is left that could move, or if it is interrupted. Prints how bots have
         ended, and after QUIET seconds without news, for whom the class waits. Returns whether the class is stable."""
-        playing, news = self.playing, self.playing.news
+        playing = self.playing
         while not playing.is_stable() and not self.stop:
             self.turn()
-            idle = time.monotonic() - max(playing.news, news)
+            idle = time.monotonic() - playing.news
             for name, kept in list(self.kept):
                 how = kept.ended()
                 if how:
@@ -277,7 +277,7 @@ def play(it: ClassWithPrograms, bots: list[Bot], words: argparse.Namespace, fold
     it.stop_programs()  # From now on nobody answers them.
     if stable:
         pairs = ", ".join(f"{a}-{b}" for a, b in it.playing.report["pairs"])
-        tell(f"the network is stable; pairs: {pairs or 'none'}; {practice.recovery.told(len(lab.nodes), len(lab.links))}")
+        tell(f"the network is stable; pairs: {pairs or 'none'}; {practice.recovery.in_words(len(lab.nodes), len(lab.links))}")
     write_run(it.playing, folder, tell)
     for name in names:
         tell(practice.summary(name))

@@ -53,7 +53,7 @@ class Relay:
         self.calls: deque[float] = deque(maxlen=MOST_CALLS)  # the times of the last connections, accepted or not
         self.busy = False  # whether all new connections are answered `busy`
         self.piece = 0  # the most bytes of a reply that are sent at once; 0 is no limit
-        self.overlong = False  # whether a caller's line was longer than the limit
+        self.overlong = False  # whether the part of a caller's line that had come without its newline was longer than the limit
         self.quits = 0  # the number of connections that the callers ended
         self.listener = socket.create_server(("127.0.0.1", port), backlog=32)
         self.listener.setblocking(False)
@@ -121,8 +121,8 @@ class Relay:
 
     def read(self, caller: Caller) -> None:
         """Reads from a caller, and answers its complete lines. Marks the caller as leaving after a bye, after a line
-        that is too long, and at the end of its lines. Counts a bye and such an end in `quits`. Raises `OSError` if the
-        connection is broken, or if `answer` returns no bytes."""
+        that is too long, and at the end of its lines. Answers no line after the first two of these. Counts a bye and
+        such an end in `quits`. Raises `OSError` if the connection is broken, or if `answer` returns no bytes."""
         more = caller.socket.recv(MOST_WAITING)
         *lines, caller.rest = (caller.rest + more).split(b"\n")
         for line in lines:

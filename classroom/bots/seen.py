@@ -76,6 +76,7 @@ def common() -> list[Path]:
     found = [Path(each) for each in SYSTEM] + [file for each in OF_ETC for file in Path("/etc").glob(each)]
     for each in os.environ.get("PATH", "").split(":"):
         if each.startswith("/") and Path(each).is_dir() and not is_private(Path(each)):
+            # "program" stands for any program in the folder; there need be no such file.
             found += [place for step in link_steps(Path(each)) for place in with_needed(step / "program")]
     java = Path(os.environ.get("JAVA_HOME", "."))
     return [*found, TOP / "classroom", *([java] if java.is_absolute() and not is_private(java) else [])]

@@ -15,7 +15,7 @@ from classroom.core import lab as labs
 from classroom.core import limits, networks
 from classroom.core.program import Fault
 from classroom.run.daemons import Daemon
-from classroom.setup.new import start
+from classroom.setup.new import set_registers
 
 BOT, HOUSE = "bot", "house"
 TEACHER = "teacher"
@@ -147,7 +147,7 @@ def planned(plan: Plan, seed: int, how: Daemon) -> Case:
     count, links = networks.family(plan.family, plan.nodes, 0, chance)
     nodes = choose_nodes(plan, count, links, chance)
     made = dealt(count, links, nodes[:plan.own], nodes[plan.own:])
-    start(made, plan.start, chance)
+    set_registers(made, plan.start, chance)
     if plan.named:
         made = renamed(made, plan.named)
     return Case(plan.name, made, BOT, how, seed, plan.troubles, plan.piece)

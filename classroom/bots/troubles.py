@@ -284,7 +284,7 @@ def taken(attempt: Attempt) -> None:
     playing, shared = attempt.playing, [node for node in attempt.nodes() if node not in attempt.nodes_owned_alone()]
     attempt.doing = f", after another owner asked first for the move of a shared node (`chosen` is no error: look again a little later){ON}"
     playing.is_held = True
-    playing.house_move(hurt(attempt, shared))
+    playing.ask_for_house_move(hurt(attempt, shared))
     attempt.run_for(3 * LATE)
     playing.is_held = False
     attempt.until_stable("another owner asked first for the move of a shared node")
@@ -334,7 +334,7 @@ def turned_away(attempt: Attempt) -> None:
     attempt.doing = ", after the reply `busy`: all seats are taken, so a bot connects again a second later"
     came, since = len(port.calls), time.monotonic()
     attempt.run_for(TURNED_AWAY)
-    most = len(attempt.nodes()) * (time.monotonic() - since + 2)
+    most = len(attempt.nodes()) * (time.monotonic() - since + 2)  # for each node, one connection a second and two to spare
     if len(port.calls) - came > most:
         raise Fails(f"the bot connected {len(port.calls) - came} times in {TURNED_AWAY:g} seconds in which the reply was `busy`: connect again a second later")
     port.busy, attempt.doing = False, ""
@@ -374,12 +374,13 @@ def until_looked(attempt: Attempt, node: int) -> None:
 
 
 def draw_registers(attempt: Attempt, node: int, known: set[tuple[str | None, int, bool]]) -> None:
-    """Draws the registers of a node and its neighbours until their kind isn't in `known`, and adds it there. The kind
-    has three parts: the node's enabled rule as the proved program reports it, a number for its p, and its m. The number
-    is 0 for null, 1 for a higher node, and -1 for a lower one. Gives up after TRIES draws."""
+    """Sets the registers of a node and its neighbours to drawn values, each by a fault, until the node is of a kind that
+    isn't in `known`, and adds the kind there. The kind has three parts: the node's enabled rule as the proved program
+    reports it, a number for its p, and its m. The number is 0 for null, 1 for a higher node, and -1 for a lower one.
+    After TRIES draws without a new kind, the last drawn values stay."""
     near = networks.neighbours([each.id for each in attempt.case.made.nodes], attempt.case.made.links)
     for _ in range(TRIES):
-        for each in (*near[node], node):
+        for each in (*near[node], node):  # The node is the last, so p and m are its own after the loop.
             p, m = attempt.chance.choice([None, attempt.chance.choice(near[each]), node if each != node else None]), attempt.chance.random() < 0.5
             attempt.playing.fault(each, p, m)
         sign = (privileged(attempt).get(node), 0 if p is None else 1 if p > node else -1, m)
@@ -404,7 +405,7 @@ def rules(attempt: Attempt) -> None:
             until_granted(attempt, node, f"the bot didn't ask for {rule} at node {node}, which is privileged,")
             continue
         until_looked(attempt, node)
-        attempt.run_for(LOOKED)
+        attempt.run_for(LOOKED)  # A request for a move would be denied now, which fails the case.
     playing.is_held = False
     attempt.until_stable(f"faults at node {node} and its neighbours")
 

@@ -38,7 +38,7 @@ def started(lab: labs.Lab) -> subprocess.Popen[bytes]:
         os.close(file)
 
 
-def all_of(lab: labs.Lab, script: list[str]) -> str:
+def replies_to(lab: labs.Lab, script: list[str]) -> str:
     """Runs `mml answer` for a lab with a whole script as its input. Returns the replies, one per line, each after the
     number of its connection. Raises `Fault` if the program isn't built, fails, or doesn't reply to each line."""
     with started(lab) as process:
@@ -80,15 +80,15 @@ class Answering:
                 self.process.stdin.write(b"".join(part))
                 self.process.stdin.flush()
             except OSError:
-                raise self.ended() from None
+                raise self.kill_and_explain() from None
             for line in part:
                 reply = self.process.stdout.readline()
                 if not reply.endswith(b"\n"):
-                    raise self.ended()
+                    raise self.kill_and_explain()
                 replies.append(reply.partition(b" ")[2][:-1])
         return replies
 
-    def ended(self) -> Fault:
+    def kill_and_explain(self) -> Fault:
         """Kills the program, which has ended or doesn't answer. Returns the fault for the caller to raise. Its text has
         the program's exit status and error output."""
         assert self.process.stderr is not None

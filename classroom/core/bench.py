@@ -39,7 +39,7 @@ class Bench:
         self.program.greet(TEACHER, made.teacher[0])
         self.program.greet(STUDENT, "student")
         self.requests: list[tuple[int, dict[str, Any]]] = []  # the requests of the current run, each with its connection
-        self.before = 0  # the number of the configuration at which the current run begins
+        self.before = 0  # the number of the configuration before the current run sets its registers
 
     def has_room(self, made: labs.Lab) -> bool:
         """Returns whether this process can also serve a run of the lab `made`. The lab has to have the same links.
@@ -48,12 +48,12 @@ class Bench:
         most = ROOM * bounds.of_lab(made).moves + 2 * len(made.nodes)
         return made.links == self.made.links and self.events + most < self.made.events
 
-    def asked(self, connection: int, requests: list[dict[str, Any]]) -> list[dict[str, Any]]:
+    def ask_on(self, connection: int, requests: list[dict[str, Any]]) -> list[dict[str, Any]]:
         """Sends requests on one connection, and returns their replies. Raises `Fault` if a reply isn't `ok`, or if the
         program has ended."""
-        return self.all_asked([(connection, request) for request in requests])
+        return self.ask_all([(connection, request) for request in requests])
 
-    def all_asked(self, requests: list[tuple[int, dict[str, Any]]]) -> list[dict[str, Any]]:
+    def ask_all(self, requests: list[tuple[int, dict[str, Any]]]) -> list[dict[str, Any]]:
         """Sends requests, each on the connection with its number, and returns their replies. Adds the requests to those
         of the current run, and counts the events that they made. Raises `Fault` if a reply isn't `ok`, or if the
         program has ended."""
@@ -69,18 +69,18 @@ class Bench:
 
     def begin(self, made: labs.Lab) -> dict[str, Any]:
         """Begins a run: sets the registers to those of the lab `made`, which has the same network as this process.
-        Returns the report on the configuration at which the run begins. Raises `Fault` if a reply isn't `ok`, or if the
+        Returns the report on the configuration with these registers. Raises `Fault` if a reply isn't `ok`, or if the
         program has ended."""
         self.requests = []
         faults = [{"do": "fault", "node": node.id, "p": node.p, "m": node.m} for node in made.nodes]
-        report = self.asked(TEACHER, [*faults, {"do": "report"}])[-1]
+        report = self.ask_on(TEACHER, [*faults, {"do": "report"}])[-1]
         self.before = report["at"] - len(faults)
         return report
 
     def present(self) -> labs.Lab:
         """Returns the network with its present registers, as a lab. Raises `Fault` if a reply isn't `ok`, or if the
         program has ended."""
-        seen = self.asked(TEACHER, [{"do": "see", "node": node.id} for node in self.made.nodes])
+        seen = self.ask_on(TEACHER, [{"do": "see", "node": node.id} for node in self.made.nodes])
         del self.requests[-len(seen):]  # The looks have no effect on the run.
         return network([labs.Node(it["node"], [], it["p"], it["m"]) for it in seen], self.made.links)
 
@@ -98,13 +98,13 @@ class Bench:
         after the step. Raises `Fault` if a reply isn't `ok`, or if the program has ended."""
         rules = dict(report["privileged"])
         suited = [node for node in nodes if rules[node] == "marriage"]
-        looks = self.asked(STUDENT, [{"do": "look", "node": node} for node in suited])
+        looks = self.ask_on(STUDENT, [{"do": "look", "node": node} for node in suited])
         partner = {look["node"]: partner_of([near["node"] for near in look["near"] if near["p"] == look["node"]]) for look in looks}
         moves: list[tuple[int, dict[str, Any]]] = []
         for node in nodes:
             more = {"with": partner[node]} if node in partner else {}
             moves.append((STUDENT, {"do": "move", "node": node, "at": report["at"], "rule": rules[node], **more}))
-        return self.all_asked([*moves, (TEACHER, {"do": "close"}), (TEACHER, {"do": "report"})])[-1]
+        return self.ask_all([*moves, (TEACHER, {"do": "close"}), (TEACHER, {"do": "report"})])[-1]
 
     def close(self) -> None:
         """Ends the process of the program."""

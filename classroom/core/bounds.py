@@ -19,13 +19,13 @@ def of(nodes: int, links: int) -> Bounds:
     """Returns the bounds for a network with this number of nodes and links, which are the same for all such networks.
     Asks the program only once for each of these pairs of numbers. Raises `Fault` if the program isn't built or prints
     no bounds."""
-    found = tally.of_texts(labs.text(some(nodes, links)), "").bounds
+    found = tally.of_texts(labs.text(lab_of_size(nodes, links)), "").bounds
     if not found.moves:
         raise Fault("the program mml is of an older version, which prints no bounds. Type `./mml build` to build the present version", 4)
     return found
 
 
-def some(nodes: int, links: int) -> labs.Lab:
+def lab_of_size(nodes: int, links: int) -> labs.Lab:
     """Returns a lab with this number of nodes and links. The links join any nodes, since the bounds depend on these
     numbers only."""
     every = range(1, nodes + 1)
@@ -33,7 +33,7 @@ def some(nodes: int, links: int) -> labs.Lab:
     return labs.Lab(1, 1, NAME, {"student": "student"}, [labs.Node(node, ["student"]) for node in every], joined)
 
 
-def told(nodes: int, links: int) -> Bounds | None:
+def known(nodes: int, links: int) -> Bounds | None:
     """Returns the bounds for a network with this number of nodes and links, or None if the program isn't built
     or doesn't print them. A run continues without the bounds."""
     try:

@@ -93,8 +93,8 @@ class Class:
 def title(folder: Path) -> str:
     """Returns the title of a class: its name and its day, from the name of its folder. Returns the folder's name
     unchanged if that has no day."""
-    found = re.fullmatch(r"(\d{4}-\d\d-\d\d)T\d{4}-(.+)", folder.absolute().name)
-    return f"{found[2]}, {found[1]}" if found else folder.absolute().name
+    found = re.fullmatch(r"(?P<day>\d{4}-\d\d-\d\d)T\d{4}-(?P<name>.+)", folder.absolute().name)
+    return f"{found['name']}, {found['day']}" if found else folder.absolute().name
 
 
 def is_class(folder: Path) -> bool:

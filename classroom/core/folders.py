@@ -61,11 +61,11 @@ def title(lab: Path, journal: Path, name: str = "") -> str:
     and the day of the journal's last change."""
     own = lab.resolve().parent
     in_class = (own.parent / CLASS).is_file()
-    found = re.fullmatch(r"(\d{4}-\d\d-\d\d)T\d{4}-(.+)", (own.parent if in_class else own).name)
+    found = re.fullmatch(r"(?P<day>\d{4}-\d\d-\d\d)T\d{4}-(?P<lab>.+)", (own.parent if in_class else own).name)
     if found is None or lab.name != "lab.toml":
         return f"{name or lab.stem}, {datetime.fromtimestamp(journal.stat().st_mtime):%Y-%m-%d}"
     record = Record.read(lab.parent)
-    return f"{name or (Path(record.lab).stem if record else own.name if in_class else found[2])}, {found[1]}"
+    return f"{name or (Path(record.lab).stem if record else own.name if in_class else found['lab'])}, {found['day']}"
 
 
 @dataclass(frozen=True)
@@ -83,7 +83,8 @@ class Process:
             stat = Path(f"/proc/{number}/stat").read_text(encoding="utf-8", errors="replace")
         except OSError:
             return Process(number, "")
-        # In `stat` (proc(5)), the start time is the field 22, and the state Z is that of a process that has ended.
+        # In `stat` (proc(5)), the state is the field 3, so `rest` begins with the field 4. The field 22 is the start
+        # time. The state Z is that of a process that has ended.
         state, *rest = stat.rpartition(") ")[2].split()
         return Process(number, "" if state == "Z" else rest[18])
 
@@ -141,7 +142,7 @@ class Record:
         )
 
     @staticmethod
-    def lacking(folder: Path, port: int) -> Record:
+    def default(folder: Path, port: int) -> Record:
         """Returns a record for a run's folder without `run.json`; the first runs of version 0.9.0 left such folders.
         The record's port for students is `port`, and its other values are those with which a run begins by default."""
         nobody = Process(number=0, start="")

@@ -131,11 +131,11 @@ def read(path: Path) -> Lab:
     return Lab(it["events"], it["sessions"], (it["teacher"]["name"], it["teacher"]["key"]), students, nodes, links, people)
 
 
-def with_house_apart(told: str, lab: Lab) -> str:
-    """Returns the given line, which the proved program has printed about the size of `lab`, changed so that the house
-    is counted separately. The program counts the house as a student."""
+def with_house_apart(line: str, lab: Lab) -> str:
+    """Returns `line`, which the proved program has printed about the size of `lab`, changed so that the house is counted
+    separately. The program counts the house as a student."""
     students = len(lab.without_house().students)
-    return told.replace(f"{students + 1} students", f"{students} students and the house") if lab.held() else told
+    return line.replace(f"{students + 1} students", f"{students} students and the house") if lab.held() else line
 
 
 def quoted(word: str) -> str:

@@ -76,7 +76,7 @@ def family(word: str, count: int | None, students: int, chance: random.Random) -
         links = random_links(nodes, int(sized["links"]), chance)
     else:
         nodes = within(count if count is not None else students)
-        links = plain(word, nodes)
+        links = links_of_family(word, nodes)
     if sized and count not in (None, nodes):
         raise Fault(f"--family {word} has {nodes} nodes, but --nodes says {count}. Leave out --nodes")
     return within(nodes), links
@@ -91,10 +91,10 @@ def within(nodes: int) -> int:
     return nodes
 
 
-def plain(word: str, nodes: int) -> Links:
+def links_of_family(word: str, nodes: int) -> Links:
     """Returns the links of the network of the family `word` with this number of nodes. `word` is a family without a
-    size in its name, such as `path`. Raises `UnknownFamily` for any other word, and `Fault` if a cycle would have fewer
-    than three nodes."""
+    size in its name, such as `path`. The families `crowd` and `halves` have long runs (docs/SELF-STABILISATION.md).
+    Raises `UnknownFamily` for any other word, and `Fault` if a cycle would have fewer than three nodes."""
     row = [(node, node + 1) for node in range(1, nodes)]
     if word == "path":
         return row
@@ -111,7 +111,7 @@ def plain(word: str, nodes: int) -> Links:
     if word == "crowd":
         return [(a, b) for a, b in itertools.combinations(range(1, nodes + 1), 2) if a + b > nodes]
     if word == "halves":
-        return [(a, b) for a, b in plain("crowd", nodes) if 2 * a <= nodes + 1 < 2 * b]
+        return [(a, b) for a, b in links_of_family("crowd", nodes) if 2 * a <= nodes + 1 < 2 * b]
     raise UnknownFamily(f"--family {word}: there is no such family of networks. The families are: {NAMED}")
 
 

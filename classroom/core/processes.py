@@ -51,6 +51,7 @@ def parents() -> dict[int, int]:
         if name.isdecimal():
             try:
                 with open(f"/proc/{name}/stat", "rb") as it:
+                    # After the program's name in parentheses come the process's state and its parent.
                     found[int(name)] = int(it.read().rpartition(b") ")[2].split()[1])
             except (OSError, IndexError):
                 pass
@@ -134,7 +135,7 @@ def end_at_once(status: int, folders: Iterable[Path]) -> None:
             while os.waitpid(-1, os.WNOHANG)[0]:
                 pass
             time.sleep(PAUSE)
-    except ChildProcessError:
+    except ChildProcessError:  # No child is left.
         pass
     finally:
         try:

@@ -29,7 +29,7 @@ class Entry:
     mark: str = ""
     missed: int = 0  # The number of lines that weren't recorded, at a `+`.
 
-    def told(self) -> dict[str, str]:
+    def reply_texts(self) -> dict[str, str]:
         """Returns the values of the reply that are strings, by their keys. Leaves out its numbers, lists and other
         values."""
         return {key: value for key, value in json_object(self.reply).items() if isinstance(value, str)}
@@ -69,9 +69,9 @@ class Reader:
                 yield entry
 
     def entry(self, line: bytes) -> Entry | None:
-        """Returns the entry of which this line is the last, or None if it completes none. An entry is one line with a
-        mark, or two lines: a request after the sign `>`, and then its reply after `<`. The request is kept for the next
-        call."""
+        """Returns the entry of which this line is the last, or None if it completes none. A line has the seat, the
+        place, a sign and perhaps a text. An entry is one line whose sign is a mark, or two lines: a request after the
+        sign `>`, and then its reply after `<`. The request is kept for the next call."""
         words = line.split(b" ", 3)
         seat, place = (plain.number(word) for word in (words + [b"", b""])[:2])
         if len(words) < 3 or seat is None or place is None:

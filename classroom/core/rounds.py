@@ -10,7 +10,7 @@ from classroom.core.counts import plural
 from classroom.core.tally import Bounds
 
 
-def counts_told(moves: int, closes: int, rounds: int, most: Bounds | None) -> str:
+def counts_in_words(moves: int, closes: int, rounds: int, most: Bounds | None) -> str:
     """Returns the counts of a recovery, its moves, closes and rounds, as a text. The text also has the proved bounds
     `most`, unless that is None."""
     proved = f" (at most {most.moves} moves and {most.rounds} rounds, as is proved)" if most else ""
@@ -35,7 +35,7 @@ class Recovery:
             self.rounds += 1
             self.left = set(privileged)
 
-    def told(self, nodes: int, links: int) -> str:
+    def in_words(self, nodes: int, links: int) -> str:
         """Returns the counts as a text, with the bounds for a network of `nodes` nodes and `links` links if they are
         known."""
-        return counts_told(self.moves, self.closes, self.rounds, bounds.told(nodes, links))
+        return counts_in_words(self.moves, self.closes, self.rounds, bounds.known(nodes, links))

@@ -128,7 +128,7 @@ def read(text: str) -> Tally:
         elif word == "asked":
             asked.moves[int(rest[0])] = by_owner(rest[1:])
         elif word == "record":
-            tally.asked, asked.whole = asked, rest[2] == "whole"
+            tally.asked, asked.whole = asked, rest[2] == "whole"  # The words before it are the numbers of sessions and of lines.
         elif word == "whole":
             asked.all_of = frozenset(rest)
         elif word == "bounds":
@@ -164,7 +164,8 @@ def place(word: str) -> int | None:
 
 
 def take_run(tally: Tally, words: list[str]) -> None:
-    """Copies the values of the line `run` into the tally. `words` are the words of that line after `run`."""
-    tally.stable = words.pop(2) == "stable"
+    """Copies the values of the line `run` into the tally. `words` are the words of that line after `run`. Removes one of
+    them from the list."""
+    tally.stable = words.pop(2) == "stable"  # All other words are numbers.
     (tally.events, tally.configuration, tally.closes, tally.faults, tally.links, tally.cuts, tally.moves, *since) = map(int, words)
     tally.since = (since[0], since[1])

@@ -14,7 +14,7 @@ from classroom.core import lab as labs
 from classroom.core import tally as tallies
 from classroom.core.journal import Event
 from classroom.core.program import Fault
-from classroom.core.rounds import Recovery, counts_told
+from classroom.core.rounds import Recovery, counts_in_words
 from classroom.pages.replay import REPORT, Replay, Script
 
 MOST_COUNTED = 50  # the most faults, links and cuts of a run for which its recoveries are printed
@@ -52,7 +52,7 @@ class Comeback:
         self.recovery.step(moved, after)
         if after:
             return ""
-        told = f"after {self.recovery.told(self.nodes, len(self.links))}"
+        told = f"after {self.recovery.in_words(self.nodes, len(self.links))}"
         if self.missed:
             told = "after several steps in quick succession; how many moves and rounds this took is printed with the marks"
         self.recovery, self.missed = None, False
@@ -114,7 +114,7 @@ def recovery_line(lab: labs.Lab, events: list[Event]) -> str:
     if found.rounds is None:
         raise Fault("the program mml is of an older version, which counts no rounds. Type `./mml build` to build the present version", 4)
     again = " again" if found.faults or found.links or found.cuts else ""
-    return f"stable{again} after {counts_told(*found.since, found.rounds, found.bounds)}"
+    return f"stable{again} after {counts_in_words(*found.since, found.rounds, found.bounds)}"
 
 
 def recoveries(lab: labs.Lab, events: list[Event]) -> list[str]:

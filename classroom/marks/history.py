@@ -95,7 +95,7 @@ def sessions(part: Vouched) -> Iterator[Session]:
 def names_of(said: Session) -> set[str]:
     """Returns the names of the students or teachers whose hello was granted in a session. If no hello was granted,
     returns the names in its denied hellos."""
-    told = [(entry, entry.told()) for entry in said if not entry.mark]
+    told = [(entry, entry.reply_texts()) for entry in said if not entry.mark]
     known = {reply["who"] for _, reply in told if "who" in reply}
     return known or {name for entry, reply in told if reply.get("deny") == "unknown" and (name := entry.asked_name()) is not None}
 
@@ -123,7 +123,7 @@ def beginning(said: Session) -> tuple[int, int]:
     these entries. The second number is needed because the session didn't see the journal before the hello, so its first
     entries have the place of the seat's last session. It is the place of the entry after the hello, or 0 if there is no
     such entry."""
-    count = next((index for index, entry in enumerate(said, 1) if not entry.mark and entry.told().get("ok") == "hello"), len(said))
+    count = next((index for index, entry in enumerate(said, 1) if not entry.mark and entry.reply_texts().get("ok") == "hello"), len(said))
     return count, said[count].place if count < len(said) else 0
 
 
@@ -141,7 +141,7 @@ def row_of(entry: Entry, session: int, hider: Hider) -> Row:
     """Returns the row of an entry in the session with this number. `hider` hides keys in the entry's line."""
     if entry.mark:
         return Row(entry.place, entry.seat, session, event=MARKS[entry.mark].format(entry.missed))
-    told = entry.told()
+    told = entry.reply_texts()
     reply = printable(entry.reply.decode(errors="backslashreplace"))
     denied = told.get("deny") or told.get("refuse") or ""
     return Row(entry.place, entry.seat, session, hider.line(entry.line), reply, denied)

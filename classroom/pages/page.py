@@ -48,7 +48,7 @@ class Frames:
         """Appends a row with the changes of a frame. `links` is the number of links in the network at that time."""
         state, event = frame.state, frame.event
         before = self.before or State(0, 0, frozenset())
-        most = bounds.told(len(self.order), links)
+        most = bounds.known(len(self.order), links)
         row: dict[str, Any] = {
             "place": state.place, "number": state.number, "moves": state.moves, "since": state.since,
             "bound": most.moves if most else None, "stable": state.stable,

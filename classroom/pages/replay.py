@@ -16,7 +16,7 @@ from typing import Any
 
 from classroom.core import lab as labs
 from classroom.core import desk_words
-from classroom.core.answering import all_of
+from classroom.core.answering import replies_to
 from classroom.core.journal import Event
 from classroom.core.program import Fault, call
 
@@ -195,7 +195,7 @@ def report(lab: labs.Lab, lines: list[list[str]]) -> dict[str, Any]:
     program counts the events differently."""
     nodes = [labs.Node(node.id, [STUDENT], node.p, node.m) for node in lab.nodes]
     script = [*HELLOS, *(request(at, words) for _, at, *words in lines), REPORT]
-    replies = all_of(alone(nodes, lab.links, max(1, len(lines))), script)
+    replies = replies_to(alone(nodes, lab.links, max(1, len(lines))), script)
     if replies.count('"ok":') != len(script):
         raise next(wrong_reply(line, reply) for line, reply in zip(script, replies.splitlines()) if '"ok":' not in reply)
     # The last two lines, before the empty text that follows the last newline: the replies to the last event and to the request for the report.

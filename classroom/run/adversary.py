@@ -94,7 +94,7 @@ class Adversary:
             after, moves = bench.step(after, [node], self.partner_of), moves + 1
             moved.add(node)
         undone = [{"do": "fault", "node": node, "p": p, "m": m} for node, (p, m) in self.registers.items() if node in moved]
-        report["at"] = bench.asked(TEACHER, undone)[-1]["at"]  # Each fault has made a configuration. The next way begins at the last one.
+        report["at"] = bench.ask_on(TEACHER, undone)[-1]["at"]  # Each fault has made a configuration. The next way begins at the last one.
         return moves + len(after["privileged"])
 
     def close(self) -> None:

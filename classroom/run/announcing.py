@@ -123,7 +123,7 @@ class Announcer:
         The line also has the moves since the last fault, link or cut beside their bound, and the number of events. If
         the latest report is of that configuration, it has the number of privileged nodes too."""
         known = self.known
-        most = bounds.told(len(self.lab.nodes), len(self.lab.links) + known.book.links)
+        most = bounds.known(len(self.lab.nodes), len(self.lab.links) + known.book.links)
         limit = f" of at most {most.moves}" if most else ""
         state = "stable" if known.report.stable else f"privileged nodes: {len(known.report.privileged)}"
         now = f"{state}; " if known.report.at == at else ""

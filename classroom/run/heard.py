@@ -139,7 +139,7 @@ class Heard:
             self.cut.append(who)
         elif entry.mark != RESUMED:
             self.lines[who] += entry.seat != DESK  # Lines at the desk aren't counted.
-            told = entry.told()
+            told = entry.reply_texts()
             self.over = told["refuse"] if told.get("refuse") in OVER else self.over
             if told.get("ok") == "hello" and "who" in told:
                 seat.name = told["who"]

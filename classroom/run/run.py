@@ -118,7 +118,7 @@ def resume(words: argparse.Namespace) -> int:
     if is_class(folder):
         return class_again.hold_again(words, folder)
     lab_file, _ = of_folder(folder)
-    record = Record.read(folder) or Record.lacking(folder, words.port or FIRST_PORT)
+    record = Record.read(folder) or Record.default(folder, words.port or FIRST_PORT)
     if record.goes_on():
         raise Fault(f"{folder}: this run is still going on. To control it, type: {CLASS} attach {folder}")
     if record.ended and not words.again:

@@ -41,7 +41,7 @@ class StateFile:
         """Returns the state of a desk's network, as the file has it."""
         known, lab = desk.known, desk.announcer.shown
         links = sorted(tuple(sorted(link)) for link in desk.announcer.comeback.links)
-        most = bounds.told(len(lab.nodes), len(links))
+        most = bounds.known(len(lab.nodes), len(links))
         report = known.report
         return {
             "configuration": report.at, "stable": report.stable, "privileged": [list(each) for each in report.privileged],

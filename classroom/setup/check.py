@@ -93,11 +93,12 @@ def place_of_error(text: str, error: str) -> tuple[int | None, str]:
         return None, ""
     numbered = re.match(r"lab: (node|principal|link) (\d+): (.*)", error)
     if numbered is None:
-        key = re.match(r"lab: ([\w.]+) is (?!missing)", error)
+        key = re.match(r"lab: ([\w.]+) is (?!missing)", error)  # A missing key is on no line.
         return line_of_key(text, key[1]) if key else (None, "")
     kind, index, fault_text = numbered[1], int(numbered[2]), numbered[3]
     if kind == "link":
         return positions.link(text, index), ""
+    # The principal 0 is the teacher, and the students have the numbers from 1 on.
     name = "node" if kind == "node" else "student" if index else "teacher"
     table = positions.table(text, name, index if kind == "node" else max(index - 1, 0))
     if table is None:
@@ -191,7 +192,7 @@ def effort(key: str) -> str:
 def example_keys() -> set[str]:
     """Returns the keys of all persons in the example labs and in the lab that is built into the program. These keys are
     public."""
-    found = {"chalk", "a-key", "b-key", "c-key"}
+    found = {"chalk", "a-key", "b-key", "c-key"}  # those of the built-in lab
     for path in (TOP / "examples").glob("*.toml"):
         it = labs.document(path)
         found |= {each["key"] for each in [it["teacher"], *it["student"]]}
@@ -284,13 +285,13 @@ def warnings(path: Path) -> Iterator[str]:
         yield from found
 
 
-def size_line(path: Path, told: str) -> str:
-    """Returns the given line, which the program has printed about the size of the lab in a file. If the lab can be
-    read, the line is changed so that the house, a student without a person, is counted separately."""
+def size_line(path: Path, line: str) -> str:
+    """Returns `line`, which the program has printed about the size of the lab in a file. If the lab can be read, the
+    line is changed so that the house, a student without a person, is counted separately."""
     try:
-        return labs.with_house_apart(told, labs.read(path))
+        return labs.with_house_apart(line, labs.read(path))
     except Fault:
-        return told
+        return line
 
 
 def check(words: argparse.Namespace) -> int:

@@ -71,12 +71,11 @@ def add_words(words: argparse.ArgumentParser) -> None:
 
 def ways(words: argparse.Namespace, files: list[Path], rooms: list[str], before: list[Way | None] | None = None) -> list[Way]:
     """Returns the way into the network of each lab, for the labs in these files. `rooms` has the room of each network,
-    and `before` the way on each lab's earlier slips, or None. A port that the arguments don't name is as in `before`.
-    By default the labs have the ports from FIRST_PORT and FIRST_PAGE on. If the arguments name a door, the way has this
-    door and no account for ssh. If they name only an account, it has this account and no door. If they name neither,
-    both are as in `before`. By default there is no door, and the account is `NAME` at this machine. Makes the
-    certificate of a door in the arguments if it is missing. Raises `Fault` if that fails, if two networks have the same
-    name, or if a port is too high."""
+    and `before` the way on each lab's earlier slips, or None. Each port is that of the arguments, or else that in
+    `before`, or else the default; the arguments and defaults name the first lab's port, and each further lab has the
+    next one. A way has only the door of the arguments, or else only their ssh account, or else both as in `before`, or
+    else the account `NAME` at this machine. Makes the certificate of a door in the arguments if it is missing. Raises
+    `Fault` if that fails, if two networks have the same name, or if a port is too high."""
     found, names = [], [network(file) for file in files]
     if len(set(names)) < len(names):
         same = next(name for name in names if names.count(name) > 1)
@@ -126,7 +125,7 @@ def remake_slips(words: argparse.Namespace) -> int:
     return 0
 
 
-def merge(parts: list[tuple[labs.Lab, Way, Path]]) -> str:
+def merge_table(parts: list[tuple[labs.Lab, Way, Path]]) -> str:
     """Returns the table for a mail merge as CSV, with a row for each student that names the file of the student's slip.
     `parts` has each lab with the way into its network and its file."""
     out = io.StringIO()

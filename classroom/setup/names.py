@@ -47,6 +47,7 @@ def letters(char: str) -> str:
     sound = sounds(named.split())
     if sound is not None:
         return sound
+    # NFKD splits a letter into simpler ones and its accents. The accents are left out.
     plain = [each for each in unicodedata.normalize("NFKD", char) if not unicodedata.combining(each)]
     if plain == [char]:
         return char if char.isascii() and char.isalnum() else ""

@@ -25,7 +25,7 @@ from classroom.setup import dealing, handing, keys, names, printed, shaking, sli
 from classroom.setup.slips import Way
 
 
-def start(made: labs.Lab, word: str, chance: random.Random) -> None:
+def set_registers(made: labs.Lab, word: str, chance: random.Random) -> None:
     """Sets the registers of a lab at the beginning, as `word` says: `clean`, all `random`, random at one node in three
     (`hurt`), or `worst`, the worst known start. With `hurt`, p isn't null if the node has a neighbour. `chance` makes
     the random choices."""
@@ -61,7 +61,7 @@ def make(words: argparse.Namespace, people: dict[str, Person], chance: random.Ra
     teacher = names.lab_name(words.teacher) or "teacher", keys.for_programs()
     most = limits.allowed()
     made = labs.Lab(words.events or most.events, words.sessions or most.sessions, teacher, known, nodes, links, people)
-    start(made, words.start, chance)
+    set_registers(made, words.start, chance)
     return made
 
 
@@ -185,7 +185,7 @@ def write_all(words: argparse.Namespace, made: list[Made], rooms: list[str], mer
         pages = [printed.page(it.lab, way) for it, way in zip(made, ways, strict=True)]
         for it, way, page in zip(made, ways, pages, strict=True):
             write(it, way, page, done)
-        labs.write_new(merge, handing.merge([(it.lab, way, it.file) for it, way in zip(made, ways, strict=True)]))
+        labs.write_new(merge, handing.merge_table([(it.lab, way, it.file) for it, way in zip(made, ways, strict=True)]))
     return ways
 
 
@@ -219,7 +219,8 @@ def next_steps(words: argparse.Namespace, made: list[Made], merge: Path) -> str:
 
 def tell_seats(made: labs.Lab, everybody: int, words: argparse.Namespace) -> None:
     """Prints a note if the students of a lab can't all have a seat at once. `words` are the arguments, and `everybody`
-    is the number of all students. The note says how many labs would be enough for everybody."""
+    is the number of all students. Without `--groups-by`, the note says how many labs would be enough for everybody.
+    With it, the rooms' sizes matter too, so the note only asks for more labs."""
     students = len(made.without_house().students)
     if made.sessions < students + 1 and words.groups_by:
         print(f"note: this lab has {made.sessions} seats for {students} students and a teacher. With a higher number of --groups, everybody gets a seat")

@@ -74,9 +74,9 @@ def in_parts(digits: str) -> str:
     return ":".join(digits[at:at + 2] for at in range(0, len(digits), 2)).upper()
 
 
-def rows(made: Lab, name: str, way: Way) -> Iterator[tuple[str, str]]:
+def rows(made: Lab, name: str) -> Iterator[tuple[str, str]]:
     """Yields the rows of the slip of the student `name` of the lab `made`: for each value its label, and the value as
-    HTML. The way into the network isn't used."""
+    HTML."""
     yield "name", f"<code>{escape(name)}</code>"
     yield "key", f'<code class="key">{escape(made.students[name])}</code>'
     nodes = made.nodes_of(name)
@@ -91,7 +91,7 @@ def slip(made: Lab, shown: Lab, name: str, way: Way) -> str:
     program that may play for absent students. `way` is the way into the lab's network."""
     person, link = made.people.get(name, Person(name)), address(way, name, made.students[name])
     room = f" · {escape(way.room)}" if way.room else ""
-    listed = "".join(f"<dt>{head}</dt><dd>{value}</dd>" for head, value in rows(shown, name, way))
+    listed = "".join(f"<dt>{head}</dt><dd>{value}</dd>" for head, value in rows(shown, name))
     house = "<p>If a node of yours waits too long for you, a program, the house, may play it.</p>" if made.held() else ""
     anchor = f'<a href="{escape(link)}">{escape(link.partition("#")[0])}</a>'
     if way.door:

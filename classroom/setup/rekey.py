@@ -76,11 +76,13 @@ def change(word: str, name: str) -> Changed:
     files, own, record = files_of(word)
     labs.read(files[0])
     key = keys.for_people()
+    # The dict has the new texts of all files before the first file is replaced, so after an error no file is changed.
     for file, text in {file: changed(file, name, key) for file in files}.items():
         slips.replace(file, text)
     lab = labs.read(files[0])
     folder = slips.folder_of(own)
     way = Way.read(own) or Way(FIRST_PORT, network(own))
+    # Without a door, students connect to the port of the run, which may be another one than on their earlier slips.
     way = dataclasses.replace(way, port=record.port) if record and not way.door else way
     folder.mkdir(mode=0o700, exist_ok=True)
     slips.replace(folder / f"{name}.slip", slips.text(lab, name, way))
@@ -94,7 +96,8 @@ def rekey(words: argparse.Namespace) -> int:
     still accepts only the old key. Raises `Fault` if the lab has no such student, if several networks of a class have
     one, or if a file can't be read or changed."""
     words.lab = str(classes.run_of(Path(words.lab), words.name))
-    it, record = change(words.lab, words.name), files_of(words.lab)[2]
+    it = change(words.lab, words.name)
+    _, _, record = files_of(words.lab)
     print(f"{words.name} has a new key in {', '.join(map(str, it.files))}. The new slip is {it.slip}")
     if record is not None and record.goes_on():
         print("a run of this lab is going on, and still accepts only the old key. To change the key there, too, type `key NAME` in the terminal of `run`")

@@ -5,7 +5,7 @@ from __future__ import annotations
 import random
 from collections.abc import Collection, Iterable
 
-from classroom.core.networks import neighbours, plain
+from classroom.core.networks import links_of_family, neighbours
 from classroom.core.program import Fault
 
 Registers = tuple[int, int | None, bool]
@@ -42,7 +42,7 @@ def longest_start(nodes: list[int], links: Iterable[Collection[int]]) -> list[Re
     moves follows."""
     pairs, order = pairs_of(links), sorted(nodes)
     for word, pointers in (("crowd", of_crowd), ("halves", of_halves)):
-        placed = [(order[a - 1], order[b - 1]) for a, b in plain(word, len(order))]
+        placed = [(order[a - 1], order[b - 1]) for a, b in links_of_family(word, len(order))]
         if len(order) >= LEAST[word] and pairs == sorted(placed):
             return [(node, None if p is None else order[p - 1], True) for node, p in zip(order, pointers(len(order)))]
     near = neighbours(nodes, pairs)

@@ -16,7 +16,7 @@ from unittest import mock
 
 from classroom.core import lab as labs
 from classroom.core import program
-from classroom.core.answering import all_of
+from classroom.core.answering import replies_to
 from classroom.core.printable import printable
 from classroom.core.tally import DENIED
 from classroom.marks.mark import marked
@@ -127,11 +127,11 @@ class Mark(InRoom):
         ):
             def another(made: labs.Lab, script: list[str]) -> str:
                 """Returns the program's replies with `old`, which they have once, replaced by `new`."""
-                replies = all_of(made, script)
+                replies = replies_to(made, script)
                 self.assertEqual(replies.count(old), 1)
                 return replies.replace(old, new)
 
-            with mock.patch.object(replay, "all_of", another), self.assertRaises(program.Fault) as fault:
+            with mock.patch.object(replay, "replies_to", another), self.assertRaises(program.Fault) as fault:
                 marked(lab, journal)
             self.assertIn(error, str(fault.exception))
 

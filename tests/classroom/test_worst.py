@@ -11,7 +11,7 @@ from classroom.core import lab as labs
 from classroom.core import bounds, networks
 from classroom.core.bench import STUDENT, TEACHER, Bench, network
 from classroom.core.rounds import Recovery
-from classroom.setup.new import start
+from classroom.setup.new import set_registers
 from classroom.setup.shaking import longest_start
 from tests.classroom.help import EXAMPLES, InRoom, words
 
@@ -20,8 +20,8 @@ Asked = tuple[int, str, int | None]  # a node, its rule, and its partner
 
 def made(family: str, nodes: int) -> labs.Lab:
     """Returns a lab with a network of a family, at its worst start."""
-    it = network([labs.Node(node, []) for node in range(1, nodes + 1)], networks.plain(family, nodes))
-    start(it, "worst", random.Random(1))
+    it = network([labs.Node(node, []) for node in range(1, nodes + 1)], networks.links_of_family(family, nodes))
+    set_registers(it, "worst", random.Random(1))
     return it
 
 
@@ -49,7 +49,7 @@ def counted(lab: labs.Lab, asked: list[Asked]) -> Recovery:
             assert not report["stable"]
             more: dict[str, Any] = {} if partner is None else {"with": partner}
             move = {"do": "move", "node": node, "at": report["at"], "rule": rule, **more}
-            report = bench.all_asked([(STUDENT, move), (TEACHER, {"do": "close"}), (TEACHER, {"do": "report"})])[-1]
+            report = bench.ask_all([(STUDENT, move), (TEACHER, {"do": "close"}), (TEACHER, {"do": "report"})])[-1]
             found.step([node], [each for each, _ in report["privileged"]])
         assert report["stable"]
         return found
@@ -85,7 +85,7 @@ class Worst(unittest.TestCase):
 
     def test_the_worst_start_of_a_crowd_needs_no_consecutive_identifiers(self) -> None:
         """Here they are 10, 20 and so on. The registers are those of the nodes 1 to 6, by the order of the nodes."""
-        links = [{10 * a, 10 * b} for a, b in networks.plain("crowd", 6)]
+        links = [{10 * a, 10 * b} for a, b in networks.links_of_family("crowd", 6)]
         registers = {node: (p, m) for node, p, m in longest_start([60, 10, 20, 30, 40, 50], links)}
         self.assertEqual({node: p for node, (p, _) in registers.items()}, {10: 60, 20: 50, 30: 40, 40: 50, 50: 60, 60: 20})
         self.assertTrue(all(m for _, m in registers.values()))
