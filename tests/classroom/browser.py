@@ -91,7 +91,7 @@ def shown(driver: Any) -> Shown:
     return root, sorted(nodes, key=lambda node: int(node["node"])), line
 
 
-def told(state: State, frame: Frame) -> Shown:
+def expected(state: State, frame: Frame) -> Shown:
     """Returns the contents that a page must show for a state of the run. `frame` has the event that led to it."""
     root = {
         "place": str(state.place), "number": str(state.number), "privileged": str(len(state.privileged)),

@@ -37,7 +37,7 @@ CLASS = shlex.quote(str(TOP / "class"))  # the path of `class`, quoted for a she
 LIMIT = 300  # seconds after which a command counts as hanging; even a slow machine needs only a small part of them
 
 
-def words(*given: str | Path, typed: str | None = None, **more: str) -> subprocess.CompletedProcess[str]:
+def call_class(*given: str | Path, typed: str | None = None, **more: str) -> subprocess.CompletedProcess[str]:
     """Runs `./class` with these arguments to its end, with `typed` as its input and `more` in its environment. Returns
     its result."""
     return subprocess.run(
@@ -159,12 +159,12 @@ class Going:
         self.process.stdin.write(line + "\n")
         self.process.stdin.flush()
 
-    def ended(self) -> int:
+    def end(self) -> int:
         """Ends the run by a command, and returns its exit status."""
         self.type("end\nend")  # If the network isn't stable, the desk asks for a second `end`.
-        return self.ends()
+        return self.wait_for_end()
 
-    def ends(self) -> int:
+    def wait_for_end(self) -> int:
         """Reads all lines until the run ends, without ending it. Returns its exit status."""
         for _ in self.read():
             pass
@@ -278,7 +278,7 @@ class Cycle(InRoom):
         made = self.room / f"{name}-{port}.slip"
         return made if made.exists() else self.file(made.name, f"port {port}\nname {name}\nkey {KEYS[name]}\nnodes {nodes}\n")
 
-    def whole(self, folder: Path) -> int:
+    def check_complete(self, folder: Path) -> int:
         """Checks that the folder of an ended run is complete: only its owner may open it, it has all files, and its
         journal passes the audit. Returns the number of the run's events."""
         self.assertEqual(folder.stat().st_mode & 0o777, 0o700)

@@ -14,7 +14,7 @@ from typing import Any
 from classroom.core.class_state import read as state_of
 from classroom.core.folders import Record
 from classroom.core.program import TOP
-from tests.classroom.help import LIMIT, Going, InRoom, a_port, words
+from tests.classroom.help import LIMIT, Going, InRoom, a_port, call_class
 
 NAMES = ("Zoë Müller", "José García", "Lukas Schmidt", "Lukas Schmidt", "Ana Lima", "Ben Roy", "Cyd Sol", "Dora Em")
 
@@ -77,7 +77,7 @@ class Classes(InRoom):
         """Makes the labs of both networks, whose nodes have random registers at the beginning."""
         super().setUp()
         students = self.file("names.txt", "\n".join(NAMES) + "\n")
-        made = words("new", self.room / "maths.toml", "--students", students, "--groups", "2", "--start", "random", "--seed", "5")
+        made = call_class("new", self.room / "maths.toml", "--students", students, "--groups", "2", "--start", "random", "--seed", "5")
         self.assertEqual(made.returncode, 0, made.stderr)
         self.labs = [self.room / "maths-1.toml", self.room / "maths-2.toml"]
 

@@ -17,7 +17,7 @@ from classroom.run import adversary
 from classroom.run.adversary import Adversary, scheduled
 from classroom.run.daemons import Daemon, Sight, applied, movers
 from classroom.run.striking import Striker
-from tests.classroom.help import CYCLE, EXAMPLES, KEYS, Cycle, Going, words
+from tests.classroom.help import CYCLE, EXAMPLES, KEYS, Cycle, Going, call_class
 
 
 def rows(daemon: str, family: str, nodes: int, seeds: range) -> list[Row]:
@@ -160,26 +160,26 @@ class Everywhere(Cycle):
         going.type("link 1 3\nbreak")
         going.until(r"^stable again after \d+ moves, \d+ steps and \d+ rounds \(at most 37 moves and 13 rounds, as is proved\)$")
         going.type("end")
-        self.assertEqual(going.ends(), 0, going.lines)
-        self.whole(going.folder)
+        self.assertEqual(going.wait_for_end(), 0, going.lines)
+        self.check_complete(going.folder)
         told = [line for line in going.lines if re.search("^stable (again )?after ", line)]
         text = (going.folder / "marks.txt").read_text(encoding="utf-8")
         self.assertEqual(re.findall(r"(?m)^event \d+: (.*)$", text), told)
-        self.assertEqual(words("mark", going.folder).stdout, text.replace(f"{CYCLE}", str(going.folder)))
+        self.assertEqual(call_class("mark", going.folder).stdout, text.replace(f"{CYCLE}", str(going.folder)))
 
     def test_practise_experiment_and_grade_accept_the_adversary(self) -> None:
-        done = words("practise", EXAMPLES / "bot.py", "--nodes", "5", "--daemon", "adversary", "--into", self.room / "runs")
+        done = call_class("practise", EXAMPLES / "bot.py", "--nodes", "5", "--daemon", "adversary", "--into", self.room / "runs")
         self.assertEqual(done.returncode, 0, done.stdout + done.stderr)
         self.assertRegex(done.stdout, "(?m)^the network is stable; pairs: ")
         table = self.room / "runs.csv"
-        done = words("experiment", "--family", "path", "--nodes", "4", "--daemon", "adversary,central", "--runs", "2", "--csv", table)
+        done = call_class("experiment", "--family", "path", "--nodes", "4", "--daemon", "adversary,central", "--runs", "2", "--csv", table)
         self.assertEqual(done.returncode, 0, done.stdout + done.stderr)
         self.assertIn("4 of 4 runs are done, all within the proved bounds", done.stdout)
         (self.room / "labs").mkdir()
-        made = words("new", self.room / "labs/one.toml", "--students", self.file("names", "Ana\nBen\n"), "--nodes", "4", "--start", "hurt")
+        made = call_class("new", self.room / "labs/one.toml", "--students", self.file("names", "Ana\nBen\n"), "--nodes", "4", "--start", "hurt")
         self.assertEqual(made.returncode, 0, made.stderr)
-        done = words("grade", EXAMPLES / "bot.py", "--labs", self.room / "labs", "--daemon", "adversary", "--timeout", "100",
-                     "--into", self.room / "grades")
+        done = call_class("grade", EXAMPLES / "bot.py", "--labs", self.room / "labs", "--daemon", "adversary", "--timeout", "100",
+                          "--into", self.room / "grades")
         self.assertEqual(done.returncode, 0, done.stdout + done.stderr)
         self.assertIn("passed  bot.py: one, daemon adversary, seed 1;", done.stdout)
 

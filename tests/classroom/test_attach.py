@@ -12,7 +12,7 @@ from pathlib import Path
 from classroom.client import Client
 from classroom.core.folders import Process
 from classroom.core.program import host
-from tests.classroom.help import CLASS, CYCLE, KEYS, LIMIT, Cycle, Going, InTerminal, stop, words
+from tests.classroom.help import CLASS, CYCLE, KEYS, LIMIT, Cycle, Going, InTerminal, call_class, stop
 
 
 @unittest.skipUnless(host(), "not tried: no host is built")
@@ -57,8 +57,8 @@ class Attach(Cycle):
             gus.move(gus.look(1))
         again.type("close")
         again.until("^configuration 3: node 1 \\(gus\\): update; .* moves: 1 of at most 35; events: 5 of 1000$")
-        self.assertEqual(again.ended(), 0, again.lines)
-        self.assertEqual(self.whole(going.folder), 5)
+        self.assertEqual(again.end(), 0, again.lines)
+        self.assertEqual(self.check_complete(going.folder), 5)
         self.assertEqual(self.marks(going.folder), {"gus": 2, "hana": 0, "ines": 0, "jonas": 0})
         told = (going.folder / "run.txt").read_text(encoding="utf-8")
         for line in ("configuration 1: node 4 (gus): update", "configuration 2: fault", "configuration 3: node 1 (gus): update"):
@@ -70,11 +70,11 @@ class Attach(Cycle):
         self.assertRegex(again.until("^page for the projector "), "^page for the projector http://127.0.0.1:295")
         again.type("link 1 3")
         again.until("^configuration 3: added the link between 1 and 3")
-        self.assertEqual(again.ended(), 0, again.lines)
+        self.assertEqual(again.end(), 0, again.lines)
 
     def test_a_second_run_of_the_lab_is_refused_and_the_error_line_names_attach(self) -> None:
         going = self.killed()
-        done = words("run", CYCLE, "--into", self.room / "runs")
+        done = call_class("run", CYCLE, "--into", self.room / "runs")
         self.assertEqual(done.returncode, 1)
         self.assertEqual(done.stderr, f"class: a run of {CYCLE} is still going on, at port {going.port} and in the folder {going.folder}. "
                                       f"To control it, type: {CLASS} attach {going.folder} . To start another run beside it, add --beside\n")
@@ -84,14 +84,14 @@ class Attach(Cycle):
         terminal.type(b"fault 1 2 true\n", b" moves: 0 of at most 35;")
         os.close(terminal.ours)
         folder = next((self.room / "runs").iterdir())
-        self.until_told(folder, f"the terminal was closed, and the run continues. To control it again, type: {CLASS} attach {folder}\n")
+        self.wait_for_line(folder, f"the terminal was closed, and the run continues. To control it again, type: {CLASS} attach {folder}\n")
         self.assertIsNone(terminal.process.poll())
         again = Going(self, None, "attach", folder)
         terminal.process.wait(LIMIT)
         again.type("link 1 3")
         again.until("^configuration 2: added the link between 1 and 3")
-        self.assertEqual(again.ended(), 0, again.lines)
-        self.assertEqual(self.whole(folder), 2)
+        self.assertEqual(again.end(), 0, again.lines)
+        self.assertEqual(self.check_complete(folder), 2)
 
     def test_the_desk_can_stop_waiting_for_the_end_of_a_server_that_does_not_answer(self) -> None:
         """The desk sends its bye to a stopped server, waits, and is ended by a command. The server ends when it runs
@@ -106,7 +106,7 @@ class Attach(Cycle):
         going.until("^the desk has lost its connection to the server: no answer in ")
         going.until(rf"^waiting for the end of the server \(process {server}\)\. Type `end` to stop waiting$")
         going.type("end")
-        self.assertEqual(going.ends(), 4, going.lines)
+        self.assertEqual(going.wait_for_end(), 4, going.lines)
         self.assertTrue(going.lines[-1].startswith(f"the server (process {server}) keeps running, but nobody controls it. "), going.lines)
         self.assertTrue(Process.of(server).lives())
         os.kill(server, signal.SIGCONT)
@@ -115,9 +115,9 @@ class Attach(Cycle):
             self.assertLess(time.monotonic(), end)
             time.sleep(0.05)
         self.assertIn("1 event, among them 0 closed steps, 1 fault, 0 added links and 0 removed links; last configuration: 1, ",
-                      words("mark", going.folder).stdout)
+                      call_class("mark", going.folder).stdout)
 
-    def until_told(self, folder: Path, line: str) -> None:
+    def wait_for_line(self, folder: Path, line: str) -> None:
         """Waits until the file `run.txt` in a run's folder, which has the printed lines, contains this line."""
         end = time.monotonic() + LIMIT
         while line not in (folder / "run.txt").read_text(encoding="utf-8"):
@@ -126,15 +126,15 @@ class Attach(Cycle):
 
     def test_attach_refuses_a_run_that_has_a_desk_or_has_ended_and_a_missing_folder(self) -> None:
         going = Going(self, CYCLE, "--close", "by-hand")
-        done = words("attach", going.folder)
+        done = call_class("attach", going.folder)
         self.assertEqual((done.returncode, done.stderr), (1, f"class: {going.folder}: another process (number {going.process.pid}) controls this run. "
                                                                "Type your commands in its terminal. Or close that terminal (don't type `end` there: "
                                                                "that ends the run), and then type this command again\n"))
-        self.assertEqual(going.ended(), 0, going.lines)
-        done = words("attach", going.folder)
+        self.assertEqual(going.end(), 0, going.lines)
+        done = call_class("attach", going.folder)
         self.assertEqual((done.returncode, done.stderr), (
             1, f"class: {going.folder}: the server of this run has ended. To continue the run, type: {CLASS} run --resume {going.folder}\n"))
-        self.assertEqual(words("attach", self.room / "none").returncode, 1)
+        self.assertEqual(call_class("attach", self.room / "none").returncode, 1)
 
 
 if __name__ == "__main__":

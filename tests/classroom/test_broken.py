@@ -67,8 +67,8 @@ class Broken(Cycle):
                 for act in acts[:moment]:
                     act(going)
                 os.kill(going.server(), signal.SIGKILL)
-                self.assertEqual(going.ends(), 4, going.lines)
-                self.assertEqual(self.whole(going.folder), moment)
+                self.assertEqual(going.wait_for_end(), 4, going.lines)
+                self.assertEqual(self.check_complete(going.folder), moment)
                 self.assertTrue(any(line.startswith("the server") for line in going.lines))
 
     def test_a_run_whose_server_is_killed_while_bots_play_keeps_at_least_the_printed_events(self) -> None:
@@ -78,8 +78,8 @@ class Broken(Cycle):
         for _ in range(3):
             going.until("^configuration ")
         os.kill(going.server(), signal.SIGKILL)
-        self.assertEqual(going.ends(), 4, going.lines)
-        self.assertGreaterEqual(self.whole(going.folder), 3)
+        self.assertEqual(going.wait_for_end(), 4, going.lines)
+        self.assertGreaterEqual(self.check_complete(going.folder), 3)
 
     def mounted(self) -> tuple[str, ...]:
         """Returns the words to put before a call, so that the folder of runs is a small disk in it. Skips the test if
@@ -113,7 +113,7 @@ class Broken(Cycle):
         going.type("fault 1 2 true")
         going.until("^the server refused this command: journal")
         going.until("^nothing more is granted: .*journal")
-        self.assertEqual(going.ends(), 4, going.lines)
+        self.assertEqual(going.wait_for_end(), 4, going.lines)
         self.assertTrue(any(line.startswith("ok: 0 events") for line in going.lines), going.lines)
         self.assertTrue(any("No space left on device. The journal is" in line for line in going.lines), going.lines)
 
@@ -132,8 +132,8 @@ class Broken(Cycle):
             gus.move(gus.look(4))
         self.assertEqual((refused.exception.word, journal.stat().st_size), ("journal", size))
         going.until("^nothing more is granted: .*journal")
-        self.assertEqual(going.ends(), 4, going.lines)
-        self.assertEqual(self.whole(going.folder), 60)
+        self.assertEqual(going.wait_for_end(), 4, going.lines)
+        self.assertEqual(self.check_complete(going.folder), 60)
 
     def lost(self, act: Callable[[Path], object], status: int = 4) -> Going:
         """Starts a run, makes three events, and calls `act` with the path of its journal. Checks that the run ends with
@@ -144,7 +144,7 @@ class Broken(Cycle):
             going.until(f"^configuration {number}: ")
         act(going.folder / "journal")
         going.until("^nothing more is granted: the journal's file ")
-        self.assertEqual(going.ends(), status, going.lines)
+        self.assertEqual(going.wait_for_end(), status, going.lines)
         return going
 
     @unittest.skipUnless(host(), "not tried: no host is built")
@@ -163,7 +163,7 @@ class Broken(Cycle):
             kept.replace(going.folder / "journal")
             again = Going(self, None, "run", "--resume", going.folder)
             self.assertIn("the class continues at configuration 3; events: 3 of 1000", again.lines)
-            self.assertEqual(again.ended(), 0, again.lines)
+            self.assertEqual(again.end(), 0, again.lines)
 
     def remove(self, journal: Path) -> None:
         """Removes a journal."""
@@ -204,16 +204,16 @@ class Broken(Cycle):
                 self.assertEqual(gus.move(look).place, 1)
             except Closed:  # The event ends the class, and replies that aren't sent by then are lost.
                 pass
-        self.assertEqual(going.ends(), 5, going.lines)
+        self.assertEqual(going.wait_for_end(), 5, going.lines)
         self.assertTrue(any(line.startswith("nothing more is granted: all 1 events that the lab allows are used. ") for line in going.lines), going.lines)
-        self.assertEqual(self.whole(going.folder), 1)
+        self.assertEqual(self.check_complete(going.folder), 1)
         self.assertEqual((going.folder / "journal").read_text(encoding="ascii"), "1 0 grant gus 4 update\n")
 
     def test_finishing_a_run_fails_with_status_4_if_a_file_can_not_be_written(self) -> None:
         """The file with the marks is a link to `/dev/full`, a device that is always full."""
         going = Going(self, CYCLE)
         going.type("end\nend")
-        self.assertEqual(going.ends(), 0)
+        self.assertEqual(going.wait_for_end(), 0)
         (going.folder / "marks.txt").unlink()
         (going.folder / "marks.txt").symlink_to("/dev/full")
         lines: list[str] = []
@@ -227,7 +227,7 @@ class Broken(Cycle):
         for line in ("fault 1 2 true", "link 1 3", "end", "end"):
             going.type(line)
         self.assertEqual(going.process.wait(LIMIT), 0)
-        self.assertEqual(self.whole(going.folder), 2)
+        self.assertEqual(self.check_complete(going.folder), 2)
         self.assertIn("added the link between 1 and 3", (going.folder / "run.txt").read_text(encoding="utf-8"))
 
     def test_a_client_that_is_answered_by_busy_raises_refused(self) -> None:
@@ -289,8 +289,8 @@ class Broken(Cycle):
             Client(going.port, "ines", KEYS["ines"])
         gus.kill()
         going.until("^disconnected: gus$")
-        self.assertEqual(going.ended(), 0, going.lines)
-        self.whole(going.folder)
+        self.assertEqual(going.end(), 0, going.lines)
+        self.check_complete(going.folder)
 
     def test_lines_about_connections_are_returned_once_for_each_that_begins_or_ends(self) -> None:
         """The server at port 4711 has two seats, and the desk's own end is at port 7. A socket is given by its own
@@ -335,10 +335,10 @@ class Broken(Cycle):
             time.sleep(0.01)
         for name in (*KEYS, *KEYS):
             self.bot(going, name)
-        self.assertEqual(going.ends(), 0, going.lines)
+        self.assertEqual(going.wait_for_end(), 0, going.lines)
         guesser.join()
         self.assertEqual(set(guesses), {"unknown", "not-greeted"})
-        self.whole(going.folder)
+        self.check_complete(going.folder)
         lines = (going.folder / "journal").read_text(encoding="ascii").splitlines()
         # A line is `PLACE CONFIGURATION grant NAME NODE RULE`, and these are the configuration and the node.
         grants = Counter(tuple(line.split(" ")[1:5:3]) for line in lines if " grant " in line)

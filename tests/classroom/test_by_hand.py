@@ -26,7 +26,7 @@ from classroom.pages.by_hand import PlayServer, open_play_page
 from tests.classroom.browser import browser, show_as, until
 from tests.classroom.help import CYCLE, KEYS, LIMIT, Going, InRoom, Rows, a_port
 from tests.classroom.test_page import hashed
-from tests.classroom.test_shown import PHONE, WINDOWS, can_be_read, resize
+from tests.classroom.test_shown import PHONE, WINDOWS, check_readable, resize
 
 # Returns what the card of a node shows. The node's identifier is the argument.
 CARD = """
@@ -213,7 +213,7 @@ class Playing(InRoom):
         self.compare(gus, [1, 4])
         gus.bye()
         self.wait_for_seats("gus, by hand (1 of 7 seats are taken)")
-        self.assertEqual(self.going.ended(), 0, self.going.lines)
+        self.assertEqual(self.going.end(), 0, self.going.lines)
         self.wait_until_out("the class is over")
         marks = json.loads((self.going.folder / "marks.json").read_text(encoding="utf-8"))
         granted = {name: row["granted"] for name, row in marks["runs"][0]["students"].items()}
@@ -310,7 +310,7 @@ class Playing(InRoom):
             for theme in ("light", "dark"):
                 show_as(self.driver, theme)
                 with self.subTest(size=size, theme=theme):
-                    can_be_read(self, self.driver, size, 40)
+                    check_readable(self, self.driver, size, 40)
 
 
 class Wire(InRoom):
@@ -355,7 +355,7 @@ class Wire(InRoom):
         last = rows.at(5)
         self.assertEqual([look["node"] for look in last["nodes"]], [1, 4])
         self.assertEqual({near["node"] for look in last["nodes"] for near in look["near"]}, {2, 7, 3, 5})
-        self.assertEqual(going.ended(), 0, going.lines)
+        self.assertEqual(going.end(), 0, going.lines)
         self.assertEqual(rows.rest()[-1], {"ended": "the class is over"})
         lab = read(CYCLE)
         others = [name for name in (*lab.students, lab.teacher[0]) if name != "gus"]
@@ -375,7 +375,7 @@ class Wire(InRoom):
         self.assertEqual((rows.next()["who"], rows.next()["at"]), ("gus", 0))
         os.kill(going.server(), signal.SIGKILL)
         self.assertEqual(rows.rest()[-1].keys(), {"ended"})
-        self.assertEqual(going.ends(), 4, going.lines)
+        self.assertEqual(going.wait_for_end(), 4, going.lines)
         again = Going(self, None, "run", "--resume", going.folder)
         self.assertEqual(again.until("^page for playing by hand http").removeprefix("page for playing by hand "), page)
         rows = self.enter(page, "gus", KEYS["gus"])

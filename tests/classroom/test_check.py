@@ -9,7 +9,7 @@ from classroom.core import lab as labs
 from classroom.setup.check import ABOVE, bits, hint_of, key_warnings, unknown_keys
 from classroom.setup.positions import table as table_at
 from classroom.setup.positions import tables
-from tests.classroom.help import EXAMPLES, InRoom, words
+from tests.classroom.help import EXAMPLES, InRoom, call_class
 from tests.common.limits import MOST
 
 
@@ -39,7 +39,7 @@ class Check(InRoom):
         """Checks the exit status of `./class check`, and that its output contains the texts `wanted`. The lab is `text`
         with `change`, an old text and a new one. Returns the output."""
         self.assertTrue(change[0] in text)
-        done = words("check", self.file("lab.toml", text.replace(*change, 1) if change[0] else text))
+        done = call_class("check", self.file("lab.toml", text.replace(*change, 1) if change[0] else text))
         self.assertEqual(done.returncode, status, done.stdout + done.stderr)
         for line in wanted:
             self.assertIn(line, done.stdout)
@@ -76,7 +76,7 @@ class Check(InRoom):
             self.assertEqual(hint_of(error), "", error)
 
     def test_a_missing_file_has_status_4(self) -> None:
-        self.assertEqual(words("check", self.room / "none.toml").returncode, 4)
+        self.assertEqual(call_class("check", self.room / "none.toml").returncode, 4)
 
     def test_keys_of_a_table_that_the_format_does_not_have_are_named_with_a_suggestion(self) -> None:
         self.warns("line 3: link isn't known here, so it is ignored. Did you mean links?", "node 11 has no neighbour",
@@ -134,8 +134,8 @@ class Check(InRoom):
         self.warns("warning: two students own node 12: the one with the quicker program gets most of the moves there",
                    change=PAIR)
         students = self.file("students", "Ana\nBen\nCyd\n")
-        self.assertEqual(words("new", self.room / "pairs.toml", "--students", students, "--pairs", "--nodes", "10").returncode, 0)
-        self.assertIn("two students own nodes 1, 2, 3, 4, 5, 6, 7, 8, ...: ", words("check", self.room / "pairs.toml").stdout)
+        self.assertEqual(call_class("new", self.room / "pairs.toml", "--students", students, "--pairs", "--nodes", "10").returncode, 0)
+        self.assertIn("two students own nodes 1, 2, 3, 4, 5, 6, 7, 8, ...: ", call_class("check", self.room / "pairs.toml").stdout)
 
     def test_too_few_sessions_or_events_are_named_with_the_number_that_is_enough(self) -> None:
         self.warns("`sessions` is 2, so the 2 students and the teacher can't all be connected at once. Raise `sessions` to 3",
@@ -155,10 +155,10 @@ class Check(InRoom):
         self.assertLessEqual(67072, MOST["events"])
         for events, is_few in ((67071, True), (67072, False)):
             lab = self.room / f"{events}.toml"
-            done = words("new", lab, "--students", self.file("students", "Ana\nBen\n"), "--family", "complete", "--nodes", "256",
-                         "--events", str(events))
+            done = call_class("new", lab, "--students", self.file("students", "Ana\nBen\n"), "--family", "complete", "--nodes", "256",
+                              "--events", str(events))
             self.assertEqual(done.returncode, 0, done.stderr)
-            found = "`events` is 67071, which may be too few: the class may need 33536 moves and as many closed steps" in words("check", lab).stdout
+            found = "`events` is 67071, which may be too few: the class may need 33536 moves and as many closed steps" in call_class("check", lab).stdout
             self.assertEqual(found, is_few)
 
     def test_a_lab_that_is_stable_at_the_beginning_gets_a_warning(self) -> None:
@@ -168,7 +168,7 @@ class Check(InRoom):
     def test_example_labs_get_warnings_but_none_about_unknown_keys_or_seats(self) -> None:
         """They have a status for warnings, since their keys are public."""
         for lab in sorted(EXAMPLES.glob("*.toml")):
-            done = words("check", lab)
+            done = call_class("check", lab)
             self.assertEqual(done.returncode, 5)
             self.assertNotIn("isn't known here", done.stdout)
             self.assertNotIn("can't", done.stdout)

@@ -13,7 +13,7 @@ from classroom.core.program import host
 from classroom.core.shown_names import ShownNames, display_names, short
 from classroom.run import wording
 from classroom.run.clock import Clock, kept_end, next_time, time_of_day
-from tests.classroom.help import CYCLE, EXAMPLES, Cycle, Going, words
+from tests.classroom.help import CYCLE, EXAMPLES, Cycle, Going, call_class
 
 NOW = datetime(2026, 11, 24, 10, 2, 30)
 
@@ -60,14 +60,14 @@ class Ends(Cycle):
         end += timedelta(minutes=(end - datetime.now()) < timedelta(seconds=30))
         going = Going(self, CYCLE, "--close", "by-hand", "--ends", f"{end:%H:%M}")
         going.until(f"^it is {end:%H:%M}: the lesson is over, so the run ends$")
-        self.assertEqual(going.ends(), 0, going.lines)
+        self.assertEqual(going.wait_for_end(), 0, going.lines)
         self.assertGreaterEqual(datetime.now(), end)
-        self.whole(going.folder)
+        self.check_complete(going.folder)
 
     def test_a_time_that_has_passed_is_refused_and_no_folder_is_made(self) -> None:
         before = datetime.now() - timedelta(minutes=5)
         for labs in ([CYCLE], [CYCLE, EXAMPLES / "shared.toml"]):
-            done = words("run", *labs, "--close", "every:1", "--into", self.room / "runs", "--ends", f"{before:%H:%M}")
+            done = call_class("run", *labs, "--close", "every:1", "--into", self.room / "runs", "--ends", f"{before:%H:%M}")
             self.assertEqual(done.returncode, 1)
             self.assertRegex(done.stderr, rf"^class: --ends {before:%H:%M}: it is \d\d:\d\d already. Name a later time\n$")
             self.assertFalse((self.room / "runs").exists())

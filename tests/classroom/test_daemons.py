@@ -131,7 +131,7 @@ class Striking(unittest.TestCase):
 class Desk(Cycle):
     """Runs with the four bots of the cycle."""
 
-    def comes_back(self, daemon: str, *words: str) -> Path:
+    def run_with_recoveries(self, daemon: str, *words: str) -> Path:
         """Runs a class under a daemon with its four bots until it is stable. Then types these commands, which set all
         registers, and waits after each until the class is stable again. Ends it, and checks that the marks have the
         lines about these recoveries. Returns the run's folder."""
@@ -144,8 +144,8 @@ class Desk(Cycle):
             going.until("^the registers of 7 nodes were set$")
             going.until(BACK)
         going.type("end")
-        self.assertEqual(going.ends(), 0, going.lines)
-        self.whole(going.folder)
+        self.assertEqual(going.wait_for_end(), 0, going.lines)
+        self.check_complete(going.folder)
         marks = (going.folder / "marks.txt").read_text(encoding="utf-8")
         told = [line for line in going.lines if re.search(BACK, line)]
         self.assertEqual(re.findall(r"(?m)^event \d+: (.*)$", marks), told)
@@ -163,17 +163,17 @@ class Desk(Cycle):
             privileged, chosen = set(frame.state.privileged), set(frame.state.chosen)
         return found
 
-    def test_under_the_central_daemon_most_steps_have_a_single_move(self) -> None:
+    def test_under_the_central_daemon_over_a_third_of_the_steps_have_a_single_move(self) -> None:
         """A step has more if a move is granted between the desk's last check and its close. This may happen in two of
         three steps."""
-        steps = self.steps(self.comes_back("central", "break"))
+        steps = self.steps(self.run_with_recoveries("central", "break"))
         self.assertLess(len(steps), 3 * sum(len(moved) == 1 for _, moved in steps))
 
     def test_under_the_synchronous_daemon_all_privileged_nodes_move_in_each_step(self) -> None:
-        self.assertTrue(all(moved == privileged for privileged, moved in self.steps(self.comes_back("synchronous", "break"))))
+        self.assertTrue(all(moved == privileged for privileged, moved in self.steps(self.run_with_recoveries("synchronous", "break"))))
 
     def test_under_the_random_daemon_not_all_privileged_nodes_move_in_some_step(self) -> None:
-        steps = self.steps(self.comes_back("random:0.5", "break", "shake all 3"))
+        steps = self.steps(self.run_with_recoveries("random:0.5", "break", "shake all 3"))
         self.assertTrue(any(moved != privileged for privileged, moved in steps))
 
     def test_the_commands_daemon_and_shake_act_and_are_refused_in_a_wrong_form(self) -> None:
@@ -198,7 +198,7 @@ class Desk(Cycle):
             self.assertEqual((seen.p, seen.m), wanted[1])
         for _ in range(2):  # The network isn't stable, so the desk asks for a second `end`.
             going.type("end")
-        self.assertEqual(going.ends(), 0, going.lines)
+        self.assertEqual(going.wait_for_end(), 0, going.lines)
 
 
 if __name__ == "__main__":

@@ -30,7 +30,7 @@ from classroom.run.desk import Desk
 from classroom.run.taking import greet
 from classroom.run.teller import Teller
 from classroom.run.typed import FORMS, NOW, Terminal, Typed, parse_command
-from tests.classroom.help import CYCLE, EXAMPLES, KEYS, LIMIT, Cycle, Going, InRoom, InTerminal, a_port, stop, words
+from tests.classroom.help import CYCLE, EXAMPLES, KEYS, LIMIT, Cycle, Going, InRoom, InTerminal, a_port, call_class, stop
 from tests.common.limits import MOST
 
 ROOM_AGAIN = "the disk has room again. If a line of the journal couldn't be written meanwhile, the server refuses all moves with `journal`"
@@ -90,7 +90,7 @@ class Words(Cycle):
         going.type("end")
         going.until("^the network isn't stable yet \\(privileged nodes: 3\\)")
         going.type("end")
-        self.assertEqual(going.ends(), 0, going.lines)
+        self.assertEqual(going.wait_for_end(), 0, going.lines)
 
     def test_the_commands_who_report_and_help_print_lines(self) -> None:
         going = Going(self, CYCLE, "--close", "by-hand")
@@ -132,14 +132,14 @@ class Words(Cycle):
                 going.until("^the lab allows 10 events, and 9 of them are used. After the last one the server grants nothing more$")
         line = going.until("^nothing more is granted: ")
         self.assertRegex(line, "all 10 events that the lab allows are used")
-        self.assertEqual(going.ends(), 5, going.lines)
-        self.assertEqual(self.whole(going.folder), 10)
+        self.assertEqual(going.wait_for_end(), 5, going.lines)
+        self.assertEqual(self.check_complete(going.folder), 10)
 
     def test_in_a_class_of_two_networks_a_number_before_a_command_names_its_network(self) -> None:
         """A command for network 9 is refused, since there is none. The desk also prints a row for each network, with
         its port and the address of its page."""
         students = self.file("students", "".join(f"S {number}\n" for number in range(6)))
-        self.assertEqual(words("new", self.room / "lab.toml", "--students", students, "--groups", "2", "--start", "random").returncode, 0)
+        self.assertEqual(call_class("new", self.room / "lab.toml", "--students", students, "--groups", "2", "--start", "random").returncode, 0)
         process = subprocess.Popen(
             [sys.executable, EXAMPLES.parent / "class", "run", self.room / "lab-1.toml", self.room / "lab-2.toml", "--into",
              self.room / "runs", "--port", "28100", "--page", "28200", "--close", "by-hand", "--typed"],
@@ -233,7 +233,7 @@ class Late(Cycle):
             going.process.send_signal(signal.SIGTERM)
             time.sleep(1)
             os.kill(number, signal.SIGCONT)
-        self.assertEqual(going.ends(), 0, going.lines)
+        self.assertEqual(going.wait_for_end(), 0, going.lines)
         self.assertFalse(any("by itself" in line for line in going.lines), going.lines)
 
     def test_the_secret_address_of_the_page_to_act_is_not_printed_into_a_file(self) -> None:
@@ -264,7 +264,7 @@ class Late(Cycle):
         going = Going(self, CYCLE, "--close", "by-hand", "--page", str(a_port()))
         looks, acts = (going.until(f"^{word} http").removeprefix(f"{word} ") for word in ("page for the projector", "page on which you can act"))
         os.kill(going.server(), signal.SIGKILL)
-        self.assertEqual(going.ends(), 4, going.lines)
+        self.assertEqual(going.wait_for_end(), 4, going.lines)
         self.assertIn("the server has ended, by the signal SIGKILL", going.lines)
         self.assertNotIn(acts.split("/")[3], (going.folder / "run.json").read_text(encoding="utf-8"))
         self.assertEqual({(going.folder / name).stat().st_mode & 0o777 for name in ("lab.toml", "journal.lab", "journal")}, {0o600})
@@ -278,7 +278,7 @@ class Late(Cycle):
     def test_a_second_run_of_a_lab_is_refused_unless_it_is_started_beside_the_first(self) -> None:
         """The error line names the port and the folder of the first run. After its end, a run can be started again."""
         going = Going(self, CYCLE, "--close", "by-hand")
-        second = words("run", CYCLE, "--into", self.room / "runs")
+        second = call_class("run", CYCLE, "--into", self.room / "runs")
         self.assertEqual((second.returncode, second.stdout), (1, ""))
         self.assertEqual(second.stderr, f"class: a run of {CYCLE} is still going on, at port {going.port} and in the folder {going.folder}. "
                                         "To start another run beside it, add --beside\n")
@@ -286,10 +286,10 @@ class Late(Cycle):
         beside = Going(self, CYCLE, "--close", "by-hand", "--beside")
         for run in (beside, going):
             run.type("end\nend")
-            self.assertEqual(run.ends(), 0)
+            self.assertEqual(run.wait_for_end(), 0)
         third = Going(self, CYCLE, "--close", "by-hand")
         third.type("end\nend")
-        self.assertEqual(third.ends(), 0)
+        self.assertEqual(third.wait_for_end(), 0)
 
 
 class Kept(InRoom):
@@ -312,7 +312,7 @@ class Disk(InRoom):
     """Lines about the room on the disk, and about the limit on the size of files."""
 
     def test_a_line_is_printed_when_the_disk_is_nearly_full_full_or_has_room_again(self) -> None:
-        told = self.told(self.disk(), 10**9, 65536, 65535, 4096, 0, 0, 10**9, 10**9)
+        told = self.lines_about(self.disk(), 10**9, 65536, 65535, 4096, 0, 0, 10**9, 10**9)
         self.assertEqual(told, [[], [], ["the disk is nearly full"], [], ["the disk is full"], [], [ROOM_AGAIN], []])
 
     def disk(self) -> DiskRoom:
@@ -321,7 +321,7 @@ class Disk(InRoom):
         self.addCleanup(room.close)
         return room
 
-    def told(self, room: DiskRoom, *free: int) -> list[list[str]]:
+    def lines_about(self, room: DiskRoom, *free: int) -> list[list[str]]:
         """Checks the disk once for each of these numbers of free bytes. Returns the beginnings of the lines that each
         check returns."""
         told = []
@@ -335,16 +335,16 @@ class Disk(InRoom):
         """The limit on the size of this process's files makes the write fail by which the disk is checked. In a folder
         that doesn't exist nothing is checked."""
         room = self.disk()
-        self.assertEqual(self.told(room, 10**9), [[]])
+        self.assertEqual(self.lines_about(room, 10**9), [[]])
         before = resource.getrlimit(resource.RLIMIT_FSIZE)
         resource.setrlimit(resource.RLIMIT_FSIZE, (0, before[1]))
         try:
-            self.assertEqual(self.told(room, 10**9, 10**9), [["the disk can't be written to (File too large)"], []])
+            self.assertEqual(self.lines_about(room, 10**9, 10**9), [["the disk can't be written to (File too large)"], []])
         finally:
             resource.setrlimit(resource.RLIMIT_FSIZE, before)
-        self.assertEqual(self.told(room, 10**9), [[ROOM_AGAIN]])
+        self.assertEqual(self.lines_about(room, 10**9), [[ROOM_AGAIN]])
         self.assertEqual(list(self.room.iterdir()), [])
-        self.assertEqual(self.told(DiskRoom(self.room / "none"), 10**9), [[]])
+        self.assertEqual(self.lines_about(DiskRoom(self.room / "none"), 10**9), [[]])
 
     def test_a_line_is_printed_when_the_journal_is_near_the_limit_on_the_server_s_files_and_at_it(self) -> None:
         """The stand-in for the server is a process with a limit of 100,000 bytes. Without a limit, no line is
@@ -395,7 +395,7 @@ class NotDone(Cycle):
     def says(self, status: int, line: str, *asked: str | Path) -> None:
         """Runs `./class` with the arguments `asked`. Checks the status, and that it prints only one line, on the
         standard error, which matches `line`."""
-        done = words(*asked)
+        done = call_class(*asked)
         self.assertEqual((done.returncode, done.stdout), (status, ""), done.stderr)
         self.assertRegex(done.stderr, f"^{line}\n$")
 
@@ -420,11 +420,11 @@ class NotDone(Cycle):
         self.assertEqual(list((self.room / "runs").iterdir()), [])
 
     def test_the_help_of_each_subcommand_has_an_example_and_that_of_run_all_commands_of_the_desk(self) -> None:
-        everything = words("--help").stdout
+        everything = call_class("--help").stdout
         self.assertIn("exit status: 0 done; ", " ".join(everything.split()))
         for word in ("new", "check", "run", "attach", "mark", "play", "demo"):
             self.assertIn(f"    {word} ", everything)
-            said = " ".join(words(word, "--help").stdout.split())
+            said = " ".join(call_class(word, "--help").stdout.split())
             self.assertRegex(said, f"Examples?: class {word}")
             for form in FORMS.values() if word in ("run", "attach") else ():
                 self.assertIn(form, said)
@@ -434,7 +434,7 @@ class NotDone(Cycle):
         for name in ("..", "..."):
             self.says(1, "class: .* isn't a file name of the form NAME.toml", "new", f"{self.room}/x/{name}", "--students", students)
         for name, made in (("maths.2026", "maths.2026.toml"), ("a.b.toml", "a.b.toml")):
-            self.assertEqual(words("new", self.room / name, "--students", students).returncode, 0)
+            self.assertEqual(call_class("new", self.room / name, "--students", students).returncode, 0)
             self.assertTrue((self.room / made).is_file())
 
     def test_a_command_whose_output_nobody_reads_ends_with_status_4_and_no_error_line(self) -> None:

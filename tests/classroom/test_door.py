@@ -171,7 +171,7 @@ class AtDoor(InRoom):
         self.addCleanup(it.close)
         return it
 
-    def half_closed(self, name: str, lines: bytes) -> bytes:
+    def half_close(self, name: str, lines: bytes) -> bytes:
         """Connects to a network through the door, sends lines, and ends its own side of TLS. Returns all bytes that
         come until the door ends the other side."""
         context = ssl.SSLContext(ssl.PROTOCOL_TLS_CLIENT)
@@ -179,7 +179,7 @@ class AtDoor(InRoom):
         come, goes, got = ssl.MemoryBIO(), ssl.MemoryBIO(), b""
         it = context.wrap_bio(come, goes, server_hostname=name)
         with socket.create_connection(("127.0.0.1", self.door.port), LIMIT) as plain:
-            def done(step: Callable[[], bytes | None]) -> bytes | None:
+            def do(step: Callable[[], bytes | None]) -> bytes | None:
                 """Does a step of TLS, and returns its result. Sends the bytes that the step makes, and receives bytes
                 as long as the step needs more."""
                 while True:
@@ -191,12 +191,12 @@ class AtDoor(InRoom):
                     finally:
                         plain.sendall(goes.read())
 
-            done(it.do_handshake)
+            do(it.do_handshake)
             it.write(lines)
             with contextlib.suppress(ssl.SSLError):
                 it.unwrap()
             with contextlib.suppress(ssl.SSLZeroReturnError):
-                while more := done(lambda: it.read(4096)):
+                while more := do(lambda: it.read(4096)):
                     got += more
         return got
 
@@ -264,7 +264,7 @@ class Bots(AtDoor):
         self.addCleanup(it.listener.close)
         self.network("maths", it.port)
         lines = b'{"do":"see"}\n{"do":"look"}\n{"do":"bye"}\n'
-        self.assertEqual(self.half_closed("maths", lines), lines)
+        self.assertEqual(self.half_close("maths", lines), lines)
         plain = self.raw("maths")
         plain.sendall(lines)
         socket.socket.shutdown(plain, socket.SHUT_WR)  # This ends the side of TCP, and sends no byte of TLS.

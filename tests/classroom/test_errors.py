@@ -17,7 +17,7 @@ from pathlib import Path
 from classroom.bots import grade, suites
 from classroom.bots.bots import Bot
 from classroom.core.program import TOP
-from tests.classroom.help import CLASS, EXAMPLES, LIMIT, InRoom, words
+from tests.classroom.help import CLASS, EXAMPLES, LIMIT, InRoom, call_class
 
 FAULTY = TOP / "tests/classroom/bots/faulty.py"
 SLEEP = b"98765.25"  # an argument of the processes that bots of `faulty.py` leave running
@@ -114,8 +114,8 @@ class AtHome(InRoom):
     def practises(self, bot: str, seconds: str = "3") -> str:
         """Practises with a bot that hangs or ends. The run is given up if nothing happens for `seconds` seconds.
         Returns the output, and fails if the status isn't 5."""
-        done = words("practise", bot, "--family", "path", "--nodes", "3", "--start", "clean", "--daemon", "synchronous", "--timeout", seconds,
-                     "--into", self.room / "runs")
+        done = call_class("practise", bot, "--family", "path", "--nodes", "3", "--start", "clean", "--daemon", "synchronous", "--timeout", seconds,
+                          "--into", self.room / "runs")
         self.assertEqual(done.returncode, 5, done.stdout + done.stderr)
         self.assertRegex(done.stdout, r"(?m)^page: .*/run.html; all lines and replies: .*/conversation.txt$")
         return done.stdout
@@ -141,8 +141,8 @@ class AtHome(InRoom):
         """In this environment no browser is found, and the page is written into its file all the same."""
         (self.room / "bin").mkdir()
         (self.room / "bin/python3").symlink_to(sys.executable)
-        done = words("practise", EXAMPLES / "bot.py", "--nodes", "4", "--into", self.room / "runs", PATH=str(self.room / "bin"),
-                     BROWSER="/no/such/browser", DISPLAY="")
+        done = call_class("practise", EXAMPLES / "bot.py", "--nodes", "4", "--into", self.room / "runs", PATH=str(self.room / "bin"),
+                          BROWSER="/no/such/browser", DISPLAY="")
         self.assertEqual((done.returncode, done.stderr.count("rror")), (0, 0), done.stdout + done.stderr)
         page = next(line for line in done.stdout.splitlines() if line.startswith("page: ")).removeprefix("page: ").partition(";")[0]
         self.assertIn("</html>", Path(page).read_text(encoding="utf-8"))
@@ -170,7 +170,7 @@ class Folders(InRoom):
             ("wrong", 2, f"one.toml: the lab is refused (lab: not a TOML document). Type `{CLASS} check"),
         )
         for name, status, why in rows:
-            done = words("grade", EXAMPLES / "bot.py", "--labs", self.room / name, "--into", self.room / "grades")
+            done = call_class("grade", EXAMPLES / "bot.py", "--labs", self.room / name, "--into", self.room / "grades")
             self.assertEqual(done.returncode, status, done.stderr)
             self.assertEqual(done.stderr.count("\n"), 1)
             self.assertIn(why, done.stderr)

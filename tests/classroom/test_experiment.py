@@ -24,7 +24,7 @@ from classroom.core.program import TOP, call
 from classroom.core.rounds import Recovery
 from classroom.core.tally import Bounds
 from classroom.run.daemons import Daemon, heads, movers
-from tests.classroom.help import LIMIT, InRoom, words
+from tests.classroom.help import LIMIT, InRoom, call_class
 
 # The options of an experiment with 54 runs: three families, three sizes, three daemons, and two seeds.
 TINY = ("--family", "path,star,random", "--nodes", "3..5", "--daemon", "central,synchronous,random:0.5", "--runs", "2")
@@ -135,7 +135,7 @@ class Words(InRoom):
 
     def test_the_table_and_the_chart_have_all_runs_also_after_an_interruption(self) -> None:
         table, plot = self.room / "runs.csv", self.room / "runs.svg"
-        done = words("experiment", *TINY, "--csv", table, "--plot", plot)
+        done = call_class("experiment", *TINY, "--csv", table, "--plot", plot)
         self.assertEqual(done.returncode, 0, done.stdout + done.stderr)
         self.assertIn("54 of 54 runs are done, all within the proved bounds", done.stdout)
         rows = read(table)
@@ -161,7 +161,7 @@ class Words(InRoom):
         # The table ends in the middle of a row, as after an interruption. The same command makes the missing runs.
         lines = table.read_text(encoding="utf-8").splitlines(keepends=True)
         table.write_text("".join(lines[:20]) + lines[20][:9], encoding="utf-8")
-        again = words("experiment", *TINY, "--csv", table)
+        again = call_class("experiment", *TINY, "--csv", table)
         self.assertIn(f"already in {table}, and not repeated: 19 runs\n", again.stdout)
         self.assertEqual(sorted(table.read_text(encoding="utf-8").splitlines()), sorted(line.rstrip("\n") for line in lines))
 
@@ -188,7 +188,7 @@ class Words(InRoom):
             (("--family", "ring"), "--family ring: there is no such family of networks"),
         )
         for given, why in rows:
-            done = words("experiment", "--csv", self.room / "runs.csv", *given)
+            done = call_class("experiment", "--csv", self.room / "runs.csv", *given)
             self.assertEqual(done.returncode, 1)
             self.assertIn(why, done.stderr)
         self.assertEqual(other.read_text(), "name,mark\nana,1\n")
@@ -201,7 +201,7 @@ class InTheReadme(InRoom):
         shown = re.search(r"(?m)^    ./class (experiment .*) --plot runs.svg$", (TOP / "README.md").read_text(encoding="utf-8"))
         assert shown is not None
         drawn_now, table = self.room / "runs.svg", self.room / "runs.csv"
-        done = words(*shown[1].split(), "--csv", table, "--plot", drawn_now)
+        done = call_class(*shown[1].split(), "--csv", table, "--plot", drawn_now)
         self.assertEqual(done.returncode, 0, done.stderr)
         self.assertEqual(drawn_now.read_bytes(), (TOP / "docs/experiment.svg").read_bytes())
 

@@ -19,7 +19,7 @@ from typing import Any
 from classroom.client import Slip
 from classroom.core.lab import read
 from classroom.core.program import host
-from tests.classroom.help import EXAMPLES, LIMIT, Going, InRoom, a_port, wait_until, words
+from tests.classroom.help import EXAMPLES, LIMIT, Going, InRoom, a_port, call_class, wait_until
 from tests.classroom.machines import TEACHERS, Machine, can_be_made, two
 
 CROWD = Path(__file__).parent / "bots/crowd.py"
@@ -47,7 +47,7 @@ class Far(InRoom):
         `new`. Returns the labs' files."""
         rows = "".join(f"Student {number},s{number}@x.example,{'A 1' if number % 2 else 'B 2'}\n" for number in range(count))
         students = self.file("list.csv", f"Name,Email address,Room\n{rows}")
-        done = words("new", self.room / "maths.toml", "--students", students, "--door", f"{TEACHERS}:{self.port}", "--start", "hurt", *more)
+        done = call_class("new", self.room / "maths.toml", "--students", students, "--door", f"{TEACHERS}:{self.port}", "--start", "hurt", *more)
         self.assertEqual(done.returncode, 0, done.stdout + done.stderr)
         return sorted(self.room.glob("maths*.toml"))
 
@@ -179,13 +179,13 @@ class Far(InRoom):
             for file, reply in ((past, '"deny":"unknown"'), (slips["student-3"], '{"ok":"hello","who":"student-3"}')):
                 done = subprocess.run([*self.students.on, sys.executable, CLIENT, file], input='{"do":"bye"}\n', capture_output=True, text=True, check=False)
                 self.assertIn(reply, done.stdout, done.stderr)
-            self.assertEqual(going.ended(), 0, going.lines)
+            self.assertEqual(going.end(), 0, going.lines)
         self.assertTrue((going.folder / "journal").read_bytes().startswith(before))
         self.assertTrue((going.folder / "record.~1~" / "begun").is_file())
         run = json.loads((going.folder / "marks.json").read_text(encoding="utf-8"))["runs"][0]
         journal = (going.folder / "journal").read_text(encoding="ascii")
         self.assertEqual(sum(sum(it["granted"].values()) for it in run["students"].values()), journal.count(" grant "))
-        self.assertEqual(words("mark", going.folder, "--json").returncode, 0)
+        self.assertEqual(call_class("mark", going.folder, "--json").returncode, 0)
 
 
 if __name__ == "__main__":

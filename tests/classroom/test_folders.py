@@ -19,7 +19,7 @@ from classroom.core.program import Fault, host
 from classroom.core.record import Reader
 from classroom.marks.vouched import entries_up_to
 from classroom.run.heard import Heard
-from tests.classroom.help import CYCLE, Going, words
+from tests.classroom.help import CYCLE, Going, call_class
 from tests.classroom.test_history import MOVE, Disputed, Raw
 
 # A JSON text that is nested more deeply than a reader allows, and a number of more digits than Python's `int` reads.
@@ -69,7 +69,7 @@ class Hostile(Disputed):
             gus.ask(MOVE % 0)
             gus.ask(MOVE % 7)
         going.until("^disconnected: gus$")
-        self.run_folder = self.ended(going)
+        self.run_folder = self.end(going)
 
     def copy(self) -> Path:
         """Makes a copy of the run's folder, and returns its path."""
@@ -93,8 +93,8 @@ class Hostile(Disputed):
                 folder = self.copy()
                 spoil(folder / "record" / name)
                 with self.subTest(name=name, spoil=spoil.__name__):
-                    self.says(words("history", folder, "gus"), 4, folder / "record" / name)
-                    done = words("mark", folder, "--json")
+                    self.says(call_class("history", folder, "gus"), 4, folder / "record" / name)
+                    done = call_class("mark", folder, "--json")
                     self.says(done, 5, folder / "record" / name)
                     self.assertIsNone(json.loads(done.stdout)["runs"][0]["asked"])
                     shutil.rmtree(folder)
@@ -111,7 +111,7 @@ class Hostile(Disputed):
                               ("run", "--resume", folder, "--again"), ("key", folder, "gus")]
                 for given in calls:
                     with self.subTest(name=name, spoil=spoil.__name__, word=given[0]):
-                        self.says(words(*given), 4, f"{folder / name}: this isn't a plain file")
+                        self.says(call_class(*given), 4, f"{folder / name}: this isn't a plain file")
                 shutil.rmtree(folder)
 
     def test_the_program_s_commands_verify_and_tally_fail_on_a_record_with_a_file_that_is_not_plain(self) -> None:
@@ -167,10 +167,10 @@ class Hostile(Disputed):
             folder = self.copy()
             (folder / name).write_text(text, encoding="utf-8")
             with self.subTest(name=name, text=text[:20]):
-                done = words("history", folder, "gus")
+                done = call_class("history", folder, "gus")
                 self.assertNotIn("Traceback", done.stderr)
                 self.says(done, 4 if name == "record/begun" else 2 if name == "record/lab" else 3)
-                self.says(words("mark", folder), 5)
+                self.says(call_class("mark", folder), 5)
                 heard = Heard(folder / "record", labs.read(folder / "lab.toml"))
                 heard.catch_up(0)
 
@@ -191,11 +191,11 @@ class Hostile(Disputed):
             shutil.rmtree(folder)
         folder = self.copy()
         (folder / RECORD).write_text(json.dumps(kept | {"lab": 5}), encoding="utf-8")
-        for done in (words("mark", folder), words("history", folder, "gus")):
+        for done in (call_class("mark", folder), call_class("history", folder, "gus")):
             self.assertEqual(done.returncode, 0, done.stderr)
-        self.says(words("attach", folder), 1, "the server of this run has ended")
+        self.says(call_class("attach", folder), 1, "the server of this run has ended")
         (folder / RECORD).write_text(json.dumps(kept | {"close": "when-it-likes"}), encoding="utf-8")
-        self.says(words("run", "--resume", folder, "--again"), 4, folder / RECORD, "'when-it-likes' isn't a daemon. ")
+        self.says(call_class("run", "--resume", folder, "--again"), 4, folder / RECORD, "'when-it-likes' isn't a daemon. ")
         (folder / RECORD).write_text(" " * (plain.MOST_KEPT + 1), encoding="utf-8")
         self.assertIsNone(Record.read(folder))
 
@@ -209,11 +209,11 @@ class Hostile(Disputed):
             folder = self.copy()
             (folder / "record" / "lab").write_text(changed, encoding="utf-8")
             with self.subTest(what):
-                self.says(words("mark", folder), 5, "record: this record was made with another lab than the file lab.toml of this run")
-                self.says(words("history", folder, "gus"), 2, "this record was made with another lab than the file lab.toml of this run")
+                self.says(call_class("mark", folder), 5, "record: this record was made with another lab than the file lab.toml of this run")
+                self.says(call_class("history", folder, "gus"), 2, "this record was made with another lab than the file lab.toml of this run")
         folder = self.copy()
         (folder / "lab.toml").write_text(text.replace(key[1], "another-key-1"), encoding="utf-8")
-        self.assertEqual(words("mark", folder).returncode, 0)
+        self.assertEqual(call_class("mark", folder).returncode, 0)
 
 
 class Plainly(Disputed):

@@ -25,7 +25,7 @@ from classroom.bots.trial import Result, try_bot
 from classroom.core.processes import parents
 from classroom.core.program import TOP, call
 from classroom.run.daemons import Daemon
-from tests.classroom.help import EXAMPLES, LIMIT, InRoom, words
+from tests.classroom.help import EXAMPLES, LIMIT, InRoom, call_class
 
 FAULTY = TOP / "tests/classroom/bots/faulty.py"
 SLEEP = b"98765.25"  # an argument of the processes that bots of `faulty.py` leave running
@@ -210,8 +210,8 @@ class Calls(InRoom):
     def test_two_example_bots_pass_all_cases_of_the_suite_small(self) -> None:
         """The results are also written in three forms: JSON, JUnit and Gradescope."""
         files = {form: self.room / form for form in ("json", "junit", "gradescope")}
-        done = words("grade", EXAMPLES / "bot.py", EXAMPLES / "Bot.java", "--timeout", "120", "--into", self.room / "grades",
-                     *(word for form, file in files.items() for word in (f"--{form}", str(file))))
+        done = call_class("grade", EXAMPLES / "bot.py", EXAMPLES / "Bot.java", "--timeout", "120", "--into", self.room / "grades",
+                          *(word for form, file in files.items() for word in (f"--{form}", str(file))))
         self.assertEqual(done.returncode, 0, done.stdout + done.stderr)
         self.assertIn("bot.py: 12 of 12 cases passed\nBot.java: 12 of 12 cases passed\n", done.stdout)
         cases = json.loads(files["json"].read_text(encoding="utf-8"))
@@ -232,8 +232,8 @@ class Calls(InRoom):
         shutil.copy(EXAMPLES / "shared.toml", labs)
         (labs / "none.toml").write_text("events = 3\n")
         table = self.room / "cases.json"
-        done = words("grade", "no-such-bot", f"python3 {FAULTY} right", "--labs", labs, "--daemon", "synchronous", "--timeout", "60",
-                     "--into", self.room / "grades", "--json", table)
+        done = call_class("grade", "no-such-bot", f"python3 {FAULTY} right", "--labs", labs, "--daemon", "synchronous", "--timeout", "60",
+                          "--into", self.room / "grades", "--json", table)
         self.assertEqual(done.returncode, 5, done.stdout + done.stderr)
         self.assertRegex(done.stdout, r"(?m)^class: .*none.toml: the lab is refused \(lab: .* is missing\)")
         self.assertRegex(done.stdout, r"(?m)^class: no-such-bot: there is no such program")
@@ -243,14 +243,14 @@ class Calls(InRoom):
     def test_bots_that_can_not_be_started_are_not_tried_but_are_in_the_table(self) -> None:
         """One doesn't exist, and the other is a file that can be executed but has no program of this machine."""
         table = self.room / "cases.json"
-        done = words("grade", "no-such-bot", "--into", self.room / "grades", "--json", table)
+        done = call_class("grade", "no-such-bot", "--into", self.room / "grades", "--json", table)
         self.assertEqual(done.returncode, 5, done.stdout + done.stderr)
         self.assertRegex(done.stdout, r"^class: no-such-bot: there is no such program.*\nno-such-bot: not tried: the bot can't be started\n$")
         self.assertFalse((self.room / "grades").exists())
         self.assertEqual(len(json.loads(table.read_text(encoding="utf-8"))), 12)
         foreign = self.file("foreign", "no program of this machine's\n")
         foreign.chmod(0o755)
-        done = words("grade", foreign, "--into", self.room / "grades")
+        done = call_class("grade", foreign, "--into", self.room / "grades")
         self.assertEqual(done.returncode, 5, done.stdout + done.stderr)
         self.assertEqual(done.stdout.count(f"the bot can't be started: {foreign}: Exec format error\n"), 12, done.stdout)
         self.assertIn("\nforeign: not tried: the bot can't be started\n", done.stdout)
@@ -293,8 +293,8 @@ class Calls(InRoom):
         that only the correct one passes. Returns the reasons for which each bot failed."""
         table = self.room / "cases.json"
         faults = ("swaps-output", "halts", "kills", "right")
-        done = words("grade", *(f"python3 {FAULTY} {fault}" for fault in faults), "--labs", labs, "--timeout", "60", "--into", self.room / "grades",
-                     "--json", table, *more)
+        done = call_class("grade", *(f"python3 {FAULTY} {fault}" for fault in faults), "--labs", labs, "--timeout", "60", "--into", self.room / "grades",
+                          "--json", table, *more)
         self.assertEqual(done.returncode, 5, done.stdout + done.stderr)
         check_nothing_left(self)
         cases = json.loads(table.read_text(encoding="utf-8"))

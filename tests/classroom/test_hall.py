@@ -133,7 +133,7 @@ class OfAClass(Classes):
         desk.until("^maths-1: the class continues at ")
         self.until_state(looks, lambda it: it["networks"][0]["status"] == "runs")
         self.assertEqual(ask(f"{acts}act", "all: end")[0], 204)
-        self.assertEqual(desk.ends(), 0, desk.lines)
+        self.assertEqual(desk.wait_for_end(), 0, desk.lines)
 
     def until_state(self, looks: str, holds: object) -> None:
         """Reads the events at `looks`, an address to look at, until `holds` returns a true value for a state. Fails if

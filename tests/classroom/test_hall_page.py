@@ -16,7 +16,7 @@ from classroom.core.networks import Links, family
 from classroom.pages import hall
 from tests.classroom.browser import browser, is_ready, show_as, until
 from tests.classroom.help import a_port
-from tests.classroom.test_shown import WINDOWS, can_be_read, resize
+from tests.classroom.test_shown import WINDOWS, check_readable, resize
 
 DOWN = "its server was killed; type `resume 2` to continue it, or `end 2` to give it up"
 NODES = """
@@ -121,7 +121,7 @@ class Page(unittest.TestCase):
                     show_as(self.driver, theme)
                     self.open(address)
                     with self.subTest(size=size, theme=theme):
-                        can_be_read(self, self.driver, size, 40)
+                        check_readable(self, self.driver, size, 40)
                         for root, discs in self.driver.execute_script(BOXES):
                             for left, top, right, bottom in discs:
                                 self.assertTrue(root[0] <= left and root[1] <= top and right <= root[2] and bottom <= root[3])

@@ -15,7 +15,7 @@ from classroom.core.lab import read
 from classroom.door import certificate
 from classroom.setup import handing, printed
 from classroom.setup.slips import Way
-from tests.classroom.help import InRoom, words
+from tests.classroom.help import InRoom, call_class
 
 DOOR = "class.example:4700"
 # A program in place of `qrencode -t ASCII`. It prints a QR code of two rows with three black squares, each as `##`.
@@ -28,7 +28,7 @@ class Slips(InRoom):
     def new(self, *more: str | Path, status: int = 0, **environment: str) -> str:
         """Makes the labs by `./class new` with these options, and checks the status. Returns the output."""
         students = self.file("list.csv", "Name,Email,Room\nZoë Müller,z@x.example,A 1\nBen,b@x.example,B 2\nCyd,c@x.example,A 1\nDan,,B 2\n")
-        done = words("new", self.room / "maths.toml", "--students", students, "--groups-by", "Room", "--family", "path", *more, **environment)
+        done = call_class("new", self.room / "maths.toml", "--students", students, "--groups-by", "Room", "--family", "path", *more, **environment)
         self.assertEqual(done.returncode, status, done.stdout + done.stderr)
         return done.stdout + done.stderr
 
@@ -110,7 +110,7 @@ class Made(Slips):
         self.assertIn(f"\nnote: {printed.NO_SQUARE}\n", told)
         self.assertNotIn("<svg", self.page(1))
         self.assertIn(f"https://{DOOR}/maths-1/#name=", self.page(1))
-        done = words("slips", self.room / "maths-1.toml", PATH=self.path_with())
+        done = call_class("slips", self.room / "maths-1.toml", PATH=self.path_with())
         # The first line names the files.
         self.assertEqual((done.returncode, done.stdout.splitlines()[1:]), (0, [printed.NO_SQUARE]))
 
@@ -125,7 +125,7 @@ class Anew(Slips):
 
     def again(self, *more: str, status: int = 0) -> str:
         """Makes the slips of both networks again with these options, and checks the status. Returns the output."""
-        done = words("slips", self.room / "maths-1.toml", self.room / "maths-2.toml", *more)
+        done = call_class("slips", self.room / "maths-1.toml", self.room / "maths-2.toml", *more)
         self.assertEqual(done.returncode, status, done.stdout + done.stderr)
         return done.stdout + done.stderr
 
@@ -171,7 +171,7 @@ class Anew(Slips):
         for files, status, error in (((self.room / "maths-1.toml", self.room / "sub/maths-1.toml"), 1, "several of these labs would have the same network "
                                                                                                 "name, maths-1. Rename the files of the labs"),
                                      ((none,), 4, f"{none}: No such file or directory")):
-            done = words("slips", *files)
+            done = call_class("slips", *files)
             self.assertEqual((done.returncode, done.stderr), (status, f"class: {error}\n"))
 
 

@@ -25,7 +25,7 @@ from classroom.core.record import begun
 from classroom.core.tally import DENIED as COLUMNS
 from classroom.marks.vouched import entries_up_to
 from tests.classroom.browser import browser, is_ready, shown, until
-from tests.classroom.help import CYCLE, KEYS, Cycle, Going, words
+from tests.classroom.help import CYCLE, KEYS, Cycle, Going, call_class
 
 MOVE = b'{"do":"move","node":4,"rule":"update","at":%d}\n'  # gus owns node 4
 # A malformed line with control characters of a terminal, a byte that isn't UTF-8, and the key of gus.
@@ -117,9 +117,9 @@ class Disputed(Cycle):
         going.until("^disconnected: gus$")
         return going
 
-    def ended(self, going: Going) -> Path:
+    def end(self, going: Going) -> Path:
         """Ends the run, and returns its folder."""
-        self.assertEqual(going.ended(), 0, going.lines)
+        self.assertEqual(going.end(), 0, going.lines)
         return going.folder
 
     def seat(self, folder: Path) -> Path:
@@ -128,7 +128,7 @@ class Disputed(Cycle):
 
     def history(self, folder: Path, *more: str | Path, name: str = "gus") -> str:
         """Runs `./class history` about a student of the run in a folder, with these options. Returns the output."""
-        done = words("history", folder, name, *more)
+        done = call_class("history", folder, name, *more)
         self.assertEqual((done.returncode, done.stderr), (0, ""))
         return done.stdout
 
@@ -151,8 +151,8 @@ class Told(Disputed):
         now = self.history(going.folder)
         verdict = host_call("verify", going.folder / "lab.toml", going.folder / "journal", going.folder / "record").output.partition("\n")[0]
         self.assertTrue(now.splitlines()[0].endswith(f"/record: {verdict}: {UNENDED}"), now)
-        self.assertFalse(json.loads(words("mark", going.folder, "--json").stdout)["runs"][0]["whole"])
-        folder = self.ended(going)
+        self.assertFalse(json.loads(call_class("mark", going.folder, "--json").stdout)["runs"][0]["whole"])
+        folder = self.end(going)
         first, _, rest = self.history(folder).partition("\n")
         self.assertRegex(first, r"^.*/record: ok: \d+ sessions, \d+ lines, 3 events$")
         self.assertEqual(squeezed(rest), squeezed(self.wanted(folder)))
@@ -171,14 +171,14 @@ class Told(Disputed):
             self.assertNotIn("isn't recorded", now)
             self.assertRegex(now, r"(?m)^  after 1 event, seat \d+: this connection is still open$")
             os.kill(going.server(), signal.SIGKILL)
-            self.assertEqual(going.ends(), 4, going.lines)
+            self.assertEqual(going.wait_for_end(), 4, going.lines)
         now = self.history(going.folder)
         self.assertNotIn("is still open", now)
         self.assertRegex(now, r"(?m)^  after 1 event, seat \d+: the rest of this connection isn't recorded$")
 
     def test_the_table_has_a_row_for_each_entry_and_each_step(self) -> None:
         """The first four rows are sorted, since their order depends on which seats were free."""
-        folder = self.ended(self.disputed())
+        folder = self.end(self.disputed())
         heads, *rows = csv.reader(io.StringIO(self.history(folder, "--csv")))
         self.assertEqual(heads, ["place", "seat", "session", "asked", "reply", "denied", "event"])
         self.assertEqual([row[0] for row in rows], ["0", "0", "0", "0", "3", "3", "3", "3", "3"])
@@ -188,7 +188,7 @@ class Told(Disputed):
 
     def test_equal_entries_have_a_row_each_in_the_table_and_are_counted_elsewhere(self) -> None:
         """With at least 20 stale denials, `disputed` also checks that the desk reports them."""
-        folder = self.ended(self.disputed(stale=40))
+        folder = self.end(self.disputed(stale=40))
         self.assertEqual(self.history(folder, "--csv").count("this is not the current configuration"), 40)
         told = squeezed(self.history(folder))
         self.assertRegex(told, r'\n after 3 events, seat \d+, 40 times > {"do":"move","node":4,"rule":"update","at":0}\n < {"at":1,"clause":2,')
@@ -199,13 +199,13 @@ class Told(Disputed):
     def test_only_the_teacher_can_read_the_record_and_no_output_contains_a_key(self) -> None:
         """No output contains an escape character either."""
         going = self.disputed()
-        folder = self.ended(going)
+        folder = self.end(going)
         record = folder / "record"
         self.assertEqual(record.stat().st_mode & 0o777, 0o700)
         self.assertEqual({file.stat().st_mode & 0o777 for file in record.iterdir()}, {0o600})
         page = self.room / "gus.html"
         told = [*going.lines, self.history(folder), self.history(folder, "--csv"), self.history(folder, "-o", page),
-                page.read_text(encoding="utf-8"), words("mark", folder, "--json").stdout]
+                page.read_text(encoding="utf-8"), call_class("mark", folder, "--json").stdout]
         told += [(folder / name).read_text(encoding="utf-8") for name in ("run.txt", "server.txt", "marks.txt", "marks.json", "run.html")]
         for key in (*KEYS.values(), read(CYCLE).teacher[1], "heron-13"):
             self.assertFalse([text for text in told if key in text], key)
@@ -213,7 +213,7 @@ class Told(Disputed):
             self.assertNotIn("\x1b", text)
 
     def test_the_link_of_an_entry_moves_the_player_to_the_entry_s_place(self) -> None:
-        folder = self.ended(self.disputed())
+        folder = self.end(self.disputed())
         page = self.room / "gus.html"
         self.history(folder, "-o", page)
         driver = browser()
@@ -229,11 +229,11 @@ class Told(Disputed):
         self.assertIn("\\x1b[2J", entries[-2].text)
 
     def test_a_name_that_isn_t_in_the_lab_and_a_folder_without_a_run_are_refused(self) -> None:
-        folder = self.ended(self.disputed())
-        done = words("history", folder, "mallory")
+        folder = self.end(self.disputed())
+        done = call_class("history", folder, "mallory")
         self.assertEqual((done.returncode, done.stdout), (1, ""))
         self.assertIn("this run has no student called mallory. Its students are: gus, hana, ines, jonas", done.stderr)
-        self.assertEqual(words("history", self.room, "gus").returncode, 1)
+        self.assertEqual(call_class("history", self.room, "gus").returncode, 1)
 
 
 class Verified(Disputed):
@@ -242,50 +242,50 @@ class Verified(Disputed):
     def denied(self, folder: Path) -> tuple[dict[str, int | None], bool]:
         """Returns how many lines of gus `./class mark` counts as denied, by clause, and as malformed, without the
         columns that are zero; and whether the record is complete."""
-        run = json.loads(words("mark", folder, "--json").stdout)["runs"][0]
+        run = json.loads(call_class("mark", folder, "--json").stdout)["runs"][0]
         gus = run["students"]["gus"]
         return {column: gus[column] for column in COLUMNS if gus[column] != 0}, run["whole"]
 
     def test_marks_have_denials_only_if_there_is_a_record_that_verify_accepts(self) -> None:
         """Tries the record as the run left it, a record that says that entries are missing, one with a changed reply,
         and no record."""
-        folder = self.ended(self.disputed())
+        folder = self.end(self.disputed())
         self.assertEqual(self.denied(folder), ({"clause2": 1, "clause4": 1, "malformed": 1}, True))
         seat, record = self.seat(folder), folder / "record"
         before = seat.read_bytes()
         number = seat.name.partition(".")[0]
         self.assertRegex((folder / "marks.txt").read_text(encoding="utf-8"), r"(?m)^record: ok: \d+ sessions, \d+ lines, 3 events$")
         seat.write_bytes(before + f"{number} 3 !\n{number} 3 .\n".encode())
-        done = words("mark", folder)
+        done = call_class("mark", folder)
         self.assertEqual(done.returncode, 0)
         self.assertRegex(done.stdout, r"(?m)^record: ok: \d+ sessions, \d+ lines, 3 events, not whole$")
         self.assertEqual(self.denied(folder), ({"clause2": 1, "clause4": 1, "malformed": 1}, False))
         seat.write_bytes(before.replace(b'"clause":4,"deny":"guard"', b'"clause":3,"deny":"guard"'))
         for form in ("--csv", "--json", "--total"):
-            done = words("mark", folder, form)
+            done = call_class("mark", folder, form)
             self.assertEqual(done.returncode, 5)
             self.assertRegex(done.stderr, rf"record: verify: seat {number}, line \d+: not the reply of the rules at place 3\n$")
         self.assertEqual(self.denied(folder), (dict.fromkeys(COLUMNS), False))
-        done = words("history", folder, "gus")
+        done = call_class("history", folder, "gus")
         self.assertEqual((done.returncode, done.stdout), (3, ""))
         self.assertIn("not the reply of the rules at place 3", done.stderr)
         shutil.rmtree(record)
-        done = words("mark", folder)
+        done = call_class("mark", folder)
         self.assertEqual(done.returncode, 0)
         self.assertIn("\nthis run has no record, so requests and denials aren't known\n", done.stdout)
-        records = json.loads(words("mark", folder, "--json").stdout)["runs"][0]["records"]
+        records = json.loads(call_class("mark", folder, "--json").stdout)["runs"][0]["records"]
         self.assertEqual(records, ["this run has no record, so requests and denials aren't known"])
         self.assertEqual(self.denied(folder), (dict.fromkeys(COLUMNS), False))
-        self.assertEqual(words("history", folder, "gus").returncode, 1)
+        self.assertEqual(call_class("history", folder, "gus").returncode, 1)
 
     def test_a_missing_grant_is_an_error_only_if_the_server_ended_as_it_should(self) -> None:
         """The server then printed `done: `. Otherwise the record may lack its last entries."""
-        folder = self.ended(self.disputed())
+        folder = self.end(self.disputed())
         seat = self.seat(folder)
         lines = seat.read_bytes().splitlines(keepends=True)
         at = next(at for at, line in enumerate(lines) if b'"place":1' in line)
         seat.write_bytes(b"".join(lines[:at - 1] + lines[at + 1:]))  # Without the request for the move and its reply.
-        done = words("history", folder, "gus")
+        done = call_class("history", folder, "gus")
         self.assertEqual((done.returncode, done.stdout), (3, ""))
         self.assertIn("verify: place 1: granted in no record", done.stderr)
         output = folder / "server.txt"
@@ -298,7 +298,7 @@ class Verified(Disputed):
         with Raw(going.port, "hana"):
             going.until("^connected: hana$")
             os.kill(going.server(), signal.SIGKILL)
-            self.assertEqual(going.ends(), 4, going.lines)
+            self.assertEqual(going.wait_for_end(), 4, going.lines)
         seat = self.seat(going.folder)
         whole = seat.read_bytes()
         with seat.open("ab") as it:
@@ -312,7 +312,7 @@ class Verified(Disputed):
             again.type("who")
             again.until(r"^connected: gus \(1 of \d+ seats are taken\)$")
             again.until("^hellos with wrong keys: 1 for gus$")
-        folder = self.ended(again)
+        folder = self.end(again)
         told = self.history(folder)
         self.assertEqual(told.count(STALE), 2)
         self.assertIn("events, not whole\n", told)
@@ -321,19 +321,19 @@ class Verified(Disputed):
     def test_after_a_change_of_a_key_the_history_and_the_marks_have_both_records(self) -> None:
         """With the changed lab the resumed run begins another record, and the first one is kept as `record.~1~`. The
         history hides the old key and the new one."""
-        folder = self.ended(self.disputed())
+        folder = self.end(self.disputed())
         # `./class key` also changes the lab's own file, which `run.json` names. It must not be the one in `examples/`.
         lab = self.file("lab.toml", CYCLE.read_text(encoding="utf-8"))
         record = json.loads((folder / "run.json").read_text(encoding="utf-8"))
         (folder / "run.json").write_text(json.dumps({**record, "lab": str(lab)}), encoding="utf-8")
-        self.assertEqual(words("key", folder, "gus").returncode, 0)
+        self.assertEqual(call_class("key", folder, "gus").returncode, 0)
         key = read(folder / "lab.toml").students["gus"]
         again = Going(self, None, "run", "--resume", folder, "--again", "--close", "by-hand")
         with Raw(again.port, "gus", key) as gus, Raw(again.port) as old:
             self.assertEqual(old.ask(hello("gus", KEYS["gus"])), UNKNOWN)
             self.assertEqual(gus.ask(b'{"do":"move","node":1,"rule":"update","at":%d, "note":"heron-31"}\n' % 1), GUARD)
             again.until("^connected: gus$")
-        self.ended(again)
+        self.end(again)
         told = self.history(folder)
         self.assertRegex(told, r"^.*/record\.~1~: ok: \d+ sessions, \d+ lines, 3 events\n"
                                r".*/record: ok: \d+ sessions, \d+ lines, 3 events, begun after 3 events\n")
@@ -352,22 +352,22 @@ class Verified(Disputed):
             for _ in range(500):
                 self.assertIn('"deny":"stale"', gus.ask(MOVE % 7))
             going.until("^the further lines of this connection of gus aren't recorded: ")
-        self.assertEqual(going.ended(), 5, going.lines)
+        self.assertEqual(going.end(), 5, going.lines)
         self.assertIn("the record isn't complete, because not all of it could be written to the disk. The journal is complete", going.lines)
         self.assertIn("the run is ended", going.lines)
         self.assertRegex((going.folder / "marks.txt").read_text(encoding="utf-8"), r"(?m)^record: ok: .*, not whole$")
-        self.assertEqual(self.whole(going.folder), 0)
+        self.assertEqual(self.check_complete(going.folder), 0)
 
     def test_an_emptied_record_is_shown_as_one_that_began_after_the_last_event(self) -> None:
         """`verify` can't refuse such a record, so the line about it has to say that three events came before."""
-        folder = self.ended(self.disputed())
+        folder = self.end(self.disputed())
         record = folder / "record"
         (record / "begun").write_text("3\n", encoding="ascii")
         for seat in record.glob("*.record"):
             seat.write_bytes(b"")
         wanted = "record: ok: 0 sessions, 0 lines, 3 events, begun after 3 events\n"
         self.assertTrue(self.history(folder).startswith(f"{folder}/{wanted}"))
-        self.assertIn(f"\n{wanted}", words("mark", folder).stdout)
+        self.assertIn(f"\n{wanted}", call_class("mark", folder).stdout)
 
     def test_begun_returns_the_number_in_its_file_and_raises_a_fault_for_other_texts(self) -> None:
         for text, number in (("3\n", 3), ("0", 0), ("", None), ("x\n", None), ("-1\n", None)):

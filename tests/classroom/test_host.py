@@ -12,7 +12,7 @@ from pathlib import Path
 from classroom.client import Client, Closed, Refused
 from classroom.core.lab import read
 from classroom.core.program import host
-from tests.classroom.help import CYCLE, KEYS, LIMIT, Cycle, Going, InTerminal, words
+from tests.classroom.help import CYCLE, KEYS, LIMIT, Cycle, Going, InTerminal, call_class
 
 TEACHER = read(CYCLE).teacher
 
@@ -28,10 +28,10 @@ class Hosted(Cycle):
         self.assertTrue(any(f"for at most {sessions - 1} students at once; folder" in line for line in going.lines), going.lines)
         return going
 
-    def ended(self, going: Going) -> None:
+    def check_end(self, going: Going) -> None:
         """Waits until a run ends. Checks that it was ended by the bye at its desk, and that its folder is complete."""
-        self.assertEqual(going.ends(), 0, going.lines)
-        events = self.whole(going.folder)
+        self.assertEqual(going.wait_for_end(), 0, going.lines)
+        events = self.check_complete(going.folder)
         self.assertRegex((going.folder / "server.txt").read_text(encoding="utf-8"),
                          rf"^listening on port \d+, desk on port \d+\ndone: {events} events, configuration \d+\n$")
 
@@ -60,7 +60,7 @@ class Hosted(Cycle):
             gus.__exit__(OSError, None, None)  # Closes the connection without a bye, as after an error.
         for name in KEYS:
             self.bot(going, name)
-        self.ended(going)
+        self.check_end(going)
         self.assertIn(", stable", (going.folder / "audit.txt").read_text(encoding="utf-8"))
 
     def test_newcomers_are_refused_while_all_seats_are_taken_and_a_killed_bot_frees_its_seat(self) -> None:
@@ -85,7 +85,7 @@ class Hosted(Cycle):
         self.bot(going, "jonas")
         going.until("^connected: jonas$")
         going.type("end\nend")
-        self.ended(going)
+        self.check_end(going)
         self.assertEqual(sum("all seats are taken" in line for line in going.lines), 1)
 
     def test_run_has_the_only_seat_of_the_desk_and_the_teacher_can_use_the_students_port(self) -> None:
@@ -101,7 +101,7 @@ class Hosted(Cycle):
         going.type("fault 1 2 true")
         going.until("^configuration 2: fault at node 1: p 2, m true")
         going.type("end\nend")
-        self.ended(going)
+        self.check_end(going)
 
     def test_if_run_is_killed_its_server_runs_until_the_teacher_says_bye_at_the_desk(self) -> None:
         """Then the journal can be marked."""
@@ -123,7 +123,7 @@ class Hosted(Cycle):
         while server.exists() and server.read_text(encoding="ascii").rpartition(") ")[2][0] != "Z":
             self.assertLess(time.monotonic(), until)
             time.sleep(0.01)
-        marks = words("mark", going.folder / "lab.toml", going.folder / "journal", "--json")
+        marks = call_class("mark", going.folder / "lab.toml", going.folder / "journal", "--json")
         self.assertEqual(marks.returncode, 0, marks.stderr)
         self.assertEqual(json.loads(marks.stdout)["runs"][0]["events"], 2)
 
@@ -135,7 +135,7 @@ class Hosted(Cycle):
         self.assertEqual(terminal.process.wait(LIMIT), 0)
         os.close(terminal.ours)
         folder = next((self.room / "runs").iterdir())
-        self.assertEqual(self.whole(folder), 1)
+        self.assertEqual(self.check_complete(folder), 1)
         self.assertRegex((folder / "server.txt").read_text(encoding="utf-8"), r"\ndone: 1 events, configuration 1\n$")
 
 

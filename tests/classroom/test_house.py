@@ -21,7 +21,7 @@ from classroom.core.journal import events
 from classroom.core.lab import HOUSE, Lab, read
 from classroom.core.program import host
 from classroom.run.house import House
-from tests.classroom.help import CYCLE, EXAMPLES, Going, InRoom, a_port, words
+from tests.classroom.help import CYCLE, EXAMPLES, Going, InRoom, a_port, call_class
 
 NAMES = "Name\nAna Lima\nGus Roy\nHouse\nEva Sol\n"
 
@@ -107,7 +107,7 @@ class Standing(InRoom):
         super().setUp()
         self.list = self.file("names.csv", NAMES)
         self.made = self.room / "maths.toml"
-        done = words("new", self.made, "--students", self.list, "--nodes", "8", "--start", "random", "--seed", "3", "--stand-in")
+        done = call_class("new", self.made, "--students", self.list, "--nodes", "8", "--start", "random", "--seed", "3", "--stand-in")
         self.assertEqual((done.returncode, done.stderr), (0, ""))
         self.output = done.stdout
         self.lab: Lab = read(self.made)
@@ -140,7 +140,7 @@ class Standing(InRoom):
         self.assertNotIn(self.lab.students[HOUSE], printed)
         self.assertNotIn("shared", printed)
         self.assertEqual(printed.count("If a node of yours waits too long for you, a program, the house, may play it."), 4)
-        checked = words("check", self.made)
+        checked = call_class("check", self.made)
         self.assertEqual((checked.returncode, checked.stdout.count("warning")), (0, 0), checked.stdout)
         self.assertEqual(checked.stdout.splitlines()[0], "ok: 8 nodes, 8 links, 4 students and the house")
         self.assertIn("toml: 8 nodes, 8 links, 4 students and the house; slips for printing: ", self.output)
@@ -157,7 +157,7 @@ class Standing(InRoom):
         going.type("shake all 7")
         going.until("^stable again after ")
         going.type("end")
-        self.assertEqual(going.ends(), 0, going.lines)
+        self.assertEqual(going.wait_for_end(), 0, going.lines)
         folder, found = going.folder, self.grants(going.folder)
         self.assertEqual(set(found) - {"ana-lima", "eva-sol"}, {HOUSE})
         absent = {*self.lab.nodes_of("gus-roy"), *self.lab.nodes_of("house-2")}
@@ -170,7 +170,7 @@ class Standing(InRoom):
         self.assertEqual(sum(marks[HOUSE]["granted"].values()),
                          sum(event.student == HOUSE for event in events((folder / "journal").read_text(encoding="ascii"))))
         self.assertRegex((folder / "marks.txt").read_text(encoding="utf-8"), r"(?m)^ +house +[1-9]")
-        table = words("mark", folder, "--roster", self.list, "--total")
+        table = call_class("mark", folder, "--roster", self.list, "--total")
         self.assertEqual((table.returncode, table.stderr), (0, ""))
         rows = {row["Name"]: int(row["granted"]) for row in csv.DictReader(io.StringIO(table.stdout))}
         self.assertEqual((list(rows), rows["House"], rows["Gus Roy"]), (["Ana Lima", "Gus Roy", "House", "Eva Sol"], 0, 0))
@@ -192,7 +192,7 @@ class Standing(InRoom):
         going.until("^the house plays at each node for which the class has waited 0.2 seconds; the house begins when the first student has said hello$")
         self.assertEqual((going.folder / "journal").read_bytes(), b"")
         self.greet(going)
-        self.assertEqual(going.ends(), 0, going.lines)
+        self.assertEqual(going.wait_for_end(), 0, going.lines)
         self.assertIn("the network is stable, so the run is ended", going.lines)
         self.assertEqual(set(self.grants(going.folder)), {HOUSE})
 
@@ -211,7 +211,7 @@ class Standing(InRoom):
         before = self.grants(going.folder)
         self.assertEqual(set(before), {HOUSE})
         self.assertLessEqual(before[HOUSE], set(nodes))
-        self.assertEqual(going.ended(), 0, going.lines)
+        self.assertEqual(going.end(), 0, going.lines)
         self.assertEqual(self.grants(going.folder), before)
 
     def let_house_play(self, going: Going, nodes: list[int]) -> None:
@@ -250,7 +250,7 @@ class Standing(InRoom):
             with urllib.request.urlopen(f"{page}events", timeout=60) as it:
                 self.assertNotIn(key, it.readline())
         going.type("end")
-        self.assertEqual(going.ends(), 0, going.lines)
+        self.assertEqual(going.wait_for_end(), 0, going.lines)
         for file in going.folder.iterdir():
             if file.is_file() and not file.name.startswith(("lab.toml", "journal.lab")):
                 self.assertNotIn(key, file.read_bytes(), file.name)
@@ -264,7 +264,7 @@ class Standing(InRoom):
             going.type(line)
             going.until(f"^the house .*{told}")
         os.kill(going.server(), 9)
-        self.assertEqual(going.ends(), 4, going.lines)
+        self.assertEqual(going.wait_for_end(), 4, going.lines)
         again = Going(self, None, "run", "--resume", going.folder, "--daemon", "synchronous")
         self.assertIn("the house plays for gus-roy and at each node for which the class has waited 0.3 seconds; "
                       "the house begins when the first student has said hello",
@@ -273,7 +273,7 @@ class Standing(InRoom):
         self.greet(again)
         again.until("^stable after ")
         again.type("end")
-        self.assertEqual(again.ends(), 0, again.lines)
+        self.assertEqual(again.wait_for_end(), 0, again.lines)
         self.assertEqual(set(self.grants(again.folder)), {HOUSE})
 
     def test_a_house_that_finds_no_free_seat_says_so_once(self) -> None:
@@ -291,7 +291,7 @@ class Refused(InRoom):
     """Labs and options with which the house can't play."""
 
     def test_in_a_lab_without_a_house_the_errors_say_how_to_get_one(self) -> None:
-        done = words("run", CYCLE, "--stand-in", "20s", "--into", self.room / "runs")
+        done = call_class("run", CYCLE, "--stand-in", "20s", "--into", self.room / "runs")
         self.assertEqual((done.returncode, done.stdout), (1, ""))
         self.assertEqual(done.stderr, f"class: {CYCLE}: the house can't play in this lab, since no node has `house` as its second owner. "
                                       "With --stand-in, `./class new` makes a lab in which the house is the second owner of each node\n")
@@ -304,14 +304,14 @@ class Refused(InRoom):
 
     def test_new_refuses_a_house_beside_two_owners_of_each_node(self) -> None:
         students = self.file("students", "Ana\nBen\n")
-        done = words("new", self.room / "lab.toml", "--students", students, "--pairs", "--stand-in")
+        done = call_class("new", self.room / "lab.toml", "--students", students, "--pairs", "--stand-in")
         self.assertEqual((done.returncode, done.stdout), (1, ""))
         self.assertIn("a node has at most two", done.stderr)
         self.assertFalse((self.room / "lab.toml").exists())
 
     def test_the_time_of_stand_in_has_to_be_a_number_of_seconds_above_zero(self) -> None:
         for word in ("0s", "x", "-1", "20m"):
-            done = words("run", CYCLE, "--stand-in", word, "--into", self.room / "runs")
+            done = call_class("run", CYCLE, "--stand-in", word, "--into", self.room / "runs")
             self.assertEqual(done.returncode, 1)
             self.assertIn("isn't a number of seconds above 0", done.stderr)
 

@@ -15,7 +15,7 @@ import unittest
 from functools import cache
 from pathlib import Path
 
-from tests.classroom.help import CYCLE, EXAMPLES, LIMIT, Cycle, Going, InRoom, no_server, words
+from tests.classroom.help import CYCLE, EXAMPLES, LIMIT, Cycle, Going, InRoom, call_class, no_server
 
 Command = tuple[str | Path, ...]
 COMPILERS = {"bot.c": ("cc", "-Wall", "-Wextra", "-Werror", "-O1"), "bot.rs": ("rustc", "--edition", "2021", "-D", "warnings", "-O")}
@@ -65,8 +65,8 @@ class Bots(Cycle):
         for number, name in enumerate(("gus", "hana", "ines", "jonas")):
             others = [*bots().values()]
             self.bot(going, name, *(others[number] if number < len(others) else ()))
-        self.assertEqual(going.ends(), 0, going.lines)
-        self.assertGreater(self.whole(going.folder), 10)
+        self.assertEqual(going.wait_for_end(), 0, going.lines)
+        self.assertGreater(self.check_complete(going.folder), 10)
 
     def test_each_bot_ends_with_one_line_and_the_status_for_what_is_wrong_in_its_slip(self) -> None:
         """The statuses are 1 for a slip that can't be read, 2 for a wrong key, 3 for a node of another student, and 4
@@ -95,7 +95,7 @@ class Bots(Cycle):
             going.until("^connected: gus")
         return playing
 
-    def are_ended(self, playing: list[tuple[str, subprocess.Popen[str]]], status: int, why: str) -> None:
+    def check_end(self, playing: list[tuple[str, subprocess.Popen[str]]], status: int, why: str) -> None:
         """Waits until each of these bots ends. Checks its status, and the reason in the line that it prints."""
         for name, bot in playing:
             said = bot.communicate(timeout=LIMIT)[1]
@@ -105,13 +105,13 @@ class Bots(Cycle):
         going = Going(self, CYCLE, "--close", "by-hand")
         playing = self.greeted_bots(going)
         os.kill(going.server(), signal.SIGKILL)
-        self.assertEqual(going.ends(), 4, going.lines)
+        self.assertEqual(going.wait_for_end(), 4, going.lines)
         again = Going(self, None, "run", "--resume", going.folder, "--close", "by-hand")
         all_are_in = f"connected: gus, {len(playing)} connections" if len(playing) > 1 else "connected: gus"
         if all_are_in not in again.lines:
             again.until(f"^{all_are_in}$")
-        self.assertEqual(again.ended(), 0, again.lines)
-        self.are_ended(playing, 0, "the run is over")
+        self.assertEqual(again.end(), 0, again.lines)
+        self.check_end(playing, 0, "the run is over")
 
     def test_bots_whose_server_is_killed_try_for_a_minute_and_end_with_status_7(self) -> None:
         """They must not take the lost connection for the end of the run."""
@@ -119,8 +119,8 @@ class Bots(Cycle):
         playing = self.greeted_bots(going)
         begun = time.monotonic()
         os.kill(going.server(), signal.SIGKILL)
-        self.assertEqual(going.ends(), 4, going.lines)
-        self.are_ended(playing, 7, "the connection was lost: start again")
+        self.assertEqual(going.wait_for_end(), 4, going.lines)
+        self.check_end(playing, 7, "the connection was lost: start again")
         self.assertGreater(time.monotonic() - begun, 55)
 
 
@@ -156,7 +156,7 @@ class Graded(InRoom):
     def test_each_bot_passes_all_twelve_cases_of_the_suite_small(self) -> None:
         """The bots in Java and Python are graded in `test_grade.py`."""
         given = [command[-1] for name, command in bots().items() if name != "Bot.java"]
-        done = words("grade", *given, "--timeout", "120", "--into", self.room / "grades")
+        done = call_class("grade", *given, "--timeout", "120", "--into", self.room / "grades")
         self.assertEqual(done.returncode, 0, done.stdout + done.stderr)
         self.assertEqual(done.stdout.count(": 12 of 12 cases passed\n"), len(given), done.stdout)
 

@@ -68,7 +68,7 @@ class Large(Played):
         self.driver.execute_async_script(STEP, place)
         return self.spent() - start
 
-    def opened(self, page: Path) -> float:
+    def measure_opening(self, page: Path) -> float:
         """Opens a page, and shows its first state. Returns the processor time that it takes in milliseconds, divided by
         the slowness of this machine."""
         self.driver.get("about:blank")
@@ -78,7 +78,7 @@ class Large(Played):
         self.step(0)
         return self.spent() / slowness
 
-    def stepped(self, places: list[int]) -> list[float]:
+    def measure_steps(self, places: list[int]) -> list[float]:
         """Steps to each of these places, beginning at the one before the first. Returns the processor time that each
         step takes in milliseconds, divided by the slowness of this machine."""
         slowness = self.slowness()
@@ -93,10 +93,10 @@ class Large(Played):
         kinds = [line.split(" ")[2] for line in journal.read_text().splitlines()]
         self.assertEqual(len(kinds), 1000)
         page = self.page(lab, journal)
-        self.assertLess(min(self.opened(page) for _ in range(3)), OPENS)
+        self.assertLess(min(self.measure_opening(page) for _ in range(3)), OPENS)
         made = [place for place, kind in enumerate(kinds, 1) if kind in ("close", "fault")]
         for places in (made, list(range(901, 941))):
-            passes = [self.stepped(places) for _ in range(3)]
+            passes = [self.measure_steps(places) for _ in range(3)]
             self.assertLess(max(min(of) for of in zip(*passes)), STEPS)
         touched: list[int] = self.driver.execute_script(TOUCHED)
         self.assertEqual(shown(self.driver)[0]["place"], "1000")

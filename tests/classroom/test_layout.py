@@ -228,7 +228,7 @@ class Labels(unittest.TestCase):
                     self.assertFalse(min(a.right, b.right) > max(a.left, b.left) and min(a.bottom, b.bottom) > max(a.top, b.top))
                 for box in boxes.values():
                     self.assertTrue(box.left >= 0 and box.top >= 0 and box.right <= WIDE.width and box.bottom <= WIDE.height)
-                    self.assertEqual([node for node, point in view.layout.points.items() if near(box, point) < radius], [])
+                    self.assertEqual([node for node, point in view.layout.points.items() if distance(box, point) < radius], [])
                     self.assertEqual([link for link in links if box.length_inside(*(view.layout.points[node] for node in link)) > 0], [])
 
     def test_in_narrow_fields_the_frames_of_rules_overlap_no_other_node_and_no_other_frame(self) -> None:
@@ -247,7 +247,7 @@ class Labels(unittest.TestCase):
                     checked += 1
                     with self.subTest(word, seed=seed, field=field):
                         self.assertEqual([(a, b) for a, frame in frames.items() for b, point in view.layout.points.items()
-                                          if a != b and near(frame, point) < radius], [])
+                                          if a != b and distance(frame, point) < radius], [])
                         for a, b in combinations(frames.values(), 2):
                             self.assertFalse(min(a.right, b.right) > max(a.left, b.left) and min(a.bottom, b.bottom) > max(a.top, b.top))
         self.assertGreater(checked, 80)  # Of 96 drawings, few may have discs that are too small for frames.
@@ -279,7 +279,7 @@ class Labels(unittest.TestCase):
                 self.assertGreater(view.form.widest_pill, max(text_width(view.form.word(rule), view.form.pill) for rule in RULES))
 
 
-def near(box: Box, point: tuple[float, float]) -> float:
+def distance(box: Box, point: tuple[float, float]) -> float:
     """Returns the distance between a point and the nearest point of a box."""
     return math.dist(point, (min(max(point[0], box.left), box.right), min(max(point[1], box.top), box.bottom)))
 

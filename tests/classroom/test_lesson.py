@@ -17,7 +17,7 @@ from pathlib import Path
 from classroom.core.folders import Process, Record
 from classroom.core.lab import Lab, read
 from classroom.core.program import TOP, call, host
-from tests.classroom.help import CLASS, LIMIT, Going, InRoom, InTerminal, a_port, words
+from tests.classroom.help import CLASS, LIMIT, Going, InRoom, InTerminal, a_port, call_class
 
 BOT = TOP / "examples/bot.py"
 NAMES = ("Zoë,Müller", "Jonas,Ek", "Ana,Lima", "Gus,Roy", "Ida,Berg", "Tim,Ode", "Eva,Sol", "Bo,Dahl", "Kim,Vo", "Pia,Rot", "Leo,Wolf", "Uma,Das")
@@ -34,9 +34,9 @@ class Lesson(InRoom):
         super().setUp()
         self.list = self.file("names.csv", "First name,Surname,ID number\n" + "".join(f"{name},{number}\n" for number, name in enumerate(NAMES, 101)))
         self.file_of_lab, self.port = self.room / "maths.toml", a_port()
-        made = words("new", self.file_of_lab, "--students", self.list, "--family", "grid:4x3", "--start", "hurt", "--port", str(self.port))
+        made = call_class("new", self.file_of_lab, "--students", self.list, "--family", "grid:4x3", "--start", "hurt", "--port", str(self.port))
         self.assertEqual(made.returncode, 0, made.stderr)
-        self.assertEqual(words("check", self.file_of_lab).returncode, 0)
+        self.assertEqual(call_class("check", self.file_of_lab).returncode, 0)
         self.lab: Lab = read(self.file_of_lab)
 
     def bots(self, names: list[str]) -> list[subprocess.Popen[str]]:
@@ -55,7 +55,7 @@ class Lesson(InRoom):
         """Returns the path of the slip that `./class new` made for a student."""
         return self.room / "maths-slips" / f"{name}.slip"
 
-    def are_told_of_the_end(self, bots: list[subprocess.Popen[str]], *statuses: int) -> None:
+    def check_end(self, bots: list[subprocess.Popen[str]], *statuses: int) -> None:
         """Waits until these bots end. Checks that each ends with one of these statuses and the line for it: 0 if the
         run is over, 4 if there is no server, and 6 if nothing is granted any longer."""
         for bot in bots:
@@ -85,12 +85,12 @@ class Lesson(InRoom):
 
     def test_after_a_crash_a_full_disk_and_a_closed_terminal_the_marks_match_the_journal(self) -> None:
         """The run is begun, and continued twice. Each part of it is in a method of its own."""
-        folder = self.first_half()
-        self.full_disk(folder)
-        self.second_half(folder)
-        self.marks(folder)
+        folder = self.run_first_half()
+        self.run_on_full_disk(folder)
+        self.run_second_half(folder)
+        self.check_marks(folder)
 
-    def first_half(self) -> Path:
+    def run_first_half(self) -> Path:
         """Starts the run with most of the bots and one bot with a wrong key, makes two faults, starts the late bots,
         and kills the server. Returns the run's folder."""
         going = Going(self, self.file_of_lab, "--close", "every:0.3", "--port", str(self.port))
@@ -108,13 +108,13 @@ class Lesson(InRoom):
         going.until("fault at node 6: p null, m true")
         going.until("^configuration ")
         os.kill(going.server(), signal.SIGKILL)
-        self.assertEqual(going.ends(), 4, going.lines)
+        self.assertEqual(going.wait_for_end(), 4, going.lines)
         self.assertIn(f"to continue the run: {CLASS} run --resume {going.folder}", going.lines)
         for bot in bots:  # The bot would greet again, but here each student ends it and starts another.
             bot.terminate()
         return going.folder
 
-    def full_disk(self, folder: Path) -> None:
+    def run_on_full_disk(self, folder: Path) -> None:
         """Continues the run in a folder with a limit on the size of files, which stands for a full disk, and ends it by
         faults that fill the journal. At first all files are below the limit. The largest one may be the desk's record,
         which has each denied close."""
@@ -128,10 +128,10 @@ class Lesson(InRoom):
         # Each fault adds at least twenty bytes to the journal.
         going.type("\n".join(["fault 11 null true"] * (60 + (1024 * most - journal.stat().st_size) // 20)))
         going.until("^nothing more is granted: no line can be written to the journal. Make room on the disk, and then .*class run --resume ")
-        self.assertEqual(going.ends(), 4, going.lines)
-        self.are_told_of_the_end(bots, 0, 4, 6)
+        self.assertEqual(going.wait_for_end(), 4, going.lines)
+        self.check_end(bots, 0, 4, 6)
 
-    def second_half(self, folder: Path) -> None:
+    def run_second_half(self, folder: Path) -> None:
         """Continues the run in a terminal, closes the terminal, and takes over the desk by `./class attach`. Ends the
         run when each student has an applied move and the network is stable. Checks that all programs end."""
         terminal = InTerminal(self, "run", "--resume", folder)
@@ -158,9 +158,9 @@ class Lesson(InRoom):
         going.until("fault at node 5: p null, m true")
         going.until("; stable; ")
         going.type("end")
-        self.assertEqual(going.ends(), 0, going.lines)
+        self.assertEqual(going.wait_for_end(), 0, going.lines)
         self.assertFalse(Process.of(record.server.number) == record.server)  # The server has ended.
-        self.are_told_of_the_end(bots, 0, 4)
+        self.check_end(bots, 0, 4)
 
     def wait_for_line(self, folder: Path, line: str) -> None:
         """Waits until the file `run.txt` of a run's folder has a line with the time and the text `line`. Fails after a
@@ -170,11 +170,11 @@ class Lesson(InRoom):
             self.assertLess(time.monotonic(), end)
             time.sleep(0.05)
 
-    def marks(self, folder: Path) -> None:
+    def check_marks(self, folder: Path) -> None:
         """Checks that the marks of all students are in the order and form of the list, and match the journal. Also
         checks that the desk's lines about faults are in `run.txt`."""
         self.assertRegex(call("audit", folder / "lab.toml", folder / "journal").output, "^ok: .*, stable\n$")
-        done = words("mark", folder, "--roster", self.list, "--total")
+        done = call_class("mark", folder, "--roster", self.list, "--total")
         self.assertEqual((done.returncode, done.stderr), (0, ""))
         rows = list(csv.DictReader(io.StringIO(done.stdout)))
         self.assertEqual([f"{row['First name']},{row['Surname']}" for row in rows], list(NAMES))

@@ -14,7 +14,7 @@ from classroom.core.folders import Record
 from classroom.core.program import host
 from classroom.door.routes import DoorData
 from classroom.run.run import ports_for
-from tests.classroom.help import LIMIT, Going, InRoom, a_port, wait_until, words
+from tests.classroom.help import LIMIT, Going, InRoom, a_port, call_class, wait_until
 from tests.classroom.several import GoingClass
 
 
@@ -27,7 +27,7 @@ class Doors(InRoom):
         super().setUp()
         self.port, self.lab = a_port(), self.room / "maths.toml"
         students = self.file("list.csv", "Name\nZoë Müller\nBen\nCyd\n")
-        done = words("new", self.lab, "--students", students, "--door", f"127.0.0.1:{self.port}", "--start", "hurt")
+        done = call_class("new", self.lab, "--students", students, "--door", f"127.0.0.1:{self.port}", "--start", "hurt")
         self.assertEqual(done.returncode, 0, done.stdout + done.stderr)
         self.slip = Slip.read(self.room / "maths-slips/ben.slip")
 
@@ -68,7 +68,7 @@ class Doors(InRoom):
             record = Record.read(going.folder)
             assert record is not None
             os.kill(record.server.number, signal.SIGKILL)
-            self.assertEqual(going.ends(), 4, going.lines)
+            self.assertEqual(going.wait_for_end(), 4, going.lines)
         door = self.door(going).process
         wait_until(lambda: not door.lives())
         with self.assertRaises(NoServer):
@@ -79,7 +79,7 @@ class Doors(InRoom):
             self.ask_for_move(client)
             client.see(self.slip.nodes[0])
         self.assertNotEqual(self.door(again).process, door)
-        self.assertEqual(again.ended(), 0, again.lines)
+        self.assertEqual(again.end(), 0, again.lines)
 
     def test_the_server_and_the_door_outlive_a_killed_run_and_the_resumed_run_has_a_door_at_the_same_port(self) -> None:
         """It may be the same door or a new one. After the resumed run, no door is left."""
@@ -97,7 +97,7 @@ class Doors(InRoom):
         with self.connect() as client:
             self.assertEqual(client.look(self.slip.nodes[0]).node, self.slip.nodes[0])
         self.assertEqual(self.door(again).port, self.port)
-        self.assertEqual(again.ended(), 0, again.lines)
+        self.assertEqual(again.end(), 0, again.lines)
         wait_until(lambda: not door.lives() and not self.door(again).process.lives())
 
     def test_a_run_warns_of_slips_with_another_address_than_that_of_its_door(self) -> None:
@@ -105,12 +105,12 @@ class Doors(InRoom):
         self.port = a_port()
         going = self.begin()
         self.assertTrue(any(line.startswith(f"the slips of {self.lab} don't have the address of this door. ") for line in going.lines), going.lines)
-        self.assertEqual(going.ended(), 0, going.lines)
-        done = words("slips", self.lab, "--door", f"127.0.0.1:{self.port}")
+        self.assertEqual(going.end(), 0, going.lines)
+        done = call_class("slips", self.lab, "--door", f"127.0.0.1:{self.port}")
         self.assertEqual(done.returncode, 0, done.stderr)
         going = self.begin()
         self.assertFalse([line for line in going.lines if "the address of this door" in line])
-        self.assertEqual(going.ended(), 0, going.lines)
+        self.assertEqual(going.end(), 0, going.lines)
 
     def test_a_certificate_that_is_named_is_that_of_the_door_and_its_fingerprint_is_on_the_slips(self) -> None:
         """A file that has no certificate is refused."""
@@ -118,15 +118,15 @@ class Doors(InRoom):
         subprocess.run(["openssl", "req", "-x509", "-newkey", "ec", "-pkeyopt", "ec_paramgen_curve:prime256v1", "-nodes", "-subj", "/CN=own",
                         "-keyout", own, "-out", self.room / "certificate"], check=True, capture_output=True)
         own.write_text(own.read_text(encoding="ascii") + (self.room / "certificate").read_text(encoding="ascii"), encoding="ascii")
-        done = words("slips", self.lab, "--door", f"127.0.0.1:{self.port}", "--certificate", own)
+        done = call_class("slips", self.lab, "--door", f"127.0.0.1:{self.port}", "--certificate", own)
         self.assertEqual(done.returncode, 0, done.stderr)
         self.slip = Slip.read(self.room / "maths-slips/ben.slip")
         going = self.begin("--certificate", str(own))
         self.assertIn(f"the door is open at port {self.port}; its certificate is {own}, with the SHA-256 fingerprint {self.slip.fingerprint}", going.lines)
         with self.connect() as client:
             client.look(self.slip.nodes[0])
-        self.assertEqual(going.ended(), 0, going.lines)
-        self.assertEqual(words("run", self.lab, "--into", self.room / "runs", "--door", str(self.port), "--certificate", self.lab).returncode, 4)
+        self.assertEqual(going.end(), 0, going.lines)
+        self.assertEqual(call_class("run", self.lab, "--into", self.room / "runs", "--door", str(self.port), "--certificate", self.lab).returncode, 4)
 
 
 class Ports(InRoom):
@@ -144,17 +144,17 @@ class Ports(InRoom):
     def test_each_network_has_the_port_on_its_slips_whatever_the_order_of_the_labs(self) -> None:
         """So has a network that is run alone."""
         students, first = self.file("names", "".join(f"Student {number}\n" for number in range(6))), a_port()
-        done = words("new", self.room / "maths.toml", "--students", students, "--groups", "2", "--port", str(first), "--page-port", str(first + 100))
+        done = call_class("new", self.room / "maths.toml", "--students", students, "--groups", "2", "--port", str(first), "--page-port", str(first + 100))
         self.assertEqual(done.returncode, 0, done.stderr)
         desk = GoingClass(self, "run", self.room / "maths-2.toml", self.room / "maths-1.toml", "--into", self.room / "runs", "--play")
         for index, name in enumerate(("maths-1", "maths-2")):
             record = desk.record(name)
             self.assertEqual((record.port, record.play), (first + index, first + 100 + index))
         desk.type("end all\nend")
-        self.assertEqual(desk.ends(), 0, desk.lines)
+        self.assertEqual(desk.wait_for_end(), 0, desk.lines)
         going = Going(self, None, "run", self.room / "maths-2.toml", "--into", self.room / "alone")
         self.assertEqual(going.port, first + 1)
-        self.assertEqual(going.ended(), 0, going.lines)
+        self.assertEqual(going.end(), 0, going.lines)
 
 
 if __name__ == "__main__":

@@ -16,7 +16,7 @@ from classroom.core import limits
 from classroom.core.program import Fault
 from classroom.core.statuses import FAILED
 from classroom.run.announcing import Announcer
-from tests.classroom.help import InRoom, words
+from tests.classroom.help import InRoom, call_class
 from tests.common.limits import LIMITS, MOST, TEXT
 
 BEGIN = "the program mml is of another version than ./class: `mml limits` prints "
@@ -118,7 +118,7 @@ class Asks(InRoom):
             (["experiment", "--nodes", "4..10"], 1, "4..10: write a number of nodes, A..B or A..B/STEP, with numbers from 1 to 9;"),
         )
         for given, status, what in cases:
-            done = words(*given, MML_HOST=it, MML_PROGRAM=it)
+            done = call_class(*given, MML_HOST=it, MML_PROGRAM=it)
             self.assertEqual(done.returncode, status, done.stderr)
             self.assertIn(what, done.stdout + done.stderr)
         made = tomllib.loads((self.room / "it-1.toml").read_text(encoding="utf-8"))

@@ -22,7 +22,7 @@ from classroom.core.tally import DENIED
 from classroom.marks.mark import marked
 from classroom.pages import replay
 from model import read_lab
-from tests.classroom.help import EXAMPLES, LIMIT, InRoom, words
+from tests.classroom.help import EXAMPLES, LIMIT, InRoom, call_class
 from tests.classroom.test_check import GOOD, PAIR
 from tests.record.recording import Recording
 
@@ -53,7 +53,7 @@ class Mark(InRoom):
 
     def marks(self, lab: Path, *journals: Path) -> list[dict[str, Any]]:
         """Returns the runs in the output of `./class mark --json`."""
-        done = words("mark", "--json", lab, *journals)
+        done = call_class("mark", "--json", lab, *journals)
         self.assertEqual(done.returncode, 0, done.stderr)
         runs: list[dict[str, Any]] = json.loads(done.stdout)["runs"]
         return runs
@@ -97,7 +97,7 @@ class Mark(InRoom):
         none = {"update": 0, "marriage": 0, "seduction": 0, "abandonment": 0}
         owners, = (it for it in run["shared"].values() if "jonas" in it)
         self.assertEqual({name: granted for name, granted in owners.items() if name == "jonas"}, {"jonas": none | {"seduction": 1}})
-        said = words("mark", lab, journal).stdout
+        said = call_class("mark", lab, journal).stdout
         self.assertEqual(len(re.findall(r"(?m)^node \d+: .*jonas got 1 granted move \(1 seduction\)", said)), 1, said)
 
     def test_a_student_without_moves_and_without_a_record_has_zeros_and_nulls(self) -> None:
@@ -137,27 +137,27 @@ class Mark(InRoom):
 
     def test_illegal_journals_arguments_in_the_wrong_order_and_missing_files_are_refused(self) -> None:
         lab = self.file("lab.toml", GOOD.replace(*PAIR))
-        done = words("mark", lab, self.file("journal", "1 0 grant jonas 11 seduction\n"))
+        done = call_class("mark", lab, self.file("journal", "1 0 grant jonas 11 seduction\n"))
         self.assertEqual(done.returncode, 3)
         self.assertIn("audit: line 1: illegal, not-owner: 1 0 grant jonas 11 seduction", done.stderr)
-        done = words("mark", self.file("journal", "1 0 close\n"), lab)
+        done = call_class("mark", self.file("journal", "1 0 close\n"), lab)
         self.assertEqual((done.returncode, done.stderr),
                          (2, f"class: {self.room / 'journal'}: lab: not a TOML document. Name the lab before its journals\n"))
         folder = self.room / "empty"
         folder.mkdir()
-        self.assertEqual(words("mark", folder).returncode, 1)
-        self.assertEqual(words("mark", lab, self.room / "none").returncode, 4)
+        self.assertEqual(call_class("mark", folder).returncode, 1)
+        self.assertEqual(call_class("mark", lab, self.room / "none").returncode, 4)
 
     def test_with_total_each_person_has_a_row_with_the_marks_of_all_runs_together(self) -> None:
         """The table has the columns of the roster, and keeps its rows without a person. A person is found in another
         roster by the identifier. A missing row is reported."""
         students = self.file("class.csv", 'Student;SIS User ID;Section\nPoints Possible;;\n"Müller, Zoë";s1;A\nBen;s2;B\nEva;s3;B\n')
-        made = words("new", self.room / "lab.toml", "--students", students, "--family", "path", "--groups", "1", "--nodes", "3")
+        made = call_class("new", self.room / "lab.toml", "--students", students, "--family", "path", "--groups", "1", "--nodes", "3")
         self.assertEqual(made.returncode, 0, made.stderr)
         lab = self.room / "lab.toml"
         one = self.file("one", "1 0 grant zoe-mueller 1 seduction\n2 0 close\n3 1 grant ben 2 marriage 1\n4 1 close\n")
         two = self.file("two", "1 0 grant zoe-mueller 1 seduction\n2 0 release 1\n")
-        done = words("mark", lab, one, two, "--roster", students, "--total")
+        done = call_class("mark", lab, one, two, "--roster", students, "--total")
         self.assertEqual((done.returncode, done.stderr), (0, ""))
         self.assertEqual(done.stdout.splitlines(), [
             "Student;SIS User ID;Section;granted;applied;update;marriage;seduction;abandonment;steps;shared;runs;"
@@ -167,10 +167,10 @@ class Mark(InRoom):
             "Eva;s3;B;0;0;0;0;0;0;0;0;2;0;0;0;0;0;0;2;lab",
         ])
         shorter = self.file("shorter.csv", "Name,ID\nZoë M.,s1\nBen,s2\nNew,s9\n")
-        done = words("mark", lab, one, "--roster", shorter)
+        done = call_class("mark", lab, one, "--roster", shorter)
         self.assertEqual((done.returncode, done.stderr), (5, f"class: {shorter} has no row for the student Eva, so the table lacks these marks\n"))
         self.assertEqual([line.split(",")[:3] for line in done.stdout.splitlines()[1:]], [["Zoë M.", "s1", "1"], ["Ben", "s2", "1"], ["New", "s9", "0"]])
-        self.assertEqual(words("mark", lab, one, two, "--total").stdout.splitlines()[1], '"Müller, Zoë",s1,2,1,0,0,1,0,1,0,2,0,0,0,0,0,0,2,lab')
+        self.assertEqual(call_class("mark", lab, one, two, "--total").stdout.splitlines()[1], '"Müller, Zoë",s1,2,1,0,0,1,0,1,0,2,0,0,0,0,0,0,2,lab')
 
     def recorded(self) -> Path:
         """Makes the folder of a run with a record, and returns it. In this run ana's first hello, with a wrong key, is
@@ -195,9 +195,9 @@ class Mark(InRoom):
     def test_with_second_the_plain_model_counts_too_and_a_different_count_is_reported(self) -> None:
         """The marks are printed nevertheless."""
         folder = self.recorded()
-        first = words("mark", folder)
+        first = call_class("mark", folder)
         self.assertEqual((first.returncode, first.stderr), (0, ""))
-        done = words("mark", "--second", folder)
+        done = call_class("mark", "--second", folder)
         self.assertEqual((done.returncode, done.stderr), (0, "class: the plain model gets the same counts\n"))
         self.assertEqual(done.stdout, first.stdout)
         # Programs whose output differs in one line, and how the difference is reported.
@@ -210,7 +210,7 @@ class Mark(InRoom):
         ):
             lying = self.file("lying", f"#!/bin/sh\n{program.host()} \"$@\" | sed '{other}'\n")
             lying.chmod(0o755)
-            done = words("mark", "--second", "--json", folder, MML_HOST=str(lying))
+            done = call_class("mark", "--second", "--json", folder, MML_HOST=str(lying))
             self.assertEqual(done.returncode, 5, done.stderr)
             self.assertIn(f"class: {folder / of}: {told}", done.stderr)
             self.assertEqual(len(json.loads(done.stdout)["runs"]), 1)
@@ -222,7 +222,7 @@ class Mark(InRoom):
         students = self.file("class.csv", "Name,ID\n" + "".join(
             '"{}",{}\n'.format(name.replace('"', '""'), f"\u00a0s\u200d{number}" if number < 2 else "") for number, name in enumerate(names)))
         lab = self.room / "lab.toml"
-        made = words("new", lab, "--students", students, "--family", "path")
+        made = call_class("new", lab, "--students", students, "--family", "path")
         self.assertEqual(made.returncode, 0, made.stderr)
         table = made.stdout.split("\n\n")[1].split("\n")
         self.assertRegex(table[1], r"^Zoë\\xa0Müller \(s\\u200d0\) +zoe-mueller +lab +1$")
@@ -234,17 +234,17 @@ class Mark(InRoom):
         journal = self.file("journal", "".join(f"{place} 0 grant {name} {place} seduction\n" for place, name in enumerate(list(people)[::2], 1))
                             .replace(" 2 seduction", " 3 seduction"))
         for roster, more in ((students, ()), (self.file("names", "\n".join(names[:3]) + "\n"), ("--total",))):
-            done = words("mark", lab, journal, "--roster", roster, *more)
+            done = call_class("mark", lab, journal, "--roster", roster, *more)
             lacks = f"class: {roster} has no row for the student {printable(names[3].strip())}, so the table lacks these marks\n"
             self.assertEqual(done.stderr, lacks if more else "")
             rows = list(csv.reader(io.StringIO(done.stdout)))
             granted = rows[0].index("granted")
             self.assertEqual([(row[0], row[granted]) for row in rows[1:]], [*zip(names, ("1", "0", "1", "0"))][:len(rows) - 1])
-        totals = list(csv.reader(io.StringIO(words("mark", lab, journal, "--total").stdout)))
+        totals = list(csv.reader(io.StringIO(call_class("mark", lab, journal, "--total").stdout)))
         self.assertEqual([row[0] for row in totals[1:]], [name.strip() for name in names])
         older = lab.read_text(encoding="utf-8").replace("\\u00a0", "\\\\xa0").replace("\\u200", "\\\\u200")
         old = self.file("old.toml", older)
-        done = words("mark", old, journal, "--roster", students)
+        done = call_class("mark", old, journal, "--roster", students)
         self.assertEqual((done.returncode, done.stderr), (0, ""))
         self.assertEqual([row.split(",")[2] for row in done.stdout.splitlines()[1:3]], ["1", "0"])
 
@@ -252,30 +252,30 @@ class Mark(InRoom):
         """Such cells have names of students, also of a roster without columns, or the name of a journal."""
         students = self.file("names.csv", "Name\n=1+1\n@cmd\n+49\n-2\n")
         lab = self.room / "lab.toml"
-        self.assertEqual(words("new", lab, "--students", students, "--family", "path").returncode, 0)
+        self.assertEqual(call_class("new", lab, "--students", students, "--family", "path").returncode, 0)
         journal = self.file("=1+1", "")
         done = subprocess.run([sys.executable, program.TOP / "class", "mark", "--csv", lab, journal.name], cwd=self.room,
                               capture_output=True, text=True, check=False, timeout=LIMIT)
         self.assertEqual([row[0] for row in csv.reader(io.StringIO(done.stdout))], ["journal", *["'=1+1"] * 4], done.stderr)
-        heads, *rows = csv.reader(io.StringIO(words("mark", "--total", lab, journal).stdout))
+        heads, *rows = csv.reader(io.StringIO(call_class("mark", "--total", lab, journal).stdout))
         self.assertEqual([row[0] for row in rows], ["'=1+1", "'@cmd", "'+49", "'-2"])
         plain = self.file("names", "=1+1\n@cmd\n+49\n-2\n")
-        heads, *rows = csv.reader(io.StringIO(words("mark", "--total", "--roster", plain, lab, journal).stdout))
+        heads, *rows = csv.reader(io.StringIO(call_class("mark", "--total", "--roster", plain, lab, journal).stdout))
         self.assertEqual([row[0] for row in rows], ["'=1+1", "'@cmd", "'+49", "'-2"])
 
     def test_a_roster_with_a_cell_that_is_too_long_is_refused_with_its_line(self) -> None:
         roster = self.file("roster.csv", f"Name\nAna\n{'B' * 131_073}\n")  # One character more than Python's csv reads.
-        for done in (words("new", self.room / "lab.toml", "--students", roster),
-                     words("mark", self.file("lab.toml", BUILT_IN), self.file("journal", ""), "--roster", roster)):
+        for done in (call_class("new", self.room / "lab.toml", "--students", roster),
+                     call_class("mark", self.file("lab.toml", BUILT_IN), self.file("journal", ""), "--roster", roster)):
             self.assertEqual((done.returncode, done.stdout), (1, ""))
             self.assertEqual(done.stderr, f"class: {roster}: line 3 isn't CSV: field larger than field limit (131072)\n")
 
     def test_csv_has_a_row_for_each_student_and_the_text_says_what_a_journal_lacks(self) -> None:
         lab = self.file("lab.toml", GOOD.replace(*PAIR))
         journal = self.file("journal", "1 0 grant ana 11 seduction\n2 0 close\n")
-        rows = list(csv.reader(io.StringIO(words("mark", "--csv", lab, journal).stdout)))
+        rows = list(csv.reader(io.StringIO(call_class("mark", "--csv", lab, journal).stdout)))
         self.assertEqual([row[1:4] for row in rows], [["student", "granted", "applied"], ["ana", "1", "1"], ["jonas", "0", "0"]])
-        self.assertIn("A journal doesn't say when a line was written", words("mark", lab, journal).stdout)
+        self.assertIn("A journal doesn't say when a line was written", call_class("mark", lab, journal).stdout)
 
 
 if __name__ == "__main__":

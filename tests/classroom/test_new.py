@@ -18,7 +18,7 @@ from classroom.core import lab as labs
 from classroom.core import lists, program
 from classroom.core.lists import Person
 from classroom.setup import names
-from tests.classroom.help import InRoom, words
+from tests.classroom.help import InRoom, call_class
 from tests.common.limits import MOST
 
 # Names in many scripts, and names with digits, without letters, or too long for a lab.
@@ -107,7 +107,7 @@ class New(InRoom):
     def new(self, *more: str, students: int = 5, status: int = 0) -> str:
         """Runs `./class new` for `students` students with these options, and checks the status. Returns the output."""
         list_file = self.file("students", "".join(f"Student {number}\n" for number in range(students)))
-        done = words("new", self.room / "lab.toml", "--students", list_file, *more)
+        done = call_class("new", self.room / "lab.toml", "--students", list_file, *more)
         self.assertEqual(done.returncode, status, done.stderr)
         return done.stdout + done.stderr
 
@@ -169,12 +169,12 @@ class New(InRoom):
     def test_the_lab_has_the_names_and_identifiers_as_the_list_has_them(self) -> None:
         """`./class check` knows the fields in which the lab has them."""
         students = self.file("class.csv", 'Name,ID\n"Zoë ""Z"" Müller",7\n😀 王,8\nBen,\n')
-        done = words("new", self.room / "lab.toml", "--students", students, "--family", "path")
+        done = call_class("new", self.room / "lab.toml", "--students", students, "--family", "path")
         self.assertEqual(done.returncode, 0, done.stderr)
         self.assertRegex(done.stdout, r'\nZoë "Z" Müller \(7\) +zoe-z-mueller +lab +1\n😀 王 \(8\) +s-8 +lab +2\nBen +ben +lab +3\n')
         people = labs.read(self.room / "lab.toml").people
         self.assertEqual(people, {"zoe-z-mueller": Person('Zoë "Z" Müller', "7"), "s-8": Person("😀 王", "8"), "ben": Person("Ben")})
-        self.assertNotIn("isn't known here", words("check", self.room / "lab.toml").stdout)
+        self.assertNotIn("isn't known here", call_class("check", self.room / "lab.toml").stdout)
 
     def test_with_pairs_each_node_has_two_owners_and_the_slips_have_the_keys_of_the_students_only(self) -> None:
         """All keys differ, and nobody else can read the lab."""
@@ -227,12 +227,12 @@ class New(InRoom):
             it = tomllib.loads((self.room / f"lab-{number}.toml").read_text(encoding="utf-8"))
             self.assertEqual((len(it["student"]), it["sessions"], it["events"]), (many // 2, MOST["sessions"], MOST["events"]))
 
-    def rooms(self, sizes: dict[str, int], *more: str, status: int = 0) -> str:
+    def new_by_rooms(self, sizes: dict[str, int], *more: str, status: int = 0) -> str:
         """Makes labs by rooms with these options, and checks the status. `sizes` has the number of students in each
         room, and the list has them room by room. Returns the output."""
         names = [f"Student {room} {number},{room}" for room, size in sizes.items() for number in range(size)]
         students = self.file("rooms.csv", "Name,Room\n" + "\n".join(sorted(names, key=lambda line: line[::-1])) + "\n")
-        done = words("new", self.room / "lab.toml", "--students", students, "--groups-by", "room", "--family", "path", *more)
+        done = call_class("new", self.room / "lab.toml", "--students", students, "--groups-by", "room", "--family", "path", *more)
         self.assertEqual(done.returncode, status, done.stderr)
         return done.stdout + done.stderr
 
@@ -250,53 +250,53 @@ class New(InRoom):
     def test_each_room_has_the_least_number_of_networks_in_which_all_its_students_have_a_seat(self) -> None:
         """The students of a room are divided evenly among its networks."""
         many = 2 * SEATS + 1
-        told = self.rooms({"A": many, "B": SEATS, "C": 2})
+        told = self.new_by_rooms({"A": many, "B": SEATS, "C": 2})
         self.assertNotIn("note", told)
         self.assertEqual(sorted(self.sizes()), [*(("A", (many + at) // 3) for at in range(3)), ("B", SEATS), ("C", 2)])
 
     def test_with_groups_the_rooms_share_this_number_of_networks_by_their_sizes(self) -> None:
         """A note says if a network has too few seats. Fewer networks than rooms, and a student without a room, are
         refused."""
-        self.rooms({"A": 12, "B": 5, "C": 2}, "--groups", "5")
+        self.new_by_rooms({"A": 12, "B": 5, "C": 2}, "--groups", "5")
         self.assertEqual(sorted(self.sizes()), [("A", 4), ("A", 4), ("A", 4), ("B", 5), ("C", 2)])
         self.clean()
         many = SEATS + 5
-        told = self.rooms({"A": many, "B": 5}, "--groups", "2")
+        told = self.new_by_rooms({"A": many, "B": 5}, "--groups", "2")
         self.assertEqual(sorted(self.sizes()), [("A", many), ("B", 5)])
         self.assertIn(f"note: this lab has {SEATS + 1} seats for {many} students and a teacher. "
                       "With a higher number of --groups, everybody gets a seat\n", told)
         self.clean()
-        refused = self.rooms({"A": 4, "B": 4}, "--groups", "1", status=1)
+        refused = self.new_by_rooms({"A": 4, "B": 4}, "--groups", "1", status=1)
         self.assertRegex(refused, r"^class: --groups 1: the column room has 2 rooms, and each needs at least one group. The rooms are: (A, B|B, A)\n$")
-        refused = self.rooms({"A": 4, "B": 1}, "--groups", "6", status=1)
+        refused = self.new_by_rooms({"A": 4, "B": 1}, "--groups", "6", status=1)
         self.assertEqual(refused, "class: --groups 6: each of the groups needs a student. Write a number from 1 to 5\n")
-        refused = self.rooms({"A": 4, "": 1}, status=1)
+        refused = self.new_by_rooms({"A": 4, "": 1}, status=1)
         self.assertEqual(refused, "class: --groups-by room: this column is empty for these students: Student  0. Write a room for each of them\n")
         self.assertEqual([*self.room.glob("lab*")], [])
 
     def test_with_strict_one_lab_with_too_few_nodes_keeps_all_labs_from_being_made(self) -> None:
         """Without this option it is a warning."""
-        refused = self.rooms({"A": 4, "B": 6}, "--nodes", "5", "--strict", status=1)
+        refused = self.new_by_rooms({"A": 4, "B": 6}, "--nodes", "5", "--strict", status=1)
         self.assertRegex(refused, r"^class: --strict: there are more students than nodes; these get no node: student-b-\d. "
                                   r"With --nodes 6, each student gets one\n$")
         self.assertEqual([*self.room.glob("lab*")], [])
-        warned = self.rooms({"A": 4, "B": 6}, "--nodes", "5")
+        warned = self.new_by_rooms({"A": 4, "B": 6}, "--nodes", "5")
         self.assertEqual(warned.count("WARNING: there are more students than nodes; these get no node: student-b-"), 1)
 
     def test_a_file_of_a_spreadsheet_program_is_refused(self) -> None:
         """It is recognised by its name or by its first bytes, which are those of a ZIP archive."""
         for name in ("list.xlsx", "list.ODS", "list.csv"):
             file = self.file(name, "PK\x03\x04 and more")
-            done = words("new", self.room / "lab.toml", "--students", file)
+            done = call_class("new", self.room / "lab.toml", "--students", file)
             self.assertEqual((done.returncode, done.stderr), (1, f"class: {file}: this file is in the format of a spreadsheet program. Open it in this "
                                                                  "program, save it as CSV (UTF-8), and name the new file instead\n"))
         self.assertEqual([*self.room.glob("lab*")], [])
 
     def test_a_table_with_a_column_of_names_is_read_and_a_missing_column_is_an_error(self) -> None:
         self.file("class.csv", "number;Name\n1;Zoë Müller\n2;Ana\n")
-        done = words("new", self.room / "lab.toml", "--students", self.room / "class.csv", "--family", "path")
+        done = call_class("new", self.room / "lab.toml", "--students", self.room / "class.csv", "--family", "path")
         self.assertRegex(done.stdout, r"\nZoë Müller +zoe-mueller +lab +1\n")
-        done = words("new", self.room / "other.toml", "--students", self.room / "class.csv", "--column", "who")
+        done = call_class("new", self.room / "other.toml", "--students", self.room / "class.csv", "--column", "who")
         self.assertIn("none of them is called who", done.stderr)
 
     def test_networks_and_numbers_that_are_impossible_are_refused_and_no_file_is_made(self) -> None:

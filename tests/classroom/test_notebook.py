@@ -33,7 +33,7 @@ class Notebook(InRoom):
         self.table = self.file("runs.csv", HEADS + "".join(f"{row}\n" for row in ROWS))
         self.cells: list[dict[str, Any]] = json.loads(NOTEBOOK.read_text(encoding="utf-8"))["cells"]
 
-    def done(self, table: Path) -> str:
+    def run_cells(self, table: Path) -> str:
         """Runs the notebook's cells on a table, in this process. Returns what they print."""
         printed, names = io.StringIO(), dict[str, Any]()
         with unittest.mock.patch.dict(os.environ, RUNS=str(table)), contextlib.redirect_stdout(printed):
@@ -43,7 +43,7 @@ class Notebook(InRoom):
         return printed.getvalue()
 
     def test_the_cells_print_the_numbers_of_the_table_s_runs(self) -> None:
-        told = self.done(self.table)
+        told = self.run_cells(self.table)
         for line in WANTED:
             self.assertIn(line, told)
 
@@ -53,7 +53,7 @@ class Notebook(InRoom):
         for moves, rounds in ((21, 6), (12, 9)):
             table = self.file("news.csv", f"{HEADS}crowd,4,4,central,worst,1,{moves},12,{rounds},true\n")
             with self.assertRaisesRegex(AssertionError, "would be news"):
-                self.done(table)
+                self.run_cells(table)
 
     def test_the_file_of_the_notebook_contains_no_outputs(self) -> None:
         self.assertEqual([cell for cell in self.cells if cell.get("outputs") or cell.get("execution_count")], [])

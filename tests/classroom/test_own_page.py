@@ -20,10 +20,10 @@ from classroom.marks.history import merged, own_page, rows_of, text
 from classroom.marks.reasons import reasons
 from classroom.marks.vouched import Vouched
 from tests.classroom.browser import Played, show_as, shown, until
-from tests.classroom.help import CYCLE, EXAMPLES, Cycle, Going, InRoom, words
+from tests.classroom.help import CYCLE, EXAMPLES, Cycle, Going, InRoom, call_class
 from tests.classroom.runs import journal_of
 from tests.classroom.test_history import Raw
-from tests.classroom.test_shown import WINDOWS, can_be_read, resize
+from tests.classroom.test_shown import WINDOWS, check_readable, resize
 
 FAULTY = TOP / "tests/classroom/bots/faulty.py"
 # Requests of gus, each with its reply.
@@ -94,8 +94,8 @@ class Practised(InRoom):
     marriage with its first neighbour whenever any rule is enabled."""
 
     def test_the_page_of_practise_has_the_denied_move_with_its_reason(self) -> None:
-        done = words("practise", f"python3 {FAULTY} marries-anyone", "--family", "path", "--nodes", "4", "--node", "1,2,3,4",
-                     "--start", "clean", "--daemon", "by-hand", "--into", self.room)
+        done = call_class("practise", f"python3 {FAULTY} marries-anyone", "--family", "path", "--nodes", "4", "--node", "1,2,3,4",
+                          "--start", "clean", "--daemon", "by-hand", "--into", self.room)
         self.assertEqual(done.returncode, 5, done.stdout + done.stderr)
         (page,) = self.room.glob("*/run.html")
         (entry,) = items(page.read_text(encoding="utf-8"))
@@ -104,7 +104,7 @@ class Practised(InRoom):
             self.assertIn(part, entry[2])
 
     def test_the_page_of_practise_has_granted_moves_and_steps_in_their_order_and_no_key(self) -> None:
-        done = words("practise", EXAMPLES / "bot.py", "--nodes", "4", "--into", self.room)
+        done = call_class("practise", EXAMPLES / "bot.py", "--nodes", "4", "--into", self.room)
         self.assertEqual(done.returncode, 0, done.stdout + done.stderr)
         (page,) = self.room.glob("*/run.html")
         rows = items(page.read_text(encoding="utf-8"))
@@ -120,8 +120,8 @@ class Practised(InRoom):
         folder = self.room / "labs"
         folder.mkdir()
         (folder / "path.toml").write_bytes((EXAMPLES / "path.toml").read_bytes())
-        done = words("grade", f"python3 {FAULTY} marries-anyone", "--labs", folder, "--daemon", "synchronous", "--timeout", "100",
-                     "--into", self.room / "grades")
+        done = call_class("grade", f"python3 {FAULTY} marries-anyone", "--labs", folder, "--daemon", "synchronous", "--timeout", "100",
+                          "--into", self.room / "grades")
         self.assertEqual(done.returncode, 5, done.stdout + done.stderr)
         (page,) = self.room.glob("grades/**/run.html")
         self.assertTrue(any(MARK in row[2] and '"deny":"guard"' in row[2] for row in items(page.read_text(encoding="utf-8"))))
@@ -147,7 +147,7 @@ class Read(Played):
             for theme in ("light", "dark"):
                 show_as(self.driver, theme)
                 with self.subTest(size=size, theme=theme):
-                    can_be_read(self, self.driver, size)
+                    check_readable(self, self.driver, size)
                     stage, entries = self.driver.execute_script(ROOM)
                     self.assertTrue(min(*stage, *entries) > 180, (stage, entries))
                     self.assertGreater(stage[0], (0.55 if size[0] > 1000 else 0.9) * size[0])
@@ -168,7 +168,7 @@ class OfARun(Cycle):
             going.type("close")
             going.until("^configuration 1: node 4 ")
             gus.ask(b'{"do":"move","node":4,"rule":"update","at":1}\n')
-        self.assertEqual(going.ended(), 0, going.lines)
+        self.assertEqual(going.end(), 0, going.lines)
         folder = going.folder / own_pages.FOLDER
         self.assertEqual({page.name for page in folder.iterdir()}, {"gus.html", "jonas.html"})
         rows = [row[2] for row in items((folder / "gus.html").read_text(encoding="utf-8"))]

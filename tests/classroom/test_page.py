@@ -19,7 +19,7 @@ from classroom.client import Client
 from classroom.core.journal import Event, in_words
 from classroom.core.lab import read
 from classroom.pages.frames import frames_of
-from tests.classroom.browser import Shown, browser, is_ready, pale, press, show_as, shown, told, until
+from tests.classroom.browser import Shown, browser, expected, is_ready, pale, press, show_as, shown, until
 from tests.classroom.help import EXAMPLES, Going, InRoom, a_port
 
 CYCLE = EXAMPLES / "cycle.toml"
@@ -90,12 +90,12 @@ class Live(InRoom):
     def end(self) -> Path:
         """Ends the run, and checks that the page shows the state after the last event of the journal. Returns the run's
         folder."""
-        self.assertEqual(self.going.ended(), 0, self.going.lines)
+        self.assertEqual(self.going.end(), 0, self.going.lines)
         until(self.driver, lambda driver: "over" in driver.find_element("id", "connection").text)
         last = shown(self.driver)
         folder = self.going.folder
         frame = list(frames_of(folder / "lab.toml", folder / "journal")[1])[-1]
-        self.assertEqual(last, told(frame.state, frame))
+        self.assertEqual(last, expected(frame.state, frame))
         self.assertTrue((folder / "run.html").is_file())
         return folder
 
@@ -187,7 +187,7 @@ class Live(InRoom):
             if answer == "go-on":
                 self.going.type("fault 1 2 true")
                 self.sees("fault 1 2 true")
-        self.assertEqual(self.going.ends(), 0, self.going.lines)
+        self.assertEqual(self.going.wait_for_end(), 0, self.going.lines)
 
     def test_the_chart_has_a_bar_for_each_configuration(self) -> None:
         """A bar has the number of nodes that can move in this configuration, the number of chosen moves, and the kind

@@ -30,7 +30,7 @@ PLANTS = (
 )
 
 
-def planted(of: type[Played], test: str, old: str, new: str) -> unittest.TestResult:
+def run_on_changed_pages(of: type[Played], test: str, old: str, new: str) -> unittest.TestResult:
     """Runs a test of the class `of` over pages in which the text `old` is replaced by `new`. Returns its result."""
 
     class Buggy(of):  # type: ignore[valid-type, misc]
@@ -56,7 +56,7 @@ class Bugs(unittest.TestCase):
         """It must fail by a check of its own, and not by another error."""
         for bug, old, new, (of, test) in PLANTS:
             with self.subTest(bug):
-                found = planted(of, test, old, new)
+                found = run_on_changed_pages(of, test, old, new)
                 self.assertEqual([trace for _, trace in found.errors], [])
                 self.assertGreater(len(found.failures), 0, f"not seen by {test}")
 
@@ -64,7 +64,7 @@ class Bugs(unittest.TestCase):
         """Here the replacement only adds an attribute that nothing reads."""
         for of, test in {plant[3] for plant in PLANTS}:
             with self.subTest(test):
-                found = planted(of, test, "<body class=\"player\">", "<body class=\"player\" data-planted=\"none\">")
+                found = run_on_changed_pages(of, test, "<body class=\"player\">", "<body class=\"player\" data-planted=\"none\">")
                 self.assertEqual([trace for _, trace in (*found.errors, *found.failures)], [])
 
 

@@ -14,7 +14,7 @@ from pathlib import Path
 
 from classroom.bots.parts import of, part
 from classroom.core.program import TOP
-from tests.classroom.help import EXAMPLES, LIMIT, InRoom, words
+from tests.classroom.help import EXAMPLES, LIMIT, InRoom, call_class
 
 # 54 runs: with three families, three sizes and two daemons, three runs each.
 RUNS: tuple[str, ...] = ("experiment", "--family", "path,cycle,random", "--nodes", "4..6", "--runs", "3", "--at-once", "1")
@@ -46,7 +46,7 @@ class Experiments(InRoom):
     def table_of_one_call(self) -> bytes:
         """Makes all runs by a single call, without parts. Returns the bytes of its table."""
         whole = self.room / "whole.csv"
-        done = words(*RUNS, "--csv", whole)
+        done = call_class(*RUNS, "--csv", whole)
         self.assertEqual(done.returncode, 0, done.stderr)
         return whole.read_bytes()
 
@@ -55,12 +55,12 @@ class Experiments(InRoom):
         whole = self.table_of_one_call()
         files = [self.room / f"part-{number}.csv" for number in (1, 2, 3)]
         for number, file in enumerate(files, 1):
-            self.assertEqual(words(*RUNS, "--part", f"{number}/3", "--csv", file).returncode, 0)
+            self.assertEqual(call_class(*RUNS, "--part", f"{number}/3", "--csv", file).returncode, 0)
         lines = [line for file in files for line in file.read_text().splitlines()[1:]]
         self.assertEqual(sorted(lines), sorted(whole.decode().splitlines()[1:]))
         self.assertTrue(all(len(file.read_text().splitlines()) > 10 for file in files))
         merged = self.room / "merged.csv"
-        done = words(*RUNS, "--merge", *files[::-1], "--csv", merged)
+        done = call_class(*RUNS, "--merge", *files[::-1], "--csv", merged)
         self.assertEqual((done.returncode, merged.read_bytes()), (0, whole), done.stderr)
         self.assertIn("54 of 54 runs are done, all within the proved bounds", done.stdout)
         self.check_bad_merges(files)
@@ -68,17 +68,17 @@ class Experiments(InRoom):
     def check_bad_merges(self, files: list[Path]) -> None:
         """Checks that a merge without the last of these files counts only the runs that the others have. A merge is
         refused if two tables differ about a run, or if a table doesn't exist."""
-        done = words(*RUNS, "--merge", *files[:2], "--csv", self.room / "two.csv")
+        done = call_class(*RUNS, "--merge", *files[:2], "--csv", self.room / "two.csv")
         self.assertEqual(done.returncode, 5)
         self.assertIn("36 of 54 runs are done, ", done.stdout)
         text = files[0].read_text().splitlines()
         row = text[1].split(",")
         row[MOVES] = str(int(row[MOVES]) + 1)
         other = self.file("other.csv", "\n".join([text[0], ",".join(row)]) + "\n")
-        said = words(*RUNS, "--merge", *files, other, "--csv", self.room / "differ.csv")
+        said = call_class(*RUNS, "--merge", *files, other, "--csv", self.room / "differ.csv")
         self.assertEqual((said.returncode, said.stdout), (4, ""))
         self.assertIn(f"{other}: another table has different numbers for the same run; ", said.stderr)
-        self.assertEqual(words(*RUNS, "--merge", self.room / "none.csv", "--csv", self.room / "x.csv").returncode, 4)
+        self.assertEqual(call_class(*RUNS, "--merge", self.room / "none.csv", "--csv", self.room / "x.csv").returncode, 4)
 
     @unittest.skipUnless(shutil.which("parallel"), "not tried: parallel")
     def test_gnu_parallel_spreads_the_parts(self) -> None:
@@ -112,25 +112,25 @@ class Grades(InRoom):
         labs.mkdir()
         (labs / "cycle.toml").write_bytes((EXAMPLES / "cycle.toml").read_bytes())
         asked = ("grade", EXAMPLES / "bot.py", "--labs", labs, "--daemon", "central,synchronous", "--timeout", "200", "--into", self.room / "grades")
-        whole = words(*asked, "--json", self.room / "whole.json", "--gradescope", self.room / "whole.scope")
+        whole = call_class(*asked, "--json", self.room / "whole.json", "--gradescope", self.room / "whole.scope")
         self.assertEqual(whole.returncode, 0, whole.stdout + whole.stderr)
-        first = words(*asked, "--part", "1/2", "--json", self.room / "part-1.json")
+        first = call_class(*asked, "--part", "1/2", "--json", self.room / "part-1.json")
         self.assertEqual(first.stdout.count("passed  bot.py: "), 1, first.stdout)
         self.assertIn("bot.py: 1 of 1 cases passed", first.stdout)
         self.write_part(self.room / "part-2.json", 2, 2)
         files = [self.room / "part-2.json", self.room / "part-1.json"]
         self.replace_by_whole(self.room / "part-1.json")
-        done = words(*asked, "--merge", *files, "--json", self.room / "all.json", "--gradescope", self.room / "all.scope")
+        done = call_class(*asked, "--merge", *files, "--json", self.room / "all.json", "--gradescope", self.room / "all.scope")
         self.assertEqual(done.returncode, 0, done.stdout + done.stderr)
         self.assertEqual(sorted(case["daemon"] for case in json.loads((self.room / "all.json").read_text())), ["central", "synchronous"])
         self.assertEqual(done.stdout.splitlines()[-1], "bot.py: 2 of 2 cases passed")
         self.assertEqual((self.room / "all.json").read_bytes(), (self.room / "whole.json").read_bytes())
         self.assertEqual((self.room / "all.scope").read_bytes(), (self.room / "whole.scope").read_bytes())
-        lacking = words(*asked, "--merge", files[0])
+        lacking = call_class(*asked, "--merge", files[0])
         self.assertEqual(lacking.returncode, 5)
         self.assertIn("class: no file has a result of 1 case (bot, lab, daemon and seed): bot.py cycle central 1. Name the files of "
                       "all parts after --merge\n", lacking.stdout)
-        other = words("grade", EXAMPLES / "bot.py", "--suite", "small", "--merge", *files)
+        other = call_class("grade", EXAMPLES / "bot.py", "--suite", "small", "--merge", *files)
         self.assertEqual(other.returncode, 4)
         self.assertIn("isn't a case of this command: name the same bots and options as for the parts", other.stderr)
 

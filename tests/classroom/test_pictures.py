@@ -13,7 +13,7 @@ from collections import Counter
 from pathlib import Path
 
 from classroom.pages import colours
-from tests.classroom.help import EXAMPLES, LIMIT, InRoom, words
+from tests.classroom.help import EXAMPLES, LIMIT, InRoom, call_class
 from tests.classroom.runs import edited_run, journal_of, many_owners
 from tests.classroom.test_experiment import TINY
 
@@ -63,7 +63,7 @@ def colours_of(png: bytes) -> Counter[str]:
     return found
 
 
-def rendered(picture: Path) -> Counter[str]:
+def render(picture: Path) -> Counter[str]:
     """Renders an SVG file, and returns the number of pixels of each colour. Fails if it can't be rendered."""
     done = subprocess.run([RENDERER, "--width", "1000", "--keep-aspect-ratio", picture], capture_output=True, check=False, timeout=LIMIT)
     assert done.returncode == 0, done.stderr
@@ -80,21 +80,21 @@ def alike(found: Counter[str], colour: str) -> int:
 class Pictures(InRoom):
     """The files that `--svg` and `--plot` write."""
 
-    def has(self, picture: Path, *names: str, theme: str = colours.LIGHT) -> None:
+    def check_colours(self, picture: Path, *names: str, theme: str = colours.LIGHT) -> None:
         """Checks that a picture has the colours with these names, and the background of a page in this theme. Fails if
         more than one pixel in a hundred is black, since colours that the renderer doesn't understand become black."""
         self.assertNotIn("var(", picture.read_text(encoding="utf-8"))  # The renderer doesn't know variables of CSS.
-        found = rendered(picture)
+        found = render(picture)
         self.assertEqual(found.most_common(1)[0][0], colours.value("--ground", theme), picture)
         wanted = [colours.value(name, theme) for name in names]
         self.assertEqual([colour for colour in wanted if alike(found, colour) < 3], [], picture)
         self.assertLess(found["#000000"], found.total() / 100, picture)
 
-    def drawn(self, lab: Path, journal: Path, places: str, *more: str) -> Path:
+    def draw(self, lab: Path, journal: Path, places: str, *more: str) -> Path:
         """Writes a picture of the configurations after these places, numbers of events with commas between them.
         Returns its path."""
         output = self.room / f"{lab.stem}-{places.replace(',', '-')}.svg"
-        done = words("play", lab, journal, "--svg", places, "-o", output, *more)
+        done = call_class("play", lab, journal, "--svg", places, "-o", output, *more)
         self.assertEqual(done.returncode, 0, done.stderr)
         return output
 
@@ -102,23 +102,24 @@ class Pictures(InRoom):
         lab = EXAMPLES / "cycle.toml"
         journal = journal_of(lab, EXAMPLES / "cycle-run.script", self.room / "journal")
         for theme, more in ((colours.LIGHT, ()), (colours.DARK, ("--dark",))):
-            self.has(self.drawn(lab, journal, "9", *more), "--hair", "--quiet", "--wed", "--wedtint", "--point", "--can", "--oncan", "--ink", theme=theme)
+            picture = self.draw(lab, journal, "9", *more)
+            self.check_colours(picture, "--hair", "--quiet", "--wed", "--wedtint", "--point", "--can", "--oncan", "--ink", theme=theme)
 
     def test_a_picture_of_several_configurations_has_the_colour_of_a_fault(self) -> None:
         lab, journal = edited_run(self.room)
-        self.has(self.drawn(lab, journal, "0,7,9,10"), "--hit", "--can", "--point", "--ink")
+        self.check_colours(self.draw(lab, journal, "0,7,9,10"), "--hit", "--can", "--point", "--ink")
 
     def test_a_picture_of_sixty_small_nodes_has_its_colours(self) -> None:
         lab = many_owners(self.room, 60)
         journal = self.file("none.journal", "")
-        self.has(self.drawn(lab, journal, "0"), "--can", "--hair", "--quiet")
+        self.check_colours(self.draw(lab, journal, "0"), "--can", "--hair", "--quiet")
 
     def test_a_chart_has_the_colours_of_each_theme(self) -> None:
         plot = self.room / "runs.svg"
         for theme, more in ((colours.LIGHT, ()), (colours.DARK, ("--dark",))):
-            done = words("experiment", *TINY, "--csv", self.room / "runs.csv", "--plot", plot, *more)
+            done = call_class("experiment", *TINY, "--csv", self.room / "runs.csv", "--plot", plot, *more)
             self.assertEqual(done.returncode, 0, done.stdout + done.stderr)
-            self.has(plot, "--can", "--wed", "--point", "--hit", "--quiet", theme=theme)
+            self.check_colours(plot, "--can", "--wed", "--point", "--hit", "--quiet", theme=theme)
 
     def test_colours_are_those_of_a_page(self) -> None:
         """The style of a picture has the value of each colour that the style of a page uses, in both themes. Two values

@@ -16,7 +16,7 @@ from selenium.webdriver.common.keys import Keys
 
 from classroom.pages.frames import State, frames_of
 from classroom.pages.play import picture
-from tests.classroom.browser import Played, shown, told, until
+from tests.classroom.browser import Played, expected, shown, until
 from tests.classroom.runs import BUILT_IN, EXAMPLES, TOP, edited_run, examples, journal_of
 
 
@@ -40,7 +40,7 @@ class Play(Played):
         place of the next and the previous number. Home and End go to the first and the last place."""
         for lab, journal in (edited_run(self.room), *examples(self.room)):
             _, frames = frames_of(lab, journal)
-            both = [(told(frame.state, frame), header(frame.state)) for frame in frames]
+            both = [(expected(frame.state, frame), header(frame.state)) for frame in frames]
             run = [each for each, _ in both]
             self.open(self.page(lab, journal))
             with self.subTest(lab=lab.name):
@@ -119,14 +119,14 @@ class Play(Played):
             output = self.room / f"{place}.svg"
             done = self.call("play", lab, journal, "--svg", str(place), "-o", output)
             self.assertEqual((done.returncode, done.stderr), (0, ""))
-            self.assertEqual(attributes(output), told(frame.state, frame)[:2])
+            self.assertEqual(attributes(output), expected(frame.state, frame)[:2])
         self.assertEqual(self.call("play", lab, journal, "--svg", "99", "-o", output).returncode, 3)
 
     def test_a_picture_of_several_places_has_a_drawing_of_each(self) -> None:
         """The drawings don't cover each other, and share one arrowhead, the only element with an identifier. Places
         that don't exist or aren't numbers are refused, and no file is written."""
         lab, journal = edited_run(self.room)
-        frames = [told(frame.state, frame)[:2] for frame in frames_of(lab, journal)[1]]
+        frames = [expected(frame.state, frame)[:2] for frame in frames_of(lab, journal)[1]]
         for places in ([0, 3], [9, 0, 5, 5, 12]):
             output = self.room / "several.svg"
             done = self.call("play", lab, journal, "--svg", ",".join(map(str, places)), "-o", output)

@@ -15,7 +15,7 @@ from urllib.parse import urlsplit
 
 from classroom.client import Client, Closed, Denied, Slip
 from classroom.core.program import TOP, call
-from tests.classroom.help import EXAMPLES, LIMIT, InRoom, Rows, words
+from tests.classroom.help import EXAMPLES, LIMIT, InRoom, Rows, call_class
 
 FAULTY = TOP / "tests/classroom/bots/faulty.py"
 
@@ -25,7 +25,7 @@ class Practise(InRoom):
 
     def practises(self, *given: str | Path) -> subprocess.CompletedProcess[str]:
         """Runs `./class practise` with these arguments to its end. Returns its result."""
-        return words("practise", *given, "--into", self.room / "runs")
+        return call_class("practise", *given, "--into", self.room / "runs")
 
     def folder(self, output: str) -> Path:
         """Returns the folder of an ended run, which its output names."""

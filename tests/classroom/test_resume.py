@@ -18,7 +18,7 @@ from classroom.client import Client, Closed, Denied, Refused, Slip, enter
 from classroom.core.folders import Process
 from classroom.core.lab import Node, read
 from classroom.core.program import call, host
-from tests.classroom.help import CLASS, CYCLE, KEYS, Cycle, Going, words
+from tests.classroom.help import CLASS, CYCLE, KEYS, Cycle, Going, call_class
 
 KINDS = ("host", "run and host")  # the processes that a test kills
 KILLS = 10  # the number of kills of each kind, at random points; tests/resume kills hosts alone more often
@@ -35,7 +35,7 @@ class Players:
         self.thread.start()
 
     def play(self) -> None:
-        """Plays, in the thread, until the server closes a connection or `ended` is called."""
+        """Plays, in the thread, until the server closes a connection or `end` is called."""
         lab = read(CYCLE)
         clients: dict[str, Client] = {}
         try:
@@ -63,7 +63,7 @@ class Players:
         if is_idle and self.disturbs:
             self.last_place = teacher.fault(1, None, True).place
 
-    def ended(self) -> int:
+    def end(self) -> int:
         """Ends the thread. Returns the number of the last event that a reply named."""
         self.over.set()
         self.thread.join()
@@ -74,7 +74,7 @@ class Players:
 class Resume(Cycle):
     """Runs of the cycle of `examples/`."""
 
-    def killed(self, going: Going, what: str, number: int = 0) -> None:
+    def kill(self, going: Going, what: str, number: int = 0) -> None:
         """Kills the server of a run, and waits until it has ended. If `what` is `host`, checks that `run` then ends
         with status 4, and prints how to continue. Otherwise kills `run` first. `number` is the number of the server's
         process. If it is 0, the server is the child of `run`."""
@@ -84,7 +84,7 @@ class Resume(Cycle):
             going.process.wait()
         os.kill(server.number, signal.SIGKILL)
         if what == "host":
-            self.assertEqual(going.ends(), 4, going.lines)
+            self.assertEqual(going.wait_for_end(), 4, going.lines)
             self.assertIn(f"to continue the run: {CLASS} run --resume {going.folder}", going.lines)
         while server.lives():
             pass
@@ -120,8 +120,8 @@ class Resume(Cycle):
                     self.bot(going, name)
                 for _ in range(random.randint(1, 4)):
                     going.until("^configuration ")
-                self.killed(going, what)
-                offered = words("run", CYCLE, "--into", self.room / "runs")
+                self.kill(going, what)
+                offered = call_class("run", CYCLE, "--into", self.room / "runs")
                 self.assertEqual((offered.returncode, offered.stderr),
                                  (1, f"class: the last run of {CYCLE} was interrupted. To continue it, type: {CLASS} run --resume {going.folder} "
                                      ". To start another run instead, add --beside to the command that you typed\n"))
@@ -131,9 +131,9 @@ class Resume(Cycle):
                 self.assertTrue(any(re.match(r"the class continues at configuration \d+; events: \d+ of 1000$", line) for line in again.lines), again.lines)
                 for name in KEYS:  # A student whose bot hadn't greeted starts another bot.
                     self.bot(again, name)
-                self.assertEqual(again.ends(), 0, again.lines)
+                self.assertEqual(again.wait_for_end(), 0, again.lines)
                 self.assertIn("the network is stable, so the run is ended", again.lines)
-                self.whole(going.folder)
+                self.check_complete(going.folder)
                 self.assertTrue((going.folder / "journal").read_bytes().startswith(before[:before.rfind(b"\n") + 1]))
                 self.assertEqual(self.marks(going.folder), self.counted(going.folder))
                 # Each line of `run.txt` begins with the time in six characters. No configuration is printed twice.
@@ -156,8 +156,8 @@ class Resume(Cycle):
                 going.process.kill()
                 going.process.wait()
             else:
-                self.killed(going, kind, server)
-            told = max(told, players.ended())
+                self.kill(going, kind, server)
+            told = max(told, players.end())
             lines = (folder / "journal").read_bytes().count(b"\n")
             self.assertGreaterEqual(lines, told)
             again: list[str | Path] = ["attach", folder] if kind == "run" else ["run", "--resume", folder]
@@ -167,9 +167,9 @@ class Resume(Cycle):
         players = Players(going.port, disturbs=False)
         going.type("fault 1 2 true")  # The class may be stable since the last kill.
         going.until("; stable; ")
-        players.ended()
-        self.assertEqual(going.ended(), 0, going.lines)
-        self.assertGreater(self.whole(folder), KILLS)
+        players.end()
+        self.assertEqual(going.end(), 0, going.lines)
+        self.assertGreater(self.check_complete(folder), KILLS)
         self.assertEqual(self.marks(folder), self.counted(folder))
         self.assertIn(", stable", (folder / "audit.txt").read_text(encoding="utf-8"))
         lines_told = [line.split(" ", 1)[1] for line in (folder / "run.txt").read_text(encoding="utf-8").splitlines()]
@@ -190,7 +190,7 @@ class Resume(Cycle):
         line = going.until("^nothing more is granted: ")
         self.assertEqual(line, "nothing more is granted: no line can be written to the journal. Make room on the disk, and then continue "
                                f"the run by {CLASS} run --resume {going.folder}")
-        self.assertEqual(going.ends(), 4, going.lines)
+        self.assertEqual(going.wait_for_end(), 4, going.lines)
         self.assertFalse(any("by itself" in line for line in going.lines), going.lines)
         events = (going.folder / "journal").read_bytes().count(b"\n")
         self.assertGreater(events, 80)
@@ -200,8 +200,8 @@ class Resume(Cycle):
             self.bot(again, name)
         again.until("; stable; ")
         again.type("end")
-        self.assertEqual(again.ends(), 0, again.lines)
-        self.assertGreater(self.whole(going.folder), events)
+        self.assertEqual(again.wait_for_end(), 0, again.lines)
+        self.assertGreater(self.check_complete(going.folder), events)
         self.assertEqual(self.marks(going.folder), self.counted(going.folder))
 
     def test_a_run_ends_if_its_journal_stops_after_a_part_of_a_line(self) -> None:
@@ -219,7 +219,7 @@ class Resume(Cycle):
             with journal.open("ab") as it:
                 it.write(b"9")  # A full disk leaves the beginning of a line; a limit on the file's size leaves nothing.
             going.until("^nothing more is granted: no line can be written to the journal. ")
-        self.assertEqual(going.ends(), 4, going.lines)
+        self.assertEqual(going.wait_for_end(), 4, going.lines)
 
     def test_after_a_change_of_a_key_the_resumed_run_accepts_only_the_new_one(self) -> None:
         """`key` changes the run's lab and the lab from which it was started, here a copy of the example. The student's
@@ -228,11 +228,11 @@ class Resume(Cycle):
         with Client(going.port, "gus", KEYS["gus"]) as gus:
             gus.move(gus.look(4))
         lab = going.folder / "lab.toml"
-        self.assertEqual(going.ended(), 0, going.lines)
+        self.assertEqual(going.end(), 0, going.lines)
         shutil.copy(CYCLE, self.room / "mine.toml")
         record = json.loads((going.folder / "run.json").read_text(encoding="utf-8"))
         (going.folder / "run.json").write_text(json.dumps({**record, "lab": str(self.room / "mine.toml")}), encoding="utf-8")
-        done = words("key", going.folder, "gus")
+        done = call_class("key", going.folder, "gus")
         self.assertEqual((done.returncode, done.stderr), (0, ""))
         self.assertIn(f"to continue the run: {CLASS} run --resume {going.folder} --again\n", done.stdout)
         slip = Slip.read(self.room / "mine-slips/gus.slip")
@@ -244,7 +244,7 @@ class Resume(Cycle):
             Client(again.port, "gus", KEYS["gus"])
         with Client.of(slip) as gus:
             self.assertEqual(gus.look(4).chosen, "update")
-        self.assertEqual(again.ended(), 0, again.lines)
+        self.assertEqual(again.end(), 0, again.lines)
 
     def test_a_run_that_used_all_its_events_continues_after_its_limit_is_raised(self) -> None:
         lab = self.file("cycle.toml", re.sub(r"(?m)^events = \d+", "events = 2", CYCLE.read_text(encoding="utf-8")))
@@ -254,14 +254,14 @@ class Resume(Cycle):
         going.type("close")
         line = going.until("^nothing more is granted: all 2 events that the lab allows are used. ")
         self.assertTrue(line.endswith(f"then continue the run by {CLASS} run --resume {going.folder} --again"))
-        self.assertEqual(going.ends(), 5, going.lines)
+        self.assertEqual(going.wait_for_end(), 5, going.lines)
         kept = going.folder / "lab.toml"
         kept.write_text(kept.read_text(encoding="utf-8").replace("events = 2\n", "events = 100\n"), encoding="utf-8")
         again = Going(self, None, "run", "--resume", going.folder, "--again", "--close", "by-hand")
         again.type("fault 1 2 true")
         again.until("^configuration 2: fault at node 1: p 2, m true; .*; events: 3 of 100$")
-        self.assertEqual(again.ended(), 0, again.lines)
-        self.assertEqual(self.whole(going.folder), 3)
+        self.assertEqual(again.end(), 0, again.lines)
+        self.assertEqual(self.check_complete(going.folder), 3)
 
     def test_a_run_that_was_ended_is_only_resumed_with_the_option_again(self) -> None:
         """Without the option nothing changes. A run that was resumed and whose server was then killed needs no option,
@@ -269,10 +269,10 @@ class Resume(Cycle):
         going = Going(self, CYCLE, "--close", "by-hand")
         going.type("fault 1 2 true")
         going.until("^configuration 1: ")
-        self.assertEqual(going.ended(), 0, going.lines)
+        self.assertEqual(going.end(), 0, going.lines)
         folder = going.folder
         before = {file.name: file.read_bytes() for file in folder.iterdir() if file.is_file()}
-        done = words("run", "--resume", folder)
+        done = call_class("run", "--resume", folder)
         self.assertEqual((done.returncode, done.stdout, done.stderr),
                          (1, "", f"class: {folder}: this run was ended. If you want to continue it, add --again; "
                                  "its audit, page and marks are then made again\n"))
@@ -280,10 +280,10 @@ class Resume(Cycle):
         again = Going(self, None, "run", "--resume", folder, "--again")
         self.assertIn("the class continues at configuration 1; events: 1 of 1000", again.lines)
         os.kill(again.server(), signal.SIGKILL)
-        self.assertEqual(again.ends(), 4, again.lines)
+        self.assertEqual(again.wait_for_end(), 4, again.lines)
         again = Going(self, None, "run", "--resume", folder)  # This one wasn't ended, but its server died.
-        self.assertEqual(again.ended(), 0, again.lines)
-        self.assertEqual(words("run", CYCLE, "--again").stderr, "class: run: --again can only be used together with --resume FOLDER\n")
+        self.assertEqual(again.end(), 0, again.lines)
+        self.assertEqual(call_class("run", CYCLE, "--again").stderr, "class: run: --again can only be used together with --resume FOLDER\n")
 
     def test_an_incomplete_last_line_is_dropped_and_a_changed_lab_is_refused(self) -> None:
         """The journal ends in the middle of a line, as after a power failure. The lab is changed by another owner of a
@@ -291,29 +291,29 @@ class Resume(Cycle):
         going = Going(self, CYCLE, "--close", "by-hand")
         going.type("fault 1 2 true")
         going.until("^configuration 1: ")
-        self.killed(going, "run and host")
+        self.kill(going, "run and host")
         with (going.folder / "journal").open("ab") as it:
             it.write(b"2 1 fau")
         kept = going.folder / "lab.toml"
         text = kept.read_text(encoding="utf-8")
         kept.write_text(re.sub(r'(?m)^owner = "gus"', 'owner = "hana"', text, count=1), encoding="utf-8")
-        done = words("run", "--resume", going.folder)
+        done = call_class("run", "--resume", going.folder)
         self.assertEqual(done.returncode, 2, done.stdout + done.stderr)
         self.assertIn("another lab", done.stderr)
         kept.write_text(text, encoding="utf-8")
         again = Going(self, None, "run", "--resume", going.folder)
         self.assertIn("the class continues at configuration 1; events: 1 of 1000", again.lines)
-        self.assertRegex(words("run", "--resume", going.folder).stderr, f"this run is still going on. To control it, type: {CLASS} attach ")
-        self.assertEqual(again.ended(), 0, again.lines)
+        self.assertRegex(call_class("run", "--resume", going.folder).stderr, f"this run is still going on. To control it, type: {CLASS} attach ")
+        self.assertEqual(again.end(), 0, again.lines)
         self.assertEqual(call("audit", kept, going.folder / "journal").status, 0)
 
     def test_run_needs_either_a_lab_or_the_folder_of_a_run(self) -> None:
         both: list[str | Path] = [CYCLE, "--resume", self.room]
         for asked in (both[:0], both):  # neither of the two, and then both
-            done = words("run", *asked)
+            done = call_class("run", *asked)
             self.assertEqual((done.returncode, done.stderr), (1, "class: run: name either one or more labs, or the folder of a run by --resume FOLDER\n"))
         # This folder isn't that of a run.
-        self.assertEqual(words("run", "--resume", self.room).returncode, 1)
+        self.assertEqual(call_class("run", "--resume", self.room).returncode, 1)
 
 
 if __name__ == "__main__":

@@ -13,7 +13,7 @@ from pathlib import Path
 from classroom.core.program import Fault
 from classroom.marks import columns
 from classroom.marks.rule import MOST_DEPTH, MOST_LINES, Value, parsed
-from tests.classroom.help import EXAMPLES, InRoom, words
+from tests.classroom.help import EXAMPLES, InRoom, call_class
 from tests.classroom.runs import journal_of
 
 # The row of marks for which the tests compute values. `clause4` isn't known, as in a run without a record.
@@ -113,42 +113,42 @@ class InMarks(InRoom):
                                           "points = min(3, applied) * nodes\nwhere = network\n")
 
     def test_each_form_of_the_marks_has_the_columns_of_the_rule(self) -> None:
-        rows = list(csv.DictReader(io.StringIO(words("mark", "--csv", "--rule", self.rule, self.lab, self.journal).stdout)))
+        rows = list(csv.DictReader(io.StringIO(call_class("mark", "--csv", "--rule", self.rule, self.lab, self.journal).stdout)))
         wanted = {"gus": ("2", "no", "no", "6"), "hana": ("2", "-", "yes", "6"), "ines": ("2", "-", "yes", "6"), "jonas": ("1", "-", "yes", "3")}
         self.assertEqual({row["student"]: (row["nodes"], row["pass"], row["enough"], row["points"]) for row in rows}, wanted)
         self.assertEqual({row["network"] for row in rows} | {row["where"] for row in rows}, {"cycle"})
-        run, = json.loads(words("mark", "--json", "--rule", self.rule, self.lab, self.journal).stdout)["runs"]
+        run, = json.loads(call_class("mark", "--json", "--rule", self.rule, self.lab, self.journal).stdout)["runs"]
         self.assertEqual(run["students"]["hana"]["rule"], {"pass": "-", "enough": "yes", "points": "6", "where": "cycle"})
         self.assertEqual((run["students"]["hana"]["guard_denials"], run["students"]["hana"]["nodes"]), (None, 2))
-        said = words("mark", "--rule", self.rule, self.lab, self.journal).stdout
+        said = call_class("mark", "--rule", self.rule, self.lab, self.journal).stdout
         self.assertRegex(said, r"(?m)^ +student +granted .* +guard denials +malformed +nodes +pass +enough +points +where$")
 
     def test_a_rule_for_totals_uses_the_sums_over_all_runs(self) -> None:
         """The same run is counted twice. Totals have no column `first`, so a rule can't use it there. A roster adds a
         row for each of its students, with the same columns."""
-        done = words("mark", "--total", "--rule", self.rule, self.lab, self.journal, self.journal)
+        done = call_class("mark", "--total", "--rule", self.rule, self.lab, self.journal, self.journal)
         self.assertEqual(done.returncode, 0, done.stderr)
         rows = {row["student"]: row for row in csv.DictReader(io.StringIO(done.stdout))}
         self.assertEqual((rows["gus"]["applied"], rows["gus"]["nodes"], rows["gus"]["enough"], rows["gus"]["points"]), ("6", "4", "no", "12"))
         first = self.file("first.txt", "early = first <= 3\n")
-        done = words("mark", "--total", "--rule", first, self.lab, self.journal)
+        done = call_class("mark", "--total", "--rule", first, self.lab, self.journal)
         self.assertIn("there is no column or earlier line called first; `class mark --columns` lists the columns", done.stderr)
-        self.assertEqual(words("mark", "--csv", "--rule", first, self.lab, self.journal).returncode, 0)
+        self.assertEqual(call_class("mark", "--csv", "--rule", first, self.lab, self.journal).returncode, 0)
         roster = self.file("names.csv", "name\ngus\nhana\nines\njonas\nnobody else\n")
-        listed = list(csv.reader(io.StringIO(words("mark", "--roster", roster, "--rule", self.rule, self.lab, self.journal).stdout)))
+        listed = list(csv.reader(io.StringIO(call_class("mark", "--roster", roster, "--rule", self.rule, self.lab, self.journal).stdout)))
         self.assertEqual(listed[0][-5:], ["network", "pass", "enough", "points", "where"])
         self.assertEqual(len({len(row) for row in listed}), 1)
 
     def test_the_option_columns_explains_each_column(self) -> None:
-        said = words("mark", "--columns").stdout
+        said = call_class("mark", "--columns").stdout
         names = [line.split("  ")[0] for line in said.splitlines()]
-        heads = csv.reader(io.StringIO(words("mark", "--csv", self.lab, self.journal).stdout)).__next__()
-        totals = csv.reader(io.StringIO(words("mark", "--total", self.lab, self.journal).stdout)).__next__()
+        heads = csv.reader(io.StringIO(call_class("mark", "--csv", self.lab, self.journal).stdout)).__next__()
+        totals = csv.reader(io.StringIO(call_class("mark", "--total", self.lab, self.journal).stdout)).__next__()
         self.assertLessEqual({*heads, *totals}, {*names})
         self.assertLessEqual({*columns.for_rules(True), *columns.for_rules(False)}, {*names})
 
     def test_mark_without_arguments_says_what_it_needs(self) -> None:
-        self.assertEqual(words("mark").stderr, "class: mark: name the folders of runs or of classes, or a lab and its journals\n")
+        self.assertEqual(call_class("mark").stderr, "class: mark: name the folders of runs or of classes, or a lab and its journals\n")
 
 
 if __name__ == "__main__":

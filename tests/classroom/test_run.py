@@ -10,7 +10,7 @@ import unittest
 from pathlib import Path
 
 from classroom.client import Client, Closed, Denied, Refused
-from tests.classroom.help import CYCLE, EXAMPLES, KEYS, LIMIT, Cycle, Going, no_server, words
+from tests.classroom.help import CYCLE, EXAMPLES, KEYS, LIMIT, Cycle, Going, call_class, no_server
 
 
 class Run(Cycle):
@@ -20,10 +20,10 @@ class Run(Cycle):
         going = Going(self, CYCLE, "--close", "when-idle:0.3", "--until", "stable")
         for name in KEYS:
             self.bot(going, name)
-        self.assertEqual(going.ends(), 0, going.lines)
+        self.assertEqual(going.wait_for_end(), 0, going.lines)
         self.assertIn("ok: ", (going.folder / "audit.txt").read_text(encoding="utf-8"))
         self.assertIn(", stable", (going.folder / "audit.txt").read_text(encoding="utf-8"))
-        self.assertGreater(self.whole(going.folder), 10)
+        self.assertGreater(self.check_complete(going.folder), 10)
 
     def test_a_class_whose_steps_are_closed_by_hand(self) -> None:
         """Checks what the desk prints for each typed command, and what a client is denied. A bot that is killed
@@ -59,8 +59,8 @@ class Run(Cycle):
         going.until(r"^configuration \d+ is not stable; .*privileged nodes: .*\((seduction|abandonment|marriage|update)\)")
         going.type("link 1 1")
         going.until("^the server denied this command: loop")
-        self.assertEqual(going.ended(), 0, going.lines)
-        self.assertGreaterEqual(self.whole(going.folder), 4)
+        self.assertEqual(going.end(), 0, going.lines)
+        self.assertGreaterEqual(self.check_complete(going.folder), 4)
 
     def test_a_bot_in_java_plays_beside_bots_in_python(self) -> None:
         if shutil.which("java") is None:
@@ -69,15 +69,15 @@ class Run(Cycle):
         self.bot(going, "gus", "java", EXAMPLES / "Bot.java")
         for name in ("hana", "ines", "jonas"):
             self.bot(going, name)
-        self.assertEqual(going.ends(), 0, going.lines)
-        self.assertGreater(self.whole(going.folder), 10)
+        self.assertEqual(going.wait_for_end(), 0, going.lines)
+        self.assertGreater(self.check_complete(going.folder), 10)
 
     def test_sigint_and_sigterm_end_a_run_with_all_its_files(self) -> None:
         for number in (signal.SIGINT, signal.SIGTERM):
             going = Going(self, CYCLE, "--close", "by-hand")
             going.process.send_signal(number)
-            self.assertEqual(going.ends(), 0, going.lines)
-            self.assertEqual(self.whole(going.folder), 0)
+            self.assertEqual(going.wait_for_end(), 0, going.lines)
+            self.assertEqual(self.check_complete(going.folder), 0)
 
     def test_a_server_whose_port_is_in_use_takes_another_and_says_so(self) -> None:
         with socket.create_server(("127.0.0.1", 0)) as taken:
@@ -86,10 +86,10 @@ class Run(Cycle):
             self.assertGreater(going.port, port)
             self.assertIn(f"port {port} is in use, so the server has port {going.port}; students have to use this one, whatever their slips say", going.lines)
             going.type("end\nend")
-            self.assertEqual(going.ends(), 0)
+            self.assertEqual(going.wait_for_end(), 0)
 
     def test_without_the_program_run_says_how_to_build_it(self) -> None:
-        done = words("run", CYCLE, "--into", self.room / "runs", MML_PROGRAM=str(self.room / "none"))
+        done = call_class("run", CYCLE, "--into", self.room / "runs", MML_PROGRAM=str(self.room / "none"))
         self.assertEqual(done.returncode, 1)
         self.assertIn("the program mml isn't built. Type `./mml build` to build it", done.stderr)
         self.assertFalse((self.room / "runs").exists())
@@ -100,7 +100,7 @@ class Run(Cycle):
         none = str(self.room / "none")
         asked: tuple[list[str | Path], ...] = (["run", CYCLE], ["demo"])
         for given in asked:
-            done = words(*given, "--into", self.room / "runs", MML_HOST=none)
+            done = call_class(*given, "--into", self.room / "runs", MML_HOST=none)
             self.assertEqual(done.returncode, 1)
             self.assertIn("the program mml isn't built. Type `./mml build` to build it", done.stderr)
         self.assertFalse((self.room / "runs").exists())
@@ -110,11 +110,11 @@ class Run(Cycle):
             gus.move(gus.look(4))
         going.type("close")
         going.until("^configuration 1: node 4 \\(gus\\): update")
-        self.assertEqual(going.ended(), 1, going.lines)
+        self.assertEqual(going.end(), 1, going.lines)
         self.assertTrue(any("mml isn't built" in line for line in going.lines), going.lines)
         self.assertTrue((going.folder / "run.html").is_file())
         self.assertIn("2 events, among them 1 closed step, 0 faults, 0 added links and 0 removed links; last configuration: 1, ",
-                      words("mark", going.folder).stdout)
+                      call_class("mark", going.folder).stdout)
 
     def test_a_client_at_a_port_without_a_server_raises_closed(self) -> None:
         with no_server() as port, self.assertRaises(Closed):
@@ -125,17 +125,17 @@ class Run(Cycle):
             Client(silent.getsockname()[1], "gus", "key", limit=0.1)
 
     def test_demo_ends_stable_and_leaves_the_files_of_a_run(self) -> None:
-        done = words("demo", "--into", self.room)
+        done = call_class("demo", "--into", self.room)
         self.assertEqual(done.returncode, 0, done.stdout + done.stderr)
         self.assertIn("the network is stable, so the run is ended", done.stdout)
         folder = next(self.room.iterdir())
-        self.whole(folder)
+        self.check_complete(folder)
         self.assertLess((folder / "run.html").stat().st_size, 1_000_000)
 
     def test_two_labs_run_side_by_side_until_a_signal(self) -> None:
         """SIGINT is sent after the last row of the table at the start. `mark` takes the folder of both runs."""
         students = self.file("students", "".join(f"S {number}\n" for number in range(6)))
-        self.assertEqual(words("new", self.room / "lab.toml", "--students", students, "--groups", "2").returncode, 0)
+        self.assertEqual(call_class("new", self.room / "lab.toml", "--students", students, "--groups", "2").returncode, 0)
         labs = [self.room / "lab-1.toml", self.room / "lab-2.toml"]
         process = subprocess.Popen(
             [sys.executable, EXAMPLES.parent / "class", "run", *labs, "--into", self.room / "runs", "--port", "27100"],
@@ -148,7 +148,7 @@ class Run(Cycle):
                     process.send_signal(signal.SIGINT)
         self.assertEqual(process.wait(LIMIT), 0)
         folder, = (self.room / "runs").iterdir()
-        self.assertEqual(words("mark", folder).returncode, 0)
+        self.assertEqual(call_class("mark", folder).returncode, 0)
 
 
 if __name__ == "__main__":

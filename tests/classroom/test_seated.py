@@ -23,7 +23,7 @@ from classroom.core.program import TOP, host
 from tests.classroom.help import CLASS, CYCLE, KEYS, LIMIT, Cycle, Going, a_port
 
 # The relay: a program that becomes a host. Its child process passes on the host's output by the function `relay`, which
-# calls `seated` or `knocked` before the first line.
+# calls `take_seat` or `wait_for_connection` before the first line.
 RELAY = """#!/usr/bin/python3
 import os, sys
 sys.path.insert(0, {top!r})
@@ -43,12 +43,12 @@ PATIENT = 30.0  # seconds in which somebody comes to a desk that listens, on a s
 
 def relay(lines: int, what: str, file: str) -> None:
     """Passes on the output of a host, which it reads from the file descriptor `lines`. Before the first line it calls
-    `seated` or `knocked`, as `what` says, with the desk's port, and appends the result to `file`."""
+    `take_seat` or `wait_for_connection`, as `what` says, with the desk's port, and appends the result to `file`."""
     with open(lines, "rb") as host_lines:
         first = host_lines.readline()
         words = first.decode().split()
         if words[:1] == ["listening"]:
-            kept = seated(int(words[-1])) if what == "seated" else knocked(int(words[-1]))
+            kept = take_seat(int(words[-1])) if what == "take_seat" else wait_for_connection(int(words[-1]))
             with open(file, "a", encoding="utf-8") as it:
                 it.write(kept)
         while first:
@@ -56,7 +56,7 @@ def relay(lines: int, what: str, file: str) -> None:
             first = host_lines.readline()
 
 
-def seated(desk: int) -> str:
+def take_seat(desk: int) -> str:
     """Says hello at a desk as a student, and leaves the connection open. Returns the reply."""
     it = socket.create_connection(("127.0.0.1", desk), LIMIT)
     it.sendall(json.dumps({"do": "hello", "name": "gus", "key": KEYS["gus"]}).encode() + b"\n")
@@ -65,7 +65,7 @@ def seated(desk: int) -> str:
     return reply
 
 
-def knocked(desk: int) -> str:
+def wait_for_connection(desk: int) -> str:
     """Waits until somebody has connected to the port of a desk, at most PATIENT seconds. Returns a text that says
     whether somebody has."""
     end = time.monotonic() + PATIENT
@@ -80,15 +80,15 @@ def knocked(desk: int) -> str:
 class Seated(Cycle):
     """Runs of the cycle of `examples/`."""
 
-    def relayed(self, what: str) -> str:
-        """Writes a relay that does `what` at the desk, `seated` or `knocked`, before it passes on the host's first
+    def write_relay(self, what: str) -> str:
+        """Writes a relay that does `what` at the desk, `take_seat` or `wait_for_connection`, before it passes on the host's first
         line. Returns its path."""
         text = RELAY.format(top=str(TOP), host=str(host()), what=what, file=str(self.room / "told"))
         it = self.file("relayed", text)
         it.chmod(0o755)
         return str(it)
 
-    def told(self) -> str:
+    def relay_result(self) -> str:
         """Returns what the relay wrote about the desk: the reply to its hello, or whether somebody came."""
         return (self.room / "told").read_text(encoding="utf-8")
 
@@ -111,21 +111,21 @@ class Seated(Cycle):
         if server.lives():
             os.kill(server.number, signal.SIGKILL)
 
-    def goes_on(self, going: Going, events: int) -> None:
+    def check_goes_on(self, going: Going, events: int) -> None:
         """Checks that a class serves a student and the desk, and ends with all its files. `events` is the number of its
         events so far."""
         with Client(going.port, "hana", KEYS["hana"]) as hana:
             hana.look(read(CYCLE).nodes_of("hana")[0])
         going.type("link 1 3")
         going.until(f"^configuration {events + 1}: added the link between 1 and 3")
-        self.assertEqual(going.ended(), 0, going.lines)
-        self.assertEqual(self.whole(going.folder), events + 1)
+        self.assertEqual(going.end(), 0, going.lines)
+        self.assertEqual(self.check_complete(going.folder), events + 1)
 
     def test_run_gets_the_seat_of_a_student_who_came_before(self) -> None:
         """The student says hello at the desk before `run` gets the host's first line."""
-        going = Going(self, CYCLE, "--close", "by-hand", MML_HOST=self.relayed("seated"))
-        self.assertEqual(self.told(), '{"ok":"hello","who":"gus"}\n')
-        self.goes_on(going, 0)
+        going = Going(self, CYCLE, "--close", "by-hand", MML_HOST=self.write_relay("take_seat"))
+        self.assertEqual(self.relay_result(), '{"ok":"hello","who":"gus"}\n')
+        self.check_goes_on(going, 0)
 
     def test_run_resume_gets_the_seat_of_a_student_who_came_before(self) -> None:
         """The student says hello at the desk before `run --resume` gets the host's first line."""
@@ -133,10 +133,10 @@ class Seated(Cycle):
         self.end(record.server)
         while record.server.lives():
             time.sleep(0.01)
-        again = Going(self, None, "run", "--resume", going.folder, "--close", "by-hand", MML_HOST=self.relayed("seated"))
-        self.assertEqual(self.told(), '{"ok":"hello","who":"gus"}\n')
+        again = Going(self, None, "run", "--resume", going.folder, "--close", "by-hand", MML_HOST=self.write_relay("take_seat"))
+        self.assertEqual(self.relay_result(), '{"ok":"hello","who":"gus"}\n')
         self.assertIn("the class continues at configuration 1; events: 1 of 1000", again.lines)
-        self.goes_on(again, 1)
+        self.check_goes_on(again, 1)
 
     def test_attach_gets_the_seat_of_a_student_who_is_at_the_desk(self) -> None:
         """The student's next request is refused with `busy`."""
@@ -148,7 +148,7 @@ class Seated(Cycle):
         with self.assertRaises(Refused) as refused:
             gus.look(4)
         self.assertEqual(refused.exception.word, "busy")
-        self.goes_on(again, 1)
+        self.check_goes_on(again, 1)
 
     def attached(self, going: Going, record: Record) -> tuple[Going, Client]:
         """Connects to the desk as the teacher, and starts an `attach`, which has to wait for the end of this
@@ -166,7 +166,7 @@ class Seated(Cycle):
         again.until("^the desk is now connected to the server$")
         again.until("^commands: ")
         self.assertEqual(sum("trying to connect again" in line for line in again.lines), 1, again.lines)
-        self.goes_on(again, 1)
+        self.check_goes_on(again, 1)
 
     def test_a_server_that_was_found_is_not_ended(self) -> None:
         """An `attach` that waits for the desk gets SIGTERM: it ends with status 4, and the server that it found keeps
@@ -174,7 +174,7 @@ class Seated(Cycle):
         going, record = self.killed()
         again, tess = self.attached(going, record)
         again.process.send_signal(signal.SIGTERM)
-        self.assertEqual(again.ends(), 4, again.lines)
+        self.assertEqual(again.wait_for_end(), 4, again.lines)
         self.assertEqual(again.lines[-2:], [
             "the desk can't be used, because it has no connection to the server: busy: all seats are taken; try again later",
             f"the server (process {record.server.number}) keeps running, but nobody controls it. To control it again, type: {CLASS} attach {going.folder}",
@@ -183,12 +183,12 @@ class Seated(Cycle):
         self.assertTrue(tess.fault(2, None, True).place)  # The other connection of the teacher still works.
         self.assertFalse((going.folder / "marks.txt").exists())
         tess.hang_up()
-        self.goes_on(Going(self, None, "attach", going.folder), 2)
+        self.check_goes_on(Going(self, None, "attach", going.folder), 2)
 
     def test_run_connects_to_the_desk_before_it_gets_the_host_s_first_line(self) -> None:
-        going = Going(self, CYCLE, "--close", "by-hand", MML_HOST=self.relayed("knocked"))
-        self.assertEqual(self.told(), "somebody came\n")
-        self.goes_on(going, 0)
+        going = Going(self, CYCLE, "--close", "by-hand", MML_HOST=self.write_relay("wait_for_connection"))
+        self.assertEqual(self.relay_result(), "somebody came\n")
+        self.check_goes_on(going, 0)
 
     def test_run_resume_connects_to_the_desk_before_it_gets_the_host_s_first_line(self) -> None:
         """The resumed class keeps its ports."""
@@ -196,12 +196,12 @@ class Seated(Cycle):
         self.end(record.server)
         while record.server.lives():
             time.sleep(0.01)
-        again = Going(self, None, "run", "--resume", going.folder, "--close", "by-hand", MML_HOST=self.relayed("knocked"))
-        self.assertEqual(self.told(), "somebody came\n")
+        again = Going(self, None, "run", "--resume", going.folder, "--close", "by-hand", MML_HOST=self.write_relay("wait_for_connection"))
+        self.assertEqual(self.relay_result(), "somebody came\n")
         kept = Record.read(going.folder)
         assert kept is not None
         self.assertEqual((kept.port, kept.desk), (record.port, record.desk))
-        self.goes_on(again, 1)
+        self.check_goes_on(again, 1)
 
     def test_the_desk_listens_before_the_students_port(self) -> None:
         """Reads again and again which of the two ports listen. There is a time at which only the desk does, and none at

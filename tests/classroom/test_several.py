@@ -17,7 +17,7 @@ from classroom.core.program import host
 from classroom.run.addressed import addressed
 from classroom.run.member import DIED
 from classroom.run.network_table import now_table, start_table
-from tests.classroom.help import CLASS, LIMIT, a_port, wait_until, words
+from tests.classroom.help import CLASS, LIMIT, a_port, call_class, wait_until
 from tests.classroom.several import Classes, GoingClass
 from tests.common.limits import MOST
 
@@ -83,7 +83,7 @@ class OneDesk(Classes):
     def test_a_killed_host_is_an_alarm_until_it_is_resumed(self) -> None:
         """The other network continues meanwhile, and gets commands from the same desk."""
         desk = self.begin("--rooms", "A 104, B 7", "--close", "by-hand")
-        self.table(desk)
+        self.check_table(desk)
         desk.kill("maths-2")
         desk.until(r"^ALARM maths-2 is down: the server has ended, by the signal SIGKILL; type `resume 2` to continue it, or `end 2` to give it up$")
         desk.type("networks")
@@ -105,11 +105,11 @@ class OneDesk(Classes):
         desk.until("^not done: this class has no network 9. Its networks are: 1 maths-1, 2 maths-2$")
         desk.type("end all\nend")
         desk.until(f"^the class is ended, and all its files are in {desk.folder} . To print the marks, type: .* mark {desk.folder}$")
-        self.assertEqual(desk.ends(), 0, desk.lines)
+        self.assertEqual(desk.wait_for_end(), 0, desk.lines)
         self.assertEqual((desk.marks("maths-1")["faults"], desk.marks("maths-2")["faults"]), (4, 1))
-        self.taken_as_a_whole(desk)
+        self.check_subcommands(desk)
 
-    def table(self, desk: GoingClass) -> None:
+    def check_table(self, desk: GoingClass) -> None:
         """Checks the table at the start, and that no line before its first row begins with a network's name. Each of
         the two networks has four students, and all its seats but the desk's."""
         rows, seats = [line.split() for line in desk.lines if re.match(r"\d  ", line)], str(MOST["sessions"] - 1)
@@ -118,20 +118,20 @@ class OneDesk(Classes):
         first = next(index for index, line in enumerate(desk.lines) if re.match(r"\d  ", line))
         self.assertEqual([line for line in desk.lines[:first] if line.startswith(("maths-1", "maths-2"))], [], desk.lines)
 
-    def taken_as_a_whole(self, desk: GoingClass) -> None:
+    def check_subcommands(self, desk: GoingClass) -> None:
         """Checks that the subcommands that take the folder of a run also take that of a class."""
-        done = words("mark", "--csv", *(self.room / "runs").glob("*-maths"))
+        done = call_class("mark", "--csv", *(self.room / "runs").glob("*-maths"))
         self.assertEqual(done.returncode, 0, done.stderr)
         # Each of the eight students has a row, which names the journal.
         self.assertEqual(done.stdout.count(str(desk.folder / "maths-1/journal")), 4)
         self.assertEqual(done.stdout.count(str(desk.folder / "maths-2/journal")), 4)
-        said = words("history", desk.folder, "jose-garcia")
+        said = call_class("history", desk.folder, "jose-garcia")
         self.assertEqual((said.returncode, said.stderr), (0, ""))
         self.assertIn("event 1: ", said.stdout)
-        self.assertIn("Name the folder of one network: ", words("history", desk.folder, "teacher").stderr)
-        self.assertIn("no network of this class has a student called zoe", words("history", desk.folder, "zoe").stderr)
+        self.assertIn("Name the folder of one network: ", call_class("history", desk.folder, "teacher").stderr)
+        self.assertIn("no network of this class has a student called zoe", call_class("history", desk.folder, "zoe").stderr)
         before = labs.read(desk.folder / "maths-2/lab.toml").students
-        self.assertEqual(words("key", desk.folder, "jose-garcia").returncode, 0)
+        self.assertEqual(call_class("key", desk.folder, "jose-garcia").returncode, 0)
         after = labs.read(desk.folder / "maths-2/lab.toml").students
         self.assertEqual([name for name in before if before[name] != after[name]], ["jose-garcia"])
 
@@ -151,7 +151,7 @@ class OneDesk(Classes):
         desk.type(f"1 key {students[1][0]}")
         desk.until(f"^maths-1: there is no student {students[1][0]}. The students are: {students[0][0]}, ")
         desk.type("end all\nend")
-        self.assertEqual(desk.ends(), 0, desk.lines)
+        self.assertEqual(desk.wait_for_end(), 0, desk.lines)
 
     def test_a_network_whose_host_was_killed_can_be_given_up(self) -> None:
         """The class then ends with status 4. Only the marks of this network say that its record may be incomplete. The
@@ -162,11 +162,11 @@ class OneDesk(Classes):
         desk.type("end 1")
         desk.until(f"^maths-1: this network is given up. Its files are in {desk.folder / 'maths-1'}$")
         desk.type("end 2\nend 2")
-        self.assertEqual(desk.ends(), 4, desk.lines)
-        said = [words("mark", desk.folder / name).stdout for name in ("maths-1", "maths-2")]
+        self.assertEqual(desk.wait_for_end(), 4, desk.lines)
+        said = [call_class("mark", desk.folder / name).stdout for name in ("maths-1", "maths-2")]
         wanted = "the server is still running or was killed, so the last entries of this record may be missing; no student caused this\n"
         self.assertEqual([wanted in text for text in said], [True, False], said)
-        again = words("run", "--resume", desk.folder)
+        again = call_class("run", "--resume", desk.folder)
         self.assertEqual((again.returncode, again.stderr), (1, f"class: {desk.folder}: all runs of this class were ended. To continue them, "
                                                                f"type: {CLASS} run --resume {desk.folder} --again\n"))
 
@@ -176,7 +176,7 @@ class OneDesk(Classes):
         desk.kill("maths-2")
         desk.until("^ALARM maths-2 is down: ")
         desk.process.send_signal(signal.SIGTERM)
-        self.assertEqual(desk.ends(), 4, desk.lines)
+        self.assertEqual(desk.wait_for_end(), 4, desk.lines)
 
     def test_attach_takes_over_a_class_whose_desk_was_killed(self) -> None:
         """One of the two servers is killed too, so `attach` prints an alarm. A second `attach` is refused. The taken
@@ -191,7 +191,7 @@ class OneDesk(Classes):
         self.assertEqual([line for line in again.lines if "ALARM" in line],
                          ["ALARM maths-2 is down: its server has ended; type `resume 2` to continue it, or `end 2` to give it up"])
         self.assertEqual(again.record("maths-1").server, servers[0])
-        held = words("attach", desk.folder)
+        held = call_class("attach", desk.folder)
         who = f"another process (number {again.process.pid}) controls this class"
         self.assertEqual((held.returncode, held.stderr), (1, f"class: {desk.folder}: {who}. "
                                                              "Type your commands in its terminal. Or close that terminal (don't type `end` there: "
@@ -199,7 +199,7 @@ class OneDesk(Classes):
         again.type("resume 2\n1 fault 1 null true")
         again.until_each("^maths-2: the class continues at ", "^maths-1: configuration 1: ")
         again.process.send_signal(signal.SIGTERM)
-        self.assertEqual(again.ends(), 0, again.lines)
+        self.assertEqual(again.wait_for_end(), 0, again.lines)
         self.assertEqual(again.marks("maths-1")["faults"], 1)
 
     def test_the_class_writes_the_state_of_each_network_into_its_folder(self) -> None:
@@ -216,7 +216,7 @@ class OneDesk(Classes):
             self.assertEqual((state["events"], state["limit"], state["moves"], state["closing"]), (1, 100000, 0, "by-hand"))
             self.assertIn({"node": look.node, "owners": ["#3"], "rule": dict(state["privileged"])[look.node]}, state["waiting"])
         desk.type("end\nend")
-        self.assertEqual(desk.ends(), 0, desk.lines)
+        self.assertEqual(desk.wait_for_end(), 0, desk.lines)
 
     def test_labs_that_make_no_class_and_damaged_class_files_are_refused(self) -> None:
         other = self.room / "more"
@@ -229,14 +229,14 @@ class OneDesk(Classes):
             ([self.labs[0], self.room / "none.toml"], f"{self.room / 'none.toml'}: No such file or directory"),
         )
         for given, error in cases:
-            done = words("run", *given, "--into", self.room / "runs")
+            done = call_class("run", *given, "--into", self.room / "runs")
             self.assertEqual(done.stderr, f"class: {error}\n")
         self.assertFalse((self.room / "runs").exists())
         folder = self.room / "broken"
         folder.mkdir()
         for text in ("{}", "[]", "x", json.dumps({"networks": [{"name": "..", "room": "", "lab": ""}], "desk": {"number": 1, "start": ""}})):
             self.file("broken/class.json", text)
-            done = words("mark", folder)
+            done = call_class("mark", folder)
             self.assertEqual((done.returncode, done.stderr), (4, f"class: {folder / 'class.json'}: this file is damaged, so the networks of the "
                                                                 "class aren't known. Name the folder of each network instead\n"))
 
@@ -248,11 +248,11 @@ class OneDesk(Classes):
         self.assertEqual([network.name for network in kept.networks], ["maths-1", "maths-2"])
         self.assertEqual(kept.desk.number, desk.process.pid)
         self.assertEqual(desk.folder.stat().st_mode & 0o777, 0o700)
-        second = words("run", self.labs[1], "--into", self.room / "runs")
+        second = call_class("run", self.labs[1], "--into", self.room / "runs")
         where = f"at port {desk.record('maths-2').port} and in the folder {desk.folder / 'maths-2'}"
         self.assertIn(f"a run of {self.labs[1]} is still going on, {where}", second.stderr)
         os.kill(desk.process.pid, signal.SIGINT)
-        self.assertEqual(desk.ends(), 0, desk.lines)
+        self.assertEqual(desk.wait_for_end(), 0, desk.lines)
 
 
 if __name__ == "__main__":

@@ -16,7 +16,7 @@ from classroom.core.program import host
 from classroom.marks.comeback import Comeback, recoveries
 from classroom.setup.shaking import longest_start
 from tests.classroom.browser import browser, is_ready, shown, until
-from tests.classroom.help import CYCLE, KEYS, Cycle, Going, a_port, words
+from tests.classroom.help import CYCLE, KEYS, Cycle, Going, a_port, call_class
 
 
 class Counted(unittest.TestCase):
@@ -67,14 +67,14 @@ class AfterACrash(Cycle):
                 going.until("^(configuration .*;|the server denied this command: empty)")
             going.lines.append("")  # so that the next turn doesn't find the line of this close
         os.kill(going.server(), signal.SIGKILL)
-        self.assertEqual(going.ends(), 4, going.lines)
+        self.assertEqual(going.wait_for_end(), 4, going.lines)
         again = Going(self, None, "run", "--resume", going.folder, "--daemon", "synchronous")
         for name in KEYS:
             self.bot(again, name)
         told = again.until("^stable again after ")
         again.type("end")
-        self.assertEqual(again.ends(), 0, again.lines)
-        marks = words("mark", again.folder).stdout
+        self.assertEqual(again.wait_for_end(), 0, again.lines)
+        marks = call_class("mark", again.folder).stdout
         self.assertEqual(re.findall(r"(?m)^event \d+: (.*)$", marks), [told])
         closes = sum(" close" in line for line in (again.folder / "journal").read_text(encoding="ascii").splitlines())
         self.assertIn(f" {closes} steps and ", told)
@@ -113,7 +113,7 @@ class ByThePage(Cycle):
         for name in ("shake", "shake-all", "break"):
             self.assertFalse(driver.find_element("id", name).is_displayed())
         going.type("end")
-        self.assertEqual(going.ends(), 0, going.lines)
+        self.assertEqual(going.wait_for_end(), 0, going.lines)
         kinds = [event.kind for event in events((going.folder / "journal").read_text(encoding="ascii"))]
         self.assertEqual(kinds[:16], ["fault"] * 16)
 

@@ -14,7 +14,7 @@ from classroom.client import Client, Denied
 from classroom.core.journal import Event, in_words
 from classroom.core.lab import read
 from tests.classroom.browser import Played, browser, is_ready, pale, press, show_as, until
-from tests.classroom.help import CYCLE, Going, InRoom, a_port, words
+from tests.classroom.help import CYCLE, Going, InRoom, a_port, call_class
 from tests.classroom.runs import EXAMPLES, journal_of
 
 PHONE, LAPTOP, WIDER, PROJECTOR = WINDOWS = (390, 844), (1280, 720), (1366, 768), (1920, 1080)
@@ -104,7 +104,7 @@ def meet(a: list[float], b: list[float]) -> bool:
     return min(a[2], b[2]) - max(a[0], b[0]) > 1 and min(a[3], b[3]) - max(a[1], b[1]) > 1
 
 
-def can_be_read(test: unittest.TestCase, driver: Any, size: tuple[int, int], count: int = 25) -> None:
+def check_readable(test: unittest.TestCase, driver: Any, size: tuple[int, int], count: int = 25) -> None:
     """Checks that a window of this size shows more than `count` texts, that none is too small or too faint, and
     that the page isn't wider than the window."""
     least = SMALLEST_ON_PHONE if size == PHONE else SMALLEST
@@ -221,7 +221,7 @@ class Watched(InRoom):
             self.going.type(line)
             self.going.until("^configuration ")
             self.compare()
-        self.assertEqual(self.going.ended(), 0, self.going.lines)
+        self.assertEqual(self.going.end(), 0, self.going.lines)
 
     def test_a_screen_reader_finds_each_node(self) -> None:
         """In the accessibility tree of the browser each node has its description. On the page on which the teacher acts
@@ -252,7 +252,7 @@ class Sizes(Played):
         network."""
         lab, students = self.room / f"{seed}.toml", self.room / "names.txt"
         students.write_text("\n".join(NAMES) + "\n", encoding="utf-8")
-        done = words("new", lab, "--students", students, "--start", "random", "--seed", str(seed), *family)
+        done = call_class("new", lab, "--students", students, "--start", "random", "--seed", str(seed), *family)
         self.assertEqual(done.returncode, 0, done.stderr)
         return lab
 
@@ -288,7 +288,7 @@ class Sizes(Played):
                 for place in (0, last // 2, last):
                     self.driver.execute_script("player.goTo(arguments[0])", place)
                     with self.subTest(size=size, theme=theme, place=place):
-                        can_be_read(self, self.driver, size)
+                        check_readable(self, self.driver, size)
                         top, bottom, above, below, high = self.driver.execute_script(CURRENT)
                         self.assertTrue(0 <= above <= top + 1 < bottom <= below + 1 and below <= high)
 
@@ -308,21 +308,21 @@ class Sizes(Played):
         for address in (looks, acts):
             self.driver.get(address)
             until(self.driver, is_ready)
-            self.fits(address == acts)
-            self.whole_screen()
-        self.assertEqual(going.ended(), 0, going.lines)
+            self.check_fits(address == acts)
+            self.check_full_screen()
+        self.assertEqual(going.end(), 0, going.lines)
         self.open(going.folder / "run.html")
-        self.fits(True)
-        self.whole_screen()
+        self.check_fits(True)
+        self.check_full_screen()
 
-    def fits(self, has_controls: bool) -> None:
+    def check_fits(self, has_controls: bool) -> None:
         """Checks that the open page fits into each window without being scrolled, and that its picture is large enough
         on a phone and on a projector. The bar is higher if it has controls."""
-        found = self.sized(PHONE)
+        found = self.measure(PHONE)
         self.assertLessEqual((found["wide"], found["high"]), PHONE)
         self.assertGreater(found["scale"], 0.8)
         for size in (LAPTOP, WIDER, PROJECTOR):
-            found = self.sized(size)
+            found = self.measure(size)
             self.assertLessEqual((found["wide"], found["high"]), size)
             for name in ("legend", "picture", "controls", "chart"):
                 left, top, right, bottom = found[name]
@@ -331,21 +331,21 @@ class Sizes(Played):
         self.assertGreaterEqual(found["scale"], 1.3)
         self.assertLess(found["controls"][3] - found["controls"][1], 130 if has_controls else 70)
         for size in WINDOWS:
-            self.sized(size)
+            self.measure(size)
             for theme in ("light", "dark"):
                 show_as(self.driver, theme)
                 with self.subTest(size=size, theme=theme):
-                    can_be_read(self, self.driver, size)
+                    check_readable(self, self.driver, size)
         show_as(self.driver)
 
-    def sized(self, size: tuple[int, int]) -> dict[str, Any]:
+    def measure(self, size: tuple[int, int]) -> dict[str, Any]:
         """Sets the window's size, and waits until the picture for it has appeared. Returns the values of SIZES."""
         resize(self.driver, size)
         until(self.driver, lambda driver: driver.execute_script(FOR_WINDOW))
         found: dict[str, Any] = self.driver.execute_script(SIZES)
         return found
 
-    def whole_screen(self) -> None:
+    def check_full_screen(self) -> None:
         """Checks that the key f shows the page on the full screen with a picture that isn't smaller, and that pressing
         it again ends this. At the end presses Escape, which deselects a node."""
         before = self.driver.execute_script(SIZES)["scale"]

@@ -18,7 +18,7 @@ from classroom.client import LAST, RULES, Client, NoServer, NoSlip, Slip, wrong
 from classroom.core.answering import Answering
 from classroom.core.lab import read
 from classroom.core.program import host
-from tests.classroom.help import CYCLE, EXAMPLES, KEYS, LIMIT, Cycle, Going, InRoom, no_server, words
+from tests.classroom.help import CYCLE, EXAMPLES, KEYS, LIMIT, Cycle, Going, InRoom, call_class, no_server
 
 TOP = EXAMPLES.parent
 BOT, TEACHER = (sys.executable, EXAMPLES / "bot.py"), (sys.executable, EXAMPLES / "teacher.py")
@@ -57,7 +57,7 @@ class Files(InRoom):
 
     def test_new_makes_a_slip_for_each_student_and_for_the_teacher(self) -> None:
         students = self.file("students", "Zoë Müller\nBen\nCyd\nDan\n")
-        done = words("new", self.room / "lab.toml", "--students", students, "--groups", "2", "--family", "path", "--port", "5000")
+        done = call_class("new", self.room / "lab.toml", "--students", students, "--groups", "2", "--family", "path", "--port", "5000")
         self.assertEqual(done.returncode, 0, done.stderr)
         found = {}
         for number in (1, 2):
@@ -351,7 +351,7 @@ class Talking(Cycle):
         for command in BOTS:  # One after another, since two connections of one name at the same time have one line.
             bots.append(subprocess.Popen([*command, slip], stdout=subprocess.DEVNULL, stderr=subprocess.PIPE, text=True))
             going.until("^connected: ")
-        self.assertEqual(going.ended(), 0, going.lines)
+        self.assertEqual(going.end(), 0, going.lines)
         for bot in bots:
             self.assertRegex(bot.communicate(timeout=LIMIT)[1], r"^\w+(\.py)?: the run is over\n$")
             self.assertEqual(bot.returncode, 0)

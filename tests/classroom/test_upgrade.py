@@ -13,7 +13,7 @@ import unittest
 from pathlib import Path
 
 from classroom.core.program import TOP, host, host_call
-from tests.classroom.help import KEYS, Cycle, Going, words
+from tests.classroom.help import KEYS, Cycle, Going, call_class
 
 KEPT = TOP / "tests/classroom/kept"
 # For each folder: the moves that its closes applied, by student, and its events, both counted by hand.
@@ -37,7 +37,7 @@ class Upgrade(Cycle):
     def marks(self, folder: Path) -> tuple[dict[str, int], int]:
         """Returns the number of applied moves of each student who has some, and the number of events, as `mark` counts
         them in the folder of a run."""
-        done = words("mark", "--json", folder)
+        done = call_class("mark", "--json", folder)
         self.assertEqual(done.returncode, 0, done.stderr)
         run = json.loads(done.stdout)["runs"][0]
         return {name: total for name, it in run["students"].items() if (total := sum(it["applied"].values()))}, run["events"]
@@ -55,17 +55,17 @@ class Upgrade(Cycle):
         folder = self.copied("archive")
         answer = host_call("verify", folder / "lab.toml", folder / "journal", folder / "record")
         self.assertEqual((answer.status, answer.output.partition("\n")[0].split(",")[-1]), (0, " 9 events"), answer.error)
-        students = json.loads(words("mark", "--json", folder).stdout)["runs"][0]["students"]
+        students = json.loads(call_class("mark", "--json", folder).stdout)["runs"][0]["students"]
         self.assertEqual({name: it["clause1"] for name, it in students.items()}, dict.fromkeys(KEYS, 0) | {"gus": 1})
 
     def test_play_makes_a_page_and_a_picture_of_each_folder(self) -> None:
         for name, (_, events) in COUNTED.items():
             with self.subTest(name):
                 folder, page = self.copied(name), self.room / f"{name}.html"
-                done = words("play", folder, "-o", page)
+                done = call_class("play", folder, "-o", page)
                 self.assertEqual(done.returncode, 0, done.stderr)
                 self.assertIn("ines", page.read_text(encoding="utf-8"))
-                done = words("play", folder, "--svg", str(events), "-o", self.room / f"{name}.svg")
+                done = call_class("play", folder, "--svg", str(events), "-o", self.room / f"{name}.svg")
                 self.assertEqual(done.returncode, 0, done.stderr)
 
     def test_each_folder_can_be_resumed_until_the_network_is_stable(self) -> None:
@@ -79,9 +79,9 @@ class Upgrade(Cycle):
                 self.assertTrue(any(f"events: {events} of " in line for line in going.lines), going.lines)
                 for student in KEYS:
                     self.bot(going, student)
-                self.assertEqual(going.ends(), 0, going.lines)
+                self.assertEqual(going.wait_for_end(), 0, going.lines)
                 self.assertIn("the network is stable, so the run is ended", going.lines)
-                self.assertGreater(self.whole(folder), events)
+                self.assertGreater(self.check_complete(folder), events)
                 self.assertTrue((folder / "journal").read_bytes().startswith(before))
                 self.assertEqual(host_call("verify", folder / "lab.toml", folder / "journal", folder / "record").status, 0)
 

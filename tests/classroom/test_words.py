@@ -16,7 +16,7 @@ from classroom.core.program import TOP
 from classroom.run.daemons import FORMS
 from classroom.setup.rekey import changed
 from classroom.words import parser
-from tests.classroom.help import LIMIT, InRoom, words
+from tests.classroom.help import LIMIT, InRoom, call_class
 
 # Calls the completion function as bash does after these words, of which the last is incomplete, and prints its offers.
 COMPLETE = """
@@ -46,7 +46,7 @@ class Helped(InRoom):
     def test_the_help_of_each_subcommand_has_an_example(self) -> None:
         self.assertGreaterEqual(len(all_words()), 8)
         for word in all_words():
-            said = " ".join(words(word, "--help").stdout.split())
+            said = " ".join(call_class(word, "--help").stdout.split())
             self.assertRegex(said, f"Examples?: class {word}")
 
     def test_bash_completes_subcommands_options_daemons_and_students(self) -> None:
@@ -54,7 +54,7 @@ class Helped(InRoom):
         is named before."""
         self.assertEqual(self.completed(""), set(all_words()))
         self.assertEqual(self.completed("de"), {"demo"})
-        self.assertEqual(self.completed("run", "--"), set(re.findall(r"--[a-z-]+", words("run", "--help").stdout)))
+        self.assertEqual(self.completed("run", "--"), set(re.findall(r"--[a-z-]+", call_class("run", "--help").stdout)))
         self.assertEqual(self.completed("run", "--res"), {"--resume"})
         self.assertEqual(self.completed("run", "maths"), set())
         for option in ("--daemon", "--close"):
@@ -75,7 +75,7 @@ class Version(InRoom):
         printed = subprocess.run([TOP / "mml", "--version"], capture_output=True, text=True, check=True, timeout=LIMIT).stdout
         self.assertRegex(printed, r"^Cenduwa \d+\.\d+\.\d+, commit ([0-9a-f]{7}\+?|unknown), rattle-kit-\S+ logic [0-9a-f]{16}")
         for more in ((), ("run",)):
-            done = words("--version", *more)
+            done = call_class("--version", *more)
             self.assertEqual((done.returncode, done.stdout), (0, printed.replace("Cenduwa", "class")))
 
 
@@ -121,7 +121,7 @@ class Rekeyed(InRoom):
         super().setUp()
         self.lab = self.room / "maths.toml"
         students = self.file("students", "Ana Lima\nBen Roy\nCyd Sol\n")
-        self.assertEqual(words("new", self.lab, "--students", students, "--port", "4799").returncode, 0)
+        self.assertEqual(call_class("new", self.lab, "--students", students, "--port", "4799").returncode, 0)
         self.folder = self.room / "maths-slips"
 
     def test_key_replaces_the_key_of_one_student_in_the_lab_and_on_the_slips(self) -> None:
@@ -129,7 +129,7 @@ class Rekeyed(InRoom):
         user can read the files."""
         before, text = document(self.lab), self.lab.read_text(encoding="utf-8")
         others = {file.name: file.read_bytes() for file in self.folder.iterdir()}
-        done = words("key", self.lab, "ben-roy")
+        done = call_class("key", self.lab, "ben-roy")
         self.assertEqual((done.returncode, done.stderr), (0, ""))
         after, slip = document(self.lab), Slip.read(self.folder / "ben-roy.slip")
         old, new = before["student"][1]["key"], after["student"][1]["key"]
@@ -147,17 +147,17 @@ class Rekeyed(InRoom):
 
     def test_key_refuses_an_unknown_student_a_key_in_another_form_and_what_is_no_lab(self) -> None:
         text = self.lab.read_text(encoding="utf-8")
-        done = words("key", self.lab, "dora")
+        done = call_class("key", self.lab, "dora")
         self.assertEqual(done.returncode, 1)
         self.assertEqual(done.stderr, f"class: {self.lab}: this lab has no student called dora. Its students are: ana-lima, ben-roy, cyd-sol\n")
         key = read(self.lab).students["ben-roy"]
         self.lab.write_text(text.replace(f'key = "{key}"', f"key = '{key}'"), encoding="utf-8")
-        done = words("key", self.lab, "ben-roy")
+        done = call_class("key", self.lab, "ben-roy")
         self.assertEqual(done.returncode, 1)
         self.assertIn("the key of ben-roy can't be changed by this command, since it isn't written as", done.stderr)
-        self.assertEqual(words("key", self.room / "none.toml", "ana").returncode, 4)
+        self.assertEqual(call_class("key", self.room / "none.toml", "ana").returncode, 4)
         folder: Path = self.room
-        self.assertEqual(words("key", folder, "ana").returncode, 1)
+        self.assertEqual(call_class("key", folder, "ana").returncode, 1)
 
 
 class KeyInText(InRoom):

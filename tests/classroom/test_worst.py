@@ -13,7 +13,7 @@ from classroom.core.bench import STUDENT, TEACHER, Bench, network
 from classroom.core.rounds import Recovery
 from classroom.setup.new import set_registers
 from classroom.setup.shaking import longest_start
-from tests.classroom.help import EXAMPLES, InRoom, words
+from tests.classroom.help import EXAMPLES, InRoom, call_class
 
 Asked = tuple[int, str, int | None]  # a node, its rule, and its partner
 
@@ -98,19 +98,19 @@ class Words(InRoom):
     """The start `worst` as an argument."""
 
     def test_new_and_experiment_accept_the_start_worst(self) -> None:
-        done = words("new", self.room / "crowd.toml", "--students", self.file("names.txt", "ana\nben\n"), "--family", "crowd",
-                     "--nodes", "6", "--start", "worst")
+        done = call_class("new", self.room / "crowd.toml", "--students", self.file("names.txt", "ana\nben\n"), "--family", "crowd",
+                          "--nodes", "6", "--start", "worst")
         self.assertEqual(done.returncode, 0, done.stderr)
         text = (self.room / "crowd.toml").read_text(encoding="utf-8")
         self.assertEqual([line for line in text.splitlines() if line.startswith("p = ")], [f"p = {p}" for p in (6, 5, 4, 5, 6, 2)])
-        done = words("experiment", "--family", "crowd,halves", "--nodes", "6", "--start", "worst", "--runs", "1", "--daemon", "synchronous",
-                     "--csv", self.room / "runs.csv")
+        done = call_class("experiment", "--family", "crowd,halves", "--nodes", "6", "--start", "worst", "--runs", "1", "--daemon", "synchronous",
+                          "--csv", self.room / "runs.csv")
         self.assertEqual(done.returncode, 0, done.stderr)
         self.assertIn("2 of 2 runs are done, all within the proved bounds", done.stdout)
 
     def test_practise_begins_with_the_worst_start_if_that_is_asked_for(self) -> None:
-        done = words("practise", EXAMPLES / "bot.py", "--family", "crowd", "--nodes", "4", "--start", "worst", "--daemon", "synchronous",
-                     "--timeout", "250", "--into", self.room / "runs")
+        done = call_class("practise", EXAMPLES / "bot.py", "--family", "crowd", "--nodes", "4", "--start", "worst", "--daemon", "synchronous",
+                          "--timeout", "250", "--into", self.room / "runs")
         self.assertEqual(done.returncode, 0, done.stdout + done.stderr)
         self.assertIn("network: crowd, 4 nodes; start: worst; daemon: synchronous; ", done.stdout)
         (made_lab,) = (self.room / "runs").glob("*/lab.toml")

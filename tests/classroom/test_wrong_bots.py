@@ -17,7 +17,7 @@ from classroom.bots.bots import Bot
 from classroom.bots.trial import Result, try_bot
 from classroom.core.processes import reap_orphans
 from classroom.core.program import TOP
-from tests.classroom.help import InRoom, words
+from tests.classroom.help import InRoom, call_class
 from tests.classroom.wrong_bots.wrong import BOTS
 
 WRONG = TOP / "tests/classroom/wrong_bots/wrong.py"
@@ -160,7 +160,7 @@ class Right(InRoom):
     def test_the_five_correct_bots_pass_each_case_of_small(self) -> None:
         self.assertEqual(len(RIGHT), 5)
         table = self.room / "cases.json"
-        done = words("grade", *RIGHT, "--timeout", "120", "--into", self.room / "grades", "--json", table)
+        done = call_class("grade", *RIGHT, "--timeout", "120", "--into", self.room / "grades", "--json", table)
         self.assertEqual(done.returncode, 0, done.stdout + done.stderr)
         self.assertEqual(len(json.loads(table.read_text(encoding="utf-8"))), 5 * len(suites.SMALL))
 
@@ -170,7 +170,7 @@ class Right(InRoom):
         labs = self.room / "labs"
         labs.mkdir()
         (labs / "path.toml").write_bytes((TOP / "examples/path.toml").read_bytes())
-        done = words("grade", own, asks, "--labs", labs, "--daemon", "synchronous", "--timeout", "15", "--own-rule", "--into", self.room / "grades")
+        done = call_class("grade", own, asks, "--labs", labs, "--daemon", "synchronous", "--timeout", "15", "--own-rule", "--into", self.room / "grades")
         self.assertEqual(done.returncode, 5, done.stdout + done.stderr)
         self.assertIn("class: with --own-rule the replies to looks don't name the rule whose guard holds: ", done.stdout)
         self.assertIn("own_rule.py: 1 of 1 cases passed\nsnapshot.py: 0 of 1 cases passed\n", done.stdout)

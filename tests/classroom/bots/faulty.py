@@ -157,7 +157,7 @@ def sulks() -> None:
         time.sleep(1000)
 
 
-def binary() -> None:
+def writes_binary() -> None:
     """Writes bytes that aren't text."""
     with socket.create_connection(("127.0.0.1", SLIP.port)) as it:
         it.sendall(bytes(range(128, 256)) + b"\n")
@@ -363,7 +363,7 @@ FAULTS = {
     "ignores-faults": ignores_faults,
     "needs-order": lambda: loop(needs_order),
     "sulks": sulks,
-    "binary": binary,
+    "binary": writes_binary,
     "never-ends-a-line": never_ends_a_line,
     "forks": forks,
     "leaves": leaves,
