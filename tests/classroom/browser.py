@@ -43,7 +43,7 @@ look();
 def started() -> Any:
     """Starts a browser without a window, and returns its driver. Raises `SessionNotCreatedException` if it fails to
     start STARTS times."""
-    made: Any = Options
+    made: Any = Options  # Selenium's functions lack types, so its classes are called as `Any`.
     options = made()
     options.binary_location = "/usr/bin/chromium"
     for word in ("--headless=new", "--no-sandbox", "--disable-dev-shm-usage", "--window-size=1300,900"):
@@ -145,7 +145,8 @@ return found;
 
 
 def show_as(driver: Any, theme: str = "light", media: str = "") -> None:
-    """Emulates a theme, and the medium `media`, `screen` or `print`. An empty text stands for the usual medium."""
+    """Emulates the theme `light` or `dark`, and the medium `screen` or `print`. An empty text in `media` stands for the
+    usual medium."""
     setting = {"media": media, "features": [{"name": "prefers-color-scheme", "value": theme}]}
     driver.execute_cdp_cmd("Emulation.setEmulatedMedia", setting)
 
@@ -160,8 +161,8 @@ def pale(driver: Any, on_paper: bool = False) -> tuple[int, list[tuple[str, floa
     """Returns the number of texts on a page, and the texts with a contrast below 4.5 to 1, each with its contrast.
     `on_paper` says whether the page is shown as on paper."""
     texts = driver.execute_script(TEXTS, on_paper)
-    told = [(text, contrast(front, back)) for text, front, back in texts]
-    return len(told), [(text, ratio) for text, ratio in told if ratio < LEAST]
+    measured = [(text, contrast(front, back)) for text, front, back in texts]
+    return len(measured), [(text, ratio) for text, ratio in measured if ratio < LEAST]
 
 
 class Played(unittest.TestCase):

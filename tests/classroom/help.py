@@ -85,6 +85,7 @@ def stop(process: int) -> None:
 
 def state(task: Path) -> str:
     """Returns the letter for the state of a thread, whose folder in /proc is given."""
+    # The state is after the name of the program, which is in parentheses and may contain any character.
     return (task / "stat").read_text(encoding="utf-8", errors="replace").rpartition(") ")[2][:1]
 
 
@@ -190,7 +191,8 @@ class Going:
 
 
 class Rows:
-    """The lines that the page to play receives after a hello, and all bytes that came, with those of the headers."""
+    """The lines that the page to play receives after a hello. `bytes` has all bytes that came, with those of the
+    headers."""
 
     def __init__(self, address: str, name: str, key: str) -> None:
         """Sends the hello of a student to the page's server at an address."""
@@ -234,6 +236,7 @@ class InTerminal:
         given = words or ("run", CYCLE, "--into", test.room / "runs", "--close", "by-hand")
         self.process = subprocess.Popen(
             [sys.executable, TOP / "class", *given], stdin=theirs, stdout=theirs, stderr=theirs, start_new_session=True,
+            # The new session gets this terminal, so that Ctrl-C and the end of the terminal send signals to it.
             preexec_fn=lambda: fcntl.ioctl(0, termios.TIOCSCTTY, 0),
         )
         os.close(theirs)
@@ -241,16 +244,17 @@ class InTerminal:
         self.until(b"commands: ")
 
     def until(self, wanted: bytes) -> None:
-        """Reads the terminal until a text was printed. Raises an error if nothing is printed for LIMIT seconds."""
+        """Reads the terminal until the text `wanted` was printed. Raises an error if nothing is printed for LIMIT
+        seconds."""
         while wanted not in self.text:
             if not select.select([self.ours], [], [], LIMIT)[0]:
                 raise AssertionError(f"no {wanted!r} in {self.text!r}")
             self.text += os.read(self.ours, 4096)
 
     def type(self, line: bytes, wanted: bytes) -> None:
-        """Types a line when the line editor is ready, and reads until a text was printed."""
+        """Types a line when the line editor is ready, and reads until the text `wanted` was printed."""
         end = time.monotonic() + LIMIT
-        # While the terminal itself edits lines (ICANON), the desk's line editor isn't reading yet.
+        # While the terminal itself edits lines (ICANON, in the local flags), the desk's line editor isn't reading yet.
         while termios.tcgetattr(self.ours)[3] & termios.ICANON:
             assert time.monotonic() < end, self.text
             time.sleep(0.01)

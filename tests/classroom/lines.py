@@ -52,7 +52,7 @@ def texts(node: ast.AST) -> Iterator[str]:
     for child in ast.iter_child_nodes(node):
         is_text = isinstance(child, ast.JoinedStr) or isinstance(child, ast.Constant) and isinstance(child.value, str)
         if isinstance(child, (ast.JoinedStr, ast.Constant)) and is_text:
-            if not isinstance(node, ast.Expr):
+            if not isinstance(node, ast.Expr):  # A text that is a statement by itself is a docstring.
                 yield template(child)
         elif not is_call_of(child, NOT_LINES):
             yield from texts(child)
@@ -77,6 +77,7 @@ class Page(HTMLParser):
 def literals(source: str) -> Iterator[str]:
     """Yields the texts in a source of another language than Python. Leaves out comments."""
     for found in LITERALS.finditer(COMMENTS.sub("", source)):
+        # One of the two groups, for texts in double quotes and in backquotes, is None. A backslash joins two lines.
         yield VALUE.sub("{}", next(text for text in (*found.groups(), "") if text is not None).replace("\\\n", ""))
 
 

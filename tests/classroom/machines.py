@@ -13,7 +13,7 @@ TEACHERS, STUDENTS = "10.77.0.1", "10.77.0.2"  # the addresses at both ends of t
 
 @dataclass(frozen=True)
 class Machine:
-    """A machine, and the words before a command that runs on it."""
+    """A machine: a network namespace, which lasts as long as its process with the number `process`."""
 
     process: int
 
@@ -36,7 +36,8 @@ def can_be_made() -> bool:
 
 @contextmanager
 def two() -> Iterator[tuple[Machine, Machine]]:
-    """Yields the teacher's machine and that of the students. Removes them at the end."""
+    """Yields the teacher's machine and that of the students, joined by a cable. Each lasts as long as a sleeping
+    process, which is killed at the end."""
     holders = [subprocess.Popen(["unshare", "--net", "sh", "-c", "echo; exec sleep 100000"], stdout=subprocess.PIPE) for _ in range(2)]
     try:
         for it in holders:

@@ -20,7 +20,8 @@ def journal_of(lab: Path, script: Path, journal: Path) -> Path:
 
 
 def examples(room: Path) -> list[tuple[Path, Path]]:
-    """Returns each lab of examples/ that has a run, with the run's journal, and the built-in lab with its journal."""
+    """Runs the script of each lab of examples/ that has a script `..-run.script`, and writes the journal into the
+    folder `room`. Returns these labs with their journals, and the built-in lab with its own."""
     runs = [(lab, lab.with_name(f"{lab.stem}-run.script")) for lab in sorted(EXAMPLES.glob("*.toml"))]
     made = [(lab, journal_of(lab, script, room / f"{lab.stem}.journal")) for lab, script in runs if script.exists()]
     return [*made, (BUILT_IN, EXAMPLES / "whole-run.journal")]
@@ -93,7 +94,8 @@ def long_run(room: Path, events: int) -> tuple[Path, Path]:
     rows = []
     for place in range(1, events + 1):
         turn, part = divmod(place - 1, 3)
-        node = 1 + turn * 4 % 15
+        node = 1 + turn * 4 % 15  # In fifteen turns each node has one, since 4 and 15 have no common divisor.
+        # The fault makes configuration 2 * turn + 1, in which the move is granted and the step is closed.
         rows.append(f"{place} {2 * turn + (part > 0)} " + (f"fault {node} - true", f"grant ana {node} update", "close")[part])
     journal.write_text("".join(f"{row}\n" for row in rows))
     return lab, journal

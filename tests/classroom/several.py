@@ -63,6 +63,7 @@ class GoingClass(Going):
         """Kills the desk, the servers and the processes of the runs, as far as they haven't ended."""
         if self.process.poll() is None:
             self.process.kill()
+        # There is no `folder` if the class failed before it printed the folder's path.
         for folder in self.folder.iterdir() if hasattr(self, "folder") else ():
             record = Record.read(folder)
             for it in (record.run, record.server) if record is not None else ():

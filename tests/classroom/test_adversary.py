@@ -127,8 +127,9 @@ class Long(unittest.TestCase):
         self.assertEqual(script.count(b'"do": "see"'), 0)
 
     def test_the_two_daemons_choose_by_a_search_and_the_schedule_by_rules_and_numbers(self) -> None:
-        """A close calls the search once each privileged node has a granted move, or none was granted for a second. The
-        schedule needs no network."""
+        """`applied` calls the search as soon as each privileged node has a granted move, or none was granted for a
+        second. A `Sight` has the privileged nodes, the granted moves, and the seconds since the last grant and the last
+        close. The schedule needs no network."""
         self.assertEqual(Daemon.of("adversary").spelled(), "adversary")
         chance, full = random.Random(1), Sight([1, 2], [2, 1], 0.0, 0.0)
         self.assertEqual(applied(Daemon("adversary"), full, chance, 1, lambda nodes: [nodes[0]]), [2])

@@ -39,7 +39,7 @@ class Grades(InRoom):
     """Bots that are graded together."""
 
     def setUp(self) -> None:
-        """Makes a folder with a single lab, the path of `examples/`."""
+        """Makes a folder with a single lab, `path.toml` of `examples/`."""
         super().setUp()
         (self.room / "labs").mkdir()
         shutil.copy(EXAMPLES / "path.toml", self.room / "labs")
@@ -99,8 +99,8 @@ class Apart(Grades):
         self.assertEqual(len(seen), 2 * len(files) + 3)  # reading and writing of each file, and three other attempts
 
     def peeked(self, *bots: str, more: tuple[str | Path, ...] = ()) -> str:
-        """Grades these bots. The first one has the fault `peeks`: it prints what it could read and do, and ends.
-        Returns the line that it printed."""
+        """Grades these bots, with the options `more`. The first one has the fault `peeks`: it prints what it could read
+        and do, and ends. Returns the line that it printed, from the reason for which its first case failed."""
         call: list[str | Path] = [sys.executable, TOP / "class", "grade", *bots, "--labs", self.room / "labs", "--daemon", "central",
                                   "--into", self.room / "grades", "--json", self.room / "cases.json", "--timeout", "60", *more]
         done = subprocess.run(call, stdin=subprocess.DEVNULL, capture_output=True, text=True, check=False, timeout=LIMIT)

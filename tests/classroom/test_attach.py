@@ -21,7 +21,7 @@ class Attach(Cycle):
 
     def killed(self, *more: str) -> Going:
         """Starts a run with these options, and kills the process of its desk after a move, a close and a fault. Returns
-        the run, whose server is still running."""
+        the run, whose server is still running and is killed at the end of the test."""
         going = Going(self, CYCLE, "--close", "by-hand", *more)
         server = going.server()
         self.addCleanup(self.end, server)

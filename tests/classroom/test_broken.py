@@ -1,6 +1,5 @@
 """Failures of a run: kills, full disks, changed journals, missing seats, bots that race and guess. A client takes a
-*seat*, one of the connections that the server serves at a time. `whole` checks that the folder of an ended run is
-complete."""
+*seat*, one of the connections that the server serves at a time."""
 from __future__ import annotations
 
 import json
@@ -305,8 +304,9 @@ class Broken(Cycle):
         self.assertEqual(found.changes([listens, *served]), [])
         self.assertEqual(found.changes([listens, *served[1:]]), ["disconnected: a program of another user"])
         self.assertEqual(found.changes([listens, *served]), ["connected: a program of another user"])
+        # Without a socket that listens, the server accepts no more connections.
         self.assertEqual(Connected(4711, 2, 7).changes(served[1:])[1][:44], "this server has accepted as many connections")
-        found.known = {6: "first", 5: "second"}
+        found.known = {6: "first", 5: "second"}  # the clients by their ports, in the order in which they came
         self.assertEqual(found.who(), "first, second (2 of 2 seats are taken)")
 
     def test_a_newcomer_whose_own_end_is_read_later_is_named(self) -> None:
@@ -315,7 +315,7 @@ class Broken(Cycle):
         listens, served = (4711, 0, "0A", "1"), (4711, 5, "01", "2")
         with socket.create_server(("127.0.0.1", 0)) as it:
             own = (5, 4711, "01", re.sub(r"\D", "", os.readlink(f"/proc/self/fd/{it.fileno()}")))
-            for late in range(connected.READINGS):
+            for late in range(connected.READINGS):  # how many readings lack the client's end
                 readings = [[listens, served]] * late + [[listens, served, own]]
                 with unittest.mock.patch.object(connected, "rows", side_effect=readings):
                     self.assertEqual(Connected(4711, 2, 7).news()[0], f"connected: process {os.getpid()}")

@@ -318,7 +318,8 @@ class Wire(InRoom):
 
     def ask(self, hands: str, verb: str, path: str, body: object = None, **head: str) -> tuple[http.client.HTTPResponse, bytes]:
         """Sends a request to the page's server. `hands` is the address of the page to play, and `path` is below the
-        server's root. Returns the answer and its bytes."""
+        server's root. A `body` that isn't bytes is sent as JSON, and `head` are headers besides the right Host, or in
+        its place. Returns the answer and its bytes."""
         parts = urlsplit(hands)
         connection = http.client.HTTPConnection("127.0.0.1", parts.port or 0, timeout=LIMIT)
         self.addCleanup(connection.close)
@@ -444,7 +445,7 @@ class Wire(InRoom):
         self.assertIn("no server at port", text)
 
     def hello_without_server(self, hands: PlayServer) -> tuple[int, str]:
-        """Sends a hello to a new server of the page, which connects to the same port as `hands` did. No server of a
+        """Sends a hello to a new server of the page, which is to connect to the same port as `hands`. No server of a
         class listens there any more. Returns the status of the answer and its text."""
         with served(self) as other:
             other.show(hands.students, print)
@@ -513,7 +514,7 @@ def served(test: unittest.TestCase) -> Iterator[PlayServer]:
     try:
         yield hands
     finally:
-        if not hands.leaves:
+        if not hands.leaves:  # The test may have stopped it already.
             hands.stop()
 
 

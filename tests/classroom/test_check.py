@@ -110,14 +110,17 @@ class Check(InRoom):
 
     def test_a_key_with_a_letter_of_no_kind_counts_as_drawn_from_128_more_letters(self) -> None:
         """The kinds are lower case, upper case, digits and punctuation, all in ASCII. But no key counts as drawn from
-        more letters than twice the number of the different ones in it."""
+        more letters than twice the number of the different ones in it. `bits` returns the length of a key times the
+        binary logarithm of the number of letters from which it counts as drawn."""
         for key, least in (("äöüßéèêàâçñøåæœłżźčš", 100), ("шифр из восьми слов", 80), ("äÄ1!" * 8, 95),
                            ("horse battery staple", 80)):
             self.assertGreater(bits(key), least, key)
             self.assertGreaterEqual(bits(key + "ж"), bits(key), key)
         self.assertLess(bits(" " * 60), 64)
         self.assertLess(bits("äö" * 8), 64)
+        # 53 different letters, so it counts as drawn from twice as many at most.
         self.assertAlmostEqual(bits("abcdefghijklmnopqrstuvwxyz ABCDEFGHIJKLMNOPQRSTUVWXYZ"), 53 * math.log2(106))
+        # 256 letters of no kind, each with the seven bits of 128 letters.
         self.assertAlmostEqual(bits("".join(map(chr, range(0x410, 0x510)))), 256 * 7)
         for key, told in (("äöüßéèêàâçñøåæœłżźčš", []),
                           ("äöüßéè", ["the key of ana is easy to guess: it has at most 22 bits, and guessing it takes at most 10 hours"])):

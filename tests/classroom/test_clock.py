@@ -55,7 +55,8 @@ class Ends(Cycle):
     """A run with `--ends`."""
 
     def test_a_run_ends_at_the_time_that_is_named(self) -> None:
-        # The next full minute that is at least thirty seconds away, so that the run has started by then.
+        # The next full minute that is at least thirty seconds away, so that the run has started by then. In the sum,
+        # the comparison counts as 1 minute if it is true, and as 0 otherwise.
         end = (datetime.now() + timedelta(seconds=90)).replace(second=0, microsecond=0)
         end += timedelta(minutes=(end - datetime.now()) < timedelta(seconds=30))
         going = Going(self, CYCLE, "--close", "by-hand", "--ends", f"{end:%H:%M}")

@@ -44,6 +44,7 @@ class Palette(unittest.TestCase):
         """Checks that the two colours of each of these pairs have enough contrast in both themes."""
         for theme in colours.THEMES:
             for front, back in sorted(pairs):
+                # The value of a colour is `#`, and two hexadecimal digits each for red, green and blue.
                 one, other = ([float(int(colours.value(f"--{name}", theme)[at:at + 2], 16)) for at in (1, 3, 5)] for name in (front, back))
                 with self.subTest(theme=theme, front=front, back=back):
                     self.assertGreaterEqual(contrast(one, other), LEAST)

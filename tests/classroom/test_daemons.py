@@ -47,7 +47,9 @@ class Alone(unittest.TestCase):
         self.assertEqual(applied(Daemon("when-idle", 2), Sight([1], [1], 2.1, 0), chance, 1), [1])
 
     def test_in_experiments_a_timed_daemon_moves_the_nodes_that_ask_before_the_close(self) -> None:
-        """The times at which nodes ask are random. The test draws the same times with the same seed."""
+        """The times at which nodes ask are random. The test draws the same times with the same seed. The daemon `every`
+        closes the step at the next multiple of 0.7 seconds after the first request, and `when-idle` as soon as no node
+        has asked for 0.4 seconds."""
         for seed in range(200):
             times = random.Random(seed)
             asks = {node: times.expovariate(1.0) for node in (4, 2, 9)}
@@ -55,7 +57,7 @@ class Alone(unittest.TestCase):
             first, second, third = (asks[node] for node in order)
             found = movers(Daemon("every", 0.7), [4, 2, 9], random.Random(seed))
             self.assertEqual(found, [node for node in order if asks[node] // 0.7 == first // 0.7])
-            count = 1 if second - first > 0.4 else 2 if third - second > 0.4 else 3
+            count = 1 if second - first > 0.4 else 2 if third - second > 0.4 else 3  # the requests before a pause
             self.assertEqual(movers(Daemon("when-idle", 0.4), [4, 2, 9], random.Random(seed)), order[:count])
         for kind in ("every", "when-idle"):
             self.assertEqual(len(movers(Daemon(kind, 0), [4, 2, 9], random.Random(1))), 1)
@@ -164,8 +166,8 @@ class Desk(Cycle):
         return found
 
     def test_under_the_central_daemon_over_a_third_of_the_steps_have_a_single_move(self) -> None:
-        """A step has more if a move is granted between the desk's last check and its close. This may happen in two of
-        three steps."""
+        """A step has more moves if one is granted between the desk's last check and its close. This may happen in up to
+        two of three steps."""
         steps = self.steps(self.run_with_recoveries("central", "break"))
         self.assertLess(len(steps), 3 * sum(len(moved) == 1 for _, moved in steps))
 

@@ -65,6 +65,7 @@ class Completed(unittest.TestCase):
         terminal.words, terminal.readline = ["1", "12", "7"], unittest.mock.Mock()
         terminal.readline.get_line_buffer.return_value = line
         terminal.readline.get_begidx.return_value = line.rfind(" ") + 1
+        # The line editor asks for one completion after another, by their numbers, until it gets None.
         found = [terminal.complete(line.rpartition(" ")[2], state) for state in range(len(FORMS) + 1)]
         return [each for each in found if each is not None]
 
@@ -322,8 +323,8 @@ class Disk(InRoom):
         return room
 
     def lines_about(self, room: DiskRoom, *free: int) -> list[list[str]]:
-        """Checks the disk once for each of these numbers of free bytes. Returns the beginnings of the lines that each
-        check returns."""
+        """Checks the disk once for each of these numbers of free bytes. Returns for each check the beginnings of its
+        lines, up to a colon or to a period that `If` doesn't follow."""
         told = []
         for left in free:
             room.due = 0.0  # so that the check is made at once

@@ -103,7 +103,7 @@ class AtDesk(InRoom):
             self.assertTrue(self.lines[-1].startswith(told), (line, self.lines))
         self.client.ask.assert_not_called()
         self.assertEqual(len(self.client.fault.mock_calls), 3 + 7 + 7)  # those of `shake 3 1`, `shake all` and `break`
-        self.assertFalse(self.desk.command("end"))
+        self.assertFalse(self.desk.command("end"))  # The last line of TOLD is the first `end`.
 
 
 class Buttons(HTMLParser):

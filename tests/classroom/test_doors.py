@@ -123,7 +123,7 @@ class Doors(unittest.TestCase):
             begun = time.monotonic()
             while len(select.select(idle, [], [], 0.1)[0]) < CONNECTIONS:
                 self.assertLess(time.monotonic() - begun, LIMIT, "no connection is closed")
-            self.assertLessEqual(threading.active_count(), self.threads + CONNECTIONS + 1)
+            self.assertLessEqual(threading.active_count(), self.threads + CONNECTIONS + 1)  # One thread accepts connections.
         for it in idle:
             it.close()
         begun = time.monotonic()

@@ -132,8 +132,9 @@ class Far(InRoom):
     def networks(self, path: str) -> list[dict[str, Any]]:
         """Returns the networks in the state of the page for all, which is requested from the students' machine at this
         path."""
-        done = subprocess.run([*self.students.on, sys.executable, "-c", GETS.replace("len(answer.read())", "answer.read().decode()"), TEACHERS,
-                               str(self.port), f"{path}state"], check=True, capture_output=True, text=True)
+        prints_text = GETS.replace("len(answer.read())", "answer.read().decode()")  # The text is printed instead of its size.
+        done = subprocess.run([*self.students.on, sys.executable, "-c", prints_text, TEACHERS, str(self.port), f"{path}state"],
+                              check=True, capture_output=True, text=True)
         networks: list[dict[str, Any]] = json.loads(done.stdout.removeprefix("200 "))["networks"]
         return networks
 

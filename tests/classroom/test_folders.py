@@ -35,13 +35,14 @@ def pipe(path: Path) -> None:
 
 
 def endless(path: Path) -> None:
-    """Replaces the file at a path by a link to a device without an end."""
+    """Replaces the file at a path by a link to a device from which bytes can be read without an end."""
     path.unlink(missing_ok=True)
     path.symlink_to("/dev/zero")
 
 
 def huge(path: Path) -> None:
-    """Replaces the file at a path by one that is larger than any limit, but takes no room."""
+    """Lengthens the file at a path, or makes one, so that it is larger than any limit. The new part takes no room on
+    the disk."""
     with path.open("ab") as it:
         it.truncate(1 << 34)
 

@@ -88,7 +88,8 @@ class Replayed(unittest.TestCase):
                     self.assertGreater(run.call_count, 2)
 
     def test_frames_show_the_program_s_replies_also_if_these_are_wrong(self) -> None:
-        """The stand-in for the program calls it and changes m to true in each look at node 3."""
+        """The stand-in for the program is a script that calls the program, and changes m to true in each reply to a
+        look at node 3."""
         liar = self.room / "liar"
         liar.write_text(
             f"#!{sys.executable}\nimport re, subprocess, sys\n"

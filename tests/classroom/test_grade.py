@@ -299,6 +299,7 @@ class Calls(InRoom):
         check_nothing_left(self)
         cases = json.loads(table.read_text(encoding="utf-8"))
         self.assertEqual([each["passed"] for each in cases], [False] * 9 + [True] * 3)
+        # Each bot has three cases, one after another.
         whys = {fault: {each["why"] for each in cases[3 * index:][:3]} for index, fault in enumerate(faults)}
         self.assertEqual(whys["swaps-output"], {"the bot ended by itself, with status 3"})
         return whys

@@ -70,6 +70,7 @@ class Page(unittest.TestCase):
         rows: list[list[Any]] = [[5, 1, True, None], [1, 5, True, None], [2, None, False, "seduction"], [4, 8, False, None]]
         states = [state_of(self.labs[0][1], 12, [[2, "seduction"], [7, "update"]], [(1, 5)], rows), None,
                   state_of(self.labs[2][1], 8, [], [(1, 2)], []), state_of(self.labs[3][1], 12, [[1, "update"]], [], [[1, None, True, None]])]
+        # The networks 1 and 2 are in room A, and 3 and 4 in room B.
         self.state = ClassState("maths, 2026-11-28", [
             NetworkState(number, f"maths-{number}", "AB"[number // 3], 4710 + number, f"http://127.0.0.1:9/{number}/", 15, 4,
                          "down" if number == 2 else "runs", DOWN if number == 2 else "", states[number - 1]) for number in range(1, 5)

@@ -137,6 +137,7 @@ class Disputed(Cycle):
         seat = self.seat(folder).name.partition(".")[0]
         other = next(file.name.partition(".")[0] for file in (folder / "record").glob("*.record") if b"heron-13" in file.read_bytes())
         guessed, greeted = GUESSED.replace("SEAT", other), GREETED.replace("SEAT", seat)
+        # Both parts have the same number of events before them, so they are in the order of their seats.
         first = guessed + greeted if int(other) <= int(seat) else greeted + guessed
         return first + DENIED.replace("SEAT", seat)
 
@@ -337,6 +338,7 @@ class Verified(Disputed):
         told = self.history(folder)
         self.assertRegex(told, r"^.*/record\.~1~: ok: \d+ sessions, \d+ lines, 3 events\n"
                                r".*/record: ok: \d+ sessions, \d+ lines, 3 events, begun after 3 events\n")
+        # The keys of four hellos are hidden, and so is the old key in the note of the last move.
         self.assertEqual((told.count(GUARD), told.count(UNKNOWN), told.count("***")), (2, 2, 5))
         for hidden in (key, KEYS["gus"]):
             self.assertNotIn(hidden, told)

@@ -24,7 +24,7 @@ SECONDS = 60  # the most processor time for 256 nodes; this project's machine ta
 
 
 def network(word: str, size: int = 15) -> tuple[list[int], Links]:
-    """Returns the nodes and links of a network of the family `word`."""
+    """Returns the nodes and links of a network of the family `word`. It has `size` nodes unless `word` has a size."""
     count, links = family(word, None if ":" in word else size, size, random.Random(7))
     return list(range(1, count + 1)), sorted(links)
 
@@ -175,6 +175,7 @@ class Springs(unittest.TestCase):
         links = [(1, 2), (2, 3), (1, 3), (3, 4), (5, 6), (6, 7), (5, 7), (7, 8)]
         nodes = list(range(1, 10))
         far = distances(nodes, links)
+        # The index of a node is its number minus 1.
         self.assertEqual((far[0][3], far[0][4], far[8][0], far[8][8]), (2.0, 3.0, 3.0, 0.0))
         layout = lay_out(nodes, links)
         self.assertEqual((len(layout.points), tangles(layout.points, links, layout.radius)), (9, 0))
@@ -213,6 +214,7 @@ class Labels(unittest.TestCase):
             x, y = view.layout.points[node]
             width = max(form.widest_pill, text_width(label.text, form.size))
             left = {"start": 0.0, "middle": -width / 2, "end": -width}[label.anchor] + x + label.x
+            # The upper and lower edges of the name and of the rule's frame, either of which may be above the other.
             lines = sorted((label.name_y - form.size, label.name_y + 0.25 * form.size, label.pill_y - 0.7 * form.pill, label.pill_y + 0.7 * form.pill))
             found[node] = Box(left, y + lines[0], left + width, y + lines[-1])
         return found

@@ -79,7 +79,7 @@ class Lesson(InRoom):
                 chosen[rest[1]] = rest[0]
             elif word == "close":
                 found.update(chosen.values())
-            if word != "grant":
+            if word != "grant":  # A close or a fault. The lesson has no `release`, which would drop a single move.
                 chosen.clear()
         return found
 

@@ -224,7 +224,7 @@ class Mark(InRoom):
         lab = self.room / "lab.toml"
         made = call_class("new", lab, "--students", students, "--family", "path")
         self.assertEqual(made.returncode, 0, made.stderr)
-        table = made.stdout.split("\n\n")[1].split("\n")
+        table = made.stdout.split("\n\n")[1].split("\n")  # The students' table is the second paragraph.
         self.assertRegex(table[1], r"^Zoë\\xa0Müller \(s\\u200d0\) +zoe-mueller +lab +1$")
         self.assertEqual({line.index("lab ") for line in table[1:]}, {table[0].index("network ")})
         self.assertTrue(all(map(str.isprintable, lab.read_text(encoding="utf-8").split("\n"))))

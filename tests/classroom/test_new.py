@@ -231,6 +231,7 @@ class New(InRoom):
         """Makes labs by rooms with these options, and checks the status. `sizes` has the number of students in each
         room, and the list has them room by room. Returns the output."""
         names = [f"Student {room} {number},{room}" for room, size in sizes.items() for number in range(size)]
+        # The reversed lines begin with the room, so sorting by them keeps the rooms together.
         students = self.file("rooms.csv", "Name,Room\n" + "\n".join(sorted(names, key=lambda line: line[::-1])) + "\n")
         done = call_class("new", self.room / "lab.toml", "--students", students, "--groups-by", "room", "--family", "path", *more)
         self.assertEqual(done.returncode, status, done.stderr)
@@ -249,9 +250,10 @@ class New(InRoom):
 
     def test_each_room_has_the_least_number_of_networks_in_which_all_its_students_have_a_seat(self) -> None:
         """The students of a room are divided evenly among its networks."""
-        many = 2 * SEATS + 1
+        many = 2 * SEATS + 1  # one more than the seats of two networks
         told = self.new_by_rooms({"A": many, "B": SEATS, "C": 2})
         self.assertNotIn("note", told)
+        # The three sizes for room A differ by one at most, and their sum is `many`.
         self.assertEqual(sorted(self.sizes()), [*(("A", (many + at) // 3) for at in range(3)), ("B", SEATS), ("C", 2)])
 
     def test_with_groups_the_rooms_share_this_number_of_networks_by_their_sizes(self) -> None:

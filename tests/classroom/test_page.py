@@ -78,7 +78,8 @@ class Live(InRoom):
         return shown(self.driver)
 
     def ask(self, verb: str, path: str, body: str | bytes | None = None, **head: str) -> tuple[int, bytes]:
-        """Sends a request to the page's server. Returns the status and the bytes of the answer."""
+        """Sends a request with the headers `head` to the page's server. Returns the status and the bytes of the
+        answer."""
         connection = http.client.HTTPConnection("127.0.0.1", urlsplit(self.address).port or 0, timeout=60)
         try:
             connection.request(verb, path, body, head)
@@ -102,7 +103,7 @@ class Live(InRoom):
     def student(self, name: str) -> Client:
         """Connects as the student with this name. Returns the connection, which is closed after the test."""
         client = Client(self.going.port, name, self.keys[name])
-        self.addCleanup(client.__exit__, OSError, None, None)
+        self.addCleanup(client.__exit__, OSError, None, None)  # As after an error, so that no bye is sent.
         return client
 
     def test_the_page_shows_students_moves_and_the_teacher_closes_sets_links_cuts_and_releases_on_it(self) -> None:
@@ -111,7 +112,7 @@ class Live(InRoom):
         self.assertEqual(shown(self.driver)[0], {"place": "0", "number": "0", "privileged": "3", "pairs": "0"})
         gus, ines, jonas = map(self.student, ("gus", "ines", "jonas"))
         gus.move(gus.look(4))
-        self.assertEqual(self.sees("grant gus 4 update")[1][3]["chosen"], "update")
+        self.assertEqual(self.sees("grant gus 4 update")[1][3]["chosen"], "update")  # Node 4 has the index 3.
         ines.move(ines.look(3))
         jonas.move(jonas.look(7))
         self.sees("grant jonas 7 abandonment")
@@ -321,7 +322,7 @@ class Live(InRoom):
             lines = b""
             while b"fault 1 2 true" not in lines:
                 lines += told_lines.readline()
-        message = json.loads(next(line for line in lines.split(b"\n") if line.startswith(b"data: "))[6:])
+        message = json.loads(next(line for line in lines.split(b"\n") if line.startswith(b"data: ")).removeprefix(b"data: "))
         self.assertTrue(message["begin"])
         for key in (*self.keys.values(), read(CYCLE).teacher[1], parts.path.strip("/")):
             self.assertNotIn(key.encode(), page + lines)

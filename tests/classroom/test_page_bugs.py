@@ -62,7 +62,7 @@ class Bugs(unittest.TestCase):
 
     def test_the_named_tests_pass_on_pages_without_a_bug(self) -> None:
         """Here the replacement only adds an attribute that nothing reads."""
-        for of, test in {plant[3] for plant in PLANTS}:
+        for of, test in {finder for *_, finder in PLANTS}:
             with self.subTest(test):
                 found = run_on_changed_pages(of, test, "<body class=\"player\">", "<body class=\"player\" data-planted=\"none\">")
                 self.assertEqual([trace for _, trace in (*found.errors, *found.failures)], [])

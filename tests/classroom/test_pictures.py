@@ -39,6 +39,7 @@ def unfiltered(kind: int, row: bytes, above: bytes, step: int) -> bytes:
         elif kind == 3:
             guess = (left + up) // 2
         else:
+            # Paeth's guess is the nearest of the three to this sum. The second number decides if two are equally near.
             far = left + up - corner
             guess = min((abs(far - left), 0, left), (abs(far - up), 1, up), (abs(far - corner), 2, corner))[2]
         out[at] = (out[at] + guess) & 255
@@ -47,6 +48,8 @@ def unfiltered(kind: int, row: bytes, above: bytes, step: int) -> bytes:
 
 def colours_of(png: bytes) -> Counter[str]:
     """Returns the number of pixels of each colour in a PNG. Fails if its pixels have a form that isn't in BYTES."""
+    # After the eight bytes of the signature there are chunks: the size of the data, a name of four bytes, the data, and
+    # a checksum of four bytes. The first chunk is the header.
     wide, high, depth, kind, _, _, interlaced = struct.unpack(">IIBBBBB", png[16:29])
     assert depth == 8 and kind in BYTES and not interlaced, "another kind of PNG"
     data, at = b"", 8
@@ -57,7 +60,7 @@ def colours_of(png: bytes) -> Counter[str]:
     content, step = zlib.decompress(data), BYTES[kind]
     size = step * wide
     above, found = bytes(size), Counter[str]()
-    for at in range(0, high * (size + 1), size + 1):
+    for at in range(0, high * (size + 1), size + 1):  # Each row begins with a byte for its filter.
         above = unfiltered(content[at], content[at + 1:at + 1 + size], above, step)
         found.update(f"#{above[point:point + 3].hex()}" for point in range(0, size, step))
     return found

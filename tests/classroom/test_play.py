@@ -164,8 +164,8 @@ def attributes(picture: Path) -> tuple[dict[str, str], list[dict[str, str]]]:
 def attributes_of(root: ElementTree.Element) -> tuple[dict[str, str], list[dict[str, str]]]:
     """Returns the data attributes of a drawing's element, and those of each node in it."""
     groups: list[Any] = [group for group in root.iter() if (group.get("class") or "").split(" ")[0] == "node"]
-    nodes = [{name[5:]: value for name, value in group.items() if name.startswith("data-")} for group in groups]
-    data = {name[5:]: value for name, value in root.items() if name.startswith("data-")}
+    nodes = [{name.removeprefix("data-"): value for name, value in group.items() if name.startswith("data-")} for group in groups]
+    data = {name.removeprefix("data-"): value for name, value in root.items() if name.startswith("data-")}
     return data, sorted(nodes, key=lambda node: int(node["node"]))
 
 

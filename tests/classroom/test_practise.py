@@ -79,7 +79,7 @@ class Practise(InRoom):
         assert going.stdout is not None
         self.addCleanup(going.stdout.close)
         address = next(line for line in going.stdout if line.startswith("page to play on: ")).split()[-1]
-        name, key = re.findall("=([^&]+)", address)
+        name, key = re.findall("=([^&]+)", address)  # The address ends with `#name=NAME&key=KEY`.
         rows = Rows(address.partition("#")[0], name, key)
         self.addCleanup(rows.connection.close)
         token, rules = rows.next()["token"], []
@@ -200,7 +200,8 @@ class Practise(InRoom):
         self.assertTrue(any(line.startswith("the network is stable; pairs: 1-2; ") for line in rest), rest)
 
     def plays(self, me: Client, node: int) -> None:
-        """Asks for the enabled moves of a node until it has none and its `m` is true, but not longer than LIMIT."""
+        """Asks for the enabled moves of a node until it has none and its `m` is true, but not longer than LIMIT
+        seconds."""
         end = time.monotonic() + LIMIT
         while time.monotonic() < end:
             look = me.look(node)

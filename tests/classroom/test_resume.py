@@ -35,7 +35,8 @@ class Players:
         self.thread.start()
 
     def play(self) -> None:
-        """Plays, in the thread, until the server closes a connection or `end` is called."""
+        """Says hello as each student and as the second teacher, and plays until the server closes a connection or `end`
+        is called. Runs in the thread."""
         lab = read(CYCLE)
         clients: dict[str, Client] = {}
         try:
@@ -177,8 +178,8 @@ class Resume(Cycle):
         self.assertEqual(len(set(numbers)), len(numbers))
 
     def limited(self, kilobytes: int) -> Path:
-        """Returns a host whose files are limited to this many kilobytes, including its copy of the lab. For the
-        host this is a full disk."""
+        """Writes a script that starts the host with a limit of this many kilobytes on each file, also on its copy of
+        the lab. For the host this is a full disk. Returns the script's path."""
         limited = self.file("host", f'#!/bin/bash\ntrap "" XFSZ\nulimit -f {kilobytes}\nexec "{host()}" "$@"\n')
         limited.chmod(0o755)
         return limited

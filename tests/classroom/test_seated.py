@@ -61,7 +61,9 @@ def take_seat(desk: int) -> str:
     it = socket.create_connection(("127.0.0.1", desk), LIMIT)
     it.sendall(json.dumps({"do": "hello", "name": "gus", "key": KEYS["gus"]}).encode() + b"\n")
     reply = it.makefile("rb").readline().decode()
-    os.set_inheritable(it.detach(), True)  # The desk is held as long as this process runs.
+    # `detach` keeps the connection open after this function returns, as long as this process runs. A program that the
+    # process becomes or starts could inherit it, but the relay starts none.
+    os.set_inheritable(it.detach(), True)
     return reply
 
 
@@ -81,15 +83,16 @@ class Seated(Cycle):
     """Runs of the cycle of `examples/`."""
 
     def write_relay(self, what: str) -> str:
-        """Writes a relay that does `what` at the desk, `take_seat` or `wait_for_connection`, before it passes on the host's first
-        line. Returns its path."""
+        """Writes a relay that calls the function `what`, `take_seat` or `wait_for_connection`, before it passes on the
+        host's first line. Returns its path."""
         text = RELAY.format(top=str(TOP), host=str(host()), what=what, file=str(self.room / "told"))
         it = self.file("relayed", text)
         it.chmod(0o755)
         return str(it)
 
     def relay_result(self) -> str:
-        """Returns what the relay wrote about the desk: the reply to its hello, or whether somebody came."""
+        """Returns what the relay's function returned: the reply to its hello, or a text that says whether somebody
+        came."""
         return (self.room / "told").read_text(encoding="utf-8")
 
     def killed(self) -> tuple[Going, Record]:
@@ -217,7 +220,7 @@ class Seated(Cycle):
             self.assertLess(time.monotonic(), end)
             seen.add(frozenset(own for own, _, state, _ in rows() if state == LISTENING and own in (port, desk)))
         self.assertEqual(seen - {frozenset()}, {frozenset({desk}), frozenset({port, desk})})
-        with Client(port, "gus", KEYS["gus"]), Client(desk, *TESS):
+        with Client(port, "gus", KEYS["gus"]), Client(desk, *TESS):  # The bye of the teacher ends the host.
             pass
         self.assertEqual(it.wait(LIMIT), 0)
 

@@ -65,7 +65,7 @@ class Lines(unittest.TestCase):
         self.assertRegex(now_table([one]).split("\n")[1], "20 of 100 +-$")
 
     def test_why_a_network_is_down(self) -> None:
-        """The alarm has these lines of a network's run."""
+        """A line of a network's run that says why the network is down matches DIED. The alarm has this line."""
         for line in ("the server has ended, by the signal SIGKILL", "nothing more is granted: the journal's file was changed. Undo it",
                      "the desk can't be used, because it has no connection to the server: no answer in 30 seconds"):
             self.assertIsNotNone(DIED.fullmatch(line), line)
@@ -119,7 +119,8 @@ class OneDesk(Classes):
         self.assertEqual([line for line in desk.lines[:first] if line.startswith(("maths-1", "maths-2"))], [], desk.lines)
 
     def check_subcommands(self, desk: GoingClass) -> None:
-        """Checks that the subcommands that take the folder of a run also take that of a class."""
+        """Checks that `mark`, `history` and `key`, which take the folder of a run, also take that of a class. Changes
+        the key of jose-garcia."""
         done = call_class("mark", "--csv", *(self.room / "runs").glob("*-maths"))
         self.assertEqual(done.returncode, 0, done.stderr)
         # Each of the eight students has a row, which names the journal.
@@ -146,7 +147,9 @@ class OneDesk(Classes):
         before = len(desk.lines)
         desk.type("key zoe\nnetworks")
         desk.until("^1  maths-1 ")
-        said = [line for line in desk.lines[before:-2] if not line.startswith("maths-2: ")]  # The desk hasn't printed the other key yet.
+        # The last two lines are the head of the table and its first row. The run of maths-2, which has the new key, may
+        # still print lines.
+        said = [line for line in desk.lines[before:-2] if not line.startswith("maths-2: ")]
         self.assertEqual(said, ["there is no student zoe in this class"])
         desk.type(f"1 key {students[1][0]}")
         desk.until(f"^maths-1: there is no student {students[1][0]}. The students are: {students[0][0]}, ")

@@ -41,7 +41,8 @@ class Counted(unittest.TestCase):
             "event 6: stable again after 2 moves, 1 step and 1 round (at most 8 moves and 4 rounds, as is proved)"])
 
     def test_a_recovery_of_which_a_close_was_missed_has_no_counts(self) -> None:
-        """The recovery after it is counted again."""
+        """The recovery after it is counted again. `close` gets the nodes that moved, and those that were privileged
+        before and after the close."""
         it = Comeback(read(CYCLE))
         self.assertEqual(it.close([1], [1, 2], [2]), "")
         it.miss()

@@ -317,7 +317,7 @@ class Sizes(Played):
 
     def check_fits(self, has_controls: bool) -> None:
         """Checks that the open page fits into each window without being scrolled, and that its picture is large enough
-        on a phone and on a projector. The bar is higher if it has controls."""
+        on a phone and on a projector. Its texts can be read in both themes. The bar is higher if it has controls."""
         found = self.measure(PHONE)
         self.assertLessEqual((found["wide"], found["high"]), PHONE)
         self.assertGreater(found["scale"], 0.8)
@@ -328,6 +328,7 @@ class Sizes(Played):
                 left, top, right, bottom = found[name]
                 self.assertTrue(0 <= left < right <= size[0] and 0 <= top < bottom <= size[1], (size, name, found))
             self.assertLessEqual(found["hidden"], 1, (size, found))
+        # `found` has the sizes in the last window, that of a projector.
         self.assertGreaterEqual(found["scale"], 1.3)
         self.assertLess(found["controls"][3] - found["controls"][1], 130 if has_controls else 70)
         for size in WINDOWS:

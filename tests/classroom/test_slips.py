@@ -364,6 +364,7 @@ class Talking(Cycle):
         said = call(*BY_HAND, self.slip(going.port, "gus"), "--log", log, typed='{"do":"look"}\n{"do":"look","node":4}\n{"do":"bye"}\n')
         self.assertEqual(said.returncode, 0, said.stderr)
         replies = [json.loads(line) for line in said.stdout.splitlines()]
+        # The first two replies are `{"ok":"hello","who":"gus"}` and `{"refuse":"malformed"}`.
         self.assertEqual([list(reply.values())[-1] for reply in replies[:2]], ["gus", "malformed"])
         self.assertEqual([reply["ok"] for reply in replies[2:]], ["look", "bye"])
         self.assertEqual(said.stderr, 'client: the key "node" is missing\n')

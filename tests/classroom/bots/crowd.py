@@ -44,7 +44,8 @@ def come(slip: Slip) -> Client:
 
 
 def turns(me: Client, slip: Slip) -> None:
-    """Looks at the nodes of a slip, and asks for the rules that looks show, again and again."""
+    """Looks at the nodes of a slip, and asks for the rules that looks show, again and again. Raises each denial or
+    refusal after which a bot can't go on."""
     while True:
         for node in slip.nodes:
             try:

@@ -50,7 +50,7 @@ def entered() -> Client:
 
 def once(wants: Callable[[Client, Look], None], pause: float = PAUSE) -> None:
     """Looks at the slip's nodes again and again on one connection, with a pause after all nodes. Calls `wants` with
-    each look."""
+    each look. Ignores the refusal `memory`, and ends only by another error."""
     with entered() as me:
         while True:
             for node in SLIP.nodes:
@@ -121,7 +121,8 @@ def floods(me: Client, look: Look) -> None:
 
 
 def ignores_faults() -> None:
-    """Stops when each of its nodes has been granted the move that marks it as married."""
+    """Asks for no more moves when each of its nodes has been granted the update that sets m to true. From then on it
+    only looks at its first node."""
     left = set(SLIP.nodes)
     with Client.of(SLIP) as me:
         while left:
@@ -150,7 +151,7 @@ def hangs() -> None:
 
 
 def sulks() -> None:
-    """Waits for ever after its connection is closed."""
+    """Plays correctly, but waits for ever after its connection is closed."""
     try:
         once(right)
     except Closed:
@@ -187,7 +188,7 @@ def leaves() -> None:
 
 
 def bombs() -> None:
-    """Starts more and more copies of itself."""
+    """Starts more and more programs, each of which sleeps in its own session."""
     while True:
         subprocess.Popen(["sleep", SLEEP], start_new_session=True)
 
@@ -231,7 +232,8 @@ def halts() -> None:
 
 
 def kills() -> None:
-    """Kills the process that started it, and leaves programs running that don't have its environment."""
+    """Kills the process that started it, its keeper, and leaves programs running that don't have its environment. If
+    the keeper survives, ends with status 3. Otherwise becomes such a program itself."""
     for _ in range(3):
         subprocess.Popen(["/bin/sleep", SLEEP], start_new_session=True, env={"HOME": "/"})
     keeper = os.getppid()
@@ -263,13 +265,15 @@ def spoils() -> None:
 
 
 def copies() -> None:
-    """Looks for the command of another bot, and runs it with its own slip. Gives up after a while."""
+    """Looks for the command of another bot, and runs it with its own slip. Ends with status 3 if it finds none for a
+    while."""
     for _ in range(100):
         for each in Path("/proc").glob("[0-9]*"):
             try:
                 words = (each / "cmdline").read_bytes().split(b"\0")[:-1]
             except OSError:
                 continue
+            # A bot's last argument is its slip. The keepers of bots, which aren't bots, are called with `-S`.
             if words and words[-1].endswith(b"/bot.slip") and FAULT.encode() not in words and b"-S" not in words:
                 os.execv(words[0], [*words[:-1], os.fsencode(OWN)])
         time.sleep(PAUSE)
@@ -277,7 +281,7 @@ def copies() -> None:
 
 
 def fills() -> None:
-    """Fills its folder."""
+    """Writes many megabytes into its folder."""
     for number in range(100):
         try:
             Path(f"filled-{number}").write_bytes(bytes(8 << 20))
@@ -301,6 +305,7 @@ def shares_memory() -> None:
     libc = ctypes.CDLL(None)
     libc.shmat.restype = ctypes.c_void_p
     for _ in range(100):
+        # 0o1600 makes a new segment (IPC_CREAT) that only its owner may read and write.
         place = libc.shmat(libc.shmget(0, ctypes.c_size_t(8 << 20), 0o1600), None, 0)
         ctypes.memset(place, 1, 8 << 20)
         libc.shmdt(ctypes.c_void_p(place))
@@ -309,7 +314,7 @@ def shares_memory() -> None:
 
 
 def links() -> None:
-    """Replaces its output file by a link, and ends."""
+    """Replaces its output file by a link to the path in GIVEN, and ends."""
     output = OWN.parent / "output.txt"
     output.unlink(missing_ok=True)
     output.symlink_to(GIVEN[0])
@@ -317,7 +322,7 @@ def links() -> None:
 
 
 def moves_out() -> None:
-    """Replaces its folder by a link to another folder, and ends."""
+    """Replaces its folder by a link to the folder in GIVEN, and ends."""
     OWN.parent.rename(f"{OWN.parent}-moved")
     OWN.parent.symlink_to(GIVEN[0])
     os._exit(3)
@@ -333,7 +338,8 @@ def digs() -> None:
 
 
 def tries(what: Callable[[], object]) -> str:
-    """Calls a function, and returns as a text whether it succeeded."""
+    """Calls a function. Returns the text `True` if the result is true, and `False` if it isn't or the function raises
+    `OSError`."""
     try:
         return str(bool(what()))
     except OSError:
@@ -341,7 +347,8 @@ def tries(what: Callable[[], object]) -> str:
 
 
 def peeks() -> None:
-    """Prints in its last line which files it can read and write, and what else it can do."""
+    """Prints which files it can read and write, and what else it can do, in a line that is its last. GIVEN has a port
+    to which it tries to connect, and the paths of the files."""
     found = [f"read {file.name}: {tries(file.read_bytes)}" for file in map(Path, GIVEN[1:])]
     found += [f"write {file.name}: {tries(lambda: os.access(file, os.W_OK))}" for file in map(Path, GIVEN[1:])]
     found += [f"connect: {tries(lambda: socket.create_connection(('127.0.0.1', int(GIVEN[0]))))}"]

@@ -13,8 +13,8 @@ THINKING, WAITING = 0.3, 0.5  # seconds
 
 
 def ask(me: Client, nodes: tuple[int, ...]) -> None:
-    """Looks at one node after another, and waits before it asks for the enabled rule. Raises a denial or refusal after
-    which a bot can't go on."""
+    """Looks at one node after another, again and again, and waits before it asks for the enabled rule. Raises a denial
+    or refusal after which a bot can't go on."""
     while True:
         for node in nodes:
             try:

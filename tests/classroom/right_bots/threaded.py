@@ -57,6 +57,7 @@ class Bot:
             except (Closed, Refused) as lost:
                 with self.lock:
                     try:
+                        # If the other thread has connected again already, its connection is kept.
                         self.me = self.me if self.me is not me else again(self.slip, lost)
                     except (Closed, Refused) as error:
                         os._exit(stop(error)[0])

@@ -1,6 +1,7 @@
 """Bots with mistakes in their requests and their timing.
 
-A method without a docstring replaces the method of `base.Bot` as the docstring of its class says.
+A method without a docstring replaces the method of `base.Bot` as the docstring of its class says. Values that a bot
+remembers are in `__dict__`, so that it needs no `__init__`.
 """
 from __future__ import annotations
 
@@ -77,6 +78,7 @@ class TakesTheNewestNumber(Bot):
         looks = [self.me.look(node) for node in self.slip.nodes]
         newest = max(look.at for look in looks)
         for look in looks:
+            # The reply to `see` may have a number that is newer than that of each look.
             self.at(Look(look.node, look.p, look.m, max(newest, self.me.see(look.near[0].node).at), look.rule, look.chosen, look.near))
 
 

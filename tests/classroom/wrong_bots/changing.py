@@ -1,6 +1,7 @@
 """Bots with mistakes after a change during a run: of a register, a neighbour or a connection.
 
-A method without a docstring replaces the method of `base.Bot` as the docstring of its class says.
+A method without a docstring replaces the method of `base.Bot` as the docstring of its class says. Values that a bot
+remembers are in `__dict__`, so that it needs no `__init__`.
 """
 from __future__ import annotations
 
@@ -121,7 +122,7 @@ class WaitsForItsMove(Bot):
 
 
 class TakesTheLookBefore(Bot):
-    """Asks under the number of the look before the last one."""
+    """Asks with the number of its previous look at the node, and after the first look with that look's own."""
 
     def at(self, look: Look) -> None:
         before: dict[int, int] = self.__dict__.setdefault("before", {})
@@ -252,11 +253,12 @@ class KeepsHalfAReply(Reads):
     first reply."""
 
     def reading(self, it: Client) -> Client:
-        """Returns the connection after it has got the kept part. A line of it that isn't JSON raises an error."""
+        """Prepends the kept part to the bytes that the connection `it` has received, and returns the connection. From
+        then on, a line that isn't JSON raises `ValueError`."""
         it._rest, whole = self.__dict__.pop("half", b"") + it._rest, it._line
 
         def line() -> bytes:
-            """Returns the next line. Exits if it isn't JSON."""
+            """Returns the next line. Raises `ValueError` if it isn't JSON."""
             found = whole()
             json.loads(found)
             return found

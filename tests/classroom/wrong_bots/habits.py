@@ -1,6 +1,7 @@
 """Bots with bad habits: no pause, too many connections, and values that are mistaken for others.
 
-A method without a docstring replaces the method of `base.Bot` as the docstring of its class says.
+A method without a docstring replaces the method of `base.Bot` as the docstring of its class says. Values that a bot
+remembers are in `__dict__`, so that it needs no `__init__`.
 """
 from __future__ import annotations
 
