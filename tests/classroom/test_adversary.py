@@ -45,7 +45,7 @@ class Search(unittest.TestCase):
         report = bench.begin(made)
         it.registers = {node: (p, m) for node, p, m in before}
         for nodes in ([privileged[0]], [privileged[-1]], privileged):
-            it.value_of(bench, report, nodes, 3)
+            it.value_of(bench, report, nodes, 3)  # Tries these moves and at most two more steps, and undoes all of them.
             self.assertEqual([(node.id, node.p, node.m) for node in bench.present().nodes], before)
             self.assertEqual(it.registers, {node: (p, m) for node, p, m in before})
         # The search has set the number in `report` to that of the present configuration, so a move is granted.

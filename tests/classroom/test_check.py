@@ -53,6 +53,7 @@ class Check(InRoom):
         self.assertEqual(self.says(0), "ok: 3 nodes, 2 links, 2 students\n")
 
     def test_for_a_refused_lab_the_error_its_line_and_a_suggestion_are_printed(self) -> None:
+        """The program's errors number nodes, links and people from 0. Person 0 is the teacher."""
         self.says(2, "lab: node 2: no such owner", 'line 27 (the node with identifier 17): owner = "jo"',
                   change=('id = 17\nowner = "jonas"', 'id = 17\nowner = "jo"'))
         self.says(2, "lab: node.owner is missing", "line 27: onwer isn't known here. Did you mean owner?",
@@ -208,6 +209,8 @@ class Tables(unittest.TestCase):
                          [(2, "node", ABOVE), (3, "kei", "key")])
 
     def test_known_tables_in_braces_are_found_with_the_lines_of_their_keys(self) -> None:
+        """Each row has the lines of a file, and the number of ana's line. The table of ben is on the next line. The
+        first table that is found is the document itself."""
         ana, ben = "{ name = 'ana', key = '{' }", '{ name = "ben", key = "]" }'
         shapes: tuple[tuple[tuple[str, ...], int], ...] = (
             ((f"student = [{ana},", f"  {ben}]"), 1), ((f"student = [ {ana},", ben, "]"), 1),

@@ -119,6 +119,8 @@ class Striking(unittest.TestCase):
     """The moves that remain at a close under a central daemon."""
 
     def test_all_moves_but_the_first_are_released_also_those_granted_meanwhile(self) -> None:
+        """The move of node 3 was granted first. While others are released, node 2 gets a granted move, and then node
+        4."""
         desk = StandInDesk([4, 2])
         Striker().strike(desk)  # type: ignore[arg-type]
         self.assertEqual(desk.done, [1, 2, 4, "close of [3]"])

@@ -297,6 +297,7 @@ class Kept(InRoom):
     """The lines of a run in its folder."""
 
     def test_each_kept_line_has_its_hour_and_minute_and_lines_for_the_terminal_are_not_kept(self) -> None:
+        """The functions in `also` get each kept line too. `alone` prints a line only in the terminal."""
         tell, heard = Teller(self.room), list[str]()
         tell.also.append(heard.append)
         with contextlib.redirect_stdout(io.StringIO()) as printed:

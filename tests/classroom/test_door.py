@@ -321,7 +321,7 @@ class Bots(AtDoor):
 
     def test_the_process_of_the_door_ends_by_itself_after_the_run_of_its_last_network(self) -> None:
         self.lines("maths")
-        self.door.closes.set()
+        self.door.closes.set()  # so that the door isn't opened again when its process ends
         record = Record.read(self.room / "run-maths")
         assert record is not None
         # The process with this number has another start, so the one that the new record names counts as ended.
