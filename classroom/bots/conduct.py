@@ -114,8 +114,9 @@ class Conduct:
             self.note_fault(f"the bot asks for a move of node {node} with `at` {at}, but none of its looks at node {node} had this `at`: look at the node "
                             "first, and ask with the `at` of that look")
         self.asked += 1
-        self.behind += at != self.newest.get(node, at)
-        if self.behind > MOST_BEHIND and SHARE * self.behind > self.asked:
+        is_behind = at != self.newest.get(node, at)
+        self.behind += is_behind
+        if is_behind and self.behind > MOST_BEHIND and SHARE * self.behind > self.asked:
             self.note_fault("the bot asks again and again with an `at` that isn't the one of its last look at the node, for instance for "
                             f"node {node} with `at` {at}: ask with the `at` of your last look at node {node}, which is {self.newest[node]}")
         if self.chosen.get(node) == at:

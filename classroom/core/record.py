@@ -83,7 +83,8 @@ class Reader:
         if len(words) == 3:
             return None
         if sign == RESUMED:
-            return Entry(seat, place, mark=sign, missed=int(words[3])) if words[3].isdigit() else None
+            missed = plain.number(words[3])
+            return None if missed is None else Entry(seat, place, mark=sign, missed=missed)
         if sign == ">":
             self.line = words[3]
         return Entry(seat, place, asked, words[3]) if sign == "<" and asked is not None else None

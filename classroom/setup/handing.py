@@ -6,7 +6,6 @@ from __future__ import annotations
 import argparse
 import csv
 import io
-import socket
 from dataclasses import replace
 from pathlib import Path
 
@@ -15,6 +14,7 @@ from classroom.core import lab as labs
 from classroom.core.program import LAST_PORT, Fault
 from classroom.core.printable import guarded
 from classroom.door import certificate
+from classroom.door.opening import own_host_name
 from classroom.door.routes import network
 from classroom.setup import printed, slips
 from classroom.setup.slips import FIRST_PAGE, FIRST_PORT, Way
@@ -43,12 +43,6 @@ def door(word: str) -> str:
     except NoSlip as error:
         raise argparse.ArgumentTypeError(str(error)) from None
     return place
-
-
-def own_host_name() -> str:
-    """Returns the full name of this machine in its network, or its short host name if no full name is known."""
-    name = socket.getfqdn()
-    return socket.gethostname() if name.startswith("localhost") else name
 
 
 def add_way(words: argparse.ArgumentParser) -> None:

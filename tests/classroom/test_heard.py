@@ -173,7 +173,7 @@ class Listened(InRoom):
         self.assertEqual(Heard(self.room / "none", read(CYCLE)).look(0, self.now), [])
         (self.folder / "3.record").mkdir()
         # The last line is a granted hello, but a reply that follows no request is no entry.
-        self.put(2, "nonsense\n\n2 x > y\n2 0 < {\n2 0 > x\n2 0 < no reply\n\xff\n" + '2 0 < {"ok":"hello","who":"hana"}\n')
+        self.put(2, "nonsense\n\n2 x > y\n2 0 < {\n2 0 > x\n2 0 < no reply\n\xff\n2 0 + " + 5000 * "9" + "\n" + '2 0 < {"ok":"hello","who":"hana"}\n')
         self.greet(5, "gus")
         self.assertEqual(self.news(), ["connected: gus"])
 

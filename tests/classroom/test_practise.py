@@ -13,11 +13,27 @@ import unittest
 from pathlib import Path
 from urllib.parse import urlsplit
 
+from classroom.bots.conduct import MOST_BEHIND, Conduct
 from classroom.client import Client, Closed, Denied, Slip
 from classroom.core.program import TOP, call
 from tests.classroom.help import EXAMPLES, LIMIT, InRoom, Rows, call_class
 
 FAULTY = TOP / "tests/classroom/bots/faulty.py"
+
+
+class OneConduct(unittest.TestCase):
+    """The check of a program's requests, without a class."""
+
+    def test_after_many_old_numbers_a_move_of_a_node_that_it_never_looked_at_is_no_error(self) -> None:
+        conduct = Conduct()
+        for at in (1, 2):
+            conduct.take({"do": "look", "node": 1}, {"ok": "look", "node": 1, "at": at}, True)
+        for _ in range(MOST_BEHIND + 1):
+            self.assertEqual(conduct.wrong, "")
+            conduct.take({"do": "move", "node": 1, "at": 1}, {"deny": "guard"}, True)
+        self.assertIn("which is 2", conduct.wrong)
+        conduct.take({"do": "move", "node": 9, "at": 2}, {"deny": "guard"}, True)
+        self.assertIn("which is 2", conduct.wrong)
 
 
 class Practise(InRoom):
