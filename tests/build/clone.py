@@ -109,14 +109,14 @@ class InClone(unittest.TestCase):
         return subprocess.run(words, cwd=self.clone, stdin=subprocess.DEVNULL, capture_output=True, text=True,
                               env=self.environment(**more), timeout=LIMIT, check=False)
 
-    def started(self, *words: str | Path) -> subprocess.Popen[str]:
+    def start(self, *words: str | Path) -> subprocess.Popen[str]:
         """Starts a command of the clone as the leader of a group of processes, and waits until the stand-in has come to
         the crate that the setting `waits` names. Returns its process. Fails if it ends before."""
         (self.room / "pids").unlink(missing_ok=True)
         going = subprocess.Popen(words, cwd=self.clone, stdin=subprocess.DEVNULL, stdout=subprocess.PIPE, stderr=subprocess.PIPE,
                                  text=True, env=self.environment(), start_new_session=True)
         self.addCleanup(self.clear, going)
-        self.waits(lambda: self.pids() or going.poll() is not None)
+        self.wait_until(lambda: self.pids() or going.poll() is not None)
         if going.poll() is not None:
             self.fail(str(going.communicate()))
         return going
@@ -127,13 +127,13 @@ class InClone(unittest.TestCase):
         text = (self.room / "pids").read_text(encoding="utf-8") if (self.room / "pids").exists() else ""
         return [int(it) for it in text.split()]
 
-    def ended(self, going: subprocess.Popen[str]) -> str:
+    def wait_for_end(self, going: subprocess.Popen[str]) -> str:
         """Waits until the command `going` and the stand-in have ended. Returns the command's standard error."""
         _, error = going.communicate(timeout=LIMIT)
-        self.waits(lambda: not is_there(self.pids()[0]))
+        self.wait_until(lambda: not is_there(self.pids()[0]))
         return str(error)
 
-    def waits(self, holds: object) -> None:
+    def wait_until(self, holds: object) -> None:
         """Waits until the function `holds` returns a true value. Fails after a time limit."""
         assert callable(holds)
         until = time.monotonic() + LIMIT

@@ -125,12 +125,12 @@ class Builds(InClone):
         git = self.clone / ".git"
         git.mkdir()
         self.set("waits", "left")
-        going = self.started("./mml", "build")
+        going = self.start("./mml", "build")
         self.assertRegex(str(Path(f"/proc/{self.pids()[0]}/cwd").readlink()), f"^{re.escape(str(git))}/mml-build-[0-9]+-[^/]+/[0-9]+$")
         self.assertTrue(Path((self.room / "temporary").read_text(encoding="utf-8")).is_relative_to(self.temporary))
         os.kill(going.pid, signal.SIGTERM)
-        self.ended(going)
-        self.waits(lambda: not [*self.temporary.iterdir(), *git.iterdir()])
+        self.wait_for_end(going)
+        self.wait_until(lambda: not [*self.temporary.iterdir(), *git.iterdir()])
 
     def test_the_clone_gets_each_library_that_rt_check_has_not_built(self) -> None:
         """The clone gets the libraries. One that `rt check` built there, which has a stamp, stays."""
@@ -165,7 +165,7 @@ class Builds(InClone):
         said = b""
         while b"2 of 4 crates proved" not in said:
             said += os.read(ours, 1000)
-        self.waits(self.pids)
+        self.wait_until(self.pids)
         self.set("waits", "")
         os.kill(self.pids()[1], signal.SIGKILL)
         while b"4 of 4 crates proved" not in said:
@@ -225,12 +225,12 @@ class Builds(InClone):
         for number, is_group in ((signal.SIGINT, True), (signal.SIGTERM, False), (signal.SIGTERM, True), (signal.SIGHUP, True)):
             with self.subTest(number=number, is_group=is_group):
                 self.set("waits", "right")
-                going = self.started("./mml", "build")
+                going = self.start("./mml", "build")
                 (os.killpg if is_group else os.kill)(going.pid, number)
-                error = self.ended(going)
+                error = self.wait_for_end(going)
                 self.assertEqual(going.returncode, -number)
                 self.assertIn("mml: stopped; what is proved is kept, and the next build continues from there\n", error)
-                self.waits(lambda: not [*self.temporary.iterdir()])
+                self.wait_until(lambda: not [*self.temporary.iterdir()])
                 self.assertEqual([*self.clone.glob("crates/mml_*/out")] + [*self.clone.glob("crates/*/build.log")], [])
         self.set("waits", "")
         done = self.call("./mml", "build")
@@ -239,11 +239,11 @@ class Builds(InClone):
 
     def test_if_the_build_is_killed_rt_is_ended_and_the_next_build_cleans_up(self) -> None:
         self.set("waits", "right")
-        going = self.started("./mml", "build")
+        going = self.start("./mml", "build")
         rt = self.pids()[0]  # Its parent is the process of the build, a child of `./mml`.
         parent = Path(f"/proc/{rt}/stat").read_text(encoding="utf-8").rpartition(") ")[2].split()[1]
         os.kill(int(parent), signal.SIGKILL)
-        self.ended(going)
+        self.wait_for_end(going)
         self.assertFalse(is_there(rt))
         self.assertEqual(going.returncode, 128 + signal.SIGKILL)
         self.assertEqual(len([*self.temporary.iterdir()]), 2)

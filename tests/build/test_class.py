@@ -82,11 +82,11 @@ class SetsUp(InClone):
         """A signal ends the build and the command, which leaves nothing. The next command continues the build."""
         for number, is_group in ((signal.SIGINT, True), (signal.SIGINT, False), (signal.SIGTERM, False)):
             self.set("waits", "right")
-            going = self.started("./class", "new", *WORDS)
+            going = self.start("./class", "new", *WORDS)
             (os.killpg if is_group else os.kill)(going.pid, number)
-            self.ended(going)
+            self.wait_for_end(going)
             self.assertEqual((going.returncode, self.made()), (128 + number, []))
-            self.waits(lambda: not [*self.temporary.iterdir()])
+            self.wait_until(lambda: not [*self.temporary.iterdir()])
         self.set("waits", "")
         done = self.new()
         self.assertEqual(done.returncode, 0, done.stderr)

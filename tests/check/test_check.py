@@ -190,12 +190,12 @@ class Beside(InTree):
 
     def test_a_signal_to_the_check_ends_the_proofs_and_the_wrong_bodies(self) -> None:
         self.stand_in(part("well", WELL), wrong=GOES_ON, proofs="sleep 1000")
-        going = self.started()
+        going = self.start()
         going.send_signal(signal.SIGTERM)
         said, _ = going.communicate(timeout=LIMIT)
         self.assertRegex(said, "check: ended by SIGTERM, in proofs, wrong\n")
         self.assertEqual(going.returncode, 128 + signal.SIGTERM)
-        self.nothing_left()
+        self.check_nothing_left()
 
 
 class Ends(InTree):
@@ -207,7 +207,7 @@ class Ends(InTree):
         for name in ("begun", "pids"):
             (self.room / name).unlink(missing_ok=True)
         self.stand_in(part("well", WELL), part("on", GOES_ON))
-        going = self.started("quick")
+        going = self.start("quick")
         pids = [int(pid) for pid in (self.room / "pids").read_text(encoding="utf-8").split()]
         self.assertEqual([pid for pid in pids if not is_there(pid)], [])
         (os.killpg if whole_group else os.kill)(going.pid, number)
@@ -216,7 +216,7 @@ class Ends(InTree):
         self.assertRegex(said.splitlines()[-1], r"^[01] passed, [1-9]\d* failed$")
         self.assertRegex(said, f"check: ended by {number.name}, in (well, )?on\n")
         self.assertEqual([pid for pid in pids if is_there(pid)], [])
-        self.nothing_left()
+        self.check_nothing_left()
 
     def test_a_signal_to_its_process_ends_a_check_and_leaves_nothing(self) -> None:
         for number in (signal.SIGTERM, signal.SIGINT, signal.SIGHUP):
@@ -228,16 +228,16 @@ class Ends(InTree):
 
     def test_a_check_whose_output_nobody_reads_ends_with_status_1(self) -> None:
         self.stand_in(part("waits", WAITS), part("well", WELL))
-        going = self.started("quick")
+        going = self.start("quick")
         assert going.stdout is not None
         going.stdout.close()
         (self.room / "go").touch()
         self.assertEqual(going.wait(LIMIT), 1)
-        self.nothing_left()
+        self.check_nothing_left()
 
     def test_a_second_check_in_the_same_tree_is_refused_with_status_3(self) -> None:
         self.stand_in(part("waits", WAITS))
-        going = self.started("quick")
+        going = self.start("quick")
         for words in ("quick", "proofs", ""):
             second = self.check_beside(*words.split())
             self.assertEqual((second.returncode, second.stdout), (3, ""))
@@ -247,25 +247,25 @@ class Ends(InTree):
         self.assertEqual((going.returncode, said.splitlines()[-1]), (0, "1 passed, 0 failed"))
         self.assertEqual(self.check("quick").returncode, 0)
 
-    def killed(self, kill: Callable[[int], None]) -> int:
+    def kill_check(self, kill: Callable[[int], None]) -> int:
         """Starts a check, and calls `kill`, which kills a process, with the number of the check's process. Checks that
         nothing is left of the check, and that the next one passes. Returns the status of the killed check."""
         for name in ("begun", "pids"):
             (self.room / name).unlink(missing_ok=True)
         self.stand_in(part("on", GOES_ON))
-        going = self.started("quick")
+        going = self.start("quick")
         pids = [int(pid) for pid in (self.room / "pids").read_text(encoding="utf-8").split()]
         kill(going.pid)
         said, _ = going.communicate(timeout=LIMIT)  # the pipe ends with the last process of the check
         self.assertEqual([pid for pid in pids if is_there(pid)], [], said)
-        self.nothing_left()
+        self.check_nothing_left()
         self.stand_in(part("well", WELL))
         self.assertEqual(self.check_beside("quick").returncode, 0)
         return going.returncode
 
     def test_nothing_is_left_of_a_check_that_was_killed(self) -> None:
-        self.assertEqual(self.killed(lambda pid: os.kill(pid, signal.SIGKILL)), -signal.SIGKILL)
-        self.assertEqual(self.killed(lambda pid: os.killpg(pid, signal.SIGKILL)), -signal.SIGKILL)
+        self.assertEqual(self.kill_check(lambda pid: os.kill(pid, signal.SIGKILL)), -signal.SIGKILL)
+        self.assertEqual(self.kill_check(lambda pid: os.killpg(pid, signal.SIGKILL)), -signal.SIGKILL)
 
     def test_nothing_is_left_of_a_check_whose_child_was_killed(self) -> None:
         """The process of the check watches a child, which runs the parts."""
@@ -275,7 +275,7 @@ class Ends(InTree):
             self.assertEqual(len(children), 1)
             os.kill(children[0], signal.SIGKILL)
 
-        self.assertEqual(self.killed(kill_child_of), 128 + signal.SIGKILL)
+        self.assertEqual(self.kill_check(kill_child_of), 128 + signal.SIGKILL)
 
 
 if __name__ == "__main__":

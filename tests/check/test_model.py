@@ -65,7 +65,7 @@ class Called(unittest.TestCase):
         for name in ("model", "examples"):
             shutil.copytree(TOP / name, self.room / name, ignore=shutil.ignore_patterns("__pycache__"))
 
-    def called(self, *words: str | Path) -> tuple[int, str, str]:
+    def call(self, *words: str | Path) -> tuple[int, str, str]:
         """Runs the model with these arguments. Returns its exit status, its output and its standard error."""
         done = subprocess.run([sys.executable, "-B", "-m", "model", *words], cwd=self.room, capture_output=True, text=True, check=False)
         return done.returncode, done.stdout, done.stderr
@@ -80,22 +80,22 @@ class Called(unittest.TestCase):
         right = stored.read_text(encoding="ascii")
         wrong = right.replace('"ok":"close"', '"ok":"closed"', 1)
         stored.write_text(wrong, encoding="ascii")
-        status, out, error = self.called("--all")
+        status, out, error = self.call("--all")
         self.assertEqual((status, error, new.read_text(encoding="ascii"), stored.read_text(encoding="ascii")), (1, "", right, wrong))
         changed = [line for line in out.splitlines() if re.match(r"[-+]\d", line)]
         self.assertEqual([line[0] for line in changed], ["-", "+"], out)
         self.assertIn('"ok":"closed"', changed[0])
         self.assertIn("; 1 outputs differ from the stored files. The new outputs are in FILE.new\n", out)
         stored.write_text(right, encoding="ascii")
-        self.assertEqual(self.called("--all")[0], 0)
+        self.assertEqual(self.call("--all")[0], 0)
         self.assertFalse(new.exists())
 
     def test_wrong_command_lines_and_missing_files_have_their_errors(self) -> None:
         lab, journal = self.room / "examples/path.toml", self.room / "journal"
-        self.assertEqual(self.called("check", lab), (0, "ok: 6 nodes, 5 links, 6 students\n", ""))
+        self.assertEqual(self.call("check", lab), (0, "ok: 6 nodes, 5 links, 6 students\n", ""))
         calls: list[list[str | Path]] = [["serve", lab], ["check"], ["audit", lab], ["audit", lab, "-"], ["verify", lab, journal], []]
         for words in calls:
-            status, out, error = self.called(*words)
+            status, out, error = self.call(*words)
             self.assertEqual((status, out, error.splitlines()[0]), (1, "", "command line: not understood"), words)
         self.assertEqual(ended(["audit", str(lab), str(journal)]), Ended(4, b"", b"read fault: journal\n"))
         self.assertEqual(ended(["audit", str(journal), str(lab)]), Ended(4, b"", b"read fault: lab\n"))

@@ -55,7 +55,7 @@ class InTree(unittest.TestCase):
 
     def stand_in(self, *quick: Quick, proofs: str = "echo 5 passed, 0 failed", wrong: str = "echo 7 passed, 0 failed") -> None:
         """Sets the quick parts, and the shell lines of the proofs and of the wrong bodies. Notes which files the tree
-        has then, for `nothing_left`."""
+        has then, for `check_nothing_left`."""
         tables = TABLES.format(quick=[*quick], proofs=proofs, wrong=wrong)
         (self.tree / "tools/check/parts.py").write_text(self.original + tables, encoding="utf-8")
         self.stood = self.files()
@@ -74,7 +74,7 @@ class InTree(unittest.TestCase):
         """Runs the program of the tree, with these arguments and `more` in its environment, to its end. Checks that it
         leaves nothing. Returns its result."""
         done = self.check_beside(*words, program=program, **more)
-        self.nothing_left()
+        self.check_nothing_left()
         return done
 
     def check_beside(self, *words: str, program: str = "check", **more: str) -> subprocess.CompletedProcess[str]:
@@ -85,25 +85,25 @@ class InTree(unittest.TestCase):
             env=self.environment(**more), timeout=LIMIT, check=False,
         )
 
-    def nothing_left(self) -> None:
+    def check_nothing_left(self) -> None:
         """Checks that the tree has no new file, and the folder for temporary files no file."""
         self.assertEqual([*self.temporary.iterdir()], [])
         self.assertEqual(self.files(), self.stood)
 
-    def started(self, *words: str) -> subprocess.Popen[str]:
+    def start(self, *words: str) -> subprocess.Popen[str]:
         """Starts `./check` as the leader of a group of processes, and waits until one of its parts has made the file
         `begun`. Returns its process. Fails if the check ends before."""
         going = subprocess.Popen(
             [self.tree / "check", *words], stdin=subprocess.DEVNULL, stdout=subprocess.PIPE, stderr=subprocess.STDOUT,
             text=True, env=self.environment(), start_new_session=True,
         )
-        self.addCleanup(ended, going)
-        self.waits(lambda: (self.room / "begun").exists() or going.poll() is not None)
+        self.addCleanup(end_check, going)
+        self.wait_until(lambda: (self.room / "begun").exists() or going.poll() is not None)
         if going.poll() is not None:
             self.fail(going.communicate()[0])
         return going
 
-    def waits(self, holds: object) -> None:
+    def wait_until(self, holds: object) -> None:
         """Waits until the function `holds` returns a true value. Fails after a time limit."""
         assert callable(holds)
         until = time.monotonic() + LIMIT
@@ -112,7 +112,7 @@ class InTree(unittest.TestCase):
             time.sleep(0.02)
 
 
-def ended(going: subprocess.Popen[str]) -> None:
+def end_check(going: subprocess.Popen[str]) -> None:
     """Ends a check by SIGTERM if it is running, and waits for its end."""
     if going.poll() is None:
         going.terminate()

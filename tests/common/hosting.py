@@ -74,13 +74,13 @@ class Host:
         self.process.kill()
         self.process.communicate()
 
-    def killed(self) -> Ended:
+    def kill(self) -> Ended:
         """Kills the host. Returns its status, and its output after the first line."""
         self.process.kill()
         out, error = self.process.communicate()
         return Ended(self.process.returncode, out, error)
 
-    def runs(self) -> bool:
+    def is_running(self) -> bool:
         """Returns whether the host is running."""
         return self.process.poll() is None
 
@@ -93,7 +93,7 @@ class Host:
             fail(f"host: it doesn't end within {seconds} seconds")
         return Ended(self.process.returncode, out, error)
 
-    def dismissed(self, teacher: "Caller", seconds: float = LIMIT) -> Ended:
+    def dismiss(self, teacher: "Caller", seconds: float = LIMIT) -> Ended:
         """Says bye on the teacher's connection at the desk, which ends the class, and waits for the end of the host.
         Returns the host's status, and its output after the first line. Fails if the bye isn't answered, or if the host
         doesn't end within `seconds` seconds."""
@@ -165,7 +165,7 @@ class Caller:
         self.close()
 
 
-def called(port: int, source: str = "127.0.0.1") -> Caller:
+def connect(port: int, source: str = "127.0.0.1") -> Caller:
     """Connects to a port from the address `source` of this machine, and returns the connection. Tries again while the
     host doesn't accept any, and fails after a time limit."""
     end = time.monotonic() + LIMIT
@@ -185,7 +185,7 @@ def let_in(port: int, line: bytes) -> tuple[Caller, bytes]:
     is missing). Returns the connection that got a seat, and the reply to `line`. Fails after a time limit."""
     end = time.monotonic() + LIMIT
     while time.monotonic() < end:
-        caller = called(port)
+        caller = connect(port)
         reply = caller.ask(line)
         if reply and reply != BUSY:
             return caller, reply
@@ -208,7 +208,7 @@ class Talk:
         self.script: list[bytes] = []
         self.found: list[Optional[bytes]] = []  # for each line of the script its reply, or None if it isn't compared
 
-    def heard(self, who: object, line: bytes, reply: Optional[bytes]) -> None:
+    def note(self, who: object, line: bytes, reply: Optional[bytes]) -> None:
         """Notes a line of the connection `who` and its reply, or None if nobody has read the reply."""
         if who not in self.numbers:
             self.numbers[who] = self.free.pop(0)
@@ -219,20 +219,20 @@ class Talk:
     def ask(self, caller: Caller, line: bytes) -> bytes:
         """Sends a line on a connection, and returns its reply. Notes both."""
         reply = caller.ask(line)
-        self.heard(caller, line, reply)
+        self.note(caller, line, reply)
         return reply
 
     def comes(self, port: int, line: bytes) -> Caller:
         """Connects to a port with `line` as the first line, until there is a seat. Notes the line and its reply, and
         returns the connection."""
         caller, reply = let_in(port, line)
-        self.heard(caller, line, reply)
+        self.note(caller, line, reply)
         return caller
 
-    def gone(self, who: object) -> None:
+    def note_end(self, who: object) -> None:
         """Notes that the connection `who` has ended without a bye."""
         # In a script only a bye ends a connection. The reply to this bye isn't compared.
-        self.heard(who, BYE, None)
+        self.note(who, BYE, None)
         self.free.append(self.numbers.pop(who))
 
     def leaves(self, caller: Caller) -> None:
@@ -283,12 +283,12 @@ class Bot:
         self.talk = talk
         assert self.process.stdout is not None
         for line in lines:
-            talk.heard(self, line, self.process.stdout.readline())
+            talk.note(self, line, self.process.stdout.readline())
         if self.process.stdout.readline() != b"half\n":
             fail("host: a bot doesn't come to its half line")
 
-    def killed(self) -> None:
+    def kill(self) -> None:
         """Kills the process, and notes in the talk that its connection has ended."""
         self.process.kill()
         self.process.communicate()
-        self.talk.gone(self)
+        self.talk.note_end(self)

@@ -32,7 +32,7 @@ def fail(why: str) -> NoReturn:
     sys.exit(1)
 
 
-def built(source: str, room: Path) -> Path:
+def build_library(source: str, room: Path) -> Path:
     """Builds the library of a C source in the folder `room`, and returns its path. `source` is the path below the
     tests' folder. Fails if there is no toolchain on the search path, or the source doesn't compile."""
     rt = shutil.which("rt")
@@ -52,7 +52,7 @@ class Preloaded:
 
     def __init__(self, source: str, room: Path, counts: str) -> None:
         """Builds the library. `counts` is the environment variable that names the file for its counts."""
-        self.library = built(source, room)
+        self.library = build_library(source, room)
         self.variable = counts
         self.file = room / f"{self.library.stem}.counts"
 

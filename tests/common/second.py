@@ -13,7 +13,7 @@ from tests.common.preload import LIMIT, PROGRAM, fail
 OF_HOST = ("verify", "tally")
 
 
-def called(*words: str | Path) -> Ended:
+def run_program(*words: str | Path) -> Ended:
     """Runs the program that has this command with these arguments. Returns its status and output."""
     call: list[str | Path] = [HOST if words[0] in OF_HOST else PROGRAM, *words]
     done = subprocess.run(call, stdin=subprocess.DEVNULL, capture_output=True, env=dict[str, str](), timeout=LIMIT, check=False)
@@ -40,14 +40,14 @@ def compare(what: str, found: Ended, wanted: Ended) -> None:
 def agreed(what: str, *words: str | Path) -> Ended:
     """Runs the program with these arguments, and returns its result. Fails if the model's result differs. `what` names
     the call."""
-    found = called(*words)
+    found = run_program(*words)
     compare(what, found, ended([str(word) for word in words]))
     return found
 
 
 def agreed_script(what: str, lab: Path, script: Path, journal: Path) -> Ended:
     """Runs a script, and returns its result. Fails if the model's result or journal differs. `what` names the call."""
-    found = called("script", lab, script, journal)
+    found = run_program("script", lab, script, journal)
     second = journal.with_suffix(".second")
     second.unlink(missing_ok=True)
     compare(what, found, ended(["script", str(lab), str(script), str(second)]))

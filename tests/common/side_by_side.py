@@ -12,7 +12,7 @@ from tests.common.preload import fail
 Test = Callable[[Path], None]
 
 
-def tried(test: Test) -> float:
+def run_test(test: Test) -> float:
     """Runs a test in a folder of its own. Returns the seconds that it took."""
     begun = time.monotonic()
     with tempfile.TemporaryDirectory() as room:
@@ -29,7 +29,7 @@ def try_all(of: str, tests: Sequence[Test]) -> None:
     chosen = [test for test in tests if not sys.argv[1:] or any(word in test.__name__ for word in sys.argv[1:])]
     begun = time.monotonic()
     with ProcessPoolExecutor(4) as pool:
-        times = list(pool.map(tried, chosen))
+        times = list(pool.map(run_test, chosen))
     slowest = max(zip(times, chosen, strict=True), key=lambda pair: pair[0])
     print(
         f"{of}: {len(chosen)} tests in {time.monotonic() - begun:.0f} seconds, "

@@ -118,7 +118,7 @@ def stands_for_another(text: str) -> bool:
     return bool(re.search(r"(?<![A-Z])[A-Z]{3,}(?![A-Z]*\.md)", text))
 
 
-def missing_path(page: str, text: str, files: list[str], folders: set[str]) -> bool:
+def is_missing_path(page: str, text: str, files: list[str], folders: set[str]) -> bool:
     """Returns whether no file and no folder of the repository has a path that ends like this text. On the page of a
     crate, the crate's own folders count too."""
     path = text.rstrip("/").removeprefix("./")
@@ -130,7 +130,7 @@ def missing_path(page: str, text: str, files: list[str], folders: set[str]) -> b
     return not any(it in (path, near) or it.endswith("/" + path) for it in (*files, *folders))
 
 
-def missing_name(text: str, words: set[str], laws: set[str]) -> bool:
+def is_missing_name(text: str, words: set[str], laws: set[str]) -> bool:
     """Returns whether the name `text` on a page has a word that isn't in `words`, those of all sources, or is that of a
     law that isn't in `laws`."""
     if text in ELSEWHERE:
@@ -151,9 +151,9 @@ def missing_on(page: str, files: list[str], folders: set[str], words: set[str], 
     for quoted in re.findall(r"`([^`\n]+)`", text):
         is_path = "/" in quoted or quoted.rsplit(".", 1)[-1] in ENDINGS
         if re.fullmatch(r"[\w./-]+", quoted) and is_path:
-            if missing_path(page, quoted, files, folders):
+            if is_missing_path(page, quoted, files, folders):
                 yield quoted
-        elif re.fullmatch(r"[A-Za-z_]\w*(::\w+)*(\(\))?", quoted) and missing_name(quoted, words, laws):
+        elif re.fullmatch(r"[A-Za-z_]\w*(::\w+)*(\(\))?", quoted) and is_missing_name(quoted, words, laws):
             yield quoted
 
 

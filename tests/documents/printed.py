@@ -41,7 +41,7 @@ def pattern(lines: list[str]) -> str:
     return re.sub(f"{re.escape(chr(1))}(\\w+){re.escape(chr(2))}", lambda folder: f"{folder[1]}/[0-9T-]+-", found)
 
 
-def differs(command: str, output: str, texts: dict[str, str]) -> str | None:
+def page_that_differs(command: str, output: str, texts: dict[str, str]) -> str | None:
     """Returns the first of these pages that shows another output of a command than this one, or None if there is
     none."""
     for page, text in texts.items():
@@ -59,7 +59,7 @@ def pages() -> dict[str, str]:
 def main() -> None:
     """Compares the output on standard input with the pages. Exits with status 1 and a line about the first page that
     shows another one."""
-    page = differs(" ".join(sys.argv[1:]), sys.stdin.read(), pages())
+    page = page_that_differs(" ".join(sys.argv[1:]), sys.stdin.read(), pages())
     if page:
         sys.exit(f"{page} shows another output of: {' '.join(sys.argv[1:])}")
 

@@ -103,7 +103,7 @@ def limits() -> dict[str, int]:
     return {where: int(number) for number, where in (line.split() for line in lines)}
 
 
-def is_read(page: str) -> bool:
+def is_page(page: str) -> bool:
     """Returns whether a file is a page, so that its sentences count."""
     return page.endswith(".md")
 
@@ -123,18 +123,18 @@ def idle(pages: list[str]) -> list[str]:
 
 def counts(files: list[str]) -> dict[str, int]:
     """Returns the number of faults in each page and each folder that has some."""
-    pages = {page: len(wrong_in(page)) for page in files if is_read(page)}
+    pages = {page: len(wrong_in(page)) for page in files if is_page(page)}
     return {where: count for where, count in sorted({**pages, **phrases_by_folder(files)}.items()) if count}
 
 
 def faults(files: list[str]) -> list[str]:
     """Returns the error texts about these pages and sources: too many faults, and lines that allow nothing."""
     most = limits()
-    wrong = [f"nothing to allow: tests/documents/allowed.txt: {place}" for place in idle([page for page in files if is_read(page)])]
+    wrong = [f"nothing to allow: tests/documents/allowed.txt: {place}" for place in idle([page for page in files if is_page(page)])]
     for where, count in counts(files).items():
         if count > most.get(where, 0):
             wrong.append(f"harder to read: {where} has {count}, and {most.get(where, 0)} in tests/documents/counts.txt")
-            wrong += [f"hard to read: {where}: {each}" for each in (wrong_in(where) if is_read(where) else [])]
+            wrong += [f"hard to read: {where}: {each}" for each in (wrong_in(where) if is_page(where) else [])]
     return wrong
 
 

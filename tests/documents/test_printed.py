@@ -4,7 +4,7 @@ from __future__ import annotations
 
 import unittest
 
-from tests.documents.printed import differs, pages, shown
+from tests.documents.printed import page_that_differs, pages, shown
 
 PAGE = """
 Here:
@@ -32,7 +32,7 @@ class Printed(unittest.TestCase):
 
     def page(self, command: str, output: str) -> str | None:
         """Returns the name of the test's only page if it shows another output of a command than this one, or None."""
-        return differs(command, output, {"PAGE.md": PAGE})
+        return page_that_differs(command, output, {"PAGE.md": PAGE})
 
     def test_the_commands_of_indented_blocks_are_found(self) -> None:
         self.assertEqual([command for command, _ in shown(PAGE)], ["./mml check lab.toml", "./class run lab.toml", "python3 client.py gus.slip"])

@@ -15,7 +15,7 @@ from dataclasses import dataclass
 from pathlib import Path
 
 from tests.common.preload import TOP, Ended, Preloaded, Server, Story, built_in, fail, good, in_room, play, run
-from tests.faults.halted import halted
+from tests.faults.halted import check_halted
 
 MOST = 1000  # more calls of one kind than any run makes
 EINTR, EIO, EAGAIN, ENOMEM, EACCES, EMFILE, ENOSPC = 4, 5, 11, 12, 13, 24, 28
@@ -333,7 +333,7 @@ def fail_all(name: str, use: Use, kinds: list[Kind], library: Preloaded) -> str:
     return f"{name} {met}"
 
 
-def stopped(story: Story, room: Path) -> str:
+def check_stopped(story: Story, room: Path) -> str:
     """Checks a server that a signal ends while a client is connected: it prints no last line, and its journal is
     complete."""
     # A job in a shell's background ignores SIGINT, and so would the processes that it starts.
@@ -376,7 +376,7 @@ def work(room: Path) -> str:
         ("serve", Served(pair, room, library), READS + WRITES + OPENS + ACCEPTS + THREADS),
     ]
     met = ", ".join(fail_all(*use, library) for use in uses)
-    return f"faults met: {met}; {stopped(pair, room)}; {halted(lab, room, library)}"
+    return f"faults met: {met}; {check_stopped(pair, room)}; {check_halted(lab, room, library)}"
 
 
 if __name__ == "__main__":

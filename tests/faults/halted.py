@@ -37,7 +37,7 @@ def failing(library: Preloaded, kind: str, nth: int, error: str) -> dict[str, st
     return library.variables({"FAIL": kind, "FAIL_AT": str(nth), "FAIL_WITH": error})
 
 
-def scripted(lab: Path, room: Path, library: Preloaded) -> None:
+def check_script(lab: Path, room: Path, library: Preloaded) -> None:
     """Checks a script whose second event can't be written."""
     script, journal = room / "halted.script", room / "halted.journal"
     script.write_bytes(SCRIPT)
@@ -47,7 +47,7 @@ def scripted(lab: Path, room: Path, library: Preloaded) -> None:
         fail(f"a script whose second write to the journal fails: {ended}")
 
 
-def served(lab: Path, room: Path, library: Preloaded) -> None:
+def check_server(lab: Path, room: Path, library: Preloaded) -> None:
     """Checks a server whose second event can't be written: the seventh write, after the first line, four replies
     and the first event."""
     journal = room / "halted.journal"
@@ -60,7 +60,7 @@ def served(lab: Path, room: Path, library: Preloaded) -> None:
         fail(f"a server whose second write to the journal fails: {ended}, {replies}")
 
 
-def unaccepted(lab: Path, library: Preloaded) -> None:
+def check_unaccepted(lab: Path, library: Preloaded) -> None:
     """Checks a server whose journal takes nothing, and which can't accept its second connection: the first one is
     served to its end."""
     words = ["serve", str(lab)]
@@ -75,10 +75,10 @@ def unaccepted(lab: Path, library: Preloaded) -> None:
         fail(f"a server that can't accept, with a journal that takes nothing: {ended}, {replies}")
 
 
-def halted(lab: Path, room: Path, library: Preloaded) -> str:
+def check_halted(lab: Path, room: Path, library: Preloaded) -> str:
     """Checks a script and servers whose journals fail in a run, and a connection that can't be accepted. Returns a line
     with the number of these checks."""
-    scripted(lab, room, library)
-    served(lab, room, library)
-    unaccepted(lab, library)
+    check_script(lab, room, library)
+    check_server(lab, room, library)
+    check_unaccepted(lab, library)
     return "journals that fail in a run: 3"

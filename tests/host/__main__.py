@@ -15,7 +15,7 @@ import threading
 import time
 from pathlib import Path
 
-from tests.common.hosting import Bot, Caller, Host, Talk, audit, called, lab_of, let_in
+from tests.common.hosting import Bot, Caller, Host, Talk, audit, connect, lab_of, let_in
 from tests.common.lines import BID, BUSY, BYE, CLOSE, LATE, NODES, OVER, REPORT, fault_at, greeted, hello, line_of, look
 from tests.common.preload import Ended, fail, good
 from tests.common.side_by_side import Test, try_all
@@ -70,11 +70,11 @@ def one_after_another(room: Path) -> None:
             if turn % 4 == 1:
                 caller.send(b'{"do":"look","no')
             caller.reset() if turn % 4 == 2 else caller.close()
-            talk.gone(caller)
-        ended = host.dismissed(teacher)
+            talk.note_end(caller)
+        ended = host.dismiss(teacher)
     if ended.status != 0 or not ended.out.startswith(b"done: %d events, " % talk.events()) or ended.error:
         fail(f"host: another end after 200 connections: {ended}")
-    talk.heard(teacher, BYE, BID)
+    talk.note(teacher, BYE, BID)
     talk.check(journal)
 
 
@@ -101,18 +101,18 @@ def killed_in_a_line(room: Path) -> None:
         talk = Talk(lab, 2, room)
         teacher = Bot(talk, host.desk, [hello("tess"), REPORT])
         bot = Bot(talk, host.port, [hello("ana"), look("ana"), move(0, 1, "seduction"), look("ana")])
-        bot.killed()
+        bot.kill()
         student = talk.comes(host.port, hello("ana"))
         talk.ask(student, look("ana"))
-        teacher.killed()
+        teacher.kill()
         again = talk.comes(host.desk, hello("tess"))
         for turn in range(3):
             talk.ask(again, CLOSE)
             talk.ask(student, look("ana"))
             talk.ask(again, fault_at(1))
             talk.ask(student, move(2 * turn + 2, 1, "seduction"))
-        ended = host.dismissed(again)
-    talk.heard(again, BYE, BID)
+        ended = host.dismiss(again)
+    talk.note(again, BYE, BID)
     if ended != Ended(0, b"done: 10 events, configuration 6\n", b""):
         fail(f"host: another end after kills: {ended}")
     talk.check(journal)
@@ -154,8 +154,8 @@ def connect_and_close(room: Path) -> None:
         if len(held) == 30:
             fail(f"host: each 2000 connections take memory: it holds {held} kB")
         talk.leaves(talk.comes(host.port, hello("ben")))
-        ended = host.dismissed(teacher)
-    talk.heard(teacher, BYE, BID)
+        ended = host.dismiss(teacher)
+    talk.note(teacher, BYE, BID)
     if ended.status != 0 or ended.out != b"done: %d events, configuration %d\n" % (3 * turns, 2 * turns):
         fail(f"host: another end after many connections: {ended}")
     talk.check(journal)
@@ -214,11 +214,11 @@ def deadlines(room: Path) -> None:
         # A client that has greeted may be silent for longer than the time limit of a hello.
         if early.ask(BYE) != BID:
             fail("host: who is silent after a greeting is ended too")
-        if host.dismissed(let_in(host.desk, hello("tess"))[0]) != NO_EVENTS:
+        if host.dismiss(let_in(host.desk, hello("tess"))[0]) != NO_EVENTS:
             fail("host: another end after silent connections")
 
 
-def told_busy(port: int) -> None:
+def check_busy(port: int) -> None:
     """Checks that new connections to a full port are answered `busy` and closed, whether they send nothing, a hello or
     a bye."""
     for line in (b"", hello("ana"), BYE):
@@ -238,22 +238,22 @@ def says_busy(room: Path) -> None:
     with Host(lab, 0, 0) as host:
         ana, _ = let_in(host.port, hello("ana"))
         ben, _ = let_in(host.port, hello("ben"))
-        told_busy(host.port)
+        check_busy(host.port)
         tess, _ = let_in(host.desk, hello("tess"))
-        told_busy(host.desk)
-        told_busy(host.port)
+        check_busy(host.desk)
+        check_busy(host.port)
         if (ana.ask(BYE), ana.line()) != (BID, b""):
             fail("host: no end after a bye")
         cyd, reply = let_in(host.port, hello("cyd"))
         if reply != greeted("cyd") or not ben.ask(look("ben")).startswith(b'{"at":0'):
             fail("host: a seat that was left isn't given to the next")
-        told_busy(host.port)
-        if host.dismissed(tess) != NO_EVENTS or (ben.line(), ben.line(), cyd.line()) != (OVER, b"", OVER):
+        check_busy(host.port)
+        if host.dismiss(tess) != NO_EVENTS or (ben.line(), ben.line(), cyd.line()) != (OVER, b"", OVER):
             fail("host: another end of a full host")
     alone = lab_of(room, 1)
     with Host(alone, 0, 0) as host:
-        told_busy(host.port)
-        if host.dismissed(let_in(host.desk, hello("tess"))[0]) != NO_EVENTS:
+        check_busy(host.port)
+        if host.dismiss(let_in(host.desk, hello("tess"))[0]) != NO_EVENTS:
             fail("host: another end of a host for the desk alone")
 
 
@@ -270,9 +270,9 @@ def two_of_one_name(room: Path) -> None:
         talk.ask(teacher, CLOSE)
         talk.leaves(one)
         talk.ask(two, look("ana"))
-        if host.dismissed(teacher) != Ended(0, b"done: 2 events, configuration 1\n", b""):
+        if host.dismiss(teacher) != Ended(0, b"done: 2 events, configuration 1\n", b""):
             fail("host: another end of two of one name")
-    talk.heard(teacher, BYE, BID)
+    talk.note(teacher, BYE, BID)
     talk.check(journal)
 
 
@@ -297,7 +297,7 @@ def raced(room: Path) -> None:
             if turn % 20 == 19:
                 for caller in (ana, ben):
                     caller.close()
-        ended = host.dismissed(tess)
+        ended = host.dismiss(tess)
     places = sorted(int(place) for reply in told for place in re.findall(rb'"place":(\d+)', reply))
     events = len(journal.read_bytes().splitlines())
     # In each turn at least one move, one close and the two faults are granted.
@@ -336,14 +336,14 @@ def byes_that_end_nothing(room: Path) -> None:
         for leave in (Caller.close, Caller.reset):
             fallen = talk.comes(host.desk, hello("tess"))
             leave(fallen)
-            talk.gone(fallen)
+            talk.note_end(fallen)
         talk.ask(student, move(0, 1, "seduction"))
         teacher = talk.comes(host.desk, hello("tess"))
-        if not host.runs() or host.dismissed(teacher) != Ended(0, b"done: 1 events, configuration 0\n", b""):
+        if not host.is_running() or host.dismiss(teacher) != Ended(0, b"done: 1 events, configuration 0\n", b""):
             fail("host: another end after byes that end nothing")
         if (student.line(), student.line()) != (OVER, b""):
             fail("host: a student is still served, or isn't answered that the class is over")
-    talk.heard(teacher, BYE, BID)
+    talk.note(teacher, BYE, BID)
     talk.check(journal)
 
 
@@ -395,7 +395,7 @@ def ended_while_asked(room: Path) -> None:
             teacher.ask(CLOSE)
             teacher.ask(fault_at(1))
         said, polls = [teacher.ask(BYE), teacher.line()], 0
-        while host.runs() and polls < 160:
+        while host.is_running() and polls < 160:
             time.sleep(0.05)
             polls += 1
         ended = host.end()
@@ -446,7 +446,7 @@ def ports(room: Path) -> None:
         with Host(lab, 0, 0, journal) as second:
             if second.listens or second.end() != Ended(4, b"", b"journal fault\n"):
                 fail("host: two write one journal")
-        if first.dismissed(let_in(first.desk, hello("tess"))[0]).status != 0:
+        if first.dismiss(let_in(first.desk, hello("tess"))[0]).status != 0:
             fail("host: another end of the first of two on one journal")
     if (room / "journal.~1~").read_bytes() != kept:
         fail("host: the older content of the journal isn't kept")
@@ -483,7 +483,7 @@ def on_this_machine(room: Path) -> None:
                 except OSError:
                     continue
                 fail(f"host: it is reached by {address}")
-        if host.dismissed(let_in(host.desk, hello("tess"))[0]) != NO_EVENTS:
+        if host.dismiss(let_in(host.desk, hello("tess"))[0]) != NO_EVENTS:
             fail("host: another end of a host that others wanted to reach")
 
 
@@ -493,7 +493,7 @@ def one_device(room: Path) -> None:
     with Host(lab, 0, 0, "/dev/null", before=["bash", "-c", 'exec "$@" 2> /dev/null', "bash"]) as host:
         if not host.listens:
             fail(f"host: with journal and errors in one device it ends with {host.end()}")
-        if host.dismissed(let_in(host.desk, hello("tess"))[0]) != NO_EVENTS:
+        if host.dismiss(let_in(host.desk, hello("tess"))[0]) != NO_EVENTS:
             fail("host: another end with journal and errors in one device")
 
 
@@ -520,7 +520,7 @@ def few_descriptors(room: Path) -> None:
                 served.append(replies)
 
             clients = [threading.Thread(target=client, args=[list(NODES)[at % 3]]) for at in range(30)]
-            held = [called(host.port) for _ in range(descriptors)]  # The host has no descriptor or no seat for most of these.
+            held = [connect(host.port) for _ in range(descriptors)]  # The host has no descriptor or no seat for most of these.
             for each in clients:
                 each.start()
             for caller in held:
@@ -533,7 +533,7 @@ def few_descriptors(room: Path) -> None:
             wanted = [(*rules[at:at + 3], b"") for at in range(0, 9, 3)] * 10
             if sorted(served) != sorted(wanted):
                 fail(f"host: of thirty clients over {descriptors} files {len(served)} are served, or otherwise")
-            if host.dismissed(teacher) != NO_EVENTS:
+            if host.dismiss(teacher) != NO_EVENTS:
                 fail(f"host: another end over {descriptors} files")
         audit(lab, journal, 0)
 

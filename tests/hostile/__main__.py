@@ -44,7 +44,7 @@ Program = Server | Host
 Hostile = Callable[[int, float, random.Random], str]
 
 
-def opened(port: int) -> socket.socket:
+def connect(port: int) -> socket.socket:
     """Connects to a port, and says hello if the server is a host. Returns the connection, which sends the bytes of each
     call at once."""
     it = let_in(port, hello("cyd"))[0].socket if OVER_HOST else socket.create_connection(("127.0.0.1", port), LIMIT)
@@ -64,7 +64,7 @@ def begin(it: socket.socket, until: float, draw: random.Random) -> None:
 def noise(port: int, until: float, draw: random.Random) -> str:
     """Sends lines of random bytes, with the byte 255 in a string. Each is answered as malformed, and the next one
     correctly."""
-    with opened(port) as it, it.makefile("rb") as replies:
+    with connect(port) as it, it.makefile("rb") as replies:
         while time.monotonic() < until:
             lines = [draw.randbytes(draw.randrange(1, 300)).replace(b"\n", b" ") for _ in range(20)]
             lines.append(b'{"do":"hello","name":"\xff","key":"chalk"}')
@@ -80,7 +80,7 @@ def noise(port: int, until: float, draw: random.Random) -> str:
 def long_line(port: int, until: float, draw: random.Random) -> str:
     """Sends a line that is one byte too long. The connection is ended without a reply, or by a host with the line
     `long`."""
-    with opened(port) as it:
+    with connect(port) as it:
         begin(it, until, draw)
         it.sendall(b" " * (4097 - len(SEE) + 1) + SEE)  # 4097 bytes before the newline, which SEE has
         try:
@@ -94,7 +94,7 @@ def half_line(port: int, until: float, draw: random.Random) -> str:
     """Sends a line in two halves, the second one at the end. If the server is a host, the second half comes within
     QUIET seconds, because a host waits for ten minutes only."""
     middle = draw.randrange(1, len(SEE) - 1)
-    with opened(port) as it, it.makefile("rb") as replies:
+    with connect(port) as it, it.makefile("rb") as replies:
         it.sendall(SEE)
         replies.readline()
         while True:
@@ -109,7 +109,7 @@ def half_line(port: int, until: float, draw: random.Random) -> str:
 
 def byte_by_byte(port: int, until: float, draw: random.Random) -> str:
     """Sends requests one byte at a time, and checks that each is answered correctly."""
-    with opened(port) as it, it.makefile("rb") as replies:
+    with connect(port) as it, it.makefile("rb") as replies:
         while time.monotonic() < until:
             for at in range(len(SEE)):
                 it.sendall(SEE[at:at + 1])
@@ -122,7 +122,7 @@ def byte_by_byte(port: int, until: float, draw: random.Random) -> str:
 def reset(port: int, until: float, draw: random.Random) -> str:
     """Sends requests without reading their replies, and resets the connection, so that the server's next read or write
     fails."""
-    with opened(port) as it:
+    with connect(port) as it:
         begin(it, until, draw)
         it.sendall(SEE * draw.randrange(1, 200))
         it.setsockopt(socket.SOL_SOCKET, socket.SO_LINGER, struct.pack("ii", 1, 0))
@@ -245,7 +245,7 @@ class Honest:
         return server.end()
 
 
-def serving(lab: Path, connections: int) -> Program:
+def start_server(lab: Path, connections: int) -> Program:
     """Starts a server for this number of connections, or a host, which has no such number. Fails if it doesn't
     listen."""
     server: Program
@@ -258,14 +258,14 @@ def serving(lab: Path, connections: int) -> Program:
     return server
 
 
-def served(story: Story, connections: int) -> tuple[Program, Honest]:
+def start_with_clients(story: Story, connections: int) -> tuple[Program, Honest]:
     """Starts a server for this number of connections (a host has no such number), and its honest clients. Returns
     both."""
-    server = serving(story.lab, connections)
+    server = start_server(story.lab, connections)
     return server, Honest(story, server)
 
 
-def ended(honest: Honest, server: Program) -> None:
+def end_both(honest: Honest, server: Program) -> None:
     """Closes the honest clients. Checks that the server ends well, and has had no other events than theirs."""
     events = sum(b'"place":' in reply for reply in honest.wanted[:honest.at])
     end = honest.end(server)
@@ -273,7 +273,7 @@ def ended(honest: Honest, server: Program) -> None:
         fail(f"hostile: the server ended otherwise: {end}")
 
 
-def answered(futures: list[Future[str]]) -> None:
+def wait_for_all(futures: list[Future[str]]) -> None:
     """Waits until all hostile clients have ended. Fails if one of them has returned a text about an error."""
     for future in futures:
         if future.result():
@@ -303,12 +303,12 @@ def wait_for_handles(server: Program, wanted: int, when: str) -> None:
     fail(f"hostile: {handles(server)} files are open, not {wanted}, {when}")
 
 
-def late(lab: Path) -> None:
+def read_late(lab: Path) -> None:
     """Clients send more after a bye, or a line that is too long, and read late. All replies arrive, and then the
     end."""
-    server = serving(lab, 16)
+    server = start_server(lab, 16)
     for tail, said in [(BYE + b"x" * 5000, BID), (b"x" * 20_000, b"")] * 8:
-        with opened(server.port) as it, it.makefile("rb") as replies:
+        with connect(server.port) as it, it.makefile("rb") as replies:
             it.sendall(SEE * 100 + tail)
             time.sleep(0.1)
             try:
@@ -317,7 +317,7 @@ def late(lab: Path) -> None:
                 found = b"a reset"
             if found != DENIED * 100 + (said or (LONG if OVER_HOST else b"")):
                 fail(f"hostile: a late reader finds {len(found)} bytes: {found[-100:]!r}")
-    end = server.dismissed(let_in(server.desk, hello("tess"))[0]) if isinstance(server, Host) else server.end()
+    end = server.dismiss(let_in(server.desk, hello("tess"))[0]) if isinstance(server, Host) else server.end()
     if end != Ended(0, b"done: 0 events, configuration 0\n", b""):
         fail(f"hostile: the server of late readers ended otherwise: {end}")
 
@@ -328,7 +328,7 @@ class Silent:
     def __init__(self, lab: Path) -> None:
         """Starts another server for a lab, and connects to it."""
         self.server = Server(lambda port: ["serve", str(lab), str(port), "1"], {})
-        self.open = opened(self.server.port)
+        self.open = connect(self.server.port)
         self.until = time.monotonic() + SILENCE
 
     def end(self) -> None:
@@ -363,18 +363,18 @@ def work(room: Path) -> str:
     lab.write_text(limits, encoding="utf-8")
     story = Story(lab, honest_lines(), room)
     silent = None if OVER_HOST else Silent(lab)
-    late(lab)
+    read_late(lab)
 
-    server, honest = served(story, 2)
+    server, honest = start_with_clients(story, 2)
     quiet = statistics.median(honest.play(500, PAUSE))
-    ended(honest, server)
+    end_both(honest, server)
 
-    server, honest = served(story, 2 + len(ALL))
+    server, honest = start_with_clients(story, 2 + len(ALL))
     honest.play(2, PAUSE)
     rest = resting(server)
     with ProcessPoolExecutor(len(ALL)) as pool:
         # The processes are started before the time is measured, so that all clients run at once for `seconds` seconds.
-        answered([pool.submit(occupy_process) for _ in ALL])
+        wait_for_all([pool.submit(occupy_process) for _ in ALL])
         until = time.monotonic() + seconds
         futures = [
             pool.submit(client, server.port, until, random.Random(seed)) for seed, client in enumerate(ALL)
@@ -383,14 +383,14 @@ def work(room: Path) -> str:
         times = honest.play(100, 10 * PAUSE)
         held = kilobytes(server)
         times += honest.play(MOST_LINES, max(PAUSE, seconds / MOST_LINES), until)
-        answered(futures)
+        wait_for_all(futures)
     wait_for_threads(server, rest[0], "once the hostile clients have gone")
     wait_for_handles(server, rest[1], "once the hostile clients have gone")
     holds = kilobytes(server)
     # A host may hold much less than before, since it returns the memory of the threads of those connections.
     if holds * 10 > held * 11 or isinstance(server, Server) and holds * 10 < held * 9:
         fail(f"hostile: the server holds {holds} kB, not {held} kB as after a hundred lines")
-    ended(honest, server)
+    end_both(honest, server)
     if silent is not None:
         silent.end()
     beside = statistics.median(times)

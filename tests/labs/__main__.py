@@ -5,18 +5,18 @@
 from pathlib import Path
 
 from tests.common.preload import fail, in_room
-from tests.common.second import agreed, called, said
+from tests.common.second import agreed, run_program, said
 from tests.labs import shown
 from tests.labs.rows import Row, all_rows
 from tests.labs.sizes import computed_rows
 
 
-def says(row: Row, room: Path) -> None:
+def check_row(row: Row, room: Path) -> None:
     """Checks that the program's `check` prints the line of a row about its lab, if the row has one. Unless the document
     has a newer form of TOML, also checks that the plain model prints the same."""
     lab = room / "checked.toml"
     lab.write_bytes(row.document)
-    found = called("check", lab) if row.is_newer else agreed(row.name, "check", lab)
+    found = run_program("check", lab) if row.is_newer else agreed(row.name, "check", lab)
     if row.says and found != said(row.says):
         fail(f"{row.name}: {found}, not {row.says!r}")
 
@@ -25,7 +25,7 @@ def work(room: Path) -> str:
     """Checks all rows. Returns a line with their number."""
     rows = all_rows() + computed_rows()
     for row in rows:
-        says(row, room)
+        check_row(row, room)
         if row.shows:
             shown.compare(row, room)
     return f"{len(rows)} lab files are read as their tables say"

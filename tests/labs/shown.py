@@ -77,7 +77,7 @@ class Shown:
         self.journal.write_text("".join(lines), encoding="ascii")
         return run(["audit", str(self.lab), str(self.journal)], b"", {})
 
-    def limit(self, node: int, events: int) -> None:
+    def check_limit(self, node: int, events: int) -> None:
         """Checks that the lab allows `events` events, which are faults at a node, and not one more."""
         found = self.audit_of_faults(node, events)
         if not found.out.startswith(b"ok: %d events, configuration %d, " % (events, events)):
@@ -117,4 +117,4 @@ def compare(row: Row, room: Path) -> None:
     found = " ".join([str(events), str(sessions), *size]) + text_of(nodes, students, replies)
     if found != row.shows:
         shown.fail(f"it shows {found!r}, not {row.shows!r}")
-    shown.limit(nodes[0], events)
+    shown.check_limit(nodes[0], events)

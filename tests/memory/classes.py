@@ -169,7 +169,7 @@ class Class:
             gone_on = host.process.stdout.readline() if self.word == "resume" else b""
             play = Play(host, self.begun)
             fault = play.ask_all(self.asked)
-            ended = host.killed() if fault else host.end(LAST)
+            ended = host.kill() if fault else host.end(LAST)
             play.close()
         counts = library.counts()
         if self.word == "resume" and not gone_on.startswith(b"resumed at place "):

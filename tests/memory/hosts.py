@@ -35,7 +35,7 @@ def host_uses(room: Path) -> dict[str, Use]:
     journal, record = room / "kept.journal", room / "kept record"
     with Host(lab, 0, 0, journal, record) as host:
         play(story, host)
-        if host.dismissed(let_in(host.desk, hello("tess"))[0]).status != 0:
+        if host.dismiss(let_in(host.desk, hello("tess"))[0]).status != 0:
             fail("memory: a class that isn't refused any ends otherwise")
     words = [str(lab), str(journal)]
     return {

@@ -40,12 +40,12 @@ NOBODY = ["setpriv", "--reuid", "65534", "--regid", "65534", "--clear-groups"] i
 
 def ends(host: Host, teacher: Caller, wanted: Ended = NO_EVENTS) -> None:
     """Checks that the teacher's bye ends a host with the status and output in `wanted`. Standard error may differ."""
-    ended = host.dismissed(teacher)
+    ended = host.dismiss(teacher)
     if (ended.status, ended.out) != (wanted.status, wanted.out):
         fail(f"outsiders: a host ends with {ended}")
 
 
-def ended_soon(words: list[str | Path]) -> Ended:
+def run_to_end(words: list[str | Path]) -> Ended:
     """Runs a command, which has to end by itself within a minute. Returns its status and output."""
     try:
         done = subprocess.run(words, stdin=subprocess.DEVNULL, capture_output=True, timeout=60, check=False)
@@ -118,7 +118,7 @@ def few(room: Path) -> None:
         for limit, line in (("nofile=7", b"files may be open"), ("nproc=1", b"threads may be started")):
             word = "host" if begins else "resume"
             words: list[str | Path] = [*NOBODY, "prlimit", f"--{limit}", program, word, lab, "0", "0", journal]
-            if (said := ended_soon(words)) != Ended(5, b"", b"host: too few " + line + b"\n"):
+            if (said := run_to_end(words)) != Ended(5, b"", b"host: too few " + line + b"\n"):
                 fail(f"outsiders: with {limit} a host says {said}")
             if [*folder.iterdir()] != ([] if begins else [journal]):
                 fail(f"outsiders: with {limit} a host makes a file")
@@ -305,7 +305,7 @@ def a_third(room: Path) -> None:
         ends(host, let_in(host.desk, hello("tess"))[0])
 
 
-def told_busy(port: int, count: int) -> float:
+def check_busy(port: int, count: int) -> float:
     """Opens `count` connections to a full port at the same time, and says hello on each. Checks that all of them are
     answered `busy` and closed. Returns the seconds until then."""
     begun = time.monotonic()
@@ -323,7 +323,7 @@ def nobody_behind(room: Path) -> None:
     lab = lab_of(room, 3)
     with Host(lab, 0, 0) as host:
         held = [let_in(host.port, hello(name))[0] for name in ("ana", "ben")]
-        one, twelve = told_busy(host.port, 1), told_busy(host.port, 12)
+        one, twelve = check_busy(host.port, 1), check_busy(host.port, 12)
         if one < 0.4 or twelve > 6 * one:
             fail(f"outsiders: who comes to a full port waits {one} seconds, and twelve wait {twelve}")
         if any(b'"ok":"look"' not in caller.ask(look(name)) for name, caller in zip(("ana", "ben"), held)):
@@ -378,7 +378,7 @@ def guessed_keys(room: Path) -> None:
             fail(f"outsiders: {denied} keys are guessed in {seconds} seconds")
         if others * 4 > denied:
             fail(f"outsiders: {others} who guess aren't answered that they are wrong, and {denied} are")
-        ended = host.dismissed(let_in(host.desk, hello("tess"))[0])
+        ended = host.dismiss(let_in(host.desk, hello("tess"))[0])
         if ended.out != NO_EVENTS.out or b"hellos had no right key" not in ended.error:
             fail(f"outsiders: nobody hears of guesses: {ended}")
 
@@ -495,11 +495,11 @@ def journals(room: Path) -> None:
         journal.unlink(missing_ok=True)
         words: list[str | Path] = ["bash", "-c", f'exec "$@" {stream}> {journal}', "bash", HOST, "host", lab, "0", "0", journal]
         wanted = b"" if stream else b"journal fault\n"
-        if (said := ended_soon(words)) != Ended(4, b"", wanted) or journal.read_bytes() not in (b"", b"journal fault\n"):
+        if (said := run_to_end(words)) != Ended(4, b"", wanted) or journal.read_bytes() not in (b"", b"journal fault\n"):
             fail(f"outsiders: a host whose journal is its own output ends with {said}")
     journal.unlink()
     os.mkfifo(room / "pipe")
-    if (said := ended_soon([HOST, "host", lab, "0", "0", room / "pipe"])) != FAULT:
+    if (said := run_to_end([HOST, "host", lab, "0", "0", room / "pipe"])) != FAULT:
         fail(f"outsiders: a host whose journal is a pipe that nobody reads ends with {said}")
     for mode in (0o600, 0o640, 0o604):
         if mode != 0o600:  # The first journal is new, and gets this mode from the host.
@@ -532,14 +532,14 @@ def limits_of_files(room: Path) -> None:
                 fail(f"outsiders: a host whose journal can't grow says {said}")
             if b'"ok":"look"' not in student.ask(look("ana")):
                 fail("outsiders: a host whose journal can't grow doesn't go on")
-            ended = host.dismissed(teacher)
+            ended = host.dismiss(teacher)
             if ended != Ended(4, b"", b"journal fault\n"):
                 fail(f"outsiders: a host whose journal can't grow ends with {ended}")
     # A command that ignores the limit is killed by the signal, unless `./mml` ignores the signal.
     script, fault = room / "script", b'1 {"do":"fault","m":false,"node":1,"p":null}\n'
     script.write_bytes(b"1 " + hello("tess") + fault * 100)
     words = ["bash", "-c", 'ulimit -f 1 && exec "$@"', "bash", str(TOP / "mml"), "script", str(lab), str(script), str(room / "script.journal")]
-    done = ended_soon([*words])
+    done = run_to_end([*words])
     if (done.status, done.error) != (4, b"journal fault\n") or not done.out.endswith(b'1 {"refuse":"journal"}\n'):
         fail(f"outsiders: a script whose journal can't grow ends with {done.status}, {done.error!r}")
 
@@ -584,7 +584,7 @@ def small_stacks(room: Path) -> None:
     script.write_bytes(b"1 " + BYE)
     calls: list[list[str | Path]] = [[HOST, "host", lab, "0", "0"], [PROGRAM, "script", lab, script]]
     for call, limit in [(call, limit) for call in calls for limit in ("-s", "-S -s")]:
-        if (said := ended_soon([*limited(255, limit), *call])) != Ended(5, b"", b"out of memory\n"):
+        if (said := run_to_end([*limited(255, limit), *call])) != Ended(5, b"", b"out of memory\n"):
             fail(f"outsiders: over stacks that are too small a program ends with {said}")
 
 

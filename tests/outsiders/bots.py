@@ -193,7 +193,7 @@ class Class:
         return it
 
 
-def bounded(waits: Waits, quiet: Waits) -> None:
+def check_waits(waits: Waits, quiet: Waits) -> None:
     """Checks that of each kind of waiting times at most a tenth are longer than WAIT plus SLOWER times the longest one
     in `quiet`, the times without outsiders. So the limit is higher on a slow machine."""
     for of, found in vars(waits).items():
@@ -222,13 +222,13 @@ def work(room: Path) -> str:
         it.is_over.set()
         for bot in bots:
             bot.join()
-        ended = host.dismissed(teacher.caller)
+        ended = host.dismiss(teacher.caller)
         for each in outsiders:
             each.kill()
     events = len(journal.read_bytes().splitlines())
     if ended.status != 0 or b", stable" not in audit(lab, journal, events) or b"hellos had no right key" not in ended.error:
         fail(f"outsiders: the class of bots ends otherwise: {ended}")
-    bounded(it.waits, quiet)
+    check_waits(it.waits, quiet)
     return f"two outsiders for {seconds:.0f} seconds, {events} events to a stable end; alone waits {quiet}; beside them {it.waits}"
 
 

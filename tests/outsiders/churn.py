@@ -56,7 +56,7 @@ class Held:
         return f"{self.threads} threads, {self.files} files, {self.kilobytes} kB"
 
 
-def waited(find: Callable[[], object]) -> None:
+def wait_until(find: Callable[[], object]) -> None:
     """Waits until a function returns a true value, which shows that the class has begun. Fails after a time limit."""
     end = time.monotonic() + LIMIT
     while not find():
@@ -78,7 +78,7 @@ class Class:
         )
         self.printed: list[str] = []
         threading.Thread(target=lambda: self.printed.extend(self.process.stdout or ()), daemon=True).start()
-        waited(lambda: [*runs.glob(f"*/{RECORD}")] and self.address())
+        wait_until(lambda: [*runs.glob(f"*/{RECORD}")] and self.address())
         record = Record.read(next(runs.glob("*")))
         assert record is not None
         self.host, self.port, self.desk = record.server.number, record.port, record.desk
@@ -110,8 +110,8 @@ class Comings:
         """The clients come to the ports and the page of the class `it`."""
         (port, self.path), self.port, self.desk = it.address(), it.port, it.desk
         self.page, self.count = int(port), 0
-        self.kinds = [self.asks, self.resets, self.plays, self.is_no_one, self.knocks, self.looks_at_page, self.hears_news,
-                      self.is_slow_at_page, self.knocks_at_desk]
+        self.kinds = [self.asks, self.resets, self.plays, self.comes_without_key, self.knocks, self.looks_at_page, self.hears_news,
+                      self.sends_part_to_page, self.knocks_at_desk]
 
     def asks(self, draw: random.Random) -> None:
         """Connects as a student, looks some times, and says bye or closes the connection without it."""
@@ -142,7 +142,7 @@ class Comings:
             caller.ask(line_of(**{"at": seen["at"], "do": "move", "node": NODES[name], "rule": "marriage", "with": other}))
         caller.close()
 
-    def is_no_one(self, draw: random.Random) -> None:
+    def comes_without_key(self, draw: random.Random) -> None:
         """Connects without a key: sends wrong hellos, a web form, lines that are no requests, a line that is too long,
         or a part of a line. Then reads one line and closes."""
         caller = Caller(self.port)
@@ -163,7 +163,7 @@ class Comings:
         caller.line()
         caller.close()
 
-    def asked(self, what: str) -> socket.socket:
+    def request(self, what: str) -> socket.socket:
         """Returns a connection to the page's server that has sent a request for the path `what` below the page."""
         it = socket.create_connection(("127.0.0.1", self.page), LIMIT)
         it.sendall(f"GET {self.path}{what} HTTP/1.1\r\nHost: 127.0.0.1:{self.page}\r\nConnection: close\r\n\r\n".encode())
@@ -171,25 +171,25 @@ class Comings:
 
     def looks_at_page(self, draw: random.Random) -> None:
         """Requests the page, or a missing one."""
-        with self.asked(draw.choice(["", "", "none"])) as it:
+        with self.request(draw.choice(["", "", "none"])) as it:
             while it.recv(65536):
                 pass
 
     def hears_news(self, draw: random.Random) -> None:
         """Requests the page's stream of events, reads its beginning or nothing, and closes after a moment."""
-        with self.asked("events") as it:
+        with self.request("events") as it:
             if draw.random() < 0.7:
                 it.recv(65536)
             time.sleep(draw.random())
 
-    def is_slow_at_page(self, draw: random.Random) -> None:
+    def sends_part_to_page(self, draw: random.Random) -> None:
         """Sends a part of a request to the page. Then closes the connection, or waits for the server to end it."""
         with socket.create_connection(("127.0.0.1", self.page), LIMIT) as it:
             it.sendall(b"GET /"[:draw.randrange(6)])
             if draw.random() < 0.2:
                 it.recv(1)
 
-    def until(self, end: float, seed: int) -> None:
+    def act_until(self, end: float, seed: int) -> None:
         """Runs one action after another until the time `end`. The seed determines which. Ignores `OSError`, because a
         connection may be ended at any time."""
         draw = random.Random(seed)
@@ -226,7 +226,7 @@ def churn(room: Path, seconds: float) -> None:
     while time.monotonic() < end:
         it.type("shake 1" if seed % 3 else "report")
         until = min(end, time.monotonic() + ROUND)
-        clients = [threading.Thread(target=comings.until, args=[until, seed * COMING + at]) for at in range(COMING)]
+        clients = [threading.Thread(target=comings.act_until, args=[until, seed * COMING + at]) for at in range(COMING)]
         for client in clients:
             client.start()
         for client in clients:

@@ -10,7 +10,7 @@ from tests.common.preload import fail
 from tests.common.side_by_side import Test
 from tests.outsiders.crowded import AGAIN, HELLOS, RATE, SETTLED, SLOWER, WAIT, alive, greeted_within, nine_in_ten
 from tests.outsiders.load import Outsiders
-from tests.outsiders.parting import ended, slowed, taken
+from tests.outsiders.parting import end_well, slowed, wait_until_accepted
 
 OWN = 4  # the number of seats that a name keeps
 SEATS = OWN * len(NODES) + 1  # the number of the students' seats that are taken, so that one is left
@@ -27,7 +27,7 @@ def ends_with_all_seated(host: Host, seated: list[tuple[str, Caller]]) -> None:
     for name in NODES:
         if len(alive([caller for owner, caller in seated if owner == name], name)) != OWN:
             fail(f"outsiders: beside strangers on the last seat {name} loses one")
-    ended(host, let_in(host.desk, hello("tess"))[0])
+    end_well(host, let_in(host.desk, hello("tess"))[0])
 
 
 def the_last_seat(room: Path) -> None:
@@ -61,10 +61,10 @@ def a_hello_first(room: Path) -> None:
         files = host.files()
         other = Caller(host.port)
         other.send(b"{}\n")
-        taken(host, files, 1)
+        wait_until_accepted(host, files, 1)
         speaker = Caller(host.port)
         speaker.send(hello("cyd"))
-        taken(host, files, 2)
+        wait_until_accepted(host, files, 2)
         ana.ask(BYE)
         if b'"ok":"hello"' not in (said := speaker.line()) or b'"ok":"look"' not in speaker.ask(look("cyd")):
             fail(f"outsiders: who has sent a hello and waits reads {said!r}")
@@ -73,7 +73,7 @@ def a_hello_first(room: Path) -> None:
         ben.ask(BYE)
         if (said := other.line()) != MALFORMED:
             fail(f"outsiders: who has sent another line and waits reads {said!r}")
-        ended(host, teacher)
+        end_well(host, teacher)
 
 
 def a_flooded_seat(room: Path) -> None:

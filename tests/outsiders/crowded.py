@@ -64,7 +64,7 @@ def flooded(kind: str, room: Path) -> None:
             with Outsiders(kind, RATE, [port]):
                 nine_in_ten(port, name, SLOWER * WAIT + AGAIN * quiet, kind)
         teacher = let_in(host.desk, hello("tess"))[0]
-        if host.dismissed(teacher).out != b"done: 0 events, configuration 0\n":
+        if host.dismiss(teacher).out != b"done: 0 events, configuration 0\n":
             fail(f"outsiders: beside {kind} connections a host ends otherwise")
 
 
@@ -108,7 +108,7 @@ def four_of_a_name(room: Path) -> None:
             time.sleep(2)
             if len(alive(callers, "ana")) != OWN:
                 fail("outsiders: beside others a name doesn't keep four seats")
-        host.dismissed(let_in(host.desk, hello("tess"))[0])
+        host.dismiss(let_in(host.desk, hello("tess"))[0])
 
 
 TESTS = [idle_crowds, closing_crowds, half_a_line, crowds_of_braces, four_of_a_name]

@@ -4,7 +4,7 @@ import select
 import time
 from pathlib import Path
 
-from tests.common.hosting import Caller, Host, called, lab_of, let_in
+from tests.common.hosting import Caller, Host, connect, lab_of, let_in
 from tests.common.lines import BUSY, LONG, OVER, UNKNOWN, WRONG, hello, look
 from tests.common.preload import Ended, Preloaded, fail
 from tests.common.side_by_side import Test
@@ -36,14 +36,14 @@ def longest_lines(room: Path) -> None:
         if [b'"ok"' in line for line in said] != [True] * 6:
             fail(f"outsiders: lines of {MOST} bytes read {said}")
         for first in (b"", hello("ben")):
-            caller = called(host.port)
+            caller = connect(host.port)
             if first:
                 caller.ask(first)
             caller.send(longer)
             if (found := (caller.line(), caller.line())) != (LONG, b""):
                 fail(f"outsiders: a line of {MOST + 1} bytes reads {found}")
             caller.close()
-        ended = host.dismissed(let_in(host.desk, hello("tess"))[0])
+        ended = host.dismiss(let_in(host.desk, hello("tess"))[0])
         if ended != Ended(0, NO_EVENTS, b"") or (found := (ana.line(), ana.line())) != (OVER, b""):
             fail(f"outsiders: who sent lines of {MOST} bytes reads {found} at the end, which is {ended}")
 
@@ -74,7 +74,7 @@ def told_guesses(room: Path) -> None:
             said = host.process.stderr.readline() if is_told else b""
             if said != b"host: %d hellos had no right key: somebody may be guessing\n" % count:
                 fail(f"outsiders: after {count} guesses a host says {said!r}")
-        if (ended := host.dismissed(let_in(host.desk, hello("tess"))[0])) != Ended(0, NO_EVENTS, b""):
+        if (ended := host.dismiss(let_in(host.desk, hello("tess"))[0])) != Ended(0, NO_EVENTS, b""):
             fail(f"outsiders: after {made} guesses a host ends with {ended}")
 
 
@@ -97,7 +97,7 @@ def no_busy_loop(room: Path) -> None:
         # From here on the host can open no further file.
         # From here on the host can open no further file.
         resource.prlimit(host.process.pid, resource.RLIMIT_NOFILE, (host.files(), 4096))
-        kept = [called(host.port) for _ in range(3)]
+        kept = [connect(host.port) for _ in range(3)]
         waits_between(host, library, PAUSE, "with no descriptor left")
         resource.prlimit(host.process.pid, resource.RLIMIT_NOFILE, (4096, 4096))
         if any(caller.line() != BUSY for caller in kept):
@@ -109,7 +109,7 @@ def no_busy_loop(room: Path) -> None:
         tries, seconds = library.counts()[0] - before, time.monotonic() - begun
         if not 0 < tries < 2 * seconds / SHORT + 20:
             fail(f"outsiders: while somebody waits for a seat a host accepts {tries} times in {seconds:.1f} seconds")
-        if b'"ok":"look"' not in ana.ask(look("ana")) or host.dismissed(teacher) != Ended(0, NO_EVENTS, b""):
+        if b'"ok":"look"' not in ana.ask(look("ana")) or host.dismiss(teacher) != Ended(0, NO_EVENTS, b""):
             fail("outsiders: another end after accepts that failed")
 
 

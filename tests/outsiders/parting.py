@@ -7,7 +7,7 @@ from pathlib import Path
 
 from tests.common.hosting import Caller, Host, lab_of, let_in
 from tests.common.lines import BUSY, BYE, OVER, UNKNOWN, WRONG, hello, look
-from tests.common.preload import LIMIT, Ended, built, fail
+from tests.common.preload import LIMIT, Ended, build_library, fail
 from tests.common.side_by_side import Test
 
 NO_EVENTS = Ended(0, b"done: 0 events, configuration 0\n", b"")
@@ -17,10 +17,10 @@ GUESSES = 8  # the number of connections that guess a key, each of which takes t
 
 def slowed(room: Path) -> dict[str, str]:
     """Builds a library that slows down the clock, and returns the environment of a host with it."""
-    return {"LD_PRELOAD": str(built("outsiders/slow.c", room)), "SLOW": str(SLOW)}
+    return {"LD_PRELOAD": str(build_library("outsiders/slow.c", room)), "SLOW": str(SLOW)}
 
 
-def taken(host: Host, files: int, more: int) -> None:
+def wait_until_accepted(host: Host, files: int, more: int) -> None:
     """Waits until a host has accepted `more` connections since the time when it had `files` open files."""
     end = time.monotonic() + LIMIT
     while host.files() < files + more:
@@ -29,9 +29,9 @@ def taken(host: Host, files: int, more: int) -> None:
         time.sleep(0.02)
 
 
-def ended(host: Host, teacher: Caller) -> None:
+def end_well(host: Host, teacher: Caller) -> None:
     """Checks that the teacher's bye ends a host well."""
-    if (found := host.dismissed(teacher)) != NO_EVENTS:
+    if (found := host.dismiss(teacher)) != NO_EVENTS:
         fail(f"outsiders: with a slow clock a host ends with {found}")
 
 
@@ -43,7 +43,7 @@ def guessing(host: Host) -> list[Caller]:
     callers = [Caller(host.port) for _ in range(GUESSES)]
     for caller in callers:
         caller.send(WRONG)
-    taken(host, files, GUESSES - 1)  # The first connection may be closed already.
+    wait_until_accepted(host, files, GUESSES - 1)  # The first connection may be closed already.
     return callers
 
 
@@ -56,7 +56,7 @@ def denied_in_turn(room: Path) -> None:
         said = [(caller.line(), caller.line()) for caller in callers[:-1]]
         if said != [(UNKNOWN, BUSY)] * (GUESSES - 1) or callers[-1].line() != UNKNOWN:
             fail(f"outsiders: who guesses and leaves for another reads {said}")
-        ended(host, teacher)
+        end_well(host, teacher)
 
 
 def over_for_all(room: Path) -> None:
@@ -66,7 +66,7 @@ def over_for_all(room: Path) -> None:
         teacher = let_in(host.desk, hello("tess"))[0]
         callers = guessing(host)
         told = [(caller.line(), caller.line()) for caller in callers[:2]]  # By then the other connections wait for their turns.
-        ended(host, teacher)
+        end_well(host, teacher)
         said = [(caller.line(), caller.line()) for caller in callers[2:]]
         if told != [(UNKNOWN, BUSY)] * 2 or said[-4:] != [(OVER, b"")] * 4:
             fail(f"outsiders: of those who guess before the class's end the host prints {told}, and at its end {said}")
@@ -77,8 +77,8 @@ def over_for_all(room: Path) -> None:
         waiting = [Caller(host.port) for _ in range(5)]
         for caller in waiting[:2]:
             caller.send(hello("cyd"))
-        taken(host, files, len(waiting))
-        ended(host, teacher)
+        wait_until_accepted(host, files, len(waiting))
+        end_well(host, teacher)
         said = [(caller.line(), caller.line()) for caller in [*held, *waiting]]
         if said != [(OVER, b"")] * 7:
             fail(f"outsiders: at the class's end those who wait for a seat read {said[2:]}")
@@ -91,7 +91,7 @@ def first_to_speak(room: Path) -> None:
         ana, ben = (let_in(host.port, hello(name))[0] for name in ("ana", "ben"))
         files = host.files()
         silent, speaker = Caller(host.port), Caller(host.port)
-        taken(host, files, 2)
+        wait_until_accepted(host, files, 2)
         speaker.send(hello("cyd"))
         ana.ask(BYE)
         if b'"ok":"hello"' not in (said := speaker.line()) or b'"ok":"look"' not in speaker.ask(look("cyd")):
@@ -102,7 +102,7 @@ def first_to_speak(room: Path) -> None:
         silent.send(hello("ana"))
         if b'"ok":"hello"' not in (said := silent.line()):
             fail(f"outsiders: who waited in silence reads {said!r}")
-        ended(host, teacher)
+        end_well(host, teacher)
 
 
 TESTS: list[Test] = [denied_in_turn, over_for_all, first_to_speak]

@@ -123,7 +123,7 @@ class Class:
         is over. Notes in `cut` if its connection is ended before that."""
         with contextlib.suppress(Over):
             while self.process.poll() is None:
-                me = self.greeted(node)
+                me = self.greet(node)
                 try:
                     for _ in range(LOOKS):
                         self.plays(me, node)
@@ -134,7 +134,7 @@ class Class:
                         self.cut.append(f"s-{node}: {error!r}")
                 me.hang_up()
 
-    def greeted(self, node: int) -> Client:
+    def greet(self, node: int) -> Client:
         """Connects as the student of a node, again and again until a seat is free. Returns the connection. Raises
         `Over` if the class has ended."""
         begun = time.monotonic()
@@ -227,7 +227,7 @@ def beside_a_host(room: Path, seconds: float, rate: int) -> None:
             minutes += 1
             print(f"{minutes}: {Held.of(host.process.pid)}; {waits}", flush=True)
         last = Held.of(host.process.pid)
-        ended = host.dismissed(let_in(host.desk, hello("tess"))[0])
+        ended = host.dismiss(let_in(host.desk, hello("tess"))[0])
     audit(lab, journal, 0)
     # The status is 4 if entries of the record couldn't be written, because its file had reached its limit.
     if not last.is_as(first) or ended.status not in (0, 4):

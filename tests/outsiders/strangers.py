@@ -31,7 +31,7 @@ def a_student_at_the_desk(room: Path) -> None:
                 fail(f"outsiders: a student who leaves the desk is answered {told!r}")
             student.close()
             teacher.close()
-        host.dismissed(let_in(host.desk, hello("tess"))[0])
+        host.dismiss(let_in(host.desk, hello("tess"))[0])
 
 
 def five_seconds_at_the_desk(room: Path) -> None:
@@ -50,7 +50,7 @@ def five_seconds_at_the_desk(room: Path) -> None:
             if said != LATE or not STAYS - 0.5 <= passed <= STAYS + SLOW:
                 fail(f"outsiders: after {line!r} at the desk {said!r} is told in {passed:.1f} seconds")
             stranger.close()
-        host.dismissed(let_in(host.desk, hello("tess"))[0])
+        host.dismiss(let_in(host.desk, hello("tess"))[0])
 
 
 def a_busy_student_at_the_desk(room: Path) -> None:
@@ -63,7 +63,7 @@ def a_busy_student_at_the_desk(room: Path) -> None:
                 fail("outsiders: a student who asks without pause keeps the desk")
         if said not in (LATE, b""):
             fail(f"outsiders: a student who asks at the desk without pause is answered {said!r}")
-        host.dismissed(let_in(host.desk, hello("tess"))[0])
+        host.dismiss(let_in(host.desk, hello("tess"))[0])
 
 
 def the_teacher_stays(room: Path) -> None:
@@ -78,7 +78,7 @@ def the_teacher_stays(room: Path) -> None:
         time.sleep(STAYS + 2)
         if LOOK not in teacher.ask(look("ana")):
             fail("outsiders: the teacher loses the desk")
-        host.dismissed(teacher)
+        host.dismiss(teacher)
 
 
 TESTS = [a_student_at_the_desk, five_seconds_at_the_desk, a_busy_student_at_the_desk, the_teacher_stays]

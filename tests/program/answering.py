@@ -58,7 +58,7 @@ def line_by_line(room: Path) -> int:
     return lines
 
 
-def answered(words: list[str], given: bytes) -> Ended:
+def answer_script(words: list[str], given: bytes) -> Ended:
     """Runs the program with these arguments and the script `given` on its standard input. Returns its status and
     output."""
     done = subprocess.run([HOST, *words], input=given, capture_output=True, timeout=LIMIT, check=False)
@@ -71,7 +71,7 @@ def ends(room: Path) -> int:
     lab = str(built_in(room))
     for script, out, line in ROWS:
         wanted = Ended(2 if line else 0, out.encode(), f"script: line {line}: bad line\n".encode() if line else b"")
-        found = answered(["answer", lab], script.encode())
+        found = answer_script(["answer", lab], script.encode())
         if found != wanted:
             fail(f"{found}, not {wanted}: {script[:60]!r}")
     words = [
@@ -82,7 +82,7 @@ def ends(room: Path) -> int:
         (["answer", "/dev/null"], Ended(2, b"", b"lab: events is missing\n")),
     ]
     for given, wanted in words:
-        found = answered(given, HELLO)
+        found = answer_script(given, HELLO)
         if found != wanted:
             fail(f"{found}, not {wanted}: {given}")
     with open("/dev/full", "wb") as full:
@@ -91,7 +91,7 @@ def ends(room: Path) -> int:
         fail(f"a full disk is reported as {done.returncode}, {done.stderr!r}")
     large = room / "large.toml"
     large.write_text(Path(lab).read_text(encoding="utf-8").replace("events = 100", f"events = {FAULTS}"), encoding="utf-8")
-    found = answered(["answer", str(large)], HELLO + b'1 {"do":"fault","node":1,"p":2,"m":true}\n' * (FAULTS + 1))
+    found = answer_script(["answer", str(large)], HELLO + b'1 {"do":"fault","node":1,"p":2,"m":true}\n' * (FAULTS + 1))
     *_, last, over = found.out.splitlines()
     if json.loads(last[2:])["place"] != FAULTS or over != b'1 {"refuse":"full"}':
         fail(f"the last of {FAULTS} events is answered by {last!r}, the next by {over!r}")

@@ -73,7 +73,7 @@ def output_of(words: list[str | Path], given: bytes = b"") -> str:
     return done.stdout.decode("ascii")
 
 
-def played(file: Path, steps: list[Step]) -> list[dict[str, Any]]:
+def play(file: Path, steps: list[Step]) -> list[dict[str, Any]]:
     """Plays these steps with the lab in a file. Returns the reports before the first step and after each. Checks that
     every move is granted, and is the only one of its close."""
     ask: dict[str, object] = {"do": "report"}
@@ -114,10 +114,10 @@ class Counted:
     reports: list[dict[str, Any]]
 
 
-def counted(file: Path, steps: list[Step]) -> Counted:
+def play_and_count(file: Path, steps: list[Step]) -> Counted:
     """Plays these steps with the lab in a file, and checks that the run is stable exactly after the last step. Returns
     its counts."""
-    reports = played(file, steps)
+    reports = play(file, steps)
     if [report["stable"] for report in reports] != [False] * len(steps) + [True]:
         fail(f"{file.name}: not stable where the run ends, or before")
     found = Recovery(node for node, _ in reports[0]["privileged"])
@@ -146,7 +146,7 @@ def moves(room: Path, size: int) -> int:
     pointers |= {node: node + 1 for node in range(half + 1, size)} | {size: 2}
     links = [(low, high) for low in range(1, size + 1) for high in range(low + 1, size + 1) if low + high > size]
     alone: list[Step] = [[(node, words)] for node in range(1, size + 1) for words in (UPDATE, ABANDONMENT)]
-    found = counted(lab(room, links, sorted(pointers.items())), [*alone, *phases(size, range(1, size + 1))])
+    found = play_and_count(lab(room, links, sorted(pointers.items())), [*alone, *phases(size, range(1, size + 1))])
     most = 3 * size + 2 * min(len(links), size * size // 4)
     if (found.most_moves, found.moves) != (most, most - size % 2):
         fail(f"{size} nodes: {found.moves} moves of {found.most_moves}")
@@ -161,7 +161,7 @@ def rounds(room: Path, size: int) -> int:
     links = [(node, high) for node in low for high in range(low.stop, size + 1) if node + high > size]
     nodes: list[tuple[int, int | None]] = [(node, None) for node in range(1, size + 1)]
     steps = [[(node, UPDATE) for node, _ in nodes], *phases(size, low)]
-    found = counted(lab(room, links, nodes), steps)
+    found = play_and_count(lab(room, links, nodes), steps)
     for step, report in zip(steps, found.reports):
         if report["privileged"] != [[node, words["rule"]] for node, words in sorted(step, key=lambda move: move[0])]:
             fail(f"{size} nodes: others are privileged than those of a step")

@@ -132,7 +132,7 @@ class Replay:
         return ""
 
 
-def played(server: Server, seed: int) -> list[Player]:
+def play_all(server: Server, seed: int) -> list[Player]:
     """Starts three clients of a server, and returns them after they have played at the same time."""
     players = [Player(server.port, name) for name in HELLOS]
     ana, ben, tess = players
@@ -157,7 +157,7 @@ def run_crowd(room: Path, seed: int) -> int:
     lab = read_lab(file.read_bytes())
     kept.unlink(missing_ok=True)
     server = Server(lambda port: ["serve", str(file), str(port), "3", str(kept)], {})
-    players = played(server, seed)
+    players = play_all(server, seed)
     ended = server.end()
     for player in players:
         replay = Replay(lab, kept.read_bytes())

@@ -115,7 +115,7 @@ def whole_tale() -> Tale:
     return tale
 
 
-def scripted(room: Path, lab: Path) -> None:
+def check_script(room: Path, lab: Path) -> None:
     """Plays the whole run as a script, and audits its journal. Then checks that a line is bad if the number of its
     connection is greater than `SESSIONS`."""
     tale = whole_tale()
@@ -132,7 +132,7 @@ def scripted(room: Path, lab: Path) -> None:
         fail("the largest lab has a connection too many")
 
 
-def served(lab: Path) -> None:
+def check_server(lab: Path) -> None:
     """Checks the replies of a server of the largest lab to the teacher's report, looks and faults."""
     server = Server(lambda port: ["serve", str(lab), str(port), "1"], {})
     teacher = Client(server.port)
@@ -150,11 +150,11 @@ def served(lab: Path) -> None:
         fail("another end of a server of the largest lab")
 
 
-def greatest(room: Path) -> None:
+def check_greatest(room: Path) -> None:
     """Checks the largest lab, a script over it, and a server of it."""
     lab = room / "greatest.toml"
     lab.write_text(document(), encoding="ascii")
     if good(["check", str(lab)]) != b"ok: 256 nodes, 32640 links, 256 students\n":
         fail("another size of the largest lab")
-    scripted(room, lab)
-    served(lab)
+    check_script(room, lab)
+    check_server(lab)

@@ -12,7 +12,7 @@ from pathlib import Path
 
 from tests.common.hosting import HOST
 from tests.common.preload import LIMIT, Server, Story, fail, good, in_room
-from tests.program.greatest import EVENTS, greatest
+from tests.program.greatest import EVENTS, check_greatest
 
 NODES = 256
 PART = 1000  # requests that are sent at once
@@ -33,7 +33,7 @@ def lab(room: Path, nodes: Iterable[str], links: str, events: int) -> Path:
     return file
 
 
-def report(room: Path, file: Path, wanted: str) -> None:
+def check_report(room: Path, file: Path, wanted: str) -> None:
     """Checks that the teacher gets this report of the lab in a file, and that a student gets a denial and can go on."""
     script = room / "large.script"
     lines = [HELLO, '{"do":"report"}\n', '{"do":"bye"}\n', '{"do":"hello","key":"a-key","name":"ana"}\n',
@@ -45,18 +45,18 @@ def report(room: Path, file: Path, wanted: str) -> None:
         fail("another report of 256 nodes")
 
 
-def reports(room: Path) -> None:
+def check_reports(room: Path) -> None:
     """Checks the reports of 256 nodes without a link, and of 128 pairs."""
     ids = range(1, NODES + 1)
     free = ",".join(str(node) for node in ids)
     alone = [f'{{ id = {node}, owner = "ana" }}' for node in ids]
     ended = '"privileged":[],"stable":true}\n'
-    report(room, lab(room, alone, "", 1), f'{{"at":0,"free":[{free}],"ok":"report","open":[],"pairs":[],{ended}')
+    check_report(room, lab(room, alone, "", 1), f'{{"at":0,"free":[{free}],"ok":"report","open":[],"pairs":[],{ended}')
     pairs = ",".join(f"[{node},{node + 1}]" for node in ids[::2])
     married = [
         f'{{ id = {node}, owner = "ana", p = {node + 1 if node % 2 else node - 1}, m = true }}' for node in ids
     ]
-    report(room, lab(room, married, pairs, 1), f'{{"at":0,"free":[],"ok":"report","open":[],"pairs":[{pairs}],{ended}')
+    check_report(room, lab(room, married, pairs, 1), f'{{"at":0,"free":[],"ok":"report","open":[],"pairs":[{pairs}],{ended}')
 
 
 def exchange(it: socket.socket, lines: list[str], replies: list[str]) -> None:
@@ -86,7 +86,7 @@ def pair(room: Path) -> Path:
     return lab(room, [f'{{ id = {node}, owner = "ana" }}' for node in (1, 2)], "[1, 2]", EVENTS)
 
 
-def scripted(room: Path) -> None:
+def check_script(room: Path) -> None:
     """Cuts and adds a link by a script, as often as a lab allows, and once more."""
     lines, replies = changes(range(1, EVENTS + 1))
     script = "".join(f"1 {line}" for line in [HELLO, *lines, CUT]).encode("ascii")
@@ -95,7 +95,7 @@ def scripted(room: Path) -> None:
         fail(f"another reply in a script of {EVENTS} events, or its end: {done.returncode} {done.stderr!r}")
 
 
-def events(room: Path) -> None:
+def check_server(room: Path) -> None:
     """Cuts and adds a link through a server, as often as a lab allows, and once more."""
     file, journal = pair(room), room / "large.journal"
     server = Server(lambda port: ["serve", str(file), str(port), "1", str(journal)], {})
@@ -114,10 +114,10 @@ def events(room: Path) -> None:
 def work(room: Path) -> str:
     """Checks the largest lab, reports of many nodes, and runs of many events. Returns a line with the numbers of nodes
     and events."""
-    greatest(room)
-    reports(room)
-    scripted(room)
-    events(room)
+    check_greatest(room)
+    check_reports(room)
+    check_script(room)
+    check_server(room)
     return f"the largest lab, reports of {NODES} nodes, and {EVENTS} events of a script and of a server"
 
 

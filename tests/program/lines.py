@@ -183,7 +183,7 @@ def as_python_reads(line: bytes) -> bytes:
     return json.dumps(plain, separators=(",", ":")).encode()
 
 
-def answered(room: Path, lab: Path, lines: list[bytes]) -> tuple[bytes, bytes]:
+def play_lines(room: Path, lab: Path, lines: list[bytes]) -> tuple[bytes, bytes]:
     """Runs a script of these lines, and returns its replies and its journal."""
     script, journal = room / "lines.script", room / "lines.journal"
     script.write_bytes(b"".join(line + b"\n" for line in lines))
@@ -201,9 +201,9 @@ def each_way(room: Path, lab: Path) -> tuple[int, int]:
     greetings = [b'1 {"do":"hello","key":"chalk","name":"tess"}', b'2 {"do":"hello","key":"a-key","name":"ana"}']
     for _ in range(LINES // PART):
         drawn = [(rng.choice([b"1", b"1", b"2", b"3", b"4"]), drawn_line(rng)) for _ in range(PART)]
-        plainly = answered(room, lab, greetings + [b"%s %s" % pair for pair in drawn])
+        plainly = play_lines(room, lab, greetings + [b"%s %s" % pair for pair in drawn])
         for way in (with_array, as_python_reads):
-            again = answered(room, lab, greetings + [b"%s %s" % (one, way(line)) for one, line in drawn])
+            again = play_lines(room, lab, greetings + [b"%s %s" % (one, way(line)) for one, line in drawn])
             if plainly != again:
                 pairs = zip(plainly[0].splitlines(), again[0].splitlines(), greetings + [line for _, line in drawn])
                 other = next((it for it in pairs if it[0] != it[1]), "the journal")

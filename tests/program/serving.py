@@ -21,7 +21,7 @@ def lab_of(room: Path, old: str, new: str) -> Path:
     return lab
 
 
-def serving(lab: Path, connections: int, *journal: str) -> Server:
+def start_server(lab: Path, connections: int, *journal: str) -> Server:
     """Starts a server for `connections` connections, and returns it when it listens."""
     server = Server(lambda port: ["serve", str(lab), str(port), str(connections), *journal], {})
     if not server.listens:
@@ -49,7 +49,7 @@ def whole(it: socket.socket) -> bytes:
 
 def in_a_line(room: Path) -> None:
     """An incomplete line isn't answered, and ends only its own connection."""
-    server = serving(built_in(room), 4)
+    server = start_server(built_in(room), 4)
     texts = [b'{"do":"hel', hello("ana") + seduction(0), b"", BYE + BYE[:-1]]
     wanted = [b"", greeted("ana") + seduced(0, 1), b"", BID]
     clients = [opened(server) for _ in texts]
@@ -67,7 +67,7 @@ def in_a_line(room: Path) -> None:
 def gone(room: Path) -> None:
     """If a client closes its connection before it reads the reply to its move, the move is still made. Another client
     is served to its end."""
-    server = serving(built_in(room), 2)
+    server = start_server(built_in(room), 2)
     with opened(server) as client:
         client.sendall(hello("ana") + seduction(0))
     teacher = Client(server.port)
@@ -84,7 +84,7 @@ def gone(room: Path) -> None:
 def many(room: Path) -> None:
     """As many connections as a server may have send the beginning of a line at the same time. When each of them sends
     the rest, it is answered correctly. All of them use the same name."""
-    server = serving(lab_of(room, "sessions = 4", f"sessions = {MOST['sessions']}"), MOST["sessions"])
+    server = start_server(lab_of(room, "sessions = 4", f"sessions = {MOST['sessions']}"), MOST["sessions"])
     lines, replies = (
         b"".join(line[2:] for line in (TOP / f"examples/first-look.{end}").read_bytes().splitlines(keepends=True))
         for end in ("script", "out")
@@ -125,7 +125,7 @@ def races(room: Path) -> None:
     names this one. If the teacher closes the step on two connections at the same time, one of them is granted."""
     journal = room / "raced.journal"
     lab = lab_of(room, 'owner = "ana"', 'owners = ["ana", "ben"]')
-    server = serving(with_more_events(lab), 4, str(journal))
+    server = start_server(with_more_events(lab), 4, str(journal))
     clients = [Client(server.port) for _ in range(4)]
     for client, name in zip(clients, ("ana", "ben", "tess", "tess")):
         client.ask(hello(name))

@@ -138,7 +138,7 @@ TAKEN = [
 ]
 
 
-def called(line: str, folder: Path) -> Ended:
+def run_line(line: str, folder: Path) -> Ended:
     """Runs the program in a folder with the words of a line as its arguments. Returns its status and output."""
     words: list[str | Path] = [PROGRAM.resolve(), *line.split(" ")]
     done = subprocess.run(
@@ -149,12 +149,12 @@ def called(line: str, folder: Path) -> Ended:
 
 def wants(line: str, folder: Path, wanted: Ended) -> None:
     """Checks the status and output of a command line that is run in a folder."""
-    ended = called(line, folder)
+    ended = run_line(line, folder)
     if ended != wanted:
         fail(f"{ended}, not {wanted}: {line!r}")
 
 
-def words_of(folder: Path) -> int:
+def check_lines(folder: Path) -> int:
     """Makes the files in a folder, and checks the command lines that aren't understood, and those in TAKEN. Returns
     their number."""
     for name in ("a", "check", "help", "version", "7000"):
@@ -214,7 +214,7 @@ def in_one_write(folder: Path) -> int:
 
 def work(room: Path) -> str:
     """Checks all command lines, and that outputs are single writes. Returns a line with the numbers of both."""
-    return f"words: {words_of(room)} as wanted; outputs by write: {in_one_write(room)}"
+    return f"words: {check_lines(room)} as wanted; outputs by write: {in_one_write(room)}"
 
 
 if __name__ == "__main__":

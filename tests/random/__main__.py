@@ -68,7 +68,7 @@ def compare(room: Path, seed: int) -> Counter[bytes]:
     return Counter(TOLD.findall(found.out) + LISTED.findall(found.out))
 
 
-def scripts(room: Path) -> None:
+def compare_scripts(room: Path) -> None:
     """Compares all random scripts. Checks that each word of WORDS occurs in a reply, and that enough reports have
     pairs, and open links."""
     told: Counter[bytes] = Counter()
@@ -103,7 +103,7 @@ def runs_to_an_end(room: Path, worlds: range) -> str:
     return f"{count} drawn runs to an end, {dense} of them on many links"
 
 
-def meshes(room: Path) -> None:
+def check_meshes(room: Path) -> None:
     """Checks a thousand events of all kinds in a mesh: the reply to each, a report and looks after it, and the
     audit."""
     for count in MESHES:
@@ -117,7 +117,7 @@ def meshes(room: Path) -> None:
         audit_hurt(rng, files)
 
 
-def replaced(room: Path) -> int:
+def audit_replaced(room: Path) -> int:
     """Audits the journal in docs/JOURNAL.md with each byte replaced by others. Returns the number of audits."""
     files = Files("docs/JOURNAL.md", room, (TOP / "examples/built-in.toml").read_text(encoding="ascii"), b"")
     journal = (TOP / "examples/whole-run.journal").read_bytes()
@@ -130,9 +130,9 @@ def replaced(room: Path) -> int:
 def work(room: Path) -> str:
     """Compares tables, scripts, meshes, audits and whole runs with the model. Returns a line with their numbers."""
     tables.compare()
-    scripts(room)
-    meshes(room)
-    audits = replaced(room)
+    compare_scripts(room)
+    check_meshes(room)
+    audits = audit_replaced(room)
     return f"{len(SEEDS)} drawn scripts, {audits} audits and {runs_to_an_end(room, WORLDS)}, as the model has them"
 
 

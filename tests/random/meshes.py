@@ -85,7 +85,7 @@ class Meshing:
             asked = {"do": "cut", "a": start, "b": world.near(start)[-1]}
         return asked or self.fault(start)
 
-    def event(self) -> None:
+    def add_event(self) -> None:
         """Appends an event, a report, and looks at the nodes of the event and at their neighbours."""
         asked = self.drawn()
         self.ask(1 if asked["do"] == "move" else 2, json.dumps(asked))
@@ -102,5 +102,5 @@ def mesh_script(rng: Random, lab: Lab, events: int) -> bytes:
     for connection, line in enumerate(HELLOS, 1):
         meshing.ask(connection, line)
     for _ in range(events):
-        meshing.event()
+        meshing.add_event()
     return "".join(meshing.lines).encode()

@@ -32,7 +32,7 @@ from tests.common.limits import MOST
 from tests.common.preload import Ended, fail, in_room
 from tests.common.second import agreed, said
 from tests.random.labs import drawn_lab
-from tests.record.classes import hosted
+from tests.record.classes import run_classes
 from tests.record.drawn import drawn_run
 from tests.record.recording import Recording, whole_line
 from tests.record.slips import check_kinds, drawn_hurts, shared_lab
@@ -75,23 +75,23 @@ class Files:
         for seat, text in texts.items():
             (self.folder / f"{seat}.record").write_bytes(text)
 
-    def ended(self, what: str) -> Ended:
+    def verdict(self, what: str) -> Ended:
         """Returns the program's verdict on the files. Fails if the model's verdict differs. `what` names the files in
         an error."""
         return agreed(what, "verify", self.lab, self.journal, self.folder)
 
-    def verified(self, what: str, journal: bytes, texts: dict[int, bytes], begun: int = 0) -> Ended:
+    def write_and_verify(self, what: str, journal: bytes, texts: dict[int, bytes], begun: int = 0) -> Ended:
         """Writes a journal and a record, and returns the program's verdict on them. Fails if the model's verdict
         differs. `texts` has the texts of seats, and `begun` is the number of events before the record. `what` names the
         files in an error."""
         self.write(journal, texts, begun)
-        return self.ended(what)
+        return self.verdict(what)
 
     def wants(self, what: str, journal: bytes, texts: dict[int, bytes], line: str, begun: int = 0) -> None:
         """Writes a journal and a record. Fails if the verdict of the program or of the model on them isn't `line`. If
         `line` begins with `ok: `, it is the output, and otherwise the error line. `texts` has the texts of seats, and
         `begun` is the number of events before the record. `what` names the files in an error."""
-        found = self.verified(what, journal, texts, begun)
+        found = self.write_and_verify(what, journal, texts, begun)
         if found != said(line):
             fail(f"{what}: {found}, not {line!r}")
 
@@ -216,7 +216,7 @@ def halted(lab: Lab, run: Recording) -> list[tuple[str, dict[int, bytes], str]]:
         ("granted after journal, in the next session", first + halt + b"1 1 .\n" + greeted + rest + end, refused % 10),
         ("granted after journal, after a pause", first + halt + b"1 1 -\n1 1 + 3\n1 1 .\n" + greeted + rest + end, refused % 12),
         ("granted after journal and a cut", first + halt + b"1 1 !\n1 1 .\n" + greeted + rest + end, cut),
-        ("granted before journal", first + rest + again + end, run.told().replace(f"{run.lines} lines", f"{run.lines + 1} lines")),
+        ("granted before journal", first + rest + again + end, run.verify_output().replace(f"{run.lines} lines", f"{run.lines + 1} lines")),
         ("events follow journal", first + halt + lost, outlived % 1),
         ("events follow journal, before a cut", first + halt + b"1 1 .\n1 2 !\n1 2 .\n", outlived % 1),
         ("events follow journal, after a cut", first + b"1 1 !\n1 1 .\n" + greeted + halt + lost, outlived % 1),
@@ -265,8 +265,8 @@ def by_hand(files: Files, lab: Lab) -> int:
     rest = {seat: b"" for seat in run.texts}
     place = run.model.world.place
     cases = [
-        ("whole", {1: one, 2: two}, run.told()),
-        ("two sessions more", {1: one + b"1 2 .\n1 2 .\n", 2: two}, run.told().replace("ok: 2 ", "ok: 4 ")),
+        ("whole", {1: one, 2: two}, run.verify_output()),
+        ("two sessions more", {1: one + b"1 2 .\n1 2 .\n", 2: two}, run.verify_output().replace("ok: 2 ", "ok: 4 ")),
         ("torn", {1: one, 2: two[:-1]}, "seat 2, line 13: torn"),
         ("torn in a reply", {1: one, 2: two[: two.index(b'{"ok":"bye"}') + 5]}, "seat 2, line 11: torn"),
         ("not an entry", {1: one, 2: b"2 0 ?\n" + two}, "seat 2, line 1: not an entry"),
@@ -287,7 +287,7 @@ def by_hand(files: Files, lab: Lab) -> int:
          "seat 2, line 5: not the reply of the rules at place 0"),
         ("a refusal", {1: one, 2: replaced(two, b'{"refuse":"malformed"}', b'{"refuse":"full"}')},
          "seat 2, line 7: not the reply of the rules at place 0"),
-        ("memory", {1: one, 2: replaced(two, b'{"refuse":"malformed"}', b'{"refuse":"memory"}')}, run.told()),
+        ("memory", {1: one, 2: replaced(two, b'{"refuse":"malformed"}', b'{"refuse":"memory"}')}, run.verify_output()),
         ("another event", {1: replaced(replaced(one, b'"p":2,"m":false', b'"p":2,"m":true'), b"1 2 .\n", b""), 2: two},
          "seat 1, line 5: not the journal's event at place 2"),
         ("exchanged", {1: two, 2: one}, "seat 1, line 1: not an entry"),
@@ -298,7 +298,7 @@ def by_hand(files: Files, lab: Lab) -> int:
         ("a grant repeated by its seat", {1: one + replaced(one, b"1 2 .\n", b"").replace(b"1 0 ", b"1 2 "), 2: two},
          "seat 1, line 10: not the reply of the rules at place 2"),
         ("a grant repeated", {1: one, 2: two, 3: in_seat(1, 3, one)}, "place 1: granted twice"),
-        ("cut twice", {1: one + b"1 2 !\n1 2 !\n1 2 .\n", 2: two}, run.told(False).replace("ok: 2 ", "ok: 3 ")),
+        ("cut twice", {1: one + b"1 2 !\n1 2 !\n1 2 .\n", 2: two}, run.verify_output(False).replace("ok: 2 ", "ok: 3 ")),
     ]
     cases += halted(lab, run)
     shown = b'2 0 > {"do":"see","node":1}\n2 0 < %s\n' % see_reply(lab).encode()
@@ -326,10 +326,10 @@ def other_files(files: Files, lab: Lab) -> None:
     files.journal.write_bytes(run.journal)
     for text in (b"", b"x\n", b"-1\n", b"1 \n", b"0\n\n", b"1" * 20):
         begun.write_bytes(text)
-        if files.ended(f"begun {text!r}") != fault:
+        if files.verdict(f"begun {text!r}") != fault:
             fail(f"a record is read that begins at {text!r}")
     begun.write_bytes(b"0")
-    if files.ended("begun without a newline") != said(run.told()):
+    if files.verdict("begun without a newline") != said(run.verify_output()):
         fail("a record isn't read whose beginning has no newline")
     # (The model has no such limit. The program may read a piece of 64 kB more before it notices.)
     content = seat.read_bytes()
@@ -341,7 +341,7 @@ def other_files(files: Files, lab: Lab) -> None:
     for file in (begun, seat):
         content = file.read_bytes()
         file.unlink()
-        if files.ended(f"without {file.name}") != fault:
+        if files.verdict(f"without {file.name}") != fault:
             fail(f"a record is read without {file.name}")
         file.write_bytes(content)
     if agreed("no record", "verify", files.lab, files.journal) != Ended(1, b"", b"command line: not understood\n"):
@@ -413,7 +413,7 @@ def at_each_byte(files: Files, lab: Lab) -> int:
             byte = BYTES[(at + seat) % len(BYTES)]
             hurt = whole[:at] + bytes([byte if byte != whole[at] else byte ^ 1]) + whole[at + 1 :]
             texts[seat] = hurt
-            files.verified(f"seat {seat}, byte {at}", run.journal, texts)
+            files.write_and_verify(f"seat {seat}, byte {at}", run.journal, texts)
             count += 1
         texts[seat] = whole
     return count
@@ -456,14 +456,14 @@ def compare(room: Path, seed: int) -> Counter[str]:
     lab = read_lab(document.encode("ascii"))
     run = drawn_run(rng, lab)
     files = Files(room, document)
-    files.wants(f"seed {seed}", run.journal, run.texts, run.told())
+    files.wants(f"seed {seed}", run.journal, run.texts, run.verify_output())
     told = Counter(["ok"])
     for k in range(HURTS):
-        found = files.verified(f"seed {seed}, hurt {k}", run.journal, hurt(rng, run))
+        found = files.write_and_verify(f"seed {seed}, hurt {k}", run.journal, hurt(rng, run))
         told[found.error.decode().strip().rpartition(": ")[2].partition(" at place")[0] or "ok"] += 1
     last = run.journal.splitlines(keepends=True)[:-1]
     if last:
-        files.verified(f"seed {seed}, an event less", b"".join(last), run.texts)
+        files.write_and_verify(f"seed {seed}, an event less", b"".join(last), run.texts)
     return told
 
 
@@ -512,11 +512,11 @@ def work(room: Path) -> str:
     bytes_hurt = at_each_byte(files, lab)
     told, slips = drawn(room), slipped(room)
     counts = f"{hand} records by hand, {bytes_hurt} with a byte hurt, {sum(told.values())} of drawn runs and {slips} of what can't be said"
-    return f"{counts}, as the model has them; classes of a host: {hosted(room)}"
+    return f"{counts}, as the model has them; classes of a host: {run_classes(room)}"
 
 
 if __name__ == "__main__":
     if sys.argv[1:] and sys.argv[1].isdecimal():
         compare(Path.cwd(), int(sys.argv[1]))
         sys.exit(0)
-    in_room(lambda room: f"{hosted(room, sys.argv[1:])} classes of a host" if sys.argv[1:] else work(room))
+    in_room(lambda room: f"{run_classes(room, sys.argv[1:])} classes of a host" if sys.argv[1:] else work(room))

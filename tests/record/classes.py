@@ -49,7 +49,7 @@ TESS = b"""\
 """
 
 
-def verified(lab: Path, journal: Path, record: Path, line: bytes) -> None:
+def check_verified(lab: Path, journal: Path, record: Path, line: bytes) -> None:
     """Fails unless `verify` accepts a record, and prints `line` first. Then it must print the names of those whose
     lines are all recorded, and the number in the file `begun`. If `line` says `not whole`, it must name nobody."""
     begun = int((record / "begun").read_bytes())
@@ -104,11 +104,11 @@ def whole_class(room: Path) -> tuple[Path, Path, Path]:
         ana.ask(look("ana"))
         if (ana.ask(BYE), ana.line()) != (BID, b""):
             fail("record: another reply to a student's bye")
-        ended = host.dismissed(tess)
+        ended = host.dismiss(tess)
     if ended != Ended(0, b"done: 2 events, configuration 1\n", b""):
         fail(f"record: a recorded class ends with {ended}")
     wants(record, lab, {1: TESS, STUDENT: ANA})
-    verified(lab, journal, record, b"ok: 2 sessions, 8 lines, 2 events\n")
+    check_verified(lab, journal, record, b"ok: 2 sessions, 8 lines, 2 events\n")
     return lab, journal, record
 
 
@@ -118,7 +118,7 @@ def killed_and_resumed(room: Path) -> None:
     lab, journal, record = lab_of(room, SEATS), room / "killed.journal", room / "killed"
     with Host(lab, 0, 0, journal, record) as host:
         callers = begin(host)
-        host.killed()
+        host.kill()
     for caller in callers:
         caller.close()
     before = {1: b"".join(TESS.splitlines(True)[:2]), STUDENT: b"".join(ANA.splitlines(True)[:8])}
@@ -126,14 +126,14 @@ def killed_and_resumed(room: Path) -> None:
     with Host(lab, 0, 0, journal, record, word="resume") as host:
         tess, _ = let_in(host.desk, hello("tess"))
         tess.ask(CLOSE)
-        ended = host.dismissed(tess)
+        ended = host.dismiss(tess)
     if ended.status != 0 or ended.error or b"done: 2 events, configuration 1\n" not in ended.out:
         fail(f"record: a class that goes on ends with {ended}")
     after = {seat: before.get(seat, b"") + b"%d 1 !\n%d 1 .\n" % (seat, seat) for seat in range(1, SEATS + 1)}
     after[1] += TESS.replace(b"1 0 ", b"1 1 ")
     wants(record, lab, after)
     # Of the five sessions, four end with the mark of their seat, and one with the bye of tess.
-    verified(lab, journal, record, b"ok: 5 sessions, 8 lines, 2 events, not whole\n")
+    check_verified(lab, journal, record, b"ok: 5 sessions, 8 lines, 2 events, not whole\n")
 
 
 def torn_entries(room: Path) -> None:
@@ -142,7 +142,7 @@ def torn_entries(room: Path) -> None:
     lab, journal, record = lab_of(room, SEATS), room / "torn.journal", room / "torn"
     with Host(lab, 0, 0, journal, record) as host:
         callers = begin(host)
-        host.killed()
+        host.kill()
     for caller in callers:
         caller.close()
     whole = {1: b"".join(TESS.splitlines(True)[:2]), STUDENT: b"".join(ANA.splitlines(True)[:8])}
@@ -151,14 +151,14 @@ def torn_entries(room: Path) -> None:
         with (record / f"{seat}.record").open("ab") as it:
             it.write(content)
     with Host(lab, 0, 0, journal, record, word="resume") as host:
-        ended = host.dismissed(let_in(host.desk, hello("tess"))[0]) if host.listens else host.end()
+        ended = host.dismiss(let_in(host.desk, hello("tess"))[0]) if host.listens else host.end()
     wanted = b"".join(b"resume: a torn entry of %d bytes is taken off %d.record\n" % (len(content), seat) for seat, content in torn.items())
     if ended.status != 0 or ended.error != wanted:
         fail(f"record: with torn entries a class that goes on ends with {ended}")
     after = {seat: whole.get(seat, b"") + b"%d 1 !\n%d 1 .\n" % (seat, seat) for seat in range(1, SEATS + 1)}
     after[1] += b"".join(line for line in TESS.replace(b"1 0 ", b"1 1 ").replace(b"1 2 ", b"1 1 ").splitlines(True) if b"close" not in line)
     wants(record, lab, after)
-    verified(lab, journal, record, b"ok: 5 sessions, 7 lines, 1 events, not whole\n")
+    check_verified(lab, journal, record, b"ok: 5 sessions, 7 lines, 1 events, not whole\n")
 
 
 def full_disk(room: Path) -> None:
@@ -170,7 +170,7 @@ def full_disk(room: Path) -> None:
         with Host(lab, 0, 0, journal, record, before=["bash", "-c", f'{start} && exec "$@"', "bash"]) as host:
             resource.prlimit(host.process.pid, resource.RLIMIT_FSIZE, (1024, 1024))
             fills(host, name)
-        cut(lab, journal, record)
+        check_cut(lab, journal, record)
 
 
 def fills(host: Host, name: str) -> None:
@@ -184,12 +184,12 @@ def fills(host: Host, name: str) -> None:
     reply = ana.ask(OTHER)
     if b'"deny"' not in reply or ana.ask(BYE) != BID:
         fail(f"record: after a disk is full, {name}, a student is answered {reply!r}")
-    ended = host.dismissed(tess)
+    ended = host.dismiss(tess)
     if ended != Ended(4, b"done: 2 events, configuration 1\n", b"record fault\n"):
         fail(f"record: where a record is cut, {name}, the host ends with {ended}")
 
 
-def cut(lab: Path, journal: Path, record: Path) -> None:
+def check_cut(lab: Path, journal: Path, record: Path) -> None:
     """Fails unless the file of the full seat begins with ana's entries and ends with the mark `!`, and `verify` reports
     the record as incomplete."""
     text = texts(record)[f"{STUDENT}.record"]
@@ -198,7 +198,7 @@ def cut(lab: Path, journal: Path, record: Path) -> None:
         fail(f"record: a seat's file that is full has {text!r}")
     found = sum(b" < " in entry for entry in entries)
     # Since nothing follows the mark, only the session of tess has an end.
-    verified(lab, journal, record, b"ok: 1 sessions, %d lines, 2 events, not whole\n" % (found + 3))
+    check_verified(lab, journal, record, b"ok: 1 sessions, %d lines, 2 events, not whole\n" % (found + 3))
 
 
 def kept_and_held(room: Path) -> None:
@@ -210,7 +210,7 @@ def kept_and_held(room: Path) -> None:
         with Host(lab, 0, 0, room / "other.journal", record) as second:
             if second.listens or second.end() != Ended(4, b"", b"record fault\n"):
                 fail("record: two hosts write one record")
-        ended = host.dismissed(let_in(host.desk, hello("tess"))[0])
+        ended = host.dismiss(let_in(host.desk, hello("tess"))[0])
     greeted = b"".join(TESS.splitlines(True)[:2])
     bid = b"".join(TESS.splitlines(True)[-3:])
     if ended != Ended(0, b"done: 0 events, configuration 0\n", b"") or texts(record.with_name("whole record.~1~")) != before:
@@ -219,13 +219,13 @@ def kept_and_held(room: Path) -> None:
     other = room / "other.toml"
     other.write_bytes(lab.read_bytes() + b"# another text\n")
     with Host(other, 0, 0, journal, record, word="resume") as host:
-        ended = host.dismissed(let_in(host.desk, hello("tess"))[0])
+        ended = host.dismiss(let_in(host.desk, hello("tess"))[0])
     if ended.status != 0 or texts(record)["begun"] != b"2\n" or not record.with_name("whole record.~2~").is_dir():
         fail(f"record: a record of another lab is gone on with: {ended}")
-    verified(other, journal, record, b"ok: 1 sessions, 2 lines, 2 events\n")
+    check_verified(other, journal, record, b"ok: 1 sessions, 2 lines, 2 events\n")
 
 
-def hosted(room: Path, words: Sequence[str] = ()) -> int:
+def run_classes(room: Path, words: Sequence[str] = ()) -> int:
     """Runs all tests of classes, or only those whose names contain one of `words`. `room` is a folder for their files.
     Returns the number of tests."""
     tests = [kept_and_held, killed_and_resumed, torn_entries, full_disk, flooded, outsiders_first, *PLACES]

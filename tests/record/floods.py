@@ -118,7 +118,7 @@ def wants_whole(name: str, found: list[Session], count: int) -> None:
         fail(f"record: beside a flood {name}'s visits are recorded as {[(len(v.said), v.marks) for v in visits]}")
 
 
-def verified(lab: Path, journal: Path, record: Path, found: list[Session], lacking: tuple[str, ...] = ()) -> None:
+def check_verified(lab: Path, journal: Path, record: Path, found: list[Session], lacking: tuple[str, ...] = ()) -> None:
     """Fails unless `verify` accepts the record, as one that isn't complete. It must count the sessions in `found` with
     their lines, and one event. Only the lines of the names in `lacking` may be missing."""
     lines = sum(len(session.said) // 2 for session in found)
@@ -150,7 +150,7 @@ def flooded(room: Path) -> None:
         whole_visit(host, "ben")
         unknown_flood(host, LINES, LINES)
         whole_visit(host, "cyd")
-        ended = host.dismissed(tess)
+        ended = host.dismiss(tess)
     if ended != Ended(0, b"done: 1 events, configuration 0\n", b""):
         fail(f"record: a class that was flooded ends with {ended}")
     found = sessions_in(record)
@@ -167,7 +167,7 @@ def flooded(room: Path) -> None:
         fail(f"record: of a connection before a hello {[session.size() for session in unknown]} bytes are recorded")
     wants_whole("ben", found, 2)
     wants_whole("cyd", found, 1)
-    verified(lab, journal, record, found, ("ana",))
+    check_verified(lab, journal, record, found, ("ana",))
 
 
 def asks_in_vain(caller: Caller) -> None:
@@ -191,7 +191,7 @@ def outsiders_first(room: Path) -> None:
             fail("record: after outsiders a student isn't greeted")
         asks_in_vain(ana)
         leave(ana)
-        ended = host.dismissed(tess)
+        ended = host.dismiss(tess)
     if ended != Ended(0, b"done: 1 events, configuration 0\n", b""):
         fail(f"record: a class after outsiders ends with {ended}")
     found = sessions_in(record)
@@ -203,4 +203,4 @@ def outsiders_first(room: Path) -> None:
         fail(f"record: after outsiders a student's session has {len(own.said)} lines, and {own.marks}")
     if sum(session.missed for session in found) != asked + 1 - recorded:
         fail(f"record: of {asked + 1} lines of outsiders {recorded} are recorded, and {[session.missed for session in found]} missed")
-    verified(lab, journal, record, found)
+    check_verified(lab, journal, record, found)

@@ -42,7 +42,7 @@ def takes(room: Path, lab: Path, record: Path) -> None:
     with Host(lab, 0, 0, room / "run.journal", record) as host:
         if not host.listens:
             fail(f"record: with {record} the host ends with {host.end()}")
-        ended = host.dismissed(let_in(host.desk, hello("tess"))[0])
+        ended = host.dismiss(let_in(host.desk, hello("tess"))[0])
     names = {"begun", "lab", *(f"{seat}.record" for seat in range(1, SEATS + 1))}
     if ended.status != 0 or {path.name for path in record.iterdir()} != names or record.stat().st_mode & 0o777 != 0o700:
         fail(f"record: with {record} the host ends with {ended}, and keeps {sorted(record.iterdir())}")
@@ -50,7 +50,7 @@ def takes(room: Path, lab: Path, record: Path) -> None:
     (room / "run.journal.lab").unlink()
 
 
-def filled(folder: Path, *names: str) -> Path:
+def make_folder(folder: Path, *names: str) -> Path:
     """Makes a folder with files of these names, each of which contains its name. A name can have a folder before it.
     Returns the path of the new folder."""
     folder.mkdir(parents=True)
@@ -64,13 +64,13 @@ def other_folders_stay(room: Path) -> None:
     """Checks that a host doesn't keep its record in a folder with other files, under any of its names. The host must
     also refuse anything that isn't a folder, and change nothing."""
     lab, here = lab_of(room, SEATS), room / "others"
-    filled(here / "Documents", "thesis", "record/1.record", "lab")
+    make_folder(here / "Documents", "thesis", "record/1.record", "lab")
     (here / "link").symlink_to("Documents")
     (here / "chain").symlink_to(here / "link")
     (here / "nowhere").symlink_to("none")
     (here / "file").write_text("a file", encoding="ascii")
     os.mkfifo(here / "pipe")
-    filled(here / "strange").joinpath("begun").mkdir()
+    make_folder(here / "strange").joinpath("begun").mkdir()
     for record in (".", "..", "Documents", "Documents/", "./Documents/.", here / "Documents", "link", "chain", "nowhere", "file",
                    "file/record", "pipe", "strange", "none/record", "/"):
         refuses(here, lab, record)
@@ -79,7 +79,7 @@ def other_folders_stay(room: Path) -> None:
 def old_records_give_way(room: Path) -> None:
     """Checks that a host renames an older record before it begins the next one, whichever name leads there. It must do
     so even if the file `begun` is missing. An empty folder must be used, and a missing one must be made."""
-    lab, here = lab_of(room, SEATS), filled(room / "places")
+    lab, here = lab_of(room, SEATS), make_folder(room / "places")
     record, link = here / "record", here / "link"
     link.symlink_to("record")
     takes(here, lab, record)
@@ -100,7 +100,7 @@ def old_records_give_way(room: Path) -> None:
 def failures_rename_nothing(room: Path) -> None:
     """Checks that an older record keeps its name if the files of a record or of a journal can't be made. An empty
     folder must stay empty."""
-    lab, here = lab_of(room, SEATS), filled(room / "failing")
+    lab, here = lab_of(room, SEATS), make_folder(room / "failing")
     takes(here, lab, here / "record")
     (here / "empty").mkdir()
     inodes = listed(here)

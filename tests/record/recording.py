@@ -74,7 +74,7 @@ class Recording:
         """Returns the journal so far."""
         return self.model.written()
 
-    def told(self, whole: bool = True) -> str:
+    def verify_output(self, whole: bool = True) -> str:
         """Returns the output that `verify` must print about the record, without its last newline. `whole` says whether
         the record has no mark `!`."""
         end = "" if whole else ", not whole"

@@ -13,7 +13,7 @@ from collections.abc import Sequence
 from errno import EINVAL, EIO, errorcode
 from pathlib import Path
 
-from tests.common.hosting import Caller, Host, audit, called, lab_of, let_in
+from tests.common.hosting import Caller, Host, audit, connect, lab_of, let_in
 from tests.common.lines import CLOSE, closed, denial_of, fault_at, greeted, hello, refusal_of, seduction
 from tests.common.preload import Ended, Preloaded, fail
 from tests.common.side_by_side import Test, try_all
@@ -39,7 +39,7 @@ def kept(journal: Path) -> dict[str, bytes]:
     return {file.name: file.read_bytes() for file in journal.parent.glob(f"{journal.name}*")}
 
 
-def resumed(host: Host) -> bytes:
+def read_resumed(host: Host) -> bytes:
     """Reads the host's second line of output, and returns it. In this line the host says at which place, configuration
     and number of chosen moves the class goes on."""
     assert host.process.stdout is not None
@@ -47,13 +47,13 @@ def resumed(host: Host) -> bytes:
 
 
 def place_of(line: bytes) -> int:
-    """Returns the place in a line that `resumed` has returned: the number of events that the class already has."""
+    """Returns the place in a line that `read_resumed` has returned: the number of events that the class already has."""
     if not line.startswith(b"resumed at place "):
         fail(f"resume: another line after that on the ports: {line!r}")
     return int(line[17:line.index(b",")])
 
 
-def refused(lab: Path, journal: Path, wanted: Ended, why: str, before: Sequence[str] = ()) -> None:
+def check_refused(lab: Path, journal: Path, wanted: Ended, why: str, before: Sequence[str] = ()) -> None:
     """Checks that `resume` of a journal of a lab has this end, and that no file is changed. `why` names the
     situation, for the error, and `before` are words to put before the command."""
     was = kept(journal) if journal.is_file() else {}
@@ -66,19 +66,19 @@ def refused(lab: Path, journal: Path, wanted: Ended, why: str, before: Sequence[
 
 
 def goes_on(lab: Path, journal: Path, line: bytes, error: bytes, why: str) -> None:
-    """Resumes a class from its journal, and ends it at once. Checks that the host prints the line `line` for `resumed`
+    """Resumes a class from its journal, and ends it at once. Checks that the host prints the line `line` for `read_resumed`
     and `error` on standard error, and that its last line has the same place and configuration as `line`. `why` names
     the situation, for the error."""
     with Host(lab, 0, 0, journal, word="resume") as host:
-        said = resumed(host) if host.listens else b""
-        ended = host.dismissed(let_in(host.desk, hello("tess"))[0]) if host.listens else host.end()
+        said = read_resumed(host) if host.listens else b""
+        ended = host.dismiss(let_in(host.desk, hello("tess"))[0]) if host.listens else host.end()
     configuration = line.split()[5][:-1]  # the number after the word `configuration`, without its comma
     wanted = Ended(0, b"done: %d events, configuration %s\n" % (place_of(line), configuration), error)
     if (said, ended) != (line, wanted):
         fail(f"resume: {why}: {said!r} and {ended}, not {line!r} and {wanted}")
 
 
-def killed_at(host: Host, seconds: float) -> threading.Timer:
+def kill_after(host: Host, seconds: float) -> threading.Timer:
     """Starts a timer that kills a host after so many seconds. Returns the timer."""
     timer = threading.Timer(seconds, host.process.kill)
     timer.start()
@@ -106,15 +106,15 @@ def kills(room: Path) -> None:
         with Host(lab, 0, 0, journal, word="resume" if turn else "host") as host:
             if not host.listens:
                 fail(f"resume: after {turn} kills it ends with {host.end()}")
-            at = place_of(resumed(host)) if turn else 0
+            at = place_of(read_resumed(host)) if turn else 0
             if at < players.told:
                 fail(f"resume: after {turn} kills it goes on at place {at}, and place {players.told} was reported")
-            timer = killed_at(host, pace * players.random.uniform(0.02, 0.4))
+            timer = kill_after(host, pace * players.random.uniform(0.02, 0.4))
             players.play_on(host)
             timer.join()
     with Host(lab, 0, 0, journal, word="resume") as host:
-        at = place_of(resumed(host))
-        ended = host.dismissed(players.play_out(host))
+        at = place_of(read_resumed(host))
+        ended = host.dismiss(players.play_out(host))
     last = max(at, players.told)  # A host may have been killed between the last event and its reply.
     # Of the last line, only the number of events is compared.
     if ended.status != 0 or ended.out != b"done: %d events, " % last + ended.out.split(b"events, ")[-1]:
@@ -134,9 +134,9 @@ def power_cuts(room: Path) -> None:
         told = library.variables({"POWER_IGNORED": "1"} if is_ignored else {})
         for turn in range(8):
             with Host(lab, 0, 0, journal, word="resume" if turn else "host", variables=told) as host:
-                if turn and place_of(resumed(host)) < players.told:
+                if turn and place_of(read_resumed(host)) < players.told:
                     fail("resume: a power cut takes an event whose reply went out")
-                timer = killed_at(host, pace * players.random.uniform(0.1, 0.5))
+                timer = kill_after(host, pace * players.random.uniform(0.1, 0.5))
                 players.play_on(host)
                 timer.join()
             # A power cut is simulated: the journal is cut to the bytes that were synced.
@@ -159,7 +159,7 @@ def failed_sync(room: Path) -> None:
     with Host(lab, 0, 0, journal, variables=library.variables({"POWER_FAIL_AT": "2"})) as host:
         ana, tess = let_in(host.port, hello("ana"))[0], let_in(host.desk, hello("tess"))[0]
         said = ana.ask(SEDUCES), tess.ask(CLOSE), tess.ask(CLOSE)
-        ended = host.dismissed(tess)
+        ended = host.dismiss(tess)
     refusal = refusal_of("journal")
     if b'"place":1' not in said[0] or said[1:] != (refusal, refusal) or ended != FAULT:
         fail(f"resume: where a sync fails: {said} and {ended}")
@@ -177,9 +177,9 @@ def failed_sync_after_a_resume(room: Path) -> None:
         journal.write_bytes(FIRST + torn)
         # The first sync is that of the journal's old lines, so the second is that of a new line, and fails.
         with Host(lab, 0, 0, journal, word="resume", variables=library.variables({"POWER_FAIL_AT": "2"})) as host:
-            line, tess = resumed(host), let_in(host.desk, hello("tess"))[0]
+            line, tess = read_resumed(host), let_in(host.desk, hello("tess"))[0]
             said = tess.ask(BREAK), tess.ask(BREAK)
-            ended = host.dismissed(tess)
+            ended = host.dismiss(tess)
         if place_of(line) != 2 or said != (refusal_of("journal"),) * 2 or library.counts()[1] != 2:
             fail(f"resume: when the first sync after a resume fails: {line!r}, {said}, {library.counts()[1]} syncs")
         if (ended.status, ended.out) != (4, b"") or not ended.error.endswith(FAULT.error) or journal.read_bytes() != FIRST:
@@ -193,12 +193,12 @@ def folders_that_fail(room: Path) -> None:
     lab = lab_of(room, 4)
     for error, status, words in ((EIO, FAULT.status, FAULT.error), (EINVAL, 0, b"")):
         with Host(lab, 0, 0, room / str(error), variables=library.variables({"POWER_FOLDERS": str(error)})) as host:
-            ended = host.dismissed(let_in(host.desk, hello("tess"))[0]) if host.listens else host.end()
+            ended = host.dismiss(let_in(host.desk, hello("tess"))[0]) if host.listens else host.end()
         if (ended.status, ended.error) != (status, words):
             fail(f"resume: when the sync of a folder fails with {errorcode[error]}, a host ends with {ended}")
 
 
-def told_until_halted(ana: Caller, tess: Caller) -> int:
+def play_until_halted(ana: Caller, tess: Caller) -> int:
     """Repeats a move, its close and a fault, on the connections of ana and the teacher, until the journal is halted and
     such a fault is refused. Returns the number of granted events."""
     told = 0
@@ -215,9 +215,9 @@ def one_more(lab: Path, journal: Path) -> tuple[int, bytes, Ended]:
     """Resumes a class for one event, a fault, and ends it. Returns the place at which it went on, the reply to the
     fault, and the end of the host."""
     with Host(lab, 0, 0, journal, word="resume") as host:
-        place = place_of(resumed(host))
+        place = place_of(read_resumed(host))
         tess = let_in(host.desk, hello("tess"))[0]
-        return place, tess.ask(BREAK), host.dismissed(tess)
+        return place, tess.ask(BREAK), host.dismiss(tess)
 
 
 def full_disk(room: Path) -> None:
@@ -227,8 +227,8 @@ def full_disk(room: Path) -> None:
     limited = ["bash", "-c", 'trap "" XFSZ && ulimit -f 1 && exec "$@"', "bash"]
     with Host(lab, 0, 0, journal, before=limited) as host:
         ana, tess = let_in(host.port, hello("ana"))[0], let_in(host.desk, hello("tess"))[0]
-        told = told_until_halted(ana, tess)
-        ended = host.dismissed(tess)
+        told = play_until_halted(ana, tess)
+        ended = host.dismiss(tess)
     content = journal.read_bytes()
     is_full = len(content) <= 1024 < len(content) + LONGEST
     if ended != FAULT or not is_full or not content.endswith(b"\n") or content.count(b"\n") != told:
@@ -252,10 +252,10 @@ def in_mid_line(room: Path) -> None:
     mounts = ["unshare", "--mount", "bash", "-c", 'mount -t tmpfs -o size=8k none "$0" && exec "$@"', str(disk)]
     with Host(lab, 0, 0, disk / "journal", before=mounts) as host:
         ana, tess = let_in(host.port, hello("ana"))[0], let_in(host.desk, hello("tess"))[0]
-        told = told_until_halted(ana, tess)
+        told = play_until_halted(ana, tess)
         for file in Path(f"/proc/{host.process.pid}/root{disk}").iterdir():
             shutil.copy(file, room / file.name)
-        ended = host.dismissed(tess)
+        ended = host.dismiss(tess)
     content = journal.read_bytes()
     whole, found, torn = content.rpartition(b"\n")
     if ended != FAULT or len(content) != 4096 or not torn or content.count(b"\n") != told:
@@ -299,7 +299,7 @@ def torn_tails(room: Path) -> None:
         (ONE + b"\n" + b"2", b"audit: line 2: not an event\n"),
     ]:
         journal.write_bytes(content)
-        refused(lab, journal, Ended(3, b"", NO_COPY + line), f"a journal {content!r}")
+        check_refused(lab, journal, Ended(3, b"", NO_COPY + line), f"a journal {content!r}")
 
 
 def other_labs(room: Path) -> None:
@@ -307,7 +307,7 @@ def other_labs(room: Path) -> None:
     lab, journal = lab_of(room, 4), room / "journal"
     with Host(lab, 0, 0, journal) as host:
         let_in(host.port, hello("ana"))[0].ask(SEDUCES)
-        host.killed()
+        host.kill()
     copy = room / "journal.lab"
     if copy.read_bytes() != lab.read_bytes() or copy.stat().st_mode & 0o777 != 0o600:
         fail("resume: the copy of the lab beside a journal is another, or others may read it")
@@ -320,19 +320,19 @@ def other_labs(room: Path) -> None:
     ]:
         other = room / "other.toml"
         other.write_text(text.replace(old, new).replace("[2, 3]", "[2, 4]" if new == "id = 4" else "[2, 3]"), encoding="utf-8")
-        refused(other, journal, OTHER, f"a lab with {new}")
+        check_refused(other, journal, OTHER, f"a lab with {new}")
     for old, new in [("c-key", "another-key"), ("sessions = 4", "sessions = 7"), ("events = 1000", "events = 1"), ("\n", "\n# a comment\n")]:
         same = room / "same.toml"
         same.write_text(text.replace(old, new, 1), encoding="utf-8")
         goes_on(same, journal, line, b"", f"a lab with {new}")
     copy.write_bytes(b"no lab")
-    refused(lab, journal, OTHER, "a copy that is no lab")
+    check_refused(lab, journal, OTHER, "a copy that is no lab")
     copy.unlink()
     goes_on(lab, journal, line, NO_COPY, "no copy of the lab")
     # A journal with as many events as the lab allows is continued, and one with more isn't.
     journal.write_bytes(FIRST)
     goes_on(lab_of(room, 4, 2), journal, b"resumed at place 2, configuration 1, 0 chosen\n", NO_COPY, "a limit that is reached")
-    refused(lab_of(room, 4, 1), journal, Ended(3, b"", NO_COPY + b"audit: line 2: over the limit of events\n"), "a limit that is passed")
+    check_refused(lab_of(room, 4, 1), journal, Ended(3, b"", NO_COPY + b"audit: line 2: over the limit of events\n"), "a limit that is passed")
 
 
 def copies_through_links(room: Path) -> None:
@@ -341,12 +341,12 @@ def copies_through_links(room: Path) -> None:
     folder.mkdir()
     with Host(lab, 0, 0, folder / "journal") as host:
         let_in(host.port, hello("ana"))[0].ask(SEDUCES)
-        host.killed()
+        host.kill()
     link, other = room / "link", room / "other.toml"
     link.symlink_to(folder / "journal")
     other.write_text(lab.read_text(encoding="utf-8").replace('owner = "cyd"', 'owner = "ben"'), encoding="utf-8")
     shutil.copy(other, room / "link.lab")
-    refused(other, link, OTHER, "another lab, if a link leads to the journal")
+    check_refused(other, link, OTHER, "another lab, if a link leads to the journal")
     goes_on(lab, link, b"resumed at place 1, configuration 0, 1 chosen\n", b"", "a link, and a copy beside the journal")
 
 
@@ -355,12 +355,12 @@ def numbers_of_both(room: Path) -> None:
     lab, journal = lab_of(room, 4), room / "journal"
     with Host(lab, 0, 0, journal) as host:
         let_in(host.port, hello("ana"))[0].ask(SEDUCES)
-        host.killed()
+        host.kill()
     others = {"journal.~1~": b"a journal's name", "journal.~2~.lab": b"a copy's name"}
     for name, content in others.items():
         (room / name).write_bytes(content)
     with Host(lab, 0, 0, journal) as host:
-        ended = host.dismissed(let_in(host.desk, hello("tess"))[0]) if host.listens else host.end()
+        ended = host.dismiss(let_in(host.desk, hello("tess"))[0]) if host.listens else host.end()
     copy = lab.read_bytes()
     if ended.status != 0 or kept(journal) != {
         "journal": b"", "journal.lab": copy, "journal.~3~": ONE, "journal.~3~.lab": copy, **others,
@@ -378,7 +378,7 @@ def copies_are_kept(room: Path) -> None:
         contents.append(lab.read_bytes())
         with Host(lab, 0, 0, journal) as host:
             let_in(host.port, hello("ana"))[0].ask(SEDUCES)
-            host.killed()
+            host.kill()
     line = ONE
     wanted = {"journal": line, "journal.lab": contents[2]}
     wanted |= {"journal.~1~": line, "journal.~1~.lab": contents[0], "journal.~2~": line, "journal.~2~.lab": contents[1]}
@@ -400,10 +400,10 @@ def asks_again(room: Path) -> None:
     lab, journal = lab_of(room, 4), room / "journal"
     journal.write_bytes(ONE)
     with Host(lab, 0, 0, journal, word="resume") as host:
-        line = resumed(host)
-        ana, tess = called(host.port), called(host.desk)
+        line = read_resumed(host)
+        ana, tess = connect(host.port), connect(host.desk)
         replies = [ana.ask(SEDUCES), ana.ask(hello("ana")), ana.ask(SEDUCES), tess.ask(hello("tess")), tess.ask(CLOSE), ana.ask(SEDUCES)]
-        ended = host.dismissed(tess)
+        ended = host.dismiss(tess)
     wanted = [
         denial_of("not-greeted"), greeted("ana"), denial_of("chosen"), greeted("tess"), closed(1, 2, 1),
         denial_of("stale", at=1),
@@ -420,14 +420,14 @@ def held(room: Path) -> None:
     with Host(lab, 0, 0, journal) as host:
         ana, tess = let_in(host.port, hello("ana"))[0], let_in(host.desk, hello("tess"))[0]
         ana.ask(SEDUCES)
-        refused(lab, journal, FAULT, "a journal that a host holds")
+        check_refused(lab, journal, FAULT, "a journal that a host holds")
         if b'"place":2' not in tess.ask(CLOSE):
             fail("resume: a host doesn't go on whose journal another wanted")
-        host.killed()
+        host.kill()
     with Host(lab, 0, 0, journal, word="resume") as one:
-        resumed(one)
-        refused(lab, journal, FAULT, "a journal in which another goes on")
-        ended = one.dismissed(let_in(one.desk, hello("tess"))[0])
+        read_resumed(one)
+        check_refused(lab, journal, FAULT, "a journal in which another goes on")
+        ended = one.dismiss(let_in(one.desk, hello("tess"))[0])
     if ended.status != 0 or journal.read_bytes() != FIRST:
         fail(f"resume: the first of two ends with {ended}")
 
@@ -435,19 +435,19 @@ def held(room: Path) -> None:
 def files(room: Path) -> None:
     """A path that isn't a readable and writable plain file is refused, and no file is made."""
     lab, journal = lab_of(room, 4), room / "journal"
-    refused(lab, journal, FAULT, "no journal")
+    check_refused(lab, journal, FAULT, "no journal")
     if journal.exists():
         fail("resume: a journal is made")
     os.mkfifo(room / "pipe")
     os.symlink("none", room / "nowhere")
     for other in (room, room / "pipe", room / "nowhere", Path("/dev/null"), lab):
-        refused(lab, other, FAULT, f"the journal {other.name}")
+        check_refused(lab, other, FAULT, f"the journal {other.name}")
     journal.write_bytes(FIRST)
     journal.chmod(0o444)
     room.chmod(0o755)
     lab.chmod(0o644)
     as_nobody = ["setpriv", "--reuid", "65534", "--regid", "65534", "--clear-groups"] if os.geteuid() == 0 else []
-    refused(lab, journal, FAULT, "a journal that may only be read", as_nobody)
+    check_refused(lab, journal, FAULT, "a journal that may only be read", as_nobody)
     journal.chmod(0o644)
     os.symlink("journal", room / "other-name")
     goes_on(lab, room / "other-name", b"resumed at place 2, configuration 1, 0 chosen\n", NO_COPY, "a symlink")

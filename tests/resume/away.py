@@ -67,7 +67,7 @@ def name_of(way: Callable[[Path], None]) -> str:
     return f"a journal that is {way.__name__}"
 
 
-def refused_soon(ana: Caller, tess: Caller, way: str) -> int:
+def cause_faults_until_refused(ana: Caller, tess: Caller, way: str) -> int:
     """Causes faults until one is refused, which has to happen within a time limit. Checks that then a close isn't
     granted, and that a look is answered. Returns the number of granted faults. `way` names the change of the journal,
     for an error."""
@@ -99,8 +99,8 @@ def taken_away(room: Path) -> None:
                 if b'"place":' not in who.ask(asked):
                     fail(f"resume: before {name_of(way)} nothing is granted")
             way(journal)
-            events = 2 + refused_soon(ana, tess, name_of(way))
-            ended = host.dismissed(tess)
+            events = 2 + cause_faults_until_refused(ana, tess, name_of(way))
+            ended = host.dismiss(tess)
         if ended != Ended(4, b"", line + FAULT):
             fail(f"resume: with {name_of(way)} a host ends with {ended}")
         if way is moved:
@@ -122,7 +122,7 @@ def taken_away_in_silence(room: Path) -> None:
                 fail(f"resume: in silence, with {name_of(way)}, a host says nothing")
             said = host.process.stderr.readline()
             replies = ana.ask(MOVE), tess.ask(CLOSE), tess.ask(fault_at(1))
-            ended = host.dismissed(tess)
+            ended = host.dismiss(tess)
         if said != line or replies[1:] != (REFUSED, REFUSED) or ended != Ended(4, b"", FAULT):
             fail(f"resume: in silence, with {name_of(way)}, a host says {said!r}, replies {replies}, and ends with {ended}")
         journal.unlink(missing_ok=True)
@@ -149,7 +149,7 @@ def left_alone(room: Path) -> None:
             if b'"place":' not in tess.ask(fault_at(1)):
                 fail("resume: a journal that is where it was is taken for one that is gone")
         ana.close()
-        ended = host.dismissed(tess)
+        ended = host.dismiss(tess)
     if ended.status != 0 or ended.error:
         fail(f"resume: with a journal that is left alone a host ends with {ended}")
     audit(lab, journal, 30)
@@ -167,8 +167,8 @@ def gone_after_a_resume(room: Path) -> None:
         if b'"place":3' not in tess.ask(fault_at(1)):
             fail("resume: after a torn line was taken off nothing is granted after a while")
         moved(journal)
-        events = 3 + refused_soon(ana, tess, "a journal that is moved after a resume")
-        ended = host.dismissed(tess)
+        events = 3 + cause_faults_until_refused(ana, tess, "a journal that is moved after a resume")
+        ended = host.dismiss(tess)
     if ended.status != 4 or not ended.error.endswith(GONE + FAULT):
         fail(f"resume: with a journal that is moved after a resume a host ends with {ended}")
     audit(lab, journal.with_name("moved"), events)

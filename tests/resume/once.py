@@ -3,25 +3,25 @@ from pathlib import Path
 
 from tests.common.hosting import Host, lab_of, let_in
 from tests.common.lines import hello, seduction
-from tests.common.preload import Ended, built, fail
+from tests.common.preload import Ended, build_library, fail
 from tests.common.side_by_side import Test
 
 LONG = 102  # bytes after the last newline that are too many for a line that broke off
 
 
-def played(lab: Path, journal: Path, record: Path) -> None:
+def play(lab: Path, journal: Path, record: Path) -> None:
     """Plays a class with one event, and kills its host. Leaves the journal and the record of this class."""
     with Host(lab, 0, 0, journal, record) as host:
         if b'"place":1' not in let_in(host.port, hello("ana"))[0].ask(seduction(0)):
             fail("resume: the class before a resume has no event")
-        host.killed()
+        host.kill()
 
 
 def files_are_read_once(room: Path) -> None:
     """A class that goes on with its record opens the lab's file, its copies and the journal once each."""
     lab, journal, record, log = lab_of(room, 4), room / "journal", room / "record", room / "opened"
-    played(lab, journal, record)
-    variables = {"LD_PRELOAD": str(built("resume/opens.c", room)), "OPENED": str(log)}
+    play(lab, journal, record)
+    variables = {"LD_PRELOAD": str(build_library("resume/opens.c", room)), "OPENED": str(log)}
     with Host(lab, 0, 0, journal, record, word="resume", variables=variables) as host:
         if not host.listens:
             fail(f"resume: while opened files are noted it ends with {host.end()}")
@@ -35,7 +35,7 @@ def refused_before_the_record(room: Path) -> None:
     """A journal that the audit refuses is refused before the record's folder is made or changed, also because of the
     bytes after its last line."""
     lab, journal, record = lab_of(room, 4), room / "journal", room / "record"
-    played(lab, journal, record)
+    play(lab, journal, record)
     whole, was = journal.read_bytes(), {file.name: file.read_bytes() for file in record.iterdir()}
     for tail, error in ((b"x" * LONG, b"audit: line 2: torn\n"), (b"2 0 clos\n", b"audit: line 2: not an event\n")):
         journal.write_bytes(whole + tail)

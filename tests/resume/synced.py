@@ -5,7 +5,7 @@ from pathlib import Path
 
 from tests.common.hosting import Caller, Host, lab_of, let_in
 from tests.common.lines import BID, BYE, CLOSE, hello, look, seduction
-from tests.common.preload import Ended, Preloaded, built, fail
+from tests.common.preload import Ended, Preloaded, build_library, fail
 
 SOON = 60.0  # seconds until a record is synced on a slow machine
 EAGAIN = 11  # the error of a thread that can't be started
@@ -19,7 +19,7 @@ class Changes:
 
     def __init__(self, room: Path) -> None:
         """Builds the library that notes changes and syncs, in the folder `room`."""
-        self.library, self.log = built("resume/changes.c", room), room / "changes"
+        self.library, self.log = build_library("resume/changes.c", room), room / "changes"
 
     def variables(self) -> dict[str, str]:
         """Returns the environment of a host, and forgets earlier changes."""
@@ -34,18 +34,18 @@ class Changes:
             (found.add if what == "changed" else found.discard)(path)
         return found
 
-    def none_left(self, when: str) -> None:
+    def check_synced(self, when: str) -> None:
         """Checks that all changes are synced. `when` names the moment, for the error."""
         if left := self.unsynced():
             fail(f"resume: {when} a host hasn't synced {sorted(left)}")
 
-    def none_left_soon(self, when: str) -> None:
+    def check_synced_soon(self, when: str) -> None:
         """Checks that all changes are synced within a time limit, without further requests. `when` names the moment,
         for the error."""
         end = time.monotonic() + SOON
         while self.unsynced() and time.monotonic() < end:
             time.sleep(0.1)
-        self.none_left(when)
+        self.check_synced(when)
 
 
 def plays(host: Host, changes: Changes, journal: Path) -> tuple[Caller, Caller]:
@@ -65,7 +65,7 @@ def leaves(host: Host, ana: Caller, tess: Caller) -> Ended:
     ana.ask(look("ana"))
     if (ana.ask(BYE), ana.line()) != (BID, b""):
         fail("resume: another reply to a student's bye")
-    return host.dismissed(tess)
+    return host.dismiss(tess)
 
 
 def all_is_synced(room: Path) -> None:
@@ -76,27 +76,27 @@ def all_is_synced(room: Path) -> None:
     journal, record = folder / "journal", folder / "record"
     for when in ("in an empty folder", "beside an older class"):
         with Host(lab, 0, 0, journal, record, variables=changes.variables()) as host:
-            changes.none_left(f"when it listens {when}")
+            changes.check_synced(f"when it listens {when}")
             ana, tess = plays(host, changes, journal)
             if not changes.log.read_text(encoding="utf-8").count(f"changed {record}/"):
                 fail("resume: while changes are noted nothing is recorded")
-            changes.none_left_soon(f"a while after what was said {when}")
+            changes.check_synced_soon(f"a while after what was said {when}")
             if leaves(host, ana, tess) != DONE:
                 fail(f"resume: another end {when}, while changes are noted")
-        changes.none_left(f"at its end {when}")
+        changes.check_synced(f"at its end {when}")
 
 
 def last_words_are_synced(room: Path) -> None:
     """The last entries of a class are synced when the host ends, although the next regular sync isn't due yet. It isn't
     due because the host's clock runs a thousand times slower."""
-    changes, slow, lab, folder = Changes(room), built("outsiders/slow.c", room), lab_of(room, 4), room / "class"
+    changes, slow, lab, folder = Changes(room), build_library("outsiders/slow.c", room), lab_of(room, 4), room / "class"
     folder.mkdir()
     journal = folder / "journal"
     variables = changes.variables() | {"LD_PRELOAD": f"{changes.library} {slow}", "SLOW": "1000"}
     with Host(lab, 0, 0, journal, folder / "record", variables=variables) as host:
         if (ended := leaves(host, *plays(host, changes, journal))) != DONE:
             fail(f"resume: with a slow clock a recorded class ends with {ended}")
-    changes.none_left("at its end, with a slow clock,")
+    changes.check_synced("at its end, with a slow clock,")
 
 
 def resumes_are_synced(room: Path) -> None:
@@ -107,7 +107,7 @@ def resumes_are_synced(room: Path) -> None:
     journal, record = folder / "journal", folder / "record"
     with Host(lab, 0, 0, journal, record) as host:
         let_in(host.desk, hello("tess"))
-        host.killed()
+        host.kill()
     for path, torn in ((journal, b"1 0 gra"), (record / "1.record", b'1 0 > {"do":"clo')):
         with path.open("ab") as it:
             it.write(torn)
@@ -116,14 +116,14 @@ def resumes_are_synced(room: Path) -> None:
             fail(f"resume: while changes are noted it ends with {host.end()}")
         assert host.process.stdout is not None
         host.process.stdout.readline()
-        changes.none_left("when it goes on")
+        changes.check_synced("when it goes on")
         kept = changes.log.read_text(encoding="utf-8").splitlines()
         if any(f"changed {path}" not in kept for path in (journal, record / "1.record", record / "4.record")):
             fail(f"resume: while changes are noted what is torn isn't taken off: {kept}")
         ended = leaves(host, *plays(host, changes, journal))
     if (ended.status, ended.out) != (DONE.status, DONE.out):
         fail(f"resume: while changes are noted a class that goes on ends with {ended}")
-    changes.none_left("at the end of a class that went on")
+    changes.check_synced("at the end of a class that went on")
 
 
 def synced_without_threads(room: Path) -> None:
@@ -140,7 +140,7 @@ def synced_without_threads(room: Path) -> None:
             ended = leaves(host, *plays(host, changes, journal))
         if threads.counts()[1] != 1 or ended != DONE:
             fail(f"resume: without thread {at} a recorded class ends with {ended}")
-        changes.none_left(f"at the end, without thread {at},")
+        changes.check_synced(f"at the end, without thread {at},")
 
 
 TESTS = [all_is_synced, last_words_are_synced, resumes_are_synced, synced_without_threads]

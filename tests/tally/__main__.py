@@ -91,7 +91,7 @@ def by_hand(room: Path) -> int:
     return len(wanted) + 1
 
 
-def drawn(room: Path, seed: int) -> bool:
+def check_drawn(room: Path, seed: int) -> bool:
     """Checks that the program and the model print the same tally of a random journal, and that `classroom` reads the
     same numbers from it. Returns whether the journal has an event."""
     rng = Random(seed)
@@ -112,16 +112,16 @@ def test(room: Path) -> str:
     a kind. Returns a line about them."""
     count = int(sys.argv[1]) if len(sys.argv) > 1 else JOURNALS
     hands = by_hand(room)
-    some = sum(drawn(room, seed) for seed in range(1, count + 1))
+    some = sum(check_drawn(room, seed) for seed in range(1, count + 1))
     if 2 * some < count:
         fail(f"only {some} of {count} drawn journals have an event")
     hands += recorded.by_hand(room, LAB)
-    counted = [recorded.drawn(room, seed) for seed in range(1, count + 1)]
+    counted = [recorded.check_drawn(room, seed) for seed in range(1, count + 1)]
     for word in recorded.COUNTED:
         runs = sum(word in words for words in counted)
         if 2 * runs < count:
             fail(f"only in {runs} of {count} drawn runs something is counted as {word}")
-    rounds = stepwise.tried(room, count)
+    rounds = stepwise.check_all(room, count)
     return f"{hands} runs by hand, {some} drawn ones, {count} with records and {count} of {rounds} rounds are printed as by the model"
 
 

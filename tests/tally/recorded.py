@@ -100,7 +100,7 @@ class Files:
         for seat, text in run.texts.items():
             (self.folder / f"{seat}.record").write_bytes(text)
 
-    def told(self, what: str) -> Ended:
+    def run_tally(self, what: str) -> Ended:
         """Returns the result of `tally` for these files. Fails if the model's result differs."""
         return agreed(what, "tally", self.lab, self.journal, self.folder)
 
@@ -125,13 +125,13 @@ def recorded(document: str, talk: Iterable[tuple[int, bytes]]) -> Recording:
     return run
 
 
-def full(room: Path, document: str) -> int:
+def check_full(room: Path, document: str) -> int:
     """Checks the tally of a run in which the lab's only event has happened, so that further events are refused. Returns
     the number of checks."""
     document = document.replace("events = 100", "events = 1")
     files = Files(room, document, recorded(document, FULL))
     wanted = Ended(0, with_record(files.bare(), TOLD_FULL, REFUSED_FULL).encode(), b"")
-    if (found := files.told("a full lab")) != wanted:
+    if (found := files.run_tally("a full lab")) != wanted:
         fail(f"a full lab: {found}")
     return 1
 
@@ -173,17 +173,17 @@ def by_hand(room: Path, document: str) -> int:
         if hurt == text and name != "as it came":
             fail(f"{name}: nothing is changed")
         first.write_bytes(hurt)
-        found = files.told(name)
+        found = files.run_tally(name)
         if found != (said(told) if told.startswith("verify") else Ended(0, told.encode(), b"")):
             fail(f"{name}: {found}")
     first.unlink()
-    if files.told("a seat without a file") != Ended(4, b"", b"read fault: record\n"):
+    if files.run_tally("a seat without a file") != Ended(4, b"", b"read fault: record\n"):
         fail("the record of a seat without a file is read")
     first.write_bytes(text)
     files.journal.write_bytes(run.journal[:-1])
-    if files.told("a torn journal") != said("audit: line 2: torn"):
+    if files.run_tally("a torn journal") != said("audit: line 2: torn"):
         fail("a torn journal has a tally")
-    return len(changed) + 2 + full(room, document)
+    return len(changed) + 2 + check_full(room, document)
 
 
 def forgetful(rng: Random, text: bytes) -> bytes:
@@ -201,7 +201,7 @@ def forgetful(rng: Random, text: bytes) -> bytes:
     return DENIED_IN.sub(refused, text)
 
 
-def drawn(room: Path, seed: int) -> set[str]:
+def check_drawn(room: Path, seed: int) -> set[str]:
     """Checks the tally of a random run. Returns the first words of those lines that count something about a student."""
     rng = Random(seed)
     document = drawn_lab(rng)
@@ -216,7 +216,7 @@ def drawn(room: Path, seed: int) -> set[str]:
         run.leave(1)
     if rng.random() < 0.5:
         run.texts = {seat: forgetful(rng, text) for seat, text in run.texts.items()}
-    found = Files(room, document, run).told(f"seed {seed}, with a record")
+    found = Files(room, document, run).run_tally(f"seed {seed}, with a record")
     if found.status:
         fail(f"seed {seed}, with a record: {found}")
     lines = [line.split(" ") for line in found.out.decode().splitlines()]

@@ -88,7 +88,7 @@ def changed(rng: Random, world: World) -> Request:
     return Request("fault", node=node, p=rng.choice([None, *world.near(node)]), m=rng.random() < 0.5)
 
 
-def drawn(room: Path, seed: int) -> int:
+def check_drawn(room: Path, seed: int) -> int:
     """Checks that the program, the model and `classroom` count the same rounds in a random run. Returns how many rounds
     ended in the whole run."""
     rng = Random(f"stepwise {seed}")
@@ -109,10 +109,10 @@ def drawn(room: Path, seed: int) -> int:
     return run.ended
 
 
-def tried(room: Path, count: int) -> int:
+def check_all(room: Path, count: int) -> int:
     """Checks the rounds of `count` random runs, a third of which must have two rounds or more. Returns how many rounds
     ended in all of them."""
-    rounds = [drawn(room, seed) for seed in range(1, count + 1)]
+    rounds = [check_drawn(room, seed) for seed in range(1, count + 1)]
     if 3 * sum(ended > 1 for ended in rounds) < count:
         fail("fewer than a third of the drawn runs have two rounds")
     return sum(rounds)

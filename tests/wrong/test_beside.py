@@ -102,7 +102,7 @@ class Turns(InRoom):
         it.start()
         return it
 
-    def waits(self, path: Path) -> None:
+    def wait_for(self, path: Path) -> None:
         """Waits until a file exists. Fails after a time limit."""
         until = time.monotonic() + LIMIT
         while not path.exists():
@@ -118,7 +118,7 @@ class Turns(InRoom):
                 self.assertEqual(running.may_begin(), may)
         with mock.patch.object(checks, "free_memory", return_value=MUCH):
             first = self.begin(running, "touch begun; until [ -e go ]; do sleep 0.05; done")
-            self.waits(self.room / "begun")
+            self.wait_for(self.room / "begun")
             self.assertFalse(running.may_begin())
             running.go_on_alone()
             self.assertTrue(running.may_begin())
@@ -134,7 +134,7 @@ class Turns(InRoom):
             self.assertFalse((self.room / "begun").exists())
             running.go_on_alone()
             waiting.join(LIMIT)
-            self.waits(self.room / "begun")
+            self.wait_for(self.room / "begun")
             (self.room / "begun").unlink()
         running = Running(beside=0)
         waiting = self.begin(running, "true")

@@ -14,7 +14,7 @@ from unittest import mock
 from tools.plant import drawing
 from tools.plant.bodies import bodies_of, bodies_of_file, module_of, type_of
 from tools.plant.changes import changes_of, variants_of
-from tools.plant.drawing import NO_PROGRAM, ask_all, asked, culprits, draw
+from tools.plant.drawing import NO_PROGRAM, ask_all, ask_crate, culprits, draw
 from tools.plant.plants import Plant, PlantFault
 from tools.plant.proving import LET_THROUGH, REFUSED, UNDECIDED
 from tools.wrong.checks import Running
@@ -175,8 +175,8 @@ class Drawing(unittest.TestCase):
             tried = [pair.new for plant in bad for pair in plant.edit.pairs if texts["src/thing.rt"].count(pair.new) != SOURCE.count(pair.new)]
             return "src/thing.rt:1:1: error: it has no such name\n" if tried else ""
 
-        with mock.patch.object(drawing, "look", look), mock.patch.object(drawing, "proved", side_effect=told):
-            return {plant.function: (plant, verdict) for plant, verdict in asked(self.tree, "low", drawn, "", Running())}
+        with mock.patch.object(drawing, "look", look), mock.patch.object(drawing, "ask_prover", side_effect=told):
+            return {plant.function: (plant, verdict) for plant, verdict in ask_crate(self.tree, "low", drawn, "", Running())}
 
     def test_a_plant_does_not_compile_or_is_refused_or_let_through_or_undecided(self) -> None:
         plants = [plants[0] for plants in draw(self.tree, ["low"], 3, 1)]
@@ -206,7 +206,7 @@ class Drawing(unittest.TestCase):
                 time.sleep(0.2)
             return [(plant[0], crate) for plant in plants]
 
-        with mock.patch.object(drawing, "asked", answers), mock.patch.object(drawing, "find_name", return_value=""), \
+        with mock.patch.object(drawing, "ask_crate", answers), mock.patch.object(drawing, "find_name", return_value=""), \
                 mock.patch.object(drawing, "lane_count", return_value=2):
             self.assertEqual([*ask_all(self.tree, drawn)], [(plants[0], plants[0].crate) for plants in drawn])
 

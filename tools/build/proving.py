@@ -75,7 +75,7 @@ class Proving:
                 return self.by_one_run()
             whole = Run(self.room.place(self.crates), is_look=True)
             self.runs[""] = whole
-            if self.is_over(whole, is_look=True):
+            if self.wait_for_end(whole, until_proving=True):
                 return self.outcome(whole, self.crates)
             whole.end()
             self.take(whole.place, self.progress.proved)
@@ -84,11 +84,11 @@ class Proving:
             for run in self.runs.values():
                 run.end()
 
-    def is_over(self, run: Run, is_look: bool) -> bool:
-        """Waits for the end of a run of all crates, and notes the progress meanwhile. If `is_look` is set, stops
+    def wait_for_end(self, run: Run, until_proving: bool) -> bool:
+        """Waits for the end of a run of all crates, and notes the progress meanwhile. If `until_proving` is set, stops
         waiting when the run begins to prove something. Returns whether the run has ended."""
         while not run.has_ended():
-            if is_look and run.is_proving():
+            if until_proving and run.is_proving():
                 run.follow(self.progress, self.screen)
                 return run.has_ended()
             self.screen.show(self.progress)
@@ -124,7 +124,7 @@ class Proving:
         self.runs = {"": whole}
         self.progress.proved.clear()
         self.progress.begun.clear()
-        self.is_over(whole, is_look=False)
+        self.wait_for_end(whole, until_proving=False)
         return self.outcome(whole, self.crates)
 
     def begin(self) -> None:

@@ -64,7 +64,7 @@ def end_with_parent() -> None:
     ctypes.CDLL(None, use_errno=True).prctl(PR_SET_PDEATHSIG, signal.SIGTERM, 0, 0, 0)
 
 
-def begin_later() -> None:
+def begin_at_low_priority() -> None:
     """Calls `end_with_parent`, and lowers the priority of this process, because others are more urgent. If the system
     shares processors among sessions, only the session's priority has an effect, so that is lowered too."""
     end_with_parent()
@@ -119,7 +119,7 @@ class Run:
             self.process = subprocess.Popen(
                 [*words, "ci"], cwd=place.repository, stdin=subprocess.DEVNULL, stdout=output, stderr=subprocess.STDOUT,
                 env={**os.environ, "TMPDIR": str(place.temporary)}, start_new_session=True,
-                preexec_fn=end_with_parent if is_first else begin_later,
+                preexec_fn=end_with_parent if is_first else begin_at_low_priority,
             )
 
     def follow(self, progress: Progress, screen: Screen) -> None:

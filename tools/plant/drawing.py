@@ -117,7 +117,7 @@ def look(tree: Tree, crate: str, texts: dict[str, str], running: Running) -> str
             shutil.rmtree(copy, ignore_errors=True)
 
 
-def asked(tree: Tree, crate: str, drawn: list[list[Plant]], kept: str, running: Running) -> Iterator[tuple[Plant, str]]:
+def ask_crate(tree: Tree, crate: str, drawn: list[list[Plant]], kept: str, running: Running) -> Iterator[tuple[Plant, str]]:
     """Yields for each function of a crate its first plant about which the prover decides, and the verdict on it. If the
     prover decides about none of them, yields the first one that compiles, or the last one if none does. `drawn` has the
     plants of each function, and `kept` the name of the folder in which the prover saves checked modules."""
@@ -125,7 +125,7 @@ def asked(tree: Tree, crate: str, drawn: list[list[Plant]], kept: str, running: 
     while todo:
         left = {plants[0].function: plants for plants in todo}
         todo = []
-        for plant, answer in asked_once(tree, crate, [*left.values()], kept, running):
+        for plant, answer in ask_once(tree, crate, [*left.values()], kept, running):
             plants = left[plant.function]
             following = plants[plants.index(plant) + 1 :]
             if answer == UNDECIDED:
@@ -138,7 +138,7 @@ def asked(tree: Tree, crate: str, drawn: list[list[Plant]], kept: str, running: 
                 yield plant, answer
 
 
-def asked_once(tree: Tree, crate: str, drawn: list[list[Plant]], kept: str, running: Running) -> Iterator[tuple[Plant, str]]:
+def ask_once(tree: Tree, crate: str, drawn: list[list[Plant]], kept: str, running: Running) -> Iterator[tuple[Plant, str]]:
     """Yields for each function its first plant that compiles, or its last one, and the prover's verdict on it. `drawn`
     has the plants of each function, and `kept` the name of the folder in which the prover saves checked modules. One
     check of names and types and one proof are enough if each plant compiles, and none hinders another."""
@@ -148,7 +148,7 @@ def asked_once(tree: Tree, crate: str, drawn: list[list[Plant]], kept: str, runn
     while todo:
         if not (tried := todo.pop()):
             continue
-        told = proved(tree, crate, tried, kept, running)
+        told = ask_prover(tree, crate, tried, kept, running)
         if told.ending is None and len(tried) > 1:
             todo += [tried[: len(tried) // 2], tried[len(tried) // 2 :]]
             continue
@@ -159,7 +159,7 @@ def asked_once(tree: Tree, crate: str, drawn: list[list[Plant]], kept: str, runn
         yield from ((plant, verdict(plant.function, told)) for plant in tried if plant not in again)
 
 
-def proved(tree: Tree, crate: str, plants: list[Plant], kept: str, running: Running) -> Told:
+def ask_prover(tree: Tree, crate: str, plants: list[Plant], kept: str, running: Running) -> Told:
     """Returns what the prover says about the functions with these plants, which are all in one copy of the crate.
     `kept` is the name of the folder in which the prover saves checked modules, and `running` runs the check."""
     edits = [replace(plant.edit, wanted=(Refusal(plant.function, ANY),)) for plant in plants]
@@ -183,7 +183,7 @@ def ask_all(tree: Tree, drawn: list[list[Plant]]) -> Iterator[tuple[Plant, str]]
     def verdicts(crate: str) -> list[tuple[Plant, str]]:
         """Returns, for each function of the crate for which plants were drawn, one of these plants and the prover's
         verdict on it."""
-        return [*asked(tree, crate, [plants for plants in drawn if plants[0].crate == crate], kept, running)]
+        return [*ask_crate(tree, crate, [plants for plants in drawn if plants[0].crate == crate], kept, running)]
 
     with ThreadPoolExecutor(lane_count(None)) as pool:
         try:

@@ -164,7 +164,7 @@ def read_edits(folder: Path) -> tuple[list[Edit], list[str]]:
     return edits, faults
 
 
-def joined(into: Round, edit: Edit, folder: Path) -> bool:
+def join(into: Round, edit: Edit, folder: Path) -> bool:
     """Adds an edit to a round, and returns True. If another edit of the round changes the same text or must be refused
     in the same function, changes nothing and returns False. `folder` is the crate's folder."""
     if into.functions() & edit.functions():
@@ -183,6 +183,6 @@ def rounds_of(edits: Iterable[Edit], folder: Path) -> list[Round]:
     than the allowed one. Raises `EditFault` if an edit doesn't fit the sources."""
     rounds: list[Round] = []
     for edit in sorted(edits, key=lambda it: it.first):
-        if not any(joined(it, edit, folder) for it in rounds[edit.first - 1 :]):
+        if not any(join(it, edit, folder) for it in rounds[edit.first - 1 :]):
             rounds.append(Round([edit], apply_edit(edit, {}, folder)))
     return rounds
